@@ -1,146 +1,123 @@
--- The session that meets all premises at once.
-use Rattle.std.proofs.Common.{◌≡◌, ℕ, zero, suc, ◌%◌, ◌<◌, true, false, List, [], ◌∷◌, Some, refl, subst, ◌⊎◌, inl, inr, arith}
+-- The session that meets all premises at once: that of `told_by_9`, whose frames come in CLTUs.
+use Rattle.std.proofs.Common.{◌≡◌, ℕ, zero, suc, ◌<◌, ◌≤◌, Bool, true, false, List, [], ◌∷◌, ◌++◌, length, Some, None, refl, subst, sym, arith}
 use Rattle.std.specs.Prelude.{slice_get}
 use Rattle.tc_channel.proofs.Names.{get_or}
 use Rattle.std.specs.List.{AllByRecursion}
-use Rattle.tc_link.specs.Frame.{IsOctets, IsWhole}
-unfoldable use Rattle.tc_link.specs.Window.{some_of_first}
 use Rattle.tc_link.specs.declared.frame.Header.{Header}
-use Rattle.tc_packet.specs.SpacePacket.{IsPacket, joined}
-use Rattle.tc_channel.specs.declared.event.Event.TheVariants.{Frame, Release, Take}
-use Rattle.tc_channel.specs.ChannelState.{Queue, queue_of}
+unfoldable use Rattle.tc_link.specs.Window.{some_of_first}
+use Rattle.tc_link.specs.Frame.{IsWhole}
+unfoldable use Rattle.tc_fecf.specs.Checksum.{octet_bits}
+use Rattle.tc_cltu.specs.Cltu.{filled, tail_sequence}
+use Rattle.tc_cltu.specs.CodeBlock.{IsInformation, errors}
+unfoldable use Rattle.tc_cltu.specs.CodeBlock.{block_times_x, decoded}
+use Rattle.tc_cltu.specs.declared.block.Mode.TheVariants.{Correct}
+use Rattle.tc_cltu.proofs.Starting.{first-far, start-far, start-same}
+use Rattle.tc_packet.specs.SpacePacket.{IsPacket}
+use Rattle.tc_channel.specs.ChannelState.{Queue, first_state_within, queue_of}
 unfoldable use Rattle.tc_channel.specs.ChannelState.{no_limits}
-use Rattle.tc_channel.specs.Era.{NoneSetsWithin}
-use Rattle.tc_channel.specs.Examples as example
-use Rattle.tc_channel.specs.Through.{released_since}
-unfoldable use Rattle.tc_channel.specs.Run.{run_within, passed_on, IsLawfulWithin}
-use Rattle.tc_loop.specs.Loop.{Action, Send, Arrive, Hear, Other, Idle, events, journal, known, receiver, sent, IsLoop, IsNumbered, IsOther, KeepOrder}
+use Rattle.tc_channel.specs.Given.{packets_given}
+unfoldable use Rattle.tc_channel.specs.Run.{passed_on, run_within}
+use Rattle.tc_loop.specs.Examples.{told_by_9}
+use Rattle.tc_loop.specs.Loop.{Action, Send, Arrive, Hear, Other, Idle, events, receiver}
+use Rattle.tc_loop.specs.Start.{era, era_session}
 use Rattle.tc_loop.proofs.Moments.{so-at}
-use Rattle.tc_loop.proofs.Starts.{allowed-2}
-use Rattle.tc_ends.specs.Ends.{AreNumbered, CanBeSent, SendsPackets, units_on}
-use Rattle.tc_ends.specs.Examples.{both_taken, first_header, packet, packet_a_frame, two_in_turn}
+use Rattle.tc_loop.proofs.Starts.{octets-by, whole-0, whole-1, whole-2}
 use Rattle.tc_write.specs.Frames.{IsMadeFrame, header_later}
 use Rattle.tc_write.specs.Parts.{piece_at, segment_at}
-use Rattle.tc_ends.proofs.Numbered.{numbered-sends}
-
-octets : (ns : ℕ) → ns < 256 → IsOctets (example.packet_octets ns)
-octets ns small zero = omega arith
-octets ns small (suc zero) = omega arith
-octets ns small (suc (suc zero)) = omega arith
-octets ns small (suc (suc (suc zero))) = omega arith
-octets ns small (suc (suc (suc (suc zero)))) = small
-octets ns small (suc (suc (suc (suc (suc zero))))) = omega arith
-octets ns small (suc (suc (suc (suc (suc (suc zero)))))) = omega arith
-octets ns small (suc (suc (suc (suc (suc (suc (suc zero))))))) = omega arith
-octets ns small (suc (suc (suc (suc (suc (suc (suc (suc zero)))))))) = omega arith
-octets ns small (suc (suc (suc (suc (suc (suc (suc (suc (suc zero))))))))) = omega arith
-octets ns small (suc (suc (suc (suc (suc (suc (suc (suc (suc (suc zero)))))))))) = omega arith
-octets ns small (suc (suc (suc (suc (suc (suc (suc (suc (suc (suc (suc zero))))))))))) = omega arith
-octets ns small (suc (suc (suc (suc (suc (suc (suc (suc (suc (suc (suc (suc zero)))))))))))) = omega arith
-octets ns small (suc (suc (suc (suc (suc (suc (suc (suc (suc (suc (suc (suc (suc n))))))))))))) = omega arith
-
-whole : (ns : ℕ) → ns < 256 → IsWhole (example.packet_octets ns)
-whole ns small = record { each = octets ns small; least = omega arith; most = omega arith; version = refl; spare = refl; named = refl }
-
-numbered-all : (i : ℕ) → IsNumbered packet_a_frame i
-numbered-all i = record { whole = whole (i % 256) (omega arith); bypass = refl; control = refl; ns = omega arith }
-
-lawful : IsLawfulWithin packet_a_frame.limits packet_a_frame.settings (journal packet_a_frame both_taken)
-unfolding IsLawfulWithin some_of_first passed_on no_limits
-lawful =
-    let one = whole 1 (omega arith) in
-    ((one, refl), ((whole 0 (omega arith), refl), ((one, refl), (omega arith, ((0, record { key = 5; capacity = 1; admitted = packet ∷ []; taken = 0 }, omega arith, refl, (refl, omega arith)), (omega arith, ((0, record { key = 5; capacity = 1; admitted = packet ∷ packet ∷ []; taken = 1 }, omega arith, refl, (refl, omega arith)), tt)))))))
-
-last : NoneSetsWithin packet_a_frame.limits packet_a_frame.settings packet_a_frame.before (events packet_a_frame both_taken)
-unfolding run_within some_of_first passed_on no_limits
-last zero e h = let q : Frame (packet_a_frame.frames 1) ≡ e = cc in rw (← q) refl
-last (suc zero) e h = let q : Frame (packet_a_frame.frames 0) ≡ e = cc in rw (← q) refl
-last (suc (suc zero)) e h = let q : Frame (packet_a_frame.frames 1) ≡ e = cc in rw (← q) refl
-last (suc (suc (suc zero))) e h = let q : Release ≡ e = cc in rw (← q) refl
-last (suc (suc (suc (suc zero)))) e h = let q : Take 5 ≡ e = cc in rw (← q) refl
-last (suc (suc (suc (suc (suc zero))))) e h = let q : Release ≡ e = cc in rw (← q) refl
-last (suc (suc (suc (suc (suc (suc zero)))))) e h = let q : Take 5 ≡ e = cc in rw (← q) refl
-last (suc (suc (suc (suc (suc (suc (suc i))))))) e h = absurd cc
-
--- what happens at each moment, and what the sender knows then: nothing
-abbrev IsAt : ℕ → Action → Type 0
-IsAt t (Send i) = (known packet_a_frame both_taken t ≡ 0) × (i < 2)
-IsAt t (Arrive i s) = ((t ≡ 2) × (i ≡ 1) × (s ≡ 1)) ⊎ (((t ≡ 5) × (i ≡ 0) × (s ≡ 3)) ⊎ ((t ≡ 6) × (i ≡ 1) × (s ≡ 4)))
-IsAt t (Hear m) = ⊥
-IsAt t (Other e) = IsOther e
-IsAt t Idle = ⊥
-
-at : (t : ℕ) (a : Action) → slice_get both_taken t ≡ Some a → IsAt t a
-at t a e = so-at IsAt both_taken t a
-    ((refl, omega arith), ((refl, omega arith), (inl (refl, refl, refl), ((refl, omega arith), ((refl, omega arith), (inr (inl (refl, refl, refl)), (inr (inr (refl, refl, refl)), (tt, (tt, (tt, (tt, tt)))))))))))
-    e
-
-in-order : KeepOrder both_taken
-in-order = record {
-  arrives = λ t i s e. arrived t i s (at t (Arrive i s) e);
-  hears = λ t m e. absurd (at t (Hear m) e);
-  frames_in_order = λ t u i j s r order e f. let p = at t (Arrive i s) e in let q = at u (Arrive j r) f in grind arith;
-  reports_in_order = λ t u m n order e f. absurd (at t (Hear m) e);
-} where
-  arrived : (t i s : ℕ) → IsAt t (Arrive i s) → (s < t) × (slice_get both_taken s ≡ Some (Send i))
-  arrived t i s (inl p) = rw (p.0, p.1, p.2) (omega arith, refl)
-  arrived t i s (inr (inl p)) = rw (p.0, p.1, p.2) (omega arith, refl)
-  arrived t i s (inr (inr p)) = rw (p.0, p.1, p.2) (omega arith, refl)
-
-pub is-loop : IsLoop packet_a_frame both_taken
-is-loop = record {
-  window = omega arith;
-  numbered = numbered-all;
-  allowed = allowed-2;
-  lawful = lawful;
-  era = record { parts = refl; starts = inl (refl, refl); last = last };
-  possible = record {
-    sends = λ t i e. let p = at t (Send i) e in let none = p.0 in let low = p.1 in (omega arith, omega arith);
-    links = in-order;
-    others = λ t e h. at t (Other e) h;
-  };
-}
-
-pub headers : packet_a_frame.settings.segmented ≡ true
-headers = refl
+use Rattle.tc_ends.specs.Arrivals.{AreCarried, AreNearBlocks, IsNearCltu}
+use Rattle.tc_ends.specs.Ends.{AreFrom, AreNumbered, CanBeSent, SendsOnly}
+use Rattle.tc_ends.specs.Examples.{enclosing, first_frame, first_header, in_cltus, of_before, of_first_frame, of_set_v_r, one_unit, packet}
 
 is-packet : IsPacket packet
 is-packet = record { least = omega arith; most = omega arith; version = refl; named = refl }
 
-pub can : AllByRecursion (CanBeSent packet_a_frame.limits) two_in_turn
+pub can : AllByRecursion (CanBeSent told_by_9.loop.limits) one_unit
 unfolding no_limits
-can =
-    let one : CanBeSent packet_a_frame.limits (record { map_id = 0; size = 249; packets = packet ∷ [] }) = record { map_id = omega arith; size = omega arith; packets = (is-packet, tt); sendable = (omega arith, omega arith, omega arith) } in
-    (one, (one, tt))
+can = (record { map_id = omega arith; size = omega arith; packets = (is-packet, tt); sendable = (omega arith, omega arith, omega arith) }, tt)
 
--- the header and the unit of a frame that a sender writes in one segment
-abbrev IsWritten : Header → List ℕ → ℕ → Type 0
-IsWritten header frame k = IsMadeFrame (get_or (frame ∷ []) k []) (header_later header k) (Some (segment_at 0 249 k (joined (packet ∷ [])))) (piece_at 249 (joined (packet ∷ [])) k)
+written : (k : ℕ) → k < 1 → IsMadeFrame (get_or (first_frame ∷ []) k []) (header_later first_header k) (Some (segment_at 0 249 k packet)) (piece_at 249 packet k)
+written zero low = (record { whole = whole-2 0; header_bits = refl; rest = refl }, (refl, refl))
+written (suc k) low = absurd (omega arith)
 
-first-written : (k : ℕ) → k < 1 → IsWritten first_header (packet_a_frame.frames 0) k
-first-written zero low = (record { whole = whole 0 (omega arith); header_bits = refl; rest = refl }, (refl, refl))
-first-written (suc k) low = absurd (omega arith)
+pub numbered : AreNumbered first_header one_unit (first_frame ∷ [])
+numbered = (first_frame ∷ [], [], refl, record { count = refl; each = written }, refl)
 
-second-written : (k : ℕ) → k < 1 → IsWritten (header_later first_header 1) (packet_a_frame.frames 1) k
-second-written zero low = (record { whole = whole 1 (omega arith); header_bits = refl; rest = refl }, (refl, refl))
-second-written (suc k) low = absurd (omega arith)
+pub from-first : AreFrom (era told_by_9).frames (first_frame ∷ [])
+from-first zero frame e = let q : first_frame ≡ frame = cc in q
+from-first (suc i) frame e = absurd cc
 
-pub numbered : AreNumbered first_header two_in_turn (packet_a_frame.frames 0 ∷ packet_a_frame.frames 1 ∷ [])
-numbered = (
-  packet_a_frame.frames 0 ∷ [],
-  packet_a_frame.frames 1 ∷ [],
-  refl,
-  record { count = refl; each = first-written },
-  (packet_a_frame.frames 1 ∷ [], [], refl, record { count = refl; each = second-written }, refl),
-)
+abbrev IsFirst : ℕ → Action → Type 0
+IsFirst t (Send i) = i < 1
+IsFirst t _ = Unit {0}
 
-pub sends : SendsPackets packet_a_frame.limits (sent packet_a_frame) 2 (units_on two_in_turn)
-sends = numbered-sends packet_a_frame.limits first_header two_in_turn (packet_a_frame.frames 0 ∷ packet_a_frame.frames 1 ∷ []) (sent packet_a_frame) can numbered refl
+pub only-first : SendsOnly 1 (era_session told_by_9)
+only-first t i e = so-at IsFirst (era_session told_by_9) t (Send i) (tt, (tt, (tt, (tt, (tt, (tt, (tt, (omega arith, (tt, (tt, (tt, (tt, (tt, (tt, tt)))))))))))))) e
 
-pub released : released_since packet_a_frame.limits packet_a_frame.settings packet_a_frame.before (journal packet_a_frame both_taken) ≡ 2
-unfolding run_within some_of_first passed_on no_limits
-released = refl
+-- the CLTUs
 
-pub queue : (q : Queue) × (queue_of 5 (receiver packet_a_frame both_taken).queues ≡ Some q)
+near-cltu : (frame blocks : List ℕ) → AreNearBlocks Correct (filled frame) blocks → IsNearCltu Correct 0 frame (enclosing blocks)
+unfolding decoded block_times_x octet_bits
+near-cltu frame blocks near = record {
+  one = 0xEB;
+  two = 0x90;
+  blocks = blocks;
+  tail = 0xC5 ∷ 0xC5 ∷ 0xC5 ∷ 0xC5 ∷ 0xC5 ∷ 0xC5 ∷ 0xC5 ∷ [];
+  end = 0x79;
+  parts = refl;
+  no_start_yet = start-far Correct 0 0xEB first-far;
+  start = start-same Correct;
+  near = near;
+  long = refl;
+  rejected = refl;
+}
+
+few : (block information : List ℕ) (n : ℕ) → errors block information ≡ n → n ≤ 1 → errors block information ≤ 1
+few block information n is less = subst (λ m. m ≤ 1) (sym is) less
+
+before-near : IsNearCltu Correct 0 (told_by_9.loop.frames 0) of_before
+unfolding block_times_x octet_bits
+before-near =
+    let own : List ℕ = 0x80 ∷ 0x00 ∷ 0x00 ∷ 0x05 ∷ 0x00 ∷ 0x00 ∷ 0x55 ∷ [] in
+    let sent : List ℕ = 0x00 ∷ 0x00 ∷ 0x00 ∷ 0x05 ∷ 0x00 ∷ 0x00 ∷ 0x55 ∷ [] in
+    near-cltu (told_by_9.loop.frames 0) (own ++ 0xfe ∷ [])
+    (own, 0xfe, [], record { each = octets-by own refl; seven = refl }, refl, record { each = octets-by sent refl; seven = refl }, few (own ++ 0xfe ∷ []) sent 1 refl (omega arith), refl)
+
+set-near : IsNearCltu Correct 0 (told_by_9.loop.frames 1) of_set_v_r
+unfolding block_times_x octet_bits
+set-near =
+    let one : List ℕ = 0x30 ∷ 0x2a ∷ 0x04 ∷ 0x07 ∷ 0x00 ∷ 0x82 ∷ 0x00 ∷ [] in
+    let two : List ℕ = 0x09 ∷ 0x55 ∷ 0x55 ∷ 0x55 ∷ 0x55 ∷ 0x55 ∷ 0x55 ∷ [] in
+    let is : IsInformation one = record { each = octets-by one refl; seven = refl } in
+    let also : IsInformation two = record { each = octets-by two refl; seven = refl } in
+    near-cltu (told_by_9.loop.frames 1) (one ++ 0x22 ∷ two ++ 0x4a ∷ [])
+    (one, 0x22, two ++ 0x4a ∷ [], is, refl, is, few (one ++ 0x22 ∷ []) one 0 refl (omega arith), (two, 0x4a, [], also, refl, also, few (two ++ 0x4a ∷ []) two 0 refl (omega arith), refl))
+
+first-near : IsNearCltu Correct 0 (told_by_9.loop.frames 2) of_first_frame
+unfolding block_times_x octet_bits
+first-near =
+    let own : List ℕ = 0x00 ∷ 0x2b ∷ 0x04 ∷ 0x0c ∷ 0x09 ∷ 0xc0 ∷ 0x10 ∷ [] in
+    let sent : List ℕ = 0x00 ∷ 0x2a ∷ 0x04 ∷ 0x0c ∷ 0x09 ∷ 0xc0 ∷ 0x10 ∷ [] in
+    let two : List ℕ = 0x05 ∷ 0xc0 ∷ 0x00 ∷ 0x00 ∷ 0x00 ∷ 0xaa ∷ 0x55 ∷ [] in
+    let also : IsInformation two = record { each = octets-by two refl; seven = refl } in
+    near-cltu (told_by_9.loop.frames 2) (own ++ 0xf6 ∷ two ++ 0xe2 ∷ []) (
+      own,
+      0xf6,
+      two ++ 0xe2 ∷ [],
+      record { each = octets-by own refl; seven = refl },
+      refl,
+      record { each = octets-by sent refl; seven = refl },
+      few (own ++ 0xf6 ∷ []) sent 1 refl (omega arith),
+      (two, 0xe2, [], also, refl, also, few (two ++ 0xe2 ∷ []) two 1 refl (omega arith), refl),
+    )
+
+pub carried : AreCarried Correct false told_by_9.loop.frames told_by_9.session in_cltus
+carried =
+    (refl, ((whole-0, whole-0, before-near), (refl, (refl, ((whole-1, whole-1, set-near), (refl, (refl, (refl, ((whole-1, whole-1, set-near), ((whole-2 0, whole-2 0, first-near), (refl, (refl, (refl, (refl, tt))))))))))))))
+
+pub queue : (q : Queue) × (queue_of 5 (receiver told_by_9.loop told_by_9.session).queues ≡ Some q)
 unfolding run_within some_of_first passed_on no_limits
 queue = (_, refl)
+
+pub given : packets_given told_by_9.loop.settings 5 (first_state_within told_by_9.loop.limits told_by_9.loop.settings) (events told_by_9.loop told_by_9.session) ≡ packet ∷ []
+unfolding passed_on some_of_first no_limits
+given = refl

@@ -1,35 +1,42 @@
--- A session worked out by hand, to be read with the definitions: two packets of application 5 go over a loop, one a frame.
-use Rattle.std.specs.Prelude.{ℕ, ◌%◌, false, List, [], ◌∷◌}
+-- A session worked out by hand, to be read with the definitions: that of `told_by_9` of tc_loop, whose frames come in CLTUs.
+use Rattle.std.specs.Prelude.{ℕ, false, List, [], ◌∷◌, ◌++◌}
 use Rattle.tc_link.specs.declared.frame.Header.{Header}
-unfoldable use Rattle.tc_channel.specs.ChannelState.{no_limits}
+use Rattle.tc_cltu.specs.Cltu.{start_sequence, tail_sequence}
 use Rattle.tc_channel.specs.declared.event.Event.TheVariants.{Release, Take}
-use Rattle.tc_channel.specs.Examples as example
-use Rattle.tc_loop.specs.Loop.{Loop, Action, Send, Arrive, Other}
+use Rattle.tc_ends.specs.Arrivals.{Coming, Octets, Asks}
 use Rattle.tc_ends.specs.Ends.{UnitSent}
 
--- the packet that each frame carries
+-- the packet that the first frame of the era carries, on MAP 0, in one unit and one segment; and this frame and its header
 abbrev pub packet : List ℕ
 packet = 0x10 ∷ 0x05 ∷ 0xc0 ∷ 0x00 ∷ 0x00 ∷ 0x00 ∷ 0xaa ∷ []
 
--- a receiver with a window of 10, a buffer of 2 and V(R) 0, and a sender with a window of 5, each of whose frames carries the packet on MAP 0
-abbrev pub packet_a_frame : Loop
-packet_a_frame = record {
-  limits = no_limits;
-  settings = example.buffer_of 2;
-  before = [];
-  first = 0;
-  links = λ m. example.link_up;
-  frames = λ i. example.packet_octets (i % 256);
-  window = 5;
-}
-
--- frame 0 is lost, and frame 1 comes too early; both are sent again, and arrive; each is released, and its packet taken
-abbrev pub both_taken : List Action
-both_taken = Send 0 ∷ Send 1 ∷ Arrive 1 1 ∷ Send 0 ∷ Send 1 ∷ Arrive 0 3 ∷ Arrive 1 4 ∷ Other Release ∷ Other (Take 5) ∷ Other Release ∷ Other (Take 5) ∷ []
-
--- what the sender sends: on MAP 0 two units of a packet each, each in one segment; and the first of its frames' headers
-abbrev pub two_in_turn : List UnitSent
-two_in_turn = record { map_id = 0; size = 249; packets = packet ∷ [] } ∷ record { map_id = 0; size = 249; packets = packet ∷ [] } ∷ []
+abbrev pub one_unit : List UnitSent
+one_unit = record { map_id = 0; size = 249; packets = packet ∷ [] } ∷ []
 
 abbrev pub first_header : Header
-first_header = record { bypass = false; control = false; scid = 42; vcid = 1; ns = 0 }
+first_header = record { bypass = false; control = false; scid = 42; vcid = 1; ns = 9 }
+
+abbrev pub first_frame : List ℕ
+first_frame = 0x00 ∷ 0x2a ∷ 0x04 ∷ 0x0c ∷ 0x09 ∷ (0xc0 ∷ packet)
+
+-- code blocks between a start sequence and a tail sequence
+abbrev pub enclosing : List ℕ → List ℕ
+enclosing blocks = start_sequence ++ blocks ++ tail_sequence
+
+-- the CLTU of the frame of before, in which a bit of the first octet is turned
+abbrev pub of_before : List ℕ
+of_before = enclosing (0x80 ∷ 0x00 ∷ 0x00 ∷ 0x05 ∷ 0x00 ∷ 0x00 ∷ 0x55 ∷ 0xfe ∷ [])
+
+-- that of Set V(R) to 9, as it was sent
+abbrev pub of_set_v_r : List ℕ
+of_set_v_r = enclosing (0x30 ∷ 0x2a ∷ 0x04 ∷ 0x07 ∷ 0x00 ∷ 0x82 ∷ 0x00 ∷ 0x22 ∷ 0x09 ∷ 0x55 ∷ 0x55 ∷ 0x55 ∷ 0x55 ∷ 0x55 ∷ 0x55 ∷ 0x4a ∷ [])
+
+-- that of the first frame of the era: in the first code block 2a has come as 2b, and in the second the parity bits e0 as e2
+abbrev pub of_first_frame : List ℕ
+of_first_frame = enclosing (0x00 ∷ 0x2b ∷ 0x04 ∷ 0x0c ∷ 0x09 ∷ 0xc0 ∷ 0x10 ∷ 0xf6 ∷ 0x05 ∷ 0xc0 ∷ 0x00 ∷ 0x00 ∷ 0x00 ∷ 0xaa ∷ 0x55 ∷ 0xe2 ∷ [])
+
+-- what comes at each moment
+abbrev pub in_cltus : List Coming
+in_cltus =
+    Octets [] ∷ Octets of_before ∷ Octets [] ∷ Octets [] ∷ Octets of_set_v_r ∷ Octets [] ∷ Octets [] ∷ Octets [] ∷ Octets of_set_v_r ∷ Octets of_first_frame ∷ Octets []
+    ∷ Asks Release ∷ Asks Release ∷ Asks (Take 5) ∷ []

@@ -11,6 +11,7 @@ ghost use Rattle.tc_channel.specs.declared.settings.Settings.{Settings};
 ghost use Rattle.tc_link.specs.Frame.{IsWhole, header_of};
 ghost use Rattle.tc_cltu.specs.Reception.{Reception, Searching};
 ghost use Rattle.tc_cltu.specs.declared.block.Mode.{Mode};
+ghost use Rattle.tc_cltu.specs.declared.block.Mode.TheVariants.{Correct};
 ghost use Rattle.tc_link.specs.declared.frame.Header.{Header};
 ghost use Rattle.tc_channel.specs.declared.event.Event.{Event};
 ghost use Rattle.tc_channel.specs.declared.event.Event.TheVariants.{Frame};
@@ -24,6 +25,7 @@ ghost use Rattle.tc_loop.specs.Loop.{Loop, Action, IsLoop, events, journal, rece
 ghost use Rattle.tc_loop.specs.Start.{Start, IsStart, era, era_session};
 ghost use Rattle.tc_ends.specs.Arrivals.{AltersNothing, AreCarried, AreEventsAt, AreEventsOf, Coming, IsNearCltu, Octets, enclosed, state_behind};
 ghost use Rattle.tc_ends.specs.Ends.{AreAllPackets, AreFrom, AreGivenOf, AreMerged, AreNumbered, AreWritten, CanBeSent, CarrySent, CarryUnits, EndAtLast, IsChannelOf, IsPlainSendable, IsSendable, PacketsSent, SendsOnly, SendsPackets, Sent, UnitSent, all_joined, fields_in_order, is_chosen_map, is_same_stream, joined_on, on_map, only_on, packets_sent_on, packets_to, passed_before, passed_in, sent_on, units_on};
+ghost use Rattle.tc_loop.specs.Examples as start;
 ghost use Rattle.tc_ends.specs.Examples as example;
 
 use tc_write::the_segments_of_a_unit_make_the_unit;
@@ -198,21 +200,19 @@ pub fn cltus_with_few_wrong_bits_bring_a_session()
         → AreEventsOf mode field (Searching 0) coming (events l session) }
 {}
 
-/// One session meets all premises of [`packets_of_a_loop_are_given`] and [`numbered_frames_send_packets`] at once: that of
-/// [`two_packets_are_given_so`].
+/// One session, worked out by hand, meets each premise of [`packets_in_cltus_are_given`], and so of [`packets_from_a_start_are_given`]: that of
+/// `told_by_9` of tc_loop, in CLTUs with wrong bits in three code blocks. What takes gave is the packet that was sent.
 pub fn all_premises_are_met_at_once()
-    ensures frames_in_loop { IsLoop example.packet_a_frame example.both_taken }
-    ensures headers { example.packet_a_frame.settings.segmented ≡ true }
-    ensures can_be_sent { AllByRecursion (CanBeSent example.packet_a_frame.limits) example.two_in_turn }
-    ensures numbered { AreNumbered example.first_header example.two_in_turn (example.packet_a_frame.frames 0 ∷ example.packet_a_frame.frames 1 ∷ []) }
-    ensures sends { SendsPackets example.packet_a_frame.limits (sent example.packet_a_frame) 2 (units_on example.two_in_turn) }
-    ensures released { released_since example.packet_a_frame.limits example.packet_a_frame.settings example.packet_a_frame.before (journal example.packet_a_frame example.both_taken) ≡ 2 }
-    ensures queue { (q : Queue) × (queue_of 5 (receiver example.packet_a_frame example.both_taken).queues ≡ Some q) }
-{}
-
-/// A session worked out by hand: two packets in a frame each, of which the first is lost once, are sent, and takes give them.
-pub fn two_packets_are_given_so()
-    ensures carried { sent_from (sent example.packet_a_frame) 0 2 ≡ (0xc0 ∷ example.packet) ∷ (0xc0 ∷ example.packet) ∷ [] }
-    ensures sent { packets_to 5 (units_on example.two_in_turn 0) ≡ example.packet ∷ example.packet ∷ [] }
-    ensures given { packets_given example.packet_a_frame.settings 5 (first_state_within example.packet_a_frame.limits example.packet_a_frame.settings) (journal example.packet_a_frame example.both_taken) ≡ example.packet ∷ example.packet ∷ [] }
+    ensures begins { IsStart start.told_by_9 }
+    ensures can_be_sent { AllByRecursion (CanBeSent start.told_by_9.loop.limits) example.one_unit }
+    ensures numbered { AreNumbered example.first_header example.one_unit (example.first_frame ∷ []) }
+    ensures frames_sent { AreFrom (era start.told_by_9).frames (example.first_frame ∷ []) }
+    ensures only { SendsOnly 1 (era_session start.told_by_9) }
+    ensures carried { AreCarried Correct false start.told_by_9.loop.frames start.told_by_9.session example.in_cltus }
+    ensures unaltered { AltersNothing Correct false start.told_by_9.loop.frames (Searching 0) start.told_by_9.session example.in_cltus }
+    ensures brought { AreEventsOf Correct false (Searching 0) example.in_cltus (events start.told_by_9.loop start.told_by_9.session) }
+    ensures headers { start.told_by_9.loop.settings.segmented ≡ true }
+    ensures queue { (q : Queue) × (queue_of 5 (receiver start.told_by_9.loop start.told_by_9.session).queues ≡ Some q) }
+    ensures asked { packets_to 5 (units_on example.one_unit 0) ≡ example.packet ∷ [] }
+    ensures given { packets_given start.told_by_9.loop.settings 5 (first_state_within start.told_by_9.loop.limits start.told_by_9.loop.settings) (events start.told_by_9.loop start.told_by_9.session) ≡ example.packet ∷ [] }
 {}

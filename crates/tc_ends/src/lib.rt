@@ -19,9 +19,8 @@
 //! [`a_channel_given_out_has_what_a_loop_sent`],
 //! [`a_cltu_with_few_wrong_bits_brings_its_frame`],
 //! [`packets_in_cltus_are_given`],
-//! [`cltus_with_few_wrong_bits_bring_a_session`],
-//! [`all_premises_are_met_at_once`] and
-//! [`two_packets_are_given_so`].
+//! [`cltus_with_few_wrong_bits_bring_a_session`] and
+//! [`all_premises_are_met_at_once`].
 #![tactic(auto)]
 
 mod laws;
@@ -34,6 +33,5 @@ pub use laws::{
     packets_of_a_loop_are_given, packets_of_one_stream_are_its_own,
     packets_that_are_sent_are_given, packets_that_are_sent_are_made,
     packets_that_are_sent_plainly_are_made, the_segments_of_a_unit_end_it_once,
-    two_packets_are_given_so, units_that_are_sent_are_given, units_that_are_sent_are_made,
-    written_frames_carry_the_segments,
+    units_that_are_sent_are_given, units_that_are_sent_are_made, written_frames_carry_the_segments,
 };

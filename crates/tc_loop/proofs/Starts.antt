@@ -1,8 +1,12 @@
 -- The starts that were worked out by hand: the trap, and one that meets each premise.
-use Rattle.std.proofs.Common.{◌≡◌, ◌≢◌, ℕ, zero, suc, ◌+◌, ◌%◌, ◌<◌, ◌≤◌, false, [], ◌∷◌, drop, take, Some, refl, subst, ◌⊎◌, inl, inr, arith}
-use Rattle.std.specs.Prelude.{All, AllPairs, slice_get}
+use Rattle.std.proofs.Common.{◌≡◌, ◌≢◌, ℕ, zero, suc, ◌+◌, ◌%◌, ◌<◌, ◌≤◌, Bool, true, false, List, [], ◌∷◌, drop, take, Some, None, refl, subst, ◌⊎◌, inl, inr, arith}
+use Rattle.std.specs.Prelude.{All, AllPairs, nat_lt, slice_get, ◌&&◌}
+use Rattle.std.proofs.lemmas.Bool.Decides.{nat_tests}
 use Rattle.tc_link.specs.Frame.{IsOctets, IsWhole, header_of}
-use Rattle.tc_channel.specs.Era.{NoneSetsWithin}
+use Rattle.tc_link.proofs.Frames.{octets-append, octets-cons}
+use Rattle.tc_channel.specs.ChannelState.{ChannelState}
+unfoldable use Rattle.tc_channel.specs.ChannelState.{no_limits}
+use Rattle.tc_channel.specs.Era.{NoneSetsWithin, set_by}
 use Rattle.tc_channel.specs.Examples as example
 use Rattle.tc_channel.specs.Settings.{IsAllowed}
 use Rattle.tc_channel.specs.declared.settings.MapSetting.{MapSetting}
@@ -10,8 +14,8 @@ use Rattle.tc_channel.specs.declared.settings.QueueSetting.{QueueSetting}
 unfoldable use Rattle.tc_channel.specs.Run.{run_within, passed_on, IsLawfulWithin}
 unfoldable use Rattle.tc_channel.specs.Reply.{clcw_within}
 unfoldable use Rattle.tc_link.specs.Window.{some_of_first}
-use Rattle.tc_channel.specs.declared.event.Event.TheVariants.{Frame}
-use Rattle.tc_loop.specs.Loop.{Action, Send, Arrive, Hear, Other, Idle, accepted, begun, events, journal, known, reported, smallest, IsLoop, IsNumbered, KeepOrder}
+use Rattle.tc_channel.specs.declared.event.Event.TheVariants.{Frame, Release, Take}
+use Rattle.tc_loop.specs.Loop.{Action, Send, Arrive, Hear, Other, Idle, accepted, begun, events, journal, known, receiver, reported, smallest, IsLoop, IsNumbered, IsOther, KeepOrder}
 use Rattle.tc_loop.specs.Start.{IsStart, NamesAnother, era, era_before, era_session, known_since, session_before}
 use Rattle.tc_loop.specs.Examples.{around, told_by_9, trap}
 use Rattle.tc_loop.proofs.Begun.{octets}
@@ -34,30 +38,41 @@ unfolding run_within some_of_first clcw_within
 told-known = refl
 
 pub told-accepted : accepted (era told_by_9) (era_session told_by_9) ≡ 1
-unfolding run_within some_of_first
+unfolding run_within some_of_first passed_on no_limits
 told-accepted = refl
 
 -- the second one meets each premise
 
-whole-0 : IsWhole (around 9 0)
+-- numbers that are octets
+abbrev pub small : List ℕ → Bool
+small [] = true
+small (x ∷ xs) = nat_lt x 256 && small xs
+
+octets-none : IsOctets []
+octets-none zero = omega arith
+octets-none (suc i) = omega arith
+
+pub octets-by : (xs : List ℕ) → small xs ≡ true → IsOctets xs
+octets-by [] all = octets-none
+octets-by (x ∷ xs) all = by (nat_lt x 256) refl all (octets-by xs) where
+  by : (t : Bool) → nat_lt x 256 ≡ t → (t && small xs) ≡ true → (small xs ≡ true → IsOctets xs) → IsOctets (x ∷ xs)
+  by true less rest more = octets-cons x xs (grind (arith, nat_tests)) (more rest)
+  by false less rest more = absurd cc
+
+pub whole-0 : IsWhole (around 9 0)
 whole-0 = record { each = octets 0 0; least = omega arith; most = omega arith; version = refl; spare = refl; named = refl }
 
-octets-1 : IsOctets (around 9 1)
-octets-1 zero = omega arith
-octets-1 (suc zero) = omega arith
-octets-1 (suc (suc zero)) = omega arith
-octets-1 (suc (suc (suc zero))) = omega arith
-octets-1 (suc (suc (suc (suc zero)))) = omega arith
-octets-1 (suc (suc (suc (suc (suc zero))))) = omega arith
-octets-1 (suc (suc (suc (suc (suc (suc zero)))))) = omega arith
-octets-1 (suc (suc (suc (suc (suc (suc (suc zero))))))) = omega arith
-octets-1 (suc (suc (suc (suc (suc (suc (suc (suc n)))))))) = omega arith
+pub whole-1 : IsWhole (around 9 1)
+whole-1 = record { each = octets-by (around 9 1) refl; least = omega arith; most = omega arith; version = refl; spare = refl; named = refl }
 
-whole-1 : IsWhole (around 9 1)
-whole-1 = record { each = octets-1; least = omega arith; most = omega arith; version = refl; spare = refl; named = refl }
+pub whole-2 : (i : ℕ) → IsWhole (around 9 (suc (suc i)))
+whole-2 i = record { each = each; least = omega arith; most = omega arith; version = refl; spare = refl; named = refl } where
+  back : List ℕ
+  back = 0xc0 ∷ 0x10 ∷ 0x05 ∷ 0xc0 ∷ 0x00 ∷ 0x00 ∷ 0x00 ∷ 0xaa ∷ []
 
-whole-2 : (i : ℕ) → IsWhole (around 9 (suc (suc i)))
-whole-2 i = record { each = octets 9 i; least = omega arith; most = omega arith; version = refl; spare = refl; named = refl }
+  each : IsOctets (around 9 (suc (suc i)))
+  each = octets-append (0x00 ∷ 0x2a ∷ 0x04 ∷ 0x0c ∷ []) ((9 + i) % 256 ∷ back) (octets-by (0x00 ∷ 0x2a ∷ 0x04 ∷ 0x0c ∷ []) refl)
+      (octets-cons ((9 + i) % 256) back (omega arith) (octets-by back refl))
 
 numbered : (i : ℕ) → IsNumbered (era told_by_9) i
 numbered i =
@@ -70,8 +85,10 @@ numbered i =
     }
 
 lawful : IsLawfulWithin told_by_9.loop.limits told_by_9.loop.settings (journal told_by_9.loop told_by_9.session)
-unfolding IsLawfulWithin some_of_first passed_on
-lawful = ((whole-0, refl), ((whole-1, refl), ((whole-1, refl), ((whole-2 0, refl), tt))))
+unfolding IsLawfulWithin some_of_first passed_on no_limits
+lawful =
+    let packet : List ℕ = 0x10 ∷ 0x05 ∷ 0xc0 ∷ 0x00 ∷ 0x00 ∷ 0x00 ∷ 0xaa ∷ [] in
+    ((whole-0, refl), ((whole-1, refl), ((whole-1, refl), ((whole-2 0, refl), (omega arith, (omega arith, ((0, record { key = 5; capacity = 1; admitted = packet ∷ []; taken = 0 }, omega arith, refl, (refl, omega arith)), tt)))))))
 
 one-item : {A : Type 0} (P : A → Type 0) (a : A) → P a → All P (a ∷ [])
 one-item P a h zero d within = h
@@ -107,12 +124,12 @@ abbrev IsAt : ℕ → Action → Type 0
 IsAt t (Send j) = ((t ≡ 0) × (j ≡ 0)) ⊎ (((t ≡ 2) × (j ≡ 1)) ⊎ ((t ≡ 7) × (j ≡ 2)))
 IsAt t (Arrive j s) = ((t ≡ 1) × (j ≡ 0) × (s ≡ 0)) ⊎ (((t ≡ 4) × (j ≡ 1) × (s ≡ 2)) ⊎ (((t ≡ 8) × (j ≡ 1) × (s ≡ 2)) ⊎ ((t ≡ 9) × (j ≡ 2) × (s ≡ 7))))
 IsAt t (Hear m) = ((t ≡ 3) × (m ≡ 0)) ⊎ (((t ≡ 5) × (m ≡ 2)) ⊎ (((t ≡ 6) × (m ≡ 5)) ⊎ ((t ≡ 10) × (m ≡ 10))))
-IsAt t (Other e) = ⊥
+IsAt t (Other e) = IsOther e × ((state : ChannelState) → set_by told_by_9.loop.settings state e ≡ None)
 IsAt t Idle = ⊥
 
 at : (t : ℕ) (a : Action) → slice_get told_by_9.session t ≡ Some a → IsAt t a
 at t a e = so-at IsAt told_by_9.session t a
-    (inl (refl, refl), (inl (refl, refl, refl), (inr (inl (refl, refl)), (inl (refl, refl), (inr (inl (refl, refl, refl)), (inr (inl (refl, refl)), (inr (inr (inl (refl, refl))), (inr (inr (refl, refl)), (inr (inr (inl (refl, refl, refl))), (inr (inr (inr (refl, refl, refl))), (inr (inr (inr (refl, refl))), tt)))))))))))
+    (inl (refl, refl), (inl (refl, refl, refl), (inr (inl (refl, refl)), (inl (refl, refl), (inr (inl (refl, refl, refl)), (inr (inl (refl, refl)), (inr (inr (inl (refl, refl))), (inr (inr (refl, refl)), (inr (inr (inl (refl, refl, refl))), (inr (inr (inr (refl, refl, refl))), (inr (inr (inr (refl, refl))), ((tt, λ state. refl), ((tt, λ state. refl), ((tt, λ state. refl), tt))))))))))))))
     e
 
 in-order : KeepOrder told_by_9.session
@@ -129,9 +146,12 @@ in-order = record {
   arrived t i s (inr (inr (inr p))) = rw (p.0, p.1, p.2) (omega arith, refl)
 
 last : NoneSetsWithin told_by_9.loop.limits told_by_9.loop.settings (journal told_by_9.loop (take 9 told_by_9.session)) (events told_by_9.loop (drop 9 told_by_9.session))
-unfolding run_within some_of_first
+unfolding run_within some_of_first passed_on no_limits
 last zero e h = let q : Frame (around 9 2) ≡ e = cc in rw (← q) refl
-last (suc i) e h = absurd cc
+last (suc zero) e h = let q : Release ≡ e = cc in rw (← q) refl
+last (suc (suc zero)) e h = let q : Release ≡ e = cc in rw (← q) refl
+last (suc (suc (suc zero))) e h = let q : Take 5 ≡ e = cc in rw (← q) refl
+last (suc (suc (suc (suc i)))) e h = absurd cc
 
 sends : (t i : ℕ) → IsAt t (Send (1 + 1 + i)) → (6 < t) × (known_since told_by_9 t ≤ i) × (i < known_since told_by_9 t + 5)
 unfolding run_within some_of_first clcw_within
@@ -155,7 +175,7 @@ each-premise = record {
   asks = λ t e. let p = at t (Send 1) e in grind arith;
   sends = λ t i e. sends t i (at t (Send (told_by_9.directive + 1 + i)) e);
   links = in-order;
-  others = λ t e h. absurd (at t (Other e) h);
+  others = λ t e h. let p = at t (Other e) h in (p.0, p.1 (receiver told_by_9.loop (take t told_by_9.session)));
 }
 
 -- the time before was a loop, of which no CLCW can say 9

@@ -1,8 +1,9 @@
 -- Sessions worked out by hand, to be read with the definitions.
-use Rattle.std.specs.Prelude.{ℕ, zero, suc, ◌+◌, List, [], ◌∷◌, ◌++◌}
+use Rattle.std.specs.Prelude.{ℕ, zero, suc, ◌+◌, ◌%◌, List, [], ◌∷◌, ◌++◌}
 unfoldable use Rattle.tc_channel.specs.ChannelState.{no_limits}
 use Rattle.tc_channel.specs.Examples as example
-use Rattle.tc_loop.specs.Loop.{Loop, Action, Send, Arrive, Hear, new_loop, smallest}
+use Rattle.tc_channel.specs.declared.event.Event.TheVariants.{Release, Take}
+use Rattle.tc_loop.specs.Loop.{Loop, Action, Send, Arrive, Hear, Other, new_loop, smallest}
 use Rattle.tc_loop.specs.Start.{Start}
 
 -- a receiver with a window of 10, a buffer of 2 and V(R) 255, and a sender with a window of 5
@@ -35,11 +36,11 @@ overtaken = one_by_one 0 0 255 ++ Hear 510 ∷ Send 255 ∷ Arrive 255 511 ∷ A
 abbrev pub old_report : List Action
 old_report = Send 0 ∷ Arrive 0 0 ∷ Hear 2 ∷ Hear 0 ∷ []
 
--- frame 0 is of before; then comes a Set V(R) to x, and then frames that are numbered from x on
+-- frame 0 is of before; then comes a Set V(R) to x, and then frames that are numbered from x on, each with a packet of application 5
 abbrev pub around : ℕ → ℕ → List ℕ
 around x zero = smallest 0 0
 around x (suc zero) = 0x30 ∷ 0x2a ∷ 0x04 ∷ 0x07 ∷ 0x00 ∷ 0x82 ∷ 0x00 ∷ x ∷ []
-around x (suc (suc i)) = smallest x i
+around x (suc (suc i)) = example.packet_octets ((x + i) % 256)
 
 abbrev pub around_set_to : ℕ → Loop
 around_set_to x = record (new_loop no_limits (example.buffer_of 2) (λ m. example.link_up) 5) { first = x; frames = around x }
@@ -57,12 +58,12 @@ trap = record {
 }
 
 -- the same with a Set V(R) to 9: no CLCW of before says 9. It is obeyed twice, the second time when the sender believes so already; then frame 0
--- of the era is accepted, and the sender hears of it
+-- of the era is accepted, the sender hears of it, the data fields of frame 0 of before and of this one are released, and the packet is taken
 abbrev pub told_by_9 : Start
 told_by_9 = record {
   loop = around_set_to 9;
   directive = 1;
-  session = Send 0 ∷ Arrive 0 0 ∷ Send 1 ∷ Hear 0 ∷ Arrive 1 2 ∷ Hear 2 ∷ Hear 5 ∷ Send 2 ∷ Arrive 1 2 ∷ Arrive 2 7 ∷ Hear 10 ∷ [];
+  session = Send 0 ∷ Arrive 0 0 ∷ Send 1 ∷ Hear 0 ∷ Arrive 1 2 ∷ Hear 2 ∷ Hear 5 ∷ Send 2 ∷ Arrive 1 2 ∷ Arrive 2 7 ∷ Hear 10 ∷ Other Release ∷ Other Release ∷ Other (Take 5) ∷ [];
   obeyed = 4;
   again = 8;
   believed = 6;

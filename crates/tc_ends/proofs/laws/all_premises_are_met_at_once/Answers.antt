@@ -1,13 +1,24 @@
+use Rattle.std.proofs.Common.{false, refl}
+use Rattle.tc_cltu.specs.declared.block.Mode.TheVariants.{Correct}
+use Rattle.tc_loop.specs.Examples.{told_by_9}
+use Rattle.tc_loop.proofs.Starts.{each-premise}
+use Rattle.tc_ends.specs.Examples.{in_cltus}
+use Rattle.tc_ends.proofs.Arrived.{carried-unaltered, carried-whole}
 use Rattle.tc_ends.proofs.Premises as met
 use Rattle.tc_ends.proofs.laws.all_premises_are_met_at_once.Goals as goal
 
 pub returns : goal.returns
 returns c = record {
-  frames_in_loop = met.is-loop;
-  headers = met.headers;
+  begins = each-premise;
   can_be_sent = met.can;
   numbered = met.numbered;
-  sends = met.sends;
-  released = met.released;
+  frames_sent = met.from-first;
+  only = met.only-first;
+  carried = met.carried;
+  unaltered = carried-unaltered Correct false told_by_9.loop.frames told_by_9.session in_cltus met.carried;
+  brought = carried-whole Correct false told_by_9.loop told_by_9.session in_cltus met.carried;
+  headers = refl;
   queue = met.queue;
+  asked = refl;
+  given = met.given;
 }
