@@ -1,6 +1,6 @@
 //! Laws of a loop of a sender and a receiver, over links that lose, repeat and delay what they carry, but keep its order.
 
-ghost use Rattle.std.specs.Prelude.{List, ℕ, [], ◌++◌, ◌≡◌, ◌≢◌, ◌≤◌, ◌<◌, ◌+◌, ◌/◌, Some, length, slice_get, take};
+ghost use Rattle.std.specs.Prelude.{List, ℕ, Bool, [], ◌++◌, ◌≡◌, ◌≢◌, ◌≤◌, ◌<◌, ◌+◌, ◌/◌, ◌%◌, ◌↔◌, IsTrue, Some, length, slice_get, take, if◌then◌else◌};
 ghost use Rattle.tc_link.specs.Frame.{header_of};
 ghost use Rattle.tc_link.specs.Window.{place_of};
 ghost use Rattle.tc_link.specs.declared.Link.{Link};
@@ -11,8 +11,9 @@ ghost use Rattle.tc_channel.specs.Through.{passed_since, released_since, sent_fr
 ghost use Rattle.tc_channel.specs.Settings.{IsAllowed};
 ghost use Rattle.tc_channel.specs.declared.settings.Settings.{Settings};
 ghost use Rattle.tc_channel.specs.Era.{ComesFromWithin, accepted_since_within};
-ghost use Rattle.tc_loop.specs.Loop.{Loop, Action, Arrive, Hear, accepted, begun, heard, known, reported, IsLoop, IsKnownSo, KeepOrder, GoesOn, GoesOnBy, LocksOut, events, journal, last_of, new_loop, receiver, round, sent, smallest};
+ghost use Rattle.tc_loop.specs.Loop.{Loop, Action, Arrive, Hear, above, accepted, begun, heard, known, reported, IsLoop, IsKnownSo, KeepOrder, GoesOn, GoesOnBy, LocksOut, events, journal, last_of, new_loop, receiver, round, sent, smallest};
 ghost use Rattle.tc_loop.specs.Start.{Start, IsObeyed, IsStart, NamesAnother, era, era_before, known_since, era_session, session_before};
+ghost use Rattle.tc_loop.specs.Watched.{event_at, is_here_or_ahead, is_here_or_behind};
 ghost use Rattle.tc_loop.specs.Examples as example;
 
 /// In a loop no frame comes 256 numbers early or late: links that keep order and a sender that keeps its window see to it.
@@ -117,6 +118,18 @@ pub fn report_values_are_read_so()
     ensures beyond { heard 250 10 0 5 ≡ 0 }
     ensures older { heard 0 10 5 4 ≡ 5 }
     ensures widest { heard 0 255 255 254 ≡ 510 }
+{}
+
+/// FARM-1 tells of a sender with a window of K frames, if it is asked in a channel whose own window is 2 K: whether the sender may send a frame
+/// (`may_send`), by the half ahead of the number of the first that it doesn't know to be accepted; and what it knows after it read an N(R)
+/// (`known_after`), by the half behind.
+pub fn a_window_twice_as_wide_tells_of_a_sender()
+    ensures sends { (window first known index : ℕ) (room : Bool) → 1 ≤ window → window ≤ 127 → known ≤ index → index < known + 256
+        → IsTrue (is_here_or_ahead (event_at window ((first + known) % 256) ((first + index) % 256) room)) ↔ (index < known + window) }
+    ensures hears { (window first known report : ℕ) (room : Bool) → 1 ≤ window → window ≤ 127 → report < 256
+        → IsTrue (is_here_or_behind (event_at window report ((first + known) % 256) room)) ↔ (above first known report ≤ window) }
+    ensures known { (window first known report : ℕ) (room : Bool) → 1 ≤ window → window ≤ 127 → report < 256
+        → (first + heard first window known report) % 256 ≡ (if is_here_or_behind (event_at window report ((first + known) % 256) room) then report else (first + known) % 256) }
 {}
 
 /// Each premise on window and links is needed. Where the window is 256, the sender's first 256 frames may be accepted and none be known to be, so

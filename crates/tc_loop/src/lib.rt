@@ -15,7 +15,8 @@
 //! [`a_number_of_its_own_tells_that_set_v_r_was_obeyed`],
 //! [`starts_come_to_this`],
 //! [`a_session_comes_to_this`],
-//! [`report_values_are_read_so`] and
+//! [`report_values_are_read_so`],
+//! [`a_window_twice_as_wide_tells_of_a_sender`] and
 //! [`each_premise_is_needed`].
 #![tactic(auto)]
 
@@ -27,7 +28,7 @@ pub use laws::{
     a_loop_accepts_what_was_sent_once_and_in_order, a_loop_can_always_go_on,
     a_loop_is_never_locked_out, a_loop_passes_on_what_was_sent_in_order,
     a_number_of_its_own_tells_that_set_v_r_was_obeyed, a_sender_knows_what_is_accepted,
-    a_session_comes_to_this, a_wider_window_can_lock_out, an_era_that_set_v_r_starts_is_a_loop,
-    each_premise_is_needed, each_receiver_can_be_in_a_loop, frames_of_a_loop_come_in_their_time,
-    report_values_are_read_so, starts_come_to_this,
+    a_session_comes_to_this, a_wider_window_can_lock_out, a_window_twice_as_wide_tells_of_a_sender,
+    an_era_that_set_v_r_starts_is_a_loop, each_premise_is_needed, each_receiver_can_be_in_a_loop,
+    frames_of_a_loop_come_in_their_time, report_values_are_read_so, starts_come_to_this,
 };

@@ -1,0 +1,22 @@
+-- What FARM-1 is asked about a sender that keeps a window of K frames: a channel is asked whose own window is twice as wide.
+use Rattle.std.specs.Prelude.{ℕ, ◌*◌, Bool, true, false}
+use Rattle.tc_link.specs.declared.Kind.TheVariants.{Ad}
+use Rattle.tc_link.specs.Farm.{Row, E1, E2, E3, E4, frame_row}
+
+-- by which event FARM-1 meets a Type-AD frame with the number ns where V(R) is vr, with room for it or without
+abbrev pub event_at : ℕ → ℕ → ℕ → Bool → Row
+event_at window vr ns room = frame_row (2 * window) vr (Ad ns) room
+
+-- the frame is expected, or in the half ahead
+abbrev pub is_here_or_ahead : Row → Bool
+is_here_or_ahead E1 = true
+is_here_or_ahead E2 = true
+is_here_or_ahead E3 = true
+is_here_or_ahead _ = false
+
+-- the frame is expected, or in the half behind
+abbrev pub is_here_or_behind : Row → Bool
+is_here_or_behind E1 = true
+is_here_or_behind E2 = true
+is_here_or_behind E4 = true
+is_here_or_behind _ = false
