@@ -1,1 +1,2 @@
 pub mod OneChannel
+mod GivenOut

@@ -1,13 +1,10 @@
 -- The session that meets all premises at once: that of `told_by_9`, whose frames come in CLTUs.
-use Rattle.std.proofs.Common.{◌≡◌, ℕ, zero, suc, ◌<◌, ◌≤◌, Bool, true, false, List, [], ◌∷◌, ◌++◌, length, Some, None, refl, subst, sym, arith}
-use Rattle.std.specs.Prelude.{slice_get}
+use Rattle.std.proofs.Common.{◌≡◌, ℕ, zero, suc, ◌<◌, ◌≤◌, false, List, [], ◌∷◌, ◌++◌, Some, refl, subst, sym, arith}
 use Rattle.tc_channel.proofs.Names.{get_or}
 use Rattle.std.specs.List.{AllByRecursion}
-use Rattle.tc_link.specs.declared.frame.Header.{Header}
 unfoldable use Rattle.tc_link.specs.Window.{some_of_first}
-use Rattle.tc_link.specs.Frame.{IsWhole}
 unfoldable use Rattle.tc_fecf.specs.Checksum.{octet_bits}
-use Rattle.tc_cltu.specs.Cltu.{filled, tail_sequence}
+use Rattle.tc_cltu.specs.Cltu.{filled}
 use Rattle.tc_cltu.specs.CodeBlock.{IsInformation, errors}
 unfoldable use Rattle.tc_cltu.specs.CodeBlock.{block_times_x, decoded}
 use Rattle.tc_cltu.specs.declared.block.Mode.TheVariants.{Correct}
@@ -18,7 +15,7 @@ unfoldable use Rattle.tc_channel.specs.ChannelState.{no_limits}
 use Rattle.tc_channel.specs.Given.{packets_given}
 unfoldable use Rattle.tc_channel.specs.Run.{passed_on, run_within}
 use Rattle.tc_loop.specs.Examples.{told_by_9}
-use Rattle.tc_loop.specs.Loop.{Action, Send, Arrive, Hear, Other, Idle, events, receiver}
+use Rattle.tc_loop.specs.Loop.{Action, Send, events, receiver}
 use Rattle.tc_loop.specs.Start.{era, era_session}
 use Rattle.tc_loop.proofs.Moments.{so-at}
 use Rattle.tc_loop.proofs.Starts.{octets-by, whole-0, whole-1, whole-2}

@@ -1,17 +1,13 @@
 -- From a sender's packets, over the start of an era, to what takes give.
 use Rattle.tc_channel.proofs.Names.{◌≡◌, ℕ, zero, suc, ◌≤◌, List, [], ◌∷◌, ◌++◌, length, map, Some, refl, sym, ap, subst, ◌∙◌, inl, inr, arith, AllByRecursion, queue_of, Queue, run_within}
-use Rattle.std.specs.Prelude.{Bool, false, true}
+use Rattle.std.specs.Prelude.{Bool, true}
 use Rattle.std.proofs.lemmas.List.{length-drop}
 use Rattle.tc_link.specs.declared.frame.Header.{Header}
-use Rattle.tc_channel.specs.Run.{field_of, run}
-use Rattle.tc_channel.specs.ChannelState.{no_limits}
-use Rattle.tc_channel.specs.Journal.{History}
+use Rattle.tc_channel.specs.Run.{field_of}
 use Rattle.tc_channel.specs.declared.event.Event.{Event}
-use Rattle.tc_channel.specs.declared.settings.Settings.{Settings}
-use Rattle.tc_channel.specs.Through.{passed_since, released_since, sent_from}
+use Rattle.tc_channel.specs.Through.{released_since, sent_from}
 use Rattle.tc_channel.proofs.Given.{released-within}
 use Rattle.tc_loop.specs.Loop.{Loop, Action, IsLoop, accepted, begun, journal, receiver, sent}
-use Rattle.tc_loop.proofs.Given.{passed-on}
 use Rattle.tc_loop.specs.Start.{Start, IsStart, era, era_session}
 use Rattle.tc_loop.proofs.Counted.{begins, comes, known-so}
 use Rattle.tc_loop.proofs.Started.{is-loop, journal-whole}
@@ -20,7 +16,7 @@ use Rattle.tc_cltu.specs.Reception.{Reception}
 use Rattle.tc_cltu.specs.declared.block.Mode.{Mode}
 use Rattle.tc_ends.specs.Arrivals.{AltersNothing, AreEventsOf, Coming}
 use Rattle.tc_ends.proofs.Arrived.{events-came}
-use Rattle.tc_ends.specs.Ends.{AreFrom, AreGivenOf, AreNumbered, CanBeSent, IsChannelOf, SendsOnly, UnitSent, units_on}
+use Rattle.tc_ends.specs.Ends.{AreFrom, AreGivenOf, AreNumbered, CanBeSent, SendsOnly, UnitSent, units_on}
 use Rattle.tc_ends.proofs.CanSend.{shift}
 use Rattle.tc_ends.proofs.Numbered.{numbered-sends}
 use Rattle.tc_ends.proofs.Segmented.{Makes}
@@ -77,26 +73,3 @@ packets-in-cltus make s header units frames apid q mode field state coming came 
     let same : journal s.loop s.session ≡ s.loop.before ++ came = ap (λ (x : List Event). s.loop.before ++ x) (sym (events-came mode field s.loop state s.session coming came so events)) in
     subst (λ es. AreGivenOf s.loop.limits s.loop.settings apid (era s).before es (length frames) (units_on units)) same
     (packets-of-start make s header units frames apid q k can numbered are only headed (subst (λ es. queue_of apid (run_within s.loop.limits s.loop.settings es).queues ≡ Some q) (sym same) has))
-
--- the same of a channel that a close gives out
-pub passed-of-channel : (l : Loop) (session : List Action) (channel : History) → IsLoop l session → IsChannelOf l session channel
-    → passed_since no_limits channel.settings l.before (run channel.settings channel.journal).passed ≡ sent_from (sent l) 0 (released_since no_limits channel.settings l.before channel.journal)
-passed-of-channel l session channel k is =
-    subst (λ limits. passed_since limits channel.settings l.before (run_within limits channel.settings channel.journal).passed ≡ sent_from (sent l) 0 (released_since limits channel.settings l.before channel.journal)) is.limits
-    (subst (λ (c : Settings). passed_since l.limits c l.before (run_within l.limits c channel.journal).passed ≡ sent_from (sent l) 0 (released_since l.limits c l.before channel.journal)) is.settings
-    (subst (λ (es : List Event). passed_since l.limits l.settings l.before (run_within l.limits l.settings es).passed ≡ sent_from (sent l) 0 (released_since l.limits l.settings l.before es)) is.journal
-    (passed-on l session k)))
-
-abbrev Says : Loop → List UnitSent → ℕ → ℕ → Queue → (ℕ → ℕ) → Settings → List Event → Type 0
-Says l units n apid q limits c es = AllByRecursion (CanBeSent limits) units → c.segmented ≡ true → queue_of apid (run_within limits c es).queues ≡ Some q → AreGivenOf limits c apid l.before es n (units_on units)
-
-pub packets-of-channel : Makes → (l : Loop) (session : List Action) (channel : History) (header : Header) (units : List UnitSent) (frames : List (List ℕ)) (apid : ℕ) (q : Queue) → IsLoop l session
-    → IsChannelOf l session channel → AllByRecursion (CanBeSent no_limits) units → AreNumbered header units frames → AreFrom l.frames frames → SendsOnly (length frames) session
-    → channel.settings.segmented ≡ true → queue_of apid (run channel.settings channel.journal).queues ≡ Some q
-    → AreGivenOf no_limits channel.settings apid l.before channel.journal (length frames) (units_on units)
-packets-of-channel make l session channel header units frames apid q k is can numbered are only headed has =
-    subst (λ limits. Says l units (length frames) apid q limits channel.settings channel.journal) is.limits
-    (subst (λ (c : Settings). Says l units (length frames) apid q l.limits c channel.journal) is.settings
-    (subst (λ (es : List Event). Says l units (length frames) apid q l.limits l.settings es) is.journal
-    (λ a b c. packets-of-loop make l session header units frames apid q k a numbered are only b c)))
-    can headed has

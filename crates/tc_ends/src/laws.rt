@@ -6,7 +6,7 @@ ghost use Rattle.tc_packet.specs.SpacePacket.{IsPacket, joined, packets_of, rest
 ghost use Rattle.tc_write.specs.Segments.{AreSegments};
 ghost use Rattle.tc_packet.specs.Reassembly.{Passed, same_service};
 ghost use Rattle.tc_packet.specs.declared.Service.{Service};
-ghost use Rattle.tc_channel.specs.Through.{IsPartOf, all_made, packets_made, passed_since, released_since, sent_from, units_made};
+ghost use Rattle.tc_channel.specs.Through.{IsPartOf, all_made, packets_made, released_since, sent_from, units_made};
 ghost use Rattle.tc_channel.specs.declared.settings.Settings.{Settings};
 ghost use Rattle.tc_link.specs.Frame.{IsWhole, header_of};
 ghost use Rattle.tc_cltu.specs.Reception.{Reception, Searching};
@@ -15,16 +15,15 @@ ghost use Rattle.tc_cltu.specs.declared.block.Mode.TheVariants.{Correct};
 ghost use Rattle.tc_link.specs.declared.frame.Header.{Header};
 ghost use Rattle.tc_channel.specs.declared.event.Event.{Event};
 ghost use Rattle.tc_channel.specs.declared.event.Event.TheVariants.{Frame};
-ghost use Rattle.tc_channel.specs.ChannelState.{Queue, first_state_within, no_limits, queue_of};
-ghost use Rattle.tc_channel.specs.Journal.{History};
+ghost use Rattle.tc_channel.specs.ChannelState.{Queue, first_state_within, queue_of};
 ghost use Rattle.tc_channel.specs.Account.{unit_on};
 ghost use Rattle.tc_channel.specs.Era.{IsEraWithin, ComesFromWithin};
 ghost use Rattle.tc_channel.specs.Given.{packets_given, units_given};
-ghost use Rattle.tc_channel.specs.Run.{IsLawfulWithin, field_of, run, run_within};
+ghost use Rattle.tc_channel.specs.Run.{IsLawfulWithin, field_of, run_within};
 ghost use Rattle.tc_loop.specs.Loop.{Loop, Action, IsLoop, events, journal, receiver, sent};
 ghost use Rattle.tc_loop.specs.Start.{Start, IsStart, era, era_session};
 ghost use Rattle.tc_ends.specs.Arrivals.{AltersNothing, AreCarried, AreEventsAt, AreEventsOf, Coming, IsNearCltu, Octets, enclosed, state_behind};
-ghost use Rattle.tc_ends.specs.Ends.{AreAllPackets, AreFrom, AreGivenOf, AreMerged, AreNumbered, AreWritten, CanBeSent, CarrySent, CarryUnits, EndAtLast, IsChannelOf, IsPlainSendable, IsSendable, PacketsSent, SendsOnly, SendsPackets, Sent, UnitSent, all_joined, fields_in_order, is_chosen_map, is_same_stream, joined_on, on_map, only_on, packets_sent_on, packets_to, passed_before, passed_in, sent_on, units_on};
+ghost use Rattle.tc_ends.specs.Ends.{AreAllPackets, AreFrom, AreGivenOf, AreMerged, AreNumbered, AreWritten, CanBeSent, CarrySent, CarryUnits, EndAtLast, IsPlainSendable, IsSendable, PacketsSent, SendsOnly, SendsPackets, Sent, UnitSent, all_joined, fields_in_order, is_chosen_map, is_same_stream, joined_on, on_map, only_on, packets_sent_on, packets_to, passed_before, passed_in, sent_on, units_on};
 ghost use Rattle.tc_loop.specs.Examples as start;
 ghost use Rattle.tc_ends.specs.Examples as example;
 
@@ -147,21 +146,6 @@ pub fn packets_from_a_start_are_given()
         → AllByRecursion (CanBeSent s.loop.limits) units → AreNumbered header units frames → AreFrom (era s).frames frames → SendsOnly (length frames) (era_session s)
         → s.loop.settings.segmented ≡ true → queue_of apid (receiver s.loop s.session).queues ≡ Some q
         → AreGivenOf s.loop.limits s.loop.settings apid (era s).before (journal s.loop s.session) (length frames) (units_on units) }
-{
-    the_segments_of_a_unit_make_the_unit();
-}
-
-/// Over any threads: where the journal that a station's close gives out of a channel is that of a session of a loop, the Type-AD data fields of the
-/// era that were released are what was sent, each once and in order (`passed`), and takes gave what [`packets_that_are_sent_are_given`] says
-/// (`given`). The premises are those of a loop, in place of those of `sent` of `from_a_sender_to_packets` (tc_station), which ties this journal to the
-/// calls of all threads.
-pub fn a_channel_given_out_has_what_a_loop_sent()
-    ensures passed { (l : Loop) (session : List Action) (channel : History) → IsLoop l session → IsChannelOf l session channel
-        → passed_since no_limits channel.settings l.before (run channel.settings channel.journal).passed ≡ sent_from (sent l) 0 (released_since no_limits channel.settings l.before channel.journal) }
-    ensures given { (l : Loop) (session : List Action) (channel : History) (header : Header) (units : List UnitSent) (frames : List (List ℕ)) (apid : ℕ) (q : Queue) → IsLoop l session
-        → IsChannelOf l session channel → AllByRecursion (CanBeSent no_limits) units → AreNumbered header units frames → AreFrom l.frames frames → SendsOnly (length frames) session
-        → channel.settings.segmented ≡ true → queue_of apid (run channel.settings channel.journal).queues ≡ Some q
-        → AreGivenOf no_limits channel.settings apid l.before channel.journal (length frames) (units_on units) }
 {
     the_segments_of_a_unit_make_the_unit();
 }

@@ -16,7 +16,6 @@
 //! [`units_that_are_sent_are_given`],
 //! [`numbered_frames_send_packets`],
 //! [`packets_from_a_start_are_given`],
-//! [`a_channel_given_out_has_what_a_loop_sent`],
 //! [`a_cltu_with_few_wrong_bits_brings_its_frame`],
 //! [`packets_in_cltus_are_given`],
 //! [`cltus_with_few_wrong_bits_bring_a_session`] and
@@ -26,8 +25,8 @@
 mod laws;
 
 pub use laws::{
-    a_channel_given_out_has_what_a_loop_sent, a_cltu_with_few_wrong_bits_brings_its_frame,
-    all_packets_can_be_sent, all_premises_are_met_at_once, all_units_can_be_carried,
+    a_cltu_with_few_wrong_bits_brings_its_frame, all_packets_can_be_sent,
+    all_premises_are_met_at_once, all_units_can_be_carried,
     cltus_with_few_wrong_bits_bring_a_session, joined_packets_are_cut_into_them,
     numbered_frames_send_packets, packets_from_a_start_are_given, packets_in_cltus_are_given,
     packets_of_a_loop_are_given, packets_of_one_stream_are_its_own,

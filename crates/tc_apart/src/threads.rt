@@ -1,0 +1,50 @@
+//! From a sender's packets to what takes give, over any threads.
+
+ghost use Rattle.std.specs.Prelude.{Bool, List, ℕ, ◌++◌, ◌≡◌, length, slice_get, true, Some};
+ghost use Rattle.std.specs.List.{AllByRecursion};
+ghost use Rattle.tc_link.specs.declared.frame.Header.{Header};
+ghost use Rattle.tc_cltu.specs.Reception.{Reception};
+ghost use Rattle.tc_cltu.specs.declared.block.Mode.{Mode};
+ghost use Rattle.tc_channel.specs.declared.event.Event.{Event};
+ghost use Rattle.tc_channel.specs.ChannelState.{Queue, no_limits, queue_of};
+ghost use Rattle.tc_channel.specs.Journal.{History};
+ghost use Rattle.tc_channel.specs.Run.{run, run_within};
+ghost use Rattle.tc_channel.specs.Through.{passed_since, released_since, sent_from};
+ghost use Rattle.tc_station.specs.Roster.{Roster, settings_in};
+ghost use Rattle.tc_station.specs.Tally.{AtStation};
+ghost use Rattle.tc_station.specs.Together.{AreClosedTogether};
+ghost use Rattle.tc_loop.specs.Loop.{Loop, Action, IsLoop, journal, receiver, sent};
+ghost use Rattle.tc_loop.specs.Start.{Start, IsStart, era, era_session};
+ghost use Rattle.tc_ends.specs.Arrivals.{AltersNothing, AreEventsOf, Coming};
+ghost use Rattle.tc_ends.specs.Ends.{AreFrom, AreGivenOf, AreNumbered, CanBeSent, SendsOnly, UnitSent, units_on};
+
+use tc_write::the_segments_of_a_unit_make_the_unit;
+
+/// Threads work at the channels of a station, each with an operator of its own, in any order, and the station is closed together with these
+/// operators. `from_a_sender_to_packets` (tc_station) ties the journal of each channel that it gives out to their calls. Here the premises on this
+/// journal are those of a loop, in place of those of its clause `sent`; so threads are part of the link, which keeps order.
+///
+/// - `passed`: where the journal is that of a session of a loop, the Type-AD data fields of the era that were released are what was sent, each once,
+///   in order.
+/// - `given`: takes gave what `packets_that_are_sent_are_given` (tc_ends) says of the packets that the sender sent.
+/// - `in_cltus`: the same over both edges, from a ground system's packets, over the start of an era and in CLTUs with wrong bits, to what takes gave.
+///   The premises are those of `packets_in_cltus_are_given` (tc_ends).
+pub fn a_station_gives_out_what_a_loop_sent()
+    ensures passed { (station : Roster) (operators : List AtStation) (closed : List History) (place : ℕ) (channel : History) (l : Loop) (session : List Action)
+        → AreClosedTogether station operators closed → slice_get closed place ≡ Some channel → slice_get (settings_in station) place ≡ Some l.settings → l.limits ≡ no_limits
+        → IsLoop l session → channel.journal ≡ journal l session
+        → passed_since no_limits channel.settings l.before (run channel.settings channel.journal).passed ≡ sent_from (sent l) 0 (released_since no_limits channel.settings l.before channel.journal) }
+    ensures given { (station : Roster) (operators : List AtStation) (closed : List History) (place : ℕ) (channel : History) (l : Loop) (session : List Action) (header : Header) (units : List UnitSent) (frames : List (List ℕ)) (apid : ℕ) (q : Queue)
+        → AreClosedTogether station operators closed → slice_get closed place ≡ Some channel → slice_get (settings_in station) place ≡ Some l.settings → l.limits ≡ no_limits
+        → IsLoop l session → channel.journal ≡ journal l session → AllByRecursion (CanBeSent l.limits) units → AreNumbered header units frames → AreFrom l.frames frames → SendsOnly (length frames) session
+        → l.settings.segmented ≡ true → queue_of apid (receiver l session).queues ≡ Some q
+        → AreGivenOf no_limits channel.settings apid l.before channel.journal (length frames) (units_on units) }
+    ensures in_cltus { (station : Roster) (operators : List AtStation) (closed : List History) (place : ℕ) (channel : History) (s : Start) (header : Header) (units : List UnitSent) (frames : List (List ℕ)) (apid : ℕ) (q : Queue) (mode : Mode) (field : Bool) (state : Reception) (coming : List Coming) (came : List Event)
+        → AreClosedTogether station operators closed → slice_get closed place ≡ Some channel → slice_get (settings_in station) place ≡ Some s.loop.settings → s.loop.limits ≡ no_limits
+        → IsStart s → channel.journal ≡ s.loop.before ++ came → AllByRecursion (CanBeSent s.loop.limits) units → AreNumbered header units frames → AreFrom (era s).frames frames → SendsOnly (length frames) (era_session s)
+        → AltersNothing mode field s.loop.frames state s.session coming → AreEventsOf mode field state coming came
+        → s.loop.settings.segmented ≡ true → queue_of apid (run_within s.loop.limits s.loop.settings (s.loop.before ++ came)).queues ≡ Some q
+        → AreGivenOf no_limits channel.settings apid (era s).before channel.journal (length frames) (units_on units) }
+{
+    the_segments_of_a_unit_make_the_unit();
+}
