@@ -1,2 +1,3 @@
 pub mod OneChannel
 mod GivenOut
+mod Merged

@@ -1,6 +1,13 @@
-//! A law over operations on several channels.
+//! Laws over operations on several channels.
 
-ghost use Rattle.std.specs.Prelude.{List, ℕ, ◌≡◌, map, filter};
+ghost use Rattle.std.specs.Prelude.{List, ℕ, ◌≡◌, map, filter, slice_get, Some};
+ghost use Rattle.logged_lock.specs.Log.{made_by};
+ghost use Rattle.tc_channel.specs.Journal.{History};
+ghost use Rattle.tc_desk.specs.Log.{accounts_of};
+ghost use Rattle.tc_desk.specs.Together.{column};
+ghost use Rattle.tc_station.specs.Roster.{Roster, settings_in};
+ghost use Rattle.tc_station.specs.Tally.{AtStation};
+ghost use Rattle.tc_station.specs.Together.{AreClosedTogether, crews_of};
 ghost use Rattle.tc_rack.specs.Linked.{Linked};
 ghost use Rattle.tc_rack.specs.Rack.{Racked, AreChannelsApart, IsOf};
 ghost use Rattle.tc_apart.specs.Apart.{Answered, ArePerformed, is_own, operation_of};
@@ -16,4 +23,14 @@ pub fn channels_do_not_touch_each_other()
         → IsOf a vcid (λ c. c ≡ channel) → IsOf b vcid (λ c. c ≡ channel) → ArePerformed one a after → ArePerformed other b behind
         → map operation_of (filter (is_own vcid) one) ≡ map operation_of (filter (is_own vcid) other)
         → (last : Linked) × IsOf after vcid (λ c. c ≡ last) × IsOf behind vcid (λ c. c ≡ last) }
+{}
+
+/// Two stations are closed, each together with its operators. Where a channel of the one has the settings of a channel of the other, and the operators
+/// made the same events at it, each at the same place of its journal, the two channels that are given out are the same, whatever was done at other
+/// channels. So each call on it had the same answer, too: that is the model's at the journal before it (`from_a_sender_to_packets` of tc_station).
+pub fn channels_of_a_station_do_not_touch_each_other()
+    ensures { (station other : Roster) (operators others : List AtStation) (closed shut : List History) (place at : ℕ) (one two : History)
+        → AreClosedTogether station operators closed → AreClosedTogether other others shut → slice_get closed place ≡ Some one → slice_get shut at ≡ Some two
+        → slice_get (settings_in station) place ≡ slice_get (settings_in other) at
+        → ((k : ℕ) → made_by (accounts_of (column place (crews_of operators))) k ≡ made_by (accounts_of (column at (crews_of others))) k) → one ≡ two }
 {}

@@ -1,4 +1,5 @@
-//! Channels don't touch each other: a law over lists of operations on the channels of a spacecraft, [`channels_do_not_touch_each_other`].
+//! Channels don't touch each other: laws over lists of operations on the channels of a spacecraft, [`channels_do_not_touch_each_other`], and over
+//! the channels that a station gives out, [`channels_of_a_station_do_not_touch_each_other`].
 //!
 //! And the way from a sender's packets to takes over any threads: [`a_station_gives_out_what_a_loop_sent`].
 #![tactic(auto)]
@@ -6,5 +7,5 @@
 mod laws;
 mod threads;
 
-pub use laws::channels_do_not_touch_each_other;
+pub use laws::{channels_do_not_touch_each_other, channels_of_a_station_do_not_touch_each_other};
 pub use threads::a_station_gives_out_what_a_loop_sent;
