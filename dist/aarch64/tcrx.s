@@ -2938,176 +2938,6 @@ tc_fixed.limits.LentLimits.check:
 613:
 	mov	w10, #6
 	b	187b
-	.section	.text.tc_c.decoder.end_block,"ax",@progbits
-	.p2align	2
-tc_c.decoder.end_block:
-	sub	sp, sp, #80
-	lsr	x10, x3, #8
-	stp	x29, x30, [sp, #32]
-	add	x29, sp, #32
-	lsr	x13, x3, #16
-	adrp	x17, .LTb4175d02
-	add	x17, x17, :lo12:.LTb4175d02
-	sturb	w10, [x29, #-7]
-	and	x10, x3, #0xff
-	ubfx	x11, x3, #8, #8
-	add	x14, x17, x10
-	ubfx	x12, x3, #16, #8
-	sturb	w13, [x29, #-6]
-	lsr	w13, w3, #24
-	ldrb	w18, [x14, #1536]
-	ubfx	x14, x3, #32, #8
-	ubfx	x15, x3, #40, #8
-	add	x16, x17, x11
-	str	x21, [sp, #48]
-	stp	x20, x19, [sp, #64]
-	add	x5, x17, x12
-	add	x6, x17, x13
-	ldrb	w7, [x16, #1280]
-	add	x20, x17, x14
-	add	x21, x17, x15
-	ubfx	x16, x3, #48, #8
-	ldrb	w5, [x5, #1024]
-	ldrb	w6, [x6, #768]
-	ldrb	w20, [x20, #512]
-	ldrb	w21, [x21, #256]
-	eor	w18, w18, w7
-	ldrb	w17, [x17, x16]
-	eor	w5, w5, w6
-	ldrb	w19, [x2]
-	eor	w20, w20, w21
-	eor	w18, w18, w5
-	ldrb	w8, [x2, #1]
-	eor	w17, w20, w17
-	ldrb	w9, [x2, #2]
-	lsr	x7, x3, #24
-	eor	w18, w18, w17
-	lsr	x17, x3, #57
-	lsr	x6, x3, #32
-	lsr	x21, x3, #40
-	lsr	x5, x3, #48
-	eor	w18, w18, #0x7f
-	ldrh	w20, [x2, #4]
-	cmp	w18, w17
-	sturb	w3, [x29, #-8]
-	sturb	w7, [x29, #-5]
-	sturb	w6, [x29, #-4]
-	sturb	w21, [x29, #-3]
-	sturb	w5, [x29, #-2]
-	b.ne	583f
-	ldur	w11, [x29, #-8]
-	ldur	w12, [x29, #-5]
-	mov	w10, wzr
-	str	w11, [sp, #16]
-	stur	w12, [sp, #19]
-	ldr	w11, [sp, #16]
-	mov	w12, w12
-	cmp	w20, #1022
-	str	w11, [sp, #8]
-	stur	w12, [sp, #11]
-	b.ls	93f
-613:
-	mov	w8, #1025
-	strb	w19, [x0]
-	sturh	wzr, [x0, #1]
-	strb	wzr, [x0, #3]
-	strh	w20, [x0, #4]
-	strh	w8, [x0, #6]
-	strb	wzr, [x0, #8]
-	ldp	x20, x19, [sp, #64]
-	ldr	x21, [sp, #48]
-	ldp	x29, x30, [sp, #32]
-	add	sp, sp, #80
-	ret
-583:
-	tst	w1, #0xff
-	b.eq	447f
-	eor	w17, w18, w17
-	adrp	x18, .LT3cb3454d
-	add	x18, x18, :lo12:.LT3cb3454d
-	ldrb	w17, [x18, w17, uxtw]
-	cmp	w17, #63
-	b.lo	405f
-447:
-	and	x8, x3, #0xff00000000000000
-	mov	w9, #50629
-	orr	x8, x8, x16, lsl #48
-	movk	w9, #50629, lsl #16
-	orr	x8, x8, x15, lsl #40
-	orr	x8, x8, x14, lsl #32
-	orr	x8, x8, x13, lsl #24
-	orr	x8, x8, x12, lsl #16
-	orr	x8, x8, x11, lsl #8
-	orr	x8, x8, x10
-	cmp	w8, w9
-	str	x8, [x29, #24]
-	b.ne	983f
-	adrp	x2, .LT9296ae30
-	add	x2, x2, :lo12:.LT9296ae30
-	mov	x21, x0
-	add	x0, x29, #24
-	mov	w1, #8
-	bl	core.cmp.slices.groups_equal._i8_31_core.cmp.numbers.U8PartialEq
-	mov	w8, w0
-	mov	w9, #2
-	mov	x0, x21
-	cmp	w8, #0
-	cinc	w10, w9, eq
-	b	118f
-983:
-	mov	w10, #3
-118:
-	cmp	w20, #0
-	mov	w8, wzr
-	mov	w9, wzr
-	cset	w11, ne
-	b	560f
-405:
-	lsr	x10, x17, #3
-	cmp	w10, #7
-	b.eq	232f
-	and	w11, w17, #0x7
-	mov	w12, #128
-	sub	x13, x29, #8
-	lsr	w11, w12, w11
-	ldrb	w12, [x13, x10]
-	eor	w11, w12, w11
-	strb	w11, [x13, x10]
-232:
-	ldur	w10, [x29, #-8]
-	ldur	w11, [x29, #-5]
-	str	w10, [sp, #16]
-	mov	w10, #1
-	stur	w11, [sp, #19]
-	ldr	w11, [sp, #16]
-	ldur	w12, [sp, #19]
-	cmp	w20, #1022
-	str	w11, [sp, #8]
-	stur	w12, [sp, #11]
-	b.hi	613b
-93:
-	ldr	w12, [sp, #8]
-	ldur	w14, [sp, #11]
-	mov	w11, wzr
-	add	x13, x4, x20
-	add	w20, w20, #7
-	str	w12, [x13]
-	stur	w14, [x13, #3]
-560:
-	strb	w8, [x0, #1]
-	mov	w8, #1
-	strb	w19, [x0]
-	strb	w9, [x0, #2]
-	strb	wzr, [x0, #3]
-	strh	w20, [x0, #4]
-	strb	w8, [x0, #6]
-	strb	w10, [x0, #7]
-	strb	w11, [x0, #8]
-	ldp	x20, x19, [sp, #64]
-	ldr	x21, [sp, #48]
-	ldp	x29, x30, [sp, #32]
-	add	sp, sp, #80
-	ret
 	.section	.rodata.cst16,"aM",@progbits,16
 	.p2align	4
 .LCb5d67b4a_0:
@@ -5155,226 +4985,562 @@ tcrx_channel_report_at:
 	.p2align	2
 	.type	tcrx_cltu_octets_at,@function
 tcrx_cltu_octets_at:
-	sub	sp, sp, #160
+	sub	sp, sp, #144
+	stp	x20, x19, [sp, #128]
+	mov	x19, x0
 	mov	w10, #4096
 	cmp	x1, #0
-	stp	x28, x27, [sp, #80]
-	stp	x26, x25, [sp, #96]
-	lsr	x26, x0, #8
-	lsr	x27, x0, #24
-	stp	x24, x23, [sp, #112]
-	lsr	x24, x0, #16
+	stp	x28, x27, [sp, #64]
+	lsr	w28, w19, #24
+	stp	x24, x23, [sp, #96]
+	lsr	x23, x0, #8
 	csel	x9, x10, xzr, eq
-	stp	x20, x19, [sp, #144]
-	mov	x20, x0
+	stp	x22, x21, [sp, #112]
+	lsr	x22, x0, #16
 	cmp	x3, #0
-	lsr	x25, x0, #32
-	stp	x22, x21, [sp, #128]
-	mov	x21, x2
+	lsr	x21, x0, #32
 	csel	x10, x10, xzr, eq
-	ands	w11, w20, #0xff
-	mov	x19, x8
-	stp	x29, x30, [sp, #64]
-	add	x29, sp, #64
-	b.eq	401f
+	ands	w11, w19, #0xff
+	mov	x20, x8
+	stp	x29, x30, [sp, #48]
+	add	x29, sp, #48
+	stp	x26, x25, [sp, #80]
+	b.eq	613f
 	cmp	w11, #1
-	b.ne	613f
-401:
-	ubfx	w8, w20, #8, #8
+	b.ne	983f
+	mov	w26, wzr
+	ubfx	w8, w19, #8, #8
 	cmp	w8, #1
-	b.hi	613f
-	lsr	w8, w20, #24
+	b.hi	983f
+118:
+	cmp	w28, #7
 	mov	w0, #56
-	cmp	w8, #7
 	b.hi	498f
-	and	w8, w25, #0xffff
+	and	w8, w21, #0xffff
 	cmp	w8, #1029
 	b.hi	498f
-	cmp	x4, #1037
-	mov	w0, #29
-	csel	w12, w0, w11, lo
 	cmp	x4, #1036
-	b.ls	498f
-	add	x8, x1, x9
-	add	x16, x3, x10
-	mov	x28, xzr
-	mov	x22, xzr
-	mov	x23, xzr
-	str	x8, [sp, #24]
-	strb	w27, [sp, #35]
-	mov	w8, w27
-	mov	x27, x16
-	str	w11, [sp, #4]
-	str	xzr, [sp, #8]
-	strb	w20, [sp, #32]
-	strb	w26, [sp, #33]
-	strb	w24, [sp, #34]
-	strh	w25, [sp, #36]
-	str	w12, [sp, #20]
-	b	321f
+	b.hi	187f
+	mov	w0, #29
+	b	498f
 613:
+	mov	w26, #1
+	ubfx	w8, w19, #8, #8
+	cmp	w8, #1
+	b.ls	118b
+983:
 	mov	w0, #22
 498:
 	bl	tc_c.status.code
-	mov	w9, wzr
-	mov	x23, xzr
+	mov	w8, wzr
+	mov	x25, xzr
 	mov	x10, xzr
-	mov	x28, xzr
-	mov	x22, xzr
-	stur	wzr, [x29, #-12]
-	sturb	wzr, [x29, #-8]
+	mov	x11, xzr
+	mov	x24, xzr
+	stur	wzr, [x29, #-8]
+	sturb	wzr, [x29, #-4]
 232:
-	ldur	w8, [x29, #-12]
-	strb	w9, [x19, #10]
-	ldurb	w9, [x29, #-8]
-	str	w0, [x19]
-	ldp	x29, x30, [sp, #64]
-	strb	w20, [x19, #4]
-	strb	w26, [x19, #5]
-	strb	w24, [x19, #6]
-	strb	w27, [x19, #7]
-	strh	w25, [x19, #8]
-	ldp	x26, x25, [sp, #96]
-	stur	w8, [x19, #11]
-	strb	w9, [x19, #15]
-	stp	x23, x10, [x19, #16]
-	ldp	x24, x23, [sp, #112]
-	stp	x28, x22, [x19, #32]
-	ldp	x20, x19, [sp, #144]
-	ldp	x22, x21, [sp, #128]
-	ldp	x28, x27, [sp, #80]
-	add	sp, sp, #160
+	ldur	w9, [x29, #-8]
+	strb	w8, [x20, #10]
+	ldurb	w8, [x29, #-4]
+	str	w0, [x20]
+	ldp	x29, x30, [sp, #48]
+	strb	w19, [x20, #4]
+	strb	w23, [x20, #5]
+	strb	w22, [x20, #6]
+	strb	w28, [x20, #7]
+	ldp	x28, x27, [sp, #64]
+	strh	w21, [x20, #8]
+	ldp	x22, x21, [sp, #112]
+	stur	w9, [x20, #11]
+	strb	w8, [x20, #15]
+	stp	x25, x10, [x20, #16]
+	ldp	x26, x25, [sp, #80]
+	stp	x11, x24, [x20, #32]
+	ldp	x20, x19, [sp, #128]
+	ldp	x24, x23, [sp, #96]
+	add	sp, sp, #144
 	ret
-62:
-	add	x22, x22, #1
-316:
-	add	x23, x12, x23
-	tbnz	w9, #0, 59f
-321:
-	subs	x9, x21, x23
-	b.ls	32f
-	and	w10, w26, #0xff
-	sturh	wzr, [x29, #-16]
-	cmp	w10, #1
-	b.ne	93f
-	tst	w8, #0xff
-	b.ne	93f
-	cmp	x9, #8
-	b.lo	93f
-	ldr	x8, [sp, #24]
-	ldr	w1, [sp, #20]
-	sub	x0, x29, #24
-	add	x2, sp, #32
-	mov	x4, x27
-	ldr	x3, [x8, x23]
-	bl	tc_c.decoder.end_block
-	ldurb	w11, [x29, #-18]
-	ldurb	w10, [x29, #-17]
-	mov	x16, x27
-	ldurb	w20, [x29, #-24]
-	ldurb	w26, [x29, #-23]
-	mov	w12, #8
-	ldurb	w24, [x29, #-22]
-	ldurb	w8, [x29, #-21]
-	ldurh	w25, [x29, #-20]
-	ldurb	w9, [x29, #-16]
+187:
+	mov	w30, #50629
+	mov	x24, xzr
+	mov	x25, xzr
+	add	x27, x1, x9
+	add	x7, x3, x10
+	movk	w30, #50629, lsl #16
+	stp	xzr, xzr, [sp, #8]
+	stur	x2, [x29, #-16]
+	str	x7, [sp, #24]
 	b	118f
-93:
-	ldr	x9, [sp, #24]
-	tst	w26, #0xff
-	sturh	wzr, [x29, #-4]
-	ldrb	w12, [x9, x23]
-	b.eq	613f
-	and	w10, w8, #0xff
-	add	x9, x16, w25, uxth
-	and	x11, x8, #0xff
-	cmp	w10, #7
-	strb	w12, [x9, x11]
-	b.ne	983f
-	ldr	x3, [x9]
-	ldr	w1, [sp, #20]
-	sub	x0, x29, #12
-	add	x2, sp, #32
-	mov	x4, x27
-	bl	tc_c.decoder.end_block
-	ldurb	w20, [x29, #-12]
-	ldurb	w26, [x29, #-11]
-	mov	x16, x27
-	ldurb	w24, [x29, #-10]
-	ldurb	w8, [x29, #-9]
-	ldurh	w25, [x29, #-8]
-	ldurb	w11, [x29, #-6]
-	ldurb	w10, [x29, #-5]
-	ldurb	w9, [x29, #-4]
-	b	187f
-613:
-	mov	w13, #235
-	mov	w14, #144
-	ldr	w15, [sp, #4]
-	eor	w13, w24, w13
-	eor	w14, w12, w14
-	mov	w11, wzr
-	and	w13, w13, #0xff
-	fmov	s1, w14
+602:
+	ldrb	w9, [x27, x25]
+	mov	w28, wzr
+	strb	w9, [x8]
+62:
+	add	w28, w28, #1
+	mov	w23, #1
+	add	x25, x25, #1
+118:
+	cmp	x25, x2
+	b.hs	239f
+	and	w8, w23, #0xff
+	cmp	w8, #1
+	add	x8, x7, w21, uxth
+	ccmp	w28, #0, #0, eq
+	cset	w9, eq
+	tbz	w26, #0, 556f
+	and	w10, w21, #0xffff
+	cmp	w10, #1023
+	b.lo	360f
+	tbnz	w9, #0, 625f
+	ldrb	w9, [x27, x25]
+	tst	w23, #0xff
+	b.eq	32f
+	cmp	w28, #7
+	strb	w9, [x8, w28, uxtw]
+	b.ne	62b
+	ldr	x9, [x8]
+	adrp	x8, .LTb4175d02
+	add	x8, x8, :lo12:.LTb4175d02
+	and	x10, x9, #0xff
+	ubfx	x11, x9, #8, #8
+	ubfx	x12, x9, #16, #8
+	lsr	w13, w9, #24
+	ubfx	x14, x9, #32, #8
+	ubfx	x15, x9, #40, #8
+	add	x16, x8, x10
+	add	x17, x8, x11
+	add	x18, x8, x12
+	ldrb	w16, [x16, #1536]
+	add	x1, x8, x13
+	add	x3, x8, x14
+	add	x4, x8, x15
+	ubfx	x0, x9, #48, #8
+	lsr	x5, x9, #57
+	ldrb	w17, [x17, #1280]
+	ldrb	w18, [x18, #1024]
+	ldrb	w1, [x1, #768]
+	ldrb	w3, [x3, #512]
+	ldrb	w4, [x4, #256]
+	ldrb	w8, [x8, x0]
+	eor	w16, w16, w5
+	eor	w16, w17, w16
+	eor	w17, w18, w1
+	eor	w18, w3, w4
+	eor	w16, w16, w17
+	eor	w8, w18, w8
+	eor	w8, w16, w8
+	cmp	w8, #127
+	b.eq	62f
+	b	192f
+556:
+	tbnz	w9, #0, 625f
+	ldrb	w9, [x27, x25]
+	tst	w23, #0xff
+	b.eq	32f
+	cmp	w28, #7
+	strb	w9, [x8, w28, uxtw]
+	b.ne	62b
+	ldr	x9, [x8]
+	adrp	x16, .LTb4175d02
+	add	x16, x16, :lo12:.LTb4175d02
+	ubfx	x12, x9, #16, #8
+	ubfx	x11, x9, #8, #8
+	lsr	w13, w9, #24
+	ubfx	x14, x9, #32, #8
+	ubfx	x15, x9, #40, #8
+	and	x10, x9, #0xff
+	add	x0, x16, x12
+	add	x17, x16, x10
+	add	x18, x16, x11
+	add	x1, x16, x13
+	add	x3, x16, x14
+	add	x4, x16, x15
+	ldrb	w5, [x0, #1024]
+	ubfx	x0, x9, #48, #8
+	ldrb	w17, [x17, #1536]
+	ldrb	w18, [x18, #1280]
+	ldrb	w1, [x1, #768]
+	ldrb	w3, [x3, #512]
+	ldrb	w4, [x4, #256]
+	ldrb	w6, [x16, x0]
+	lsr	x16, x9, #8
+	eor	w17, w17, w18
+	eor	w18, w5, w1
+	lsr	x5, x9, #57
+	eor	w1, w3, w4
+	eor	w18, w17, w18
+	lsr	x17, x9, #16
+	eor	w1, w1, w6
+	lsr	x4, x9, #40
+	eor	w3, w18, w1
+	lsr	x18, x9, #24
+	lsr	x1, x9, #32
+	eor	w6, w3, #0x7f
+	lsr	x3, x9, #48
+	cmp	w6, w5
+	b.ne	161f
 	mov	w10, wzr
-	fmov	s0, w13
-	mov	w9, wzr
+	and	w11, w21, #0xffff
+	cmp	w11, #1023
+	b.lo	943f
+	b	62f
+360:
+	tbz	w9, #0, 602f
+625:
+	sub	x9, x2, x25
+	cmp	x9, #7
+	b.ls	602b
+	ldr	x9, [x27, x25]
+	adrp	x12, .LTb4175d02
+	add	x12, x12, :lo12:.LTb4175d02
+	ubfx	x11, x9, #8, #8
+	ubfx	x18, x9, #16, #8
+	lsr	w0, w9, #24
+	ubfx	x1, x9, #32, #8
+	ubfx	x3, x9, #40, #8
+	and	x10, x9, #0xff
+	add	x13, x12, x10
+	add	x14, x12, x11
+	add	x15, x12, x18
+	add	x16, x12, x0
+	add	x17, x12, x1
+	add	x4, x12, x3
+	ubfx	x5, x9, #48, #8
+	ldrb	w13, [x13, #1536]
+	ldrb	w14, [x14, #1280]
+	ldrb	w15, [x15, #1024]
+	ldrb	w16, [x16, #768]
+	ldrb	w17, [x17, #512]
+	ldrb	w4, [x4, #256]
+	ldrb	w6, [x12, x5]
+	eor	w13, w13, w14
+	eor	w14, w15, w16
+	lsr	x12, x9, #8
+	lsr	x16, x9, #32
+	eor	w15, w17, w4
+	eor	w14, w13, w14
+	lsr	x4, x9, #57
+	eor	w15, w15, w6
+	lsr	x13, x9, #16
+	lsr	x17, x9, #40
+	eor	w15, w14, w15
+	lsr	x14, x9, #24
+	eor	w6, w15, #0x7f
+	lsr	x15, x9, #48
+	cmp	w6, w4
+	b.ne	140f
+	mov	w10, wzr
+	and	w11, w21, #0xffff
+	cmp	w11, #1023
+	b.lo	187f
+613:
+	mov	w23, wzr
+	mov	w22, wzr
+	mov	w28, wzr
+	add	x25, x25, #8
+	add	x24, x24, #1
+	b	118b
+602:
+	ldrb	w9, [x27, x25]
+	tst	w23, #0xff
+	b.eq	32f
+	cmp	w28, #7
+	strb	w9, [x8, w28, uxtw]
+	b.ne	62b
+	ldr	x9, [x8]
+	adrp	x16, .LTb4175d02
+	add	x16, x16, :lo12:.LTb4175d02
+	ubfx	x12, x9, #16, #8
+	and	x10, x9, #0xff
+	ubfx	x11, x9, #8, #8
+	lsr	w13, w9, #24
+	ubfx	x14, x9, #32, #8
+	ubfx	x15, x9, #40, #8
+	add	x17, x16, x10
+	add	x0, x16, x12
+	add	x18, x16, x11
+	ldrb	w17, [x17, #1536]
+	add	x1, x16, x13
+	add	x3, x16, x14
+	add	x4, x16, x15
+	ldrb	w5, [x0, #1024]
+	ubfx	x0, x9, #48, #8
+	lsr	x6, x9, #57
+	ldrb	w18, [x18, #1280]
+	ldrb	w1, [x1, #768]
+	ldrb	w3, [x3, #512]
+	ldrb	w4, [x4, #256]
+	ldrb	w16, [x16, x0]
+	eor	w17, w17, w6
+	eor	w17, w18, w17
+	eor	w18, w5, w1
+	eor	w1, w3, w4
+	eor	w17, w17, w18
+	eor	w16, w1, w16
+	eor	w16, w17, w16
+	cmp	w16, #127
+	b.ne	192f
+	mov	w10, wzr
+	lsr	x18, x9, #24
+	lsr	x17, x9, #16
+	lsr	x16, x9, #8
+	lsr	x3, x9, #48
+	lsr	x4, x9, #40
+	lsr	x1, x9, #32
+	b	943f
+140:
+	tbnz	w26, #0, 447f
+	eor	w4, w6, w4
+	adrp	x6, .LT3cb3454d
+	add	x6, x6, :lo12:.LT3cb3454d
+	ldrb	w4, [x6, w4, uxtw]
+	cmp	w4, #63
+	b.hs	447f
+	lsr	x10, x4, #3
+	sturb	w9, [x29, #-8]
+	sturb	w12, [x29, #-7]
+	cmp	w10, #7
+	sturb	w13, [x29, #-6]
+	sturb	w14, [x29, #-5]
+	sturb	w16, [x29, #-4]
+	sturb	w17, [x29, #-3]
+	sturb	w15, [x29, #-2]
+	b.eq	983f
+	and	w9, w4, #0x7
+	mov	w11, #128
+	sub	x12, x29, #8
+	lsr	w9, w11, w9
+	ldrb	w11, [x12, x10]
+	eor	w9, w11, w9
+	strb	w9, [x12, x10]
+	ldurb	w9, [x29, #-8]
+	ldurb	w12, [x29, #-7]
+	ldurb	w13, [x29, #-6]
+	ldurb	w14, [x29, #-5]
+	ldurb	w16, [x29, #-4]
+	ldurb	w17, [x29, #-3]
+	ldurb	w15, [x29, #-2]
+983:
+	mov	w10, #1
+	and	w11, w21, #0xffff
+	cmp	w11, #1023
+	b.hs	613b
+187:
+	mov	w11, wzr
+	strb	w9, [x8]
+	add	w21, w21, #7
+	mov	w23, #1
+	mov	w9, #8
+	strb	w12, [x8, #1]
+	strb	w13, [x8, #2]
+	strb	w14, [x8, #3]
+	strb	w16, [x8, #4]
+	strb	w17, [x8, #5]
+	strb	w15, [x8, #6]
+	cmp	w10, #1
+	add	x25, x9, x25
+	b.le	360f
+280:
+	cmp	w10, #2
+	b.eq	983f
+	ldr	x8, [sp, #8]
+	mov	w28, wzr
+	add	x8, x8, #1
+	str	x8, [sp, #8]
+	tbz	w11, #0, 118b
+	b	187f
+447:
+	and	x8, x9, #0xff00000000000000
+	orr	x8, x8, x5, lsl #48
+	orr	x8, x8, x3, lsl #40
+	orr	x8, x8, x1, lsl #32
+	orr	x8, x8, x0, lsl #24
+	orr	x8, x8, x18, lsl #16
+	orr	x8, x8, x11, lsl #8
+	orr	x8, x8, x10
+	cmp	x30, w8, uxtw
+	stur	x8, [x29, #-8]
+	b.ne	613f
+	adrp	x2, .LT9296ae30
+	add	x2, x2, :lo12:.LT9296ae30
+	sub	x0, x29, #8
+	mov	w1, #8
+	bl	core.cmp.slices.groups_equal._i8_31_core.cmp.numbers.U8PartialEq
+	mov	w30, #50629
+	ldr	x7, [sp, #24]
+	ldur	x2, [x29, #-16]
+	mov	w8, #2
+	cmp	w0, #0
+	movk	w30, #50629, lsl #16
+	cinc	w10, w8, eq
+	b	583f
+613:
+	mov	w10, #3
+583:
+	tst	w21, #0xffff
+	mov	w23, wzr
+	mov	w22, wzr
+	cset	w11, ne
+	mov	w9, #8
+	cmp	w10, #1
+	add	x25, x9, x25
+	b.gt	280b
+360:
+	cbnz	w10, 93f
+983:
+	tbnz	w11, #0, 187f
+	mov	w28, wzr
+	b	118b
+161:
+	eor	w5, w6, w5
+	adrp	x6, .LT3cb3454d
+	add	x6, x6, :lo12:.LT3cb3454d
+	ldrb	w5, [x6, w5, uxtw]
+	cmp	w5, #62
+	b.hi	192f
+	lsr	x10, x5, #3
+	sturb	w9, [x29, #-8]
+	sturb	w16, [x29, #-7]
+	cmp	w10, #7
+	sturb	w17, [x29, #-6]
+	sturb	w18, [x29, #-5]
+	sturb	w1, [x29, #-4]
+	sturb	w4, [x29, #-3]
+	sturb	w3, [x29, #-2]
+	b.eq	613f
+	and	w9, w5, #0x7
+	mov	w11, #128
+	sub	x12, x29, #8
+	lsr	w9, w11, w9
+	ldrb	w11, [x12, x10]
+	eor	w9, w11, w9
+	strb	w9, [x12, x10]
+	ldurb	w9, [x29, #-8]
+	ldurb	w16, [x29, #-7]
+	ldurb	w17, [x29, #-6]
+	ldurb	w18, [x29, #-5]
+	ldurb	w1, [x29, #-4]
+	ldurb	w4, [x29, #-3]
+	ldurb	w3, [x29, #-2]
+613:
+	mov	w10, #1
+	and	w11, w21, #0xffff
+	cmp	w11, #1023
+	b.lo	943f
+62:
+	add	x25, x25, #1
+	add	x24, x24, #1
+	cmp	x25, x2
+	b.hs	911f
+	ldrb	w9, [x27, x25]
+	mov	w22, wzr
+	mov	w28, wzr
+32:
+	mov	w8, #235
+	mov	w10, #144
+	eor	w8, w22, w8
+	eor	w10, w9, w10
+	and	w8, w8, #0xff
+	fmov	s1, w10
+	fmov	s0, w8
 	cnt	v1.8b, v1.8b
 	cnt	v0.8b, v0.8b
-	fmov	w14, s1
-	fmov	w13, s0
-	adds	w13, w14, w13
-	cset	w14, eq
-	cmp	w13, #2
-	cset	w13, lo
-	cmp	w15, #0
-	csel	w26, w13, w14, ne
-	cmp	w26, #0
-	csel	w24, w24, w12, ne
-	csel	w8, wzr, w8, ne
-	csel	w25, wzr, w25, ne
-	b	187f
+	fmov	w10, s1
+	fmov	w8, s0
+	add	w8, w8, w10
+	cbz	w26, 583f
+	tst	w8, #0xff
+	cset	w23, eq
+	tbnz	w23, #0, 983f
+613:
+	mov	w22, w9
+	add	x25, x25, #1
+	b	118b
+583:
+	tst	w8, #0xfe
+	cset	w23, eq
+	tbz	w23, #0, 613b
 983:
+	mov	w28, wzr
+	mov	w21, wzr
+	add	x25, x25, #1
+	b	118b
+192:
+	and	x8, x9, #0xff00000000000000
+	orr	x8, x8, x0, lsl #48
+	orr	x8, x8, x15, lsl #40
+	orr	x8, x8, x14, lsl #32
+	orr	x8, x8, x13, lsl #24
+	orr	x8, x8, x12, lsl #16
+	orr	x8, x8, x11, lsl #8
+	orr	x8, x8, x10
+	cmp	x30, w8, uxtw
+	stur	x8, [x29, #-8]
+	b.ne	613f
+	adrp	x2, .LT9296ae30
+	add	x2, x2, :lo12:.LT9296ae30
+	sub	x0, x29, #8
+	mov	w1, #8
+	bl	core.cmp.slices.groups_equal._i8_31_core.cmp.numbers.U8PartialEq
+	mov	w30, #50629
+	ldr	x7, [sp, #24]
+	ldur	x2, [x29, #-16]
+	mov	w8, #2
+	cmp	w0, #0
+	movk	w30, #50629, lsl #16
+	cinc	w10, w8, eq
+	b	583f
+943:
 	mov	w11, wzr
-	mov	w10, wzr
-	mov	w9, wzr
-	add	w8, w8, #1
-187:
-	mov	w12, #1
-118:
-	cmp	w11, #1
-	strb	w20, [sp, #32]
-	strb	w26, [sp, #33]
-	strb	w24, [sp, #34]
-	strb	w8, [sp, #35]
-	strh	w25, [sp, #36]
-	b.ne	316b
-	cmp	w10, #1
-	b.le	93f
-	cmp	w10, #2
-	b.eq	316b
-	cmp	w10, #3
-	b.ne	62b
-	add	x28, x28, #1
-	b	316b
-93:
-	cbz	w10, 316b
-	ldr	x10, [sp, #8]
-	add	x10, x10, #1
-	str	x10, [sp, #8]
-	b	316b
-32:
-	mov	w9, wzr
-	sturb	wzr, [x29, #-8]
-	b	93f
-59:
-	sturb	wzr, [x29, #-8]
+	strb	w9, [x8]
+	add	w21, w21, #7
+	strb	w16, [x8, #1]
 	mov	w9, #1
+	strb	w17, [x8, #2]
+	strb	w18, [x8, #3]
+	strb	w1, [x8, #4]
+	strb	w4, [x8, #5]
+	strb	w3, [x8, #6]
+	cmp	w10, #1
+	add	x25, x9, x25
+	b.gt	280b
+	b	360b
+613:
+	mov	w10, #3
+583:
+	tst	w21, #0xffff
+	mov	w23, wzr
+	mov	w22, wzr
+	cset	w11, ne
+	mov	w9, #1
+	cmp	w10, #1
+	add	x25, x9, x25
+	b.gt	280b
+	b	360b
 93:
-	ldr	x10, [sp, #8]
+	ldr	x8, [sp, #16]
+	mov	w28, wzr
+	add	x8, x8, #1
+	str	x8, [sp, #16]
+	tbz	w11, #0, 118b
+187:
 	mov	w0, wzr
-	mov	w27, w8
-	stur	wzr, [x29, #-12]
+	mov	w28, wzr
+	sturb	wzr, [x29, #-4]
+	mov	w8, #1
+	b	976f
+911:
+	mov	w23, wzr
+	mov	w22, wzr
+	mov	w28, wzr
+239:
+	mov	w0, wzr
+	mov	w8, wzr
+	sturb	wzr, [x29, #-4]
+976:
+	ldp	x11, x10, [sp, #8]
+	stur	wzr, [x29, #-8]
 	b	232b
 	.size	tcrx_cltu_octets_at, .-tcrx_cltu_octets_at
 	.section	.text.tcrx_cltu_search,"ax",@progbits

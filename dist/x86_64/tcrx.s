@@ -3284,166 +3284,6 @@ tc_fixed.limits.LentLimits.check:
 409:
 	movb	$6, %cl
 	jmp	969b
-	.section	.text.tc_c.decoder.end_block,"ax",@progbits
-	.p2align	4
-tc_c.decoder.end_block:
-	pushq	%rbp
-	pushq	%r15
-	pushq	%r14
-	pushq	%r13
-	pushq	%r12
-	pushq	%rbx
-	subq	$40, %rsp
-	movq	%r8, 24(%rsp)
-	movq	%rcx, %r9
-	movzbl	(%rdx), %eax
-	movb	%al, (%rsp)
-	movzbl	1(%rdx), %r8d
-	movzbl	2(%rdx), %r10d
-	movzwl	4(%rdx), %ebx
-	movq	%rcx, %rax
-	shrq	$8, %rax
-	movq	%rcx, %r14
-	shrq	$16, %r14
-	movq	%rcx, %r15
-	shrq	$24, %r15
-	movq	%rcx, %r13
-	shrq	$32, %r13
-	movq	%rcx, %rbp
-	shrq	$40, %rbp
-	shrq	$48, %rcx
-	movb	%r9b, 1(%rsp)
-	movb	%al, 2(%rsp)
-	movb	%r14b, 3(%rsp)
-	movb	%r15b, 4(%rsp)
-	movb	%r13b, 5(%rsp)
-	movb	%bpl, 6(%rsp)
-	movb	%cl, 7(%rsp)
-	movzbl	%r9b, %edx
-	movzbl	%al, %r11d
-	movzbl	%r14b, %r14d
-	movzbl	%r15b, %r12d
-	movzbl	%r13b, %r15d
-	movzbl	%bpl, %ebp
-	movzbl	%cl, %r13d
-	leaq	.LTb4175d02(%rip), %rax
-	movzbl	1536(%rdx,%rax), %ecx
-	xorb	1280(%r11,%rax), %cl
-	xorb	1024(%r14,%rax), %cl
-	xorb	768(%r12,%rax), %cl
-	xorb	512(%r15,%rax), %cl
-	xorb	256(%rbp,%rax), %cl
-	xorb	(%r13,%rax), %cl
-	xorb	$127, %cl
-	movq	%r9, %rax
-	shrq	$57, %rax
-	xorb	%cl, %al
-	jne	1f
-	movl	1(%rsp), %eax
-	movl	4(%rsp), %ecx
-	movl	%ecx, 11(%rsp)
-	movl	%eax, 8(%rsp)
-	xorl	%eax, %eax
-	jmp	471f
-1:
-	testb	%sil, %sil
-	je	631f
-	movzbl	%al, %eax
-	leaq	.LT3cb3454d(%rip), %rcx
-	movzbl	(%rax,%rcx), %eax
-	cmpq	$63, %rax
-	jb	327f
-631:
-	movabsq	$-72057594037927936, %rax
-	andq	%rax, %r9
-	shlq	$48, %r13
-	orq	%r9, %r13
-	shlq	$40, %rbp
-	shlq	$32, %r15
-	orq	%rbp, %r15
-	orq	%r13, %r15
-	shll	$24, %r12d
-	shll	$16, %r14d
-	orq	%r12, %r14
-	shll	$8, %r11d
-	orq	%r14, %r11
-	orq	%r15, %r11
-	orq	%rdx, %r11
-	movq	%r11, 32(%rsp)
-	movb	$3, %al
-	cmpl	$-976894523, %r11d
-	jne	978f
-	leaq	.LT9296ae30(%rip), %rdx
-	leaq	32(%rsp), %rax
-	movl	$8, %esi
-	movq	%rdi, %r14
-	movq	%rax, %rdi
-	callq	core.cmp.slices.groups_equal._i8_31_core.cmp.numbers.U8PartialEq
-	movq	%r14, %rdi
-	xorb	$3, %al
-978:
-	testw	%bx, %bx
-	setne	%cl
-	xorl	%r8d, %r8d
-	xorl	%r10d, %r10d
-	jmp	548f
-327:
-	movl	%eax, %edx
-	shrl	$3, %edx
-	cmpl	$7, %edx
-	je	327f
-	andb	$7, %al
-	movb	$-128, %sil
-	movl	%eax, %ecx
-	shrb	%cl, %sil
-	xorb	%sil, 1(%rsp,%rdx)
-327:
-	movl	1(%rsp), %eax
-	movl	4(%rsp), %ecx
-	movl	%ecx, 11(%rsp)
-	movl	%eax, 8(%rsp)
-	movb	$1, %al
-471:
-	movzwl	%bx, %ecx
-	movl	8(%rsp), %edx
-	movl	11(%rsp), %esi
-	movl	%esi, 19(%rsp)
-	movl	%edx, 16(%rsp)
-	cmpl	$1022, %ecx
-	jbe	327f
-	movzbl	(%rsp), %eax
-	movl	%eax, (%rdi)
-	movw	%bx, 4(%rdi)
-	movw	$1025, 6(%rdi)
-	movb	$0, 8(%rdi)
-	jmp	850f
-327:
-	movl	16(%rsp), %edx
-	movl	19(%rsp), %esi
-	movq	24(%rsp), %r9
-	movl	%esi, 3(%r9,%rcx)
-	movl	%edx, (%r9,%rcx)
-	addl	$7, %ebx
-	xorl	%ecx, %ecx
-548:
-	movzbl	(%rsp), %edx
-	movb	%dl, (%rdi)
-	movb	%r8b, 1(%rdi)
-	movb	%r10b, 2(%rdi)
-	movb	$0, 3(%rdi)
-	movw	%bx, 4(%rdi)
-	movb	$1, 6(%rdi)
-	movb	%al, 7(%rdi)
-	movb	%cl, 8(%rdi)
-850:
-	addq	$40, %rsp
-	popq	%rbx
-	popq	%r12
-	popq	%r13
-	popq	%r14
-	popq	%r15
-	popq	%rbp
-	retq
 	.section	.text.core.cmp.slices.groups_equal._i8_31_core.cmp.numbers.U8PartialEq,"ax",@progbits
 	.p2align	4
 core.cmp.slices.groups_equal._i8_31_core.cmp.numbers.U8PartialEq:
@@ -5602,72 +5442,72 @@ tcrx_cltu_octets_at:
 	pushq	%r13
 	pushq	%r12
 	pushq	%rbx
-	subq	$88, %rsp
-	movq	%rcx, 80(%rsp)
+	subq	$120, %rsp
+	movq	%rcx, 88(%rsp)
 	movq	%rsi, %r15
 	movq	%rdi, %rbx
 	movq	%rsi, %r14
 	shrq	$8, %r14
-	movl	%r15d, %r12d
-	shrl	$16, %r12d
-	movl	%r15d, %r13d
-	shrl	$24, %r13d
-	movq	%rsi, %rbp
-	shrq	$32, %rbp
+	movl	%r15d, %r11d
+	shrl	$16, %r11d
+	movl	%r15d, %ebp
+	shrl	$24, %ebp
+	movq	%rsi, %r13
+	shrq	$32, %r13
 	xorl	%ecx, %ecx
+	movq	%rdx, 80(%rsp)
 	testq	%rdx, %rdx
 	sete	%sil
 	xorl	%eax, %eax
+	movq	%r8, 112(%rsp)
 	testq	%r8, %r8
-	sete	%r11b
-	movl	%r14d, %r10d
-	orl	%r15d, %r10d
+	sete	%dl
+	movl	%r14d, %r8d
+	orl	%r15d, %r8d
 	movb	$22, %dil
-	testb	$-2, %r10b
+	testb	$-2, %r8b
 	jne	548f
-	cmpb	$8, %r13b
+	cmpb	$8, %bpl
 	setae	%dil
-	movzwl	%bp, %r10d
-	cmpl	$1030, %r10d
-	setae	%r10b
-	orb	%dil, %r10b
+	movzwl	%r13w, %r8d
+	cmpl	$1030, %r8d
+	setae	%r8b
+	orb	%dil, %r8b
 	movb	$56, %dil
 	jne	548f
 	movb	$29, %dil
-	cmpq	$1037, %r9
-	movzbl	%r15b, %r9d
-	movl	$29, %r10d
-	cmovael	%r9d, %r10d
-	movl	%r10d, 28(%rsp)
-	jae	409f
+	cmpq	$1036, %r9
+	ja	409f
 548:
 	movzbl	%dil, %edi
+	movl	%r11d, %r12d
 	callq	tc_c.status.code
-	movl	$0, 8(%rsp)
-	movb	$0, 12(%rsp)
-	xorl	%esi, %esi
-	xorl	%r9d, %r9d
+	movl	%r12d, %r11d
+	movl	$0, (%rsp)
+	movb	$0, 4(%rsp)
 	xorl	%ecx, %ecx
-	xorl	%edx, %edx
-	xorl	%edi, %edi
+	xorl	%r12d, %r12d
+	xorl	%r8d, %r8d
+	xorl	%r9d, %r9d
+	xorl	%r10d, %r10d
 327:
 	movl	%eax, (%rbx)
 	movb	%r15b, 4(%rbx)
 	movb	%r14b, 5(%rbx)
-	movb	%r12b, 6(%rbx)
-	movb	%r13b, 7(%rbx)
-	movw	%bp, 8(%rbx)
-	movb	%sil, 10(%rbx)
-	movl	8(%rsp), %eax
+	movb	%r11b, 6(%rbx)
+	movb	%bpl, 7(%rbx)
+	movw	%r13w, 8(%rbx)
+	movb	%cl, 10(%rbx)
+	movl	(%rsp), %eax
 	movl	%eax, 11(%rbx)
-	movzbl	12(%rsp), %eax
+	movzbl	4(%rsp), %eax
 	movb	%al, 15(%rbx)
-	movq	%r9, 16(%rbx)
-	movq	%rcx, 24(%rbx)
-	movq	%rdx, 32(%rbx)
-	movq	%rdi, 40(%rbx)
+	movq	%r12, 16(%rbx)
+	movq	%r8, 24(%rbx)
+	movq	%r9, 32(%rbx)
+	movq	%r10, 40(%rbx)
 	movq	%rbx, %rax
-	addq	$88, %rsp
+	addq	$120, %rsp
 	popq	%rbx
 	popq	%r12
 	popq	%r13
@@ -5678,169 +5518,480 @@ tcrx_cltu_octets_at:
 409:
 	movb	%sil, %cl
 	shll	$12, %ecx
-	addq	%rcx, %rdx
-	movb	%r11b, %al
+	addq	%rcx, 80(%rsp)
+	movb	%dl, %al
 	shll	$12, %eax
-	addq	%rax, %r8
-	movb	%r15b, 2(%rsp)
-	movb	%r14b, 3(%rsp)
-	movb	%r12b, 4(%rsp)
-	movb	%r13b, 5(%rsp)
-	movw	%bp, 6(%rsp)
-	movq	$0, 48(%rsp)
-	movq	%r15, 72(%rsp)
-	movl	%r15d, %ecx
-	movq	$0, 40(%rsp)
-	movq	$0, 32(%rsp)
+	addq	%rax, 112(%rsp)
+	xorl	%r8d, %r8d
 	xorl	%r9d, %r9d
-	movq	%r8, 64(%rsp)
-	movq	%rdx, 56(%rsp)
-	jmp	928f
-629:
-	incq	32(%rsp)
-	.p2align	4
-850:
-	addq	%r15, %r9
-	testb	$1, %al
-	jne	394f
+	xorl	%r10d, %r10d
+	xorl	%r12d, %r12d
+	movq	%rbx, 64(%rsp)
+	movq	%r15, 8(%rsp)
 928:
-	movq	%r9, %r15
-	movq	80(%rsp), %rax
-	subq	%r9, %rax
-	jbe	969f
-	movw	$0, 26(%rsp)
-	movl	%r14d, %esi
-	xorb	$1, %sil
-	orb	%r13b, %sil
-	setne	%sil
-	cmpq	$8, %rax
-	setb	%al
-	orb	%sil, %al
-	jne	548f
-	movq	(%rdx,%r15), %rcx
-	movzbl	28(%rsp), %esi
-	leaq	18(%rsp), %rdi
-	leaq	2(%rsp), %rdx
-	callq	tc_c.decoder.end_block
-	movq	56(%rsp), %rdx
-	movq	64(%rsp), %r8
-	movzbl	24(%rsp), %esi
-	movzbl	25(%rsp), %edi
-	movzbl	26(%rsp), %eax
-	movzbl	18(%rsp), %ecx
-	movzbl	19(%rsp), %r14d
-	movzbl	20(%rsp), %r12d
-	movzbl	21(%rsp), %r13d
-	movl	$8, %r9d
-	movzwl	22(%rsp), %ebp
-	jmp	409f
+	movq	%r8, 24(%rsp)
+972:
+	cmpq	88(%rsp), %r12
+	jae	668f
+	movq	%r9, 32(%rsp)
+	jmp	471f
 	.p2align	4
-548:
-	movzbl	(%rdx,%r15), %r11d
-	movw	$0, 16(%rsp)
-	movzbl	%r13b, %eax
+859:
+	movq	80(%rsp), %rax
+	movzbl	(%rax,%r12), %eax
+	movb	%al, (%rsi)
+	movb	$1, %r14b
+	incq	%r12
+	movb	$1, %bpl
+489:
+	cmpq	88(%rsp), %r12
+	jae	668f
+471:
+	movzwl	%r13w, %edx
+	movq	112(%rsp), %rax
+	leaq	(%rax,%rdx), %rsi
+	cmpb	$1, %r14b
+	jne	859f
+	testb	%bpl, %bpl
+	jne	859f
+	movq	88(%rsp), %rax
+	subq	%r12, %rax
+	cmpq	$7, %rax
+	jbe	859b
+	movq	%rdx, 104(%rsp)
+	movl	%r11d, 76(%rsp)
+	movq	%r10, 40(%rsp)
+	movq	%r13, 16(%rsp)
+	movq	80(%rsp), %rax
+	movq	(%rax,%r12), %r11
+	movq	%r11, %rax
+	shrq	$8, %rax
+	movq	%r11, %rcx
+	shrq	$16, %rcx
+	movq	%r11, %r14
+	shrq	$24, %r14
+	movq	%r11, %rbp
+	shrq	$32, %rbp
+	movq	%r11, %r13
+	shrq	$40, %r13
+	movq	%r11, %r15
+	movzbl	%r11b, %edx
+	leaq	.LTb4175d02(%rip), %r9
+	movq	%rdx, 96(%rsp)
+	movzbl	1536(%rdx,%r9), %r10d
+	movq	%rax, 56(%rsp)
+	movzbl	%al, %r8d
+	movq	%rcx, 48(%rsp)
+	movzbl	%cl, %edx
+	movzbl	%r14b, %ecx
+	movzbl	%bpl, %eax
+	movzbl	%r13b, %edi
+	xorb	1280(%r8,%r9), %r10b
+	xorb	1024(%rdx,%r9), %r10b
+	xorb	768(%rcx,%r9), %r10b
+	xorb	512(%rax,%r9), %r10b
+	xorb	256(%rdi,%r9), %r10b
+	shrq	$48, %r15
+	movzbl	%r15b, %ebx
+	xorb	(%rbx,%r9), %r10b
+	xorb	$127, %r10b
+	movq	%r11, %r9
+	shrq	$57, %r9
+	xorb	%r10b, %r9b
+	jne	868f
+	xorl	%eax, %eax
+	movq	64(%rsp), %rbx
+	movq	40(%rsp), %r10
+	cmpl	$1023, 104(%rsp)
+	jb	969f
+850:
+	addq	$8, %r12
+	incq	%r10
+	xorl	%r14d, %r14d
+	xorl	%r11d, %r11d
+	xorl	%ebp, %ebp
+	movq	8(%rsp), %r15
+	movq	16(%rsp), %r13
+	movq	24(%rsp), %r8
+	movq	32(%rsp), %r9
+	jmp	489b
+	.p2align	4
+859:
+	movq	80(%rsp), %rax
+	movzbl	(%rax,%r12), %eax
 	testb	%r14b, %r14b
 	je	548f
-	movzwl	%bp, %esi
-	addq	%r8, %rsi
-	movb	%r11b, (%rax,%rsi)
-	cmpb	$7, %al
+	movzbl	%bpl, %ecx
+	movb	%al, (%rsi,%rcx)
+	cmpb	$7, %bpl
 	jne	634f
-	movq	(%rsi), %rcx
-	movzbl	28(%rsp), %esi
-	leaq	8(%rsp), %rdi
-	leaq	2(%rsp), %rdx
-	callq	tc_c.decoder.end_block
-	movq	56(%rsp), %rdx
-	movq	64(%rsp), %r8
-	movzbl	8(%rsp), %ecx
-	movzbl	9(%rsp), %r14d
-	movzbl	10(%rsp), %r12d
-	movzbl	11(%rsp), %r13d
-	movzwl	12(%rsp), %ebp
-	movzbl	14(%rsp), %esi
-	movzbl	15(%rsp), %edi
-	movzbl	16(%rsp), %eax
-	jmp	186f
+	movq	%rdx, 104(%rsp)
+	movl	%r11d, 76(%rsp)
+	movq	%r10, 40(%rsp)
+	movq	%r13, 16(%rsp)
+	movq	(%rsi), %r11
+	movq	%r11, %rax
+	shrq	$8, %rax
+	movq	%r11, %rcx
+	shrq	$16, %rcx
+	movq	%r11, %r14
+	shrq	$24, %r14
+	movq	%r11, %rbp
+	shrq	$32, %rbp
+	movq	%r11, %r13
+	shrq	$40, %r13
+	movq	%r11, %r15
+	movzbl	%r11b, %edx
+	leaq	.LTb4175d02(%rip), %r9
+	movq	%rdx, 96(%rsp)
+	movzbl	1536(%rdx,%r9), %ebx
+	movq	%rax, 56(%rsp)
+	movzbl	%al, %r10d
+	movq	%rcx, 48(%rsp)
+	movzbl	%cl, %r8d
+	movzbl	%r14b, %ecx
+	movzbl	%bpl, %edx
+	movzbl	%r13b, %eax
+	xorb	1280(%r10,%r9), %bl
+	xorb	1024(%r8,%r9), %bl
+	xorb	768(%rcx,%r9), %bl
+	xorb	512(%rdx,%r9), %bl
+	xorb	256(%rax,%r9), %bl
+	shrq	$48, %r15
+	movzbl	%r15b, %edi
+	xorb	(%rdi,%r9), %bl
+	xorb	$127, %bl
+	movq	%r11, %r9
+	shrq	$57, %r9
+	xorb	%bl, %r9b
+	jne	198f
+	xorl	%eax, %eax
+	movq	64(%rsp), %rbx
+	movq	40(%rsp), %r10
+	cmpl	$1023, 104(%rsp)
+	jb	394f
+629:
+	incq	%r12
+	incq	%r10
+	cmpq	88(%rsp), %r12
+	jae	890f
+	movq	80(%rsp), %rax
+	movzbl	(%rax,%r12), %eax
+	xorl	%ebp, %ebp
+	xorl	%r11d, %r11d
+	movq	8(%rsp), %r15
+	movq	16(%rsp), %r13
+	movq	24(%rsp), %r8
+	movq	32(%rsp), %r9
 548:
-	movzbl	%r12b, %edi
-	movl	%r12d, %esi
-	xorb	$-21, %sil
+	movzbl	%r11b, %ecx
+	movl	%r11d, %edx
+	xorb	$-21, %dl
+	movzbl	%dl, %edx
+	popcntl	%edx, %edx
+	movl	%eax, %esi
+	xorb	$-112, %sil
 	movzbl	%sil, %esi
 	popcntl	%esi, %esi
-	movl	%r11d, %r9d
-	xorb	$-112, %r9b
-	movzbl	%r9b, %r9d
-	xorl	%r10d, %r10d
-	popcntl	%r9d, %r10d
-	xorl	%r9d, %r9d
-	addb	%sil, %r10b
-	sete	%r9b
-	xorl	%r14d, %r14d
-	cmpb	$2, %r10b
-	setb	%r14b
-	cmpb	$0, 72(%rsp)
-	cmovel	%r9d, %r14d
-	movzbl	%r11b, %r12d
-	xorl	%esi, %esi
-	testb	%r14b, %r14b
-	cmovnel	%edi, %r12d
-	cmovnel	%esi, %eax
-	cmovnel	%esi, %ebp
-	movl	%eax, %r13d
-	jmp	890f
-634:
-	incb	%r13b
-	xorl	%esi, %esi
-890:
 	xorl	%edi, %edi
+	addb	%dl, %sil
+	sete	%dil
+	xorl	%r14d, %r14d
+	cmpb	$2, %sil
+	setb	%r14b
+	testb	%r15b, %r15b
+	cmovel	%edi, %r14d
+	movzbl	%al, %r11d
 	xorl	%eax, %eax
-186:
-	movl	$1, %r9d
-409:
-	movb	%cl, 2(%rsp)
+	testb	%r14b, %r14b
+	cmovnel	%ecx, %r11d
+	movzbl	%bpl, %ebp
+	cmovnel	%eax, %ebp
+	cmovnel	%eax, %r13d
+	incq	%r12
+	jmp	489b
+634:
+	incb	%bpl
+	movb	$1, %r14b
+	incq	%r12
+	jmp	489b
+868:
+	cmpb	$0, 8(%rsp)
+	je	631f
+	movzbl	%r9b, %r9d
+	leaq	.LT3cb3454d(%rip), %r10
+	movzbl	(%r9,%r10), %r9d
+	cmpq	$63, %r9
+	jae	631f
+	movb	%r11b, (%rsp)
+	movq	56(%rsp), %rax
+	movb	%al, 1(%rsp)
+	movq	48(%rsp), %rax
+	movb	%al, 2(%rsp)
 	movb	%r14b, 3(%rsp)
-	movb	%r12b, 4(%rsp)
+	movb	%bpl, 4(%rsp)
 	movb	%r13b, 5(%rsp)
-	movw	%bp, 6(%rsp)
-	cmpb	$1, %sil
-	jne	850b
-	movzbl	%dil, %esi
-	leaq	.LJ3c3e2ee8_0(%rip), %rdi
-	movslq	(%rdi,%rsi,4), %rsi
-	addq	%rdi, %rsi
-	jmpq	*%rsi
-677:
-	incq	48(%rsp)
-	jmp	850b
-400:
-	incq	40(%rsp)
-	jmp	850b
+	movb	%r15b, 6(%rsp)
+	movl	%r9d, %eax
+	shrl	$3, %eax
+	cmpl	$7, %eax
+	je	409f
+	andb	$7, %r9b
+	movb	$-128, %dl
+	movl	%r9d, %ecx
+	shrb	%cl, %dl
+	xorb	%dl, (%rsp,%rax)
+	movzbl	(%rsp), %r11d
+	movzbl	1(%rsp), %eax
+	movq	%rax, 56(%rsp)
+	movzbl	2(%rsp), %eax
+	movq	%rax, 48(%rsp)
+	movzbl	3(%rsp), %r14d
+	movzbl	4(%rsp), %ebp
+	movzbl	5(%rsp), %r13d
+	movzbl	6(%rsp), %r15d
+409:
+	movb	$1, %al
+	movq	64(%rsp), %rbx
+	movq	40(%rsp), %r10
+	cmpl	$1023, 104(%rsp)
+	jae	850b
 969:
-	movb	$0, 12(%rsp)
-	movl	$0, 8(%rsp)
-	xorl	%esi, %esi
-	movq	%r15, %r9
-	jmp	890f
-394:
-	movb	$0, 12(%rsp)
-	movl	$0, 8(%rsp)
-	movb	$1, %sil
-890:
-	xorl	%eax, %eax
-	movl	%ecx, %r15d
+	movb	%r11b, (%rsi)
+	movq	56(%rsp), %rcx
+	movb	%cl, 1(%rsi)
 	movq	48(%rsp), %rcx
-	movq	40(%rsp), %rdx
-	movq	32(%rsp), %rdi
+	movb	%cl, 2(%rsi)
+	movb	%r14b, 3(%rsi)
+	movb	%bpl, 4(%rsi)
+	movb	%r13b, 5(%rsi)
+	movb	%r15b, 6(%rsi)
+	movq	16(%rsp), %r13
+	addl	$7, %r13d
+	movb	$1, %r14b
+	xorl	%esi, %esi
+	addq	$8, %r12
+	movzbl	%al, %eax
+	leaq	.LJ3c3e2ee8_0(%rip), %rcx
+	movslq	(%rcx,%rax,4), %rax
+	addq	%rcx, %rax
+	movq	8(%rsp), %r15
+	movq	24(%rsp), %r8
+	movq	32(%rsp), %r9
+	movl	76(%rsp), %r11d
+	jmpq	*%rax
+631:
+	movabsq	$-72057594037927936, %rsi
+	andq	%rsi, %r11
+	shlq	$48, %rbx
+	orq	%r11, %rbx
+	shlq	$40, %rdi
+	shlq	$32, %rax
+	orq	%rdi, %rax
+	orq	%rbx, %rax
+	shll	$24, %ecx
+	shll	$16, %edx
+	orq	%rcx, %rdx
+	shll	$8, %r8d
+	orq	%rdx, %r8
+	orq	%rax, %r8
+	orq	96(%rsp), %r8
+	movq	%r8, (%rsp)
+	movl	$3318072773, %eax
+	cmpl	%eax, %r8d
+	jne	969f
+	leaq	.LT9296ae30(%rip), %rdx
+	movq	%rsp, %rdi
+	movl	$8, %esi
+	callq	core.cmp.slices.groups_equal._i8_31_core.cmp.numbers.U8PartialEq
+	xorb	$3, %al
+	movq	16(%rsp), %r13
+	testw	%r13w, %r13w
+	setne	%sil
+	xorl	%r11d, %r11d
+	addq	$8, %r12
+	movzbl	%al, %eax
+	leaq	.LJ3c3e2ee8_0(%rip), %rcx
+	movslq	(%rcx,%rax,4), %rax
+	addq	%rcx, %rax
+	xorl	%r14d, %r14d
+	movq	64(%rsp), %rbx
+	movq	8(%rsp), %r15
+	movq	24(%rsp), %r8
+	movq	32(%rsp), %r9
+	movq	40(%rsp), %r10
+	jmpq	*%rax
+198:
+	cmpb	$0, 8(%rsp)
+	je	631f
+	movzbl	%r9b, %r9d
+	leaq	.LT3cb3454d(%rip), %rbx
+	movzbl	(%r9,%rbx), %r9d
+	cmpq	$62, %r9
+	ja	631f
+	movb	%r11b, (%rsp)
+	movq	56(%rsp), %rax
+	movb	%al, 1(%rsp)
+	movq	48(%rsp), %rax
+	movb	%al, 2(%rsp)
+	movb	%r14b, 3(%rsp)
+	movb	%bpl, 4(%rsp)
+	movb	%r13b, 5(%rsp)
+	movb	%r15b, 6(%rsp)
+	movl	%r9d, %eax
+	shrl	$3, %eax
+	cmpl	$7, %eax
+	movq	40(%rsp), %r10
+	je	409f
+	andb	$7, %r9b
+	movb	$-128, %dl
+	movl	%r9d, %ecx
+	shrb	%cl, %dl
+	xorb	%dl, (%rsp,%rax)
+	movzbl	(%rsp), %r11d
+	movzbl	1(%rsp), %eax
+	movq	%rax, 56(%rsp)
+	movzbl	2(%rsp), %eax
+	movq	%rax, 48(%rsp)
+	movzbl	3(%rsp), %r14d
+	movzbl	4(%rsp), %ebp
+	movzbl	5(%rsp), %r13d
+	movzbl	6(%rsp), %r15d
+409:
+	movb	$1, %al
+	movq	64(%rsp), %rbx
+	cmpl	$1023, 104(%rsp)
+	jae	629b
+394:
+	movb	%r11b, (%rsi)
+	movq	56(%rsp), %rcx
+	movb	%cl, 1(%rsi)
+	movq	48(%rsp), %rcx
+	movb	%cl, 2(%rsi)
+	movb	%r14b, 3(%rsi)
+	movb	%bpl, 4(%rsi)
+	movb	%r13b, 5(%rsi)
+	movb	%r15b, 6(%rsi)
+	movq	16(%rsp), %r13
+	addl	$7, %r13d
+	movb	$1, %r14b
+	xorl	%esi, %esi
+	addq	$1, %r12
+	movzbl	%al, %eax
+	leaq	.LJ3c3e2ee8_0(%rip), %rcx
+	movslq	(%rcx,%rax,4), %rax
+	addq	%rcx, %rax
+	movq	8(%rsp), %r15
+	movq	24(%rsp), %r8
+	movq	32(%rsp), %r9
+	movl	76(%rsp), %r11d
+	jmpq	*%rax
+631:
+	movabsq	$-72057594037927936, %rsi
+	andq	%rsi, %r11
+	shlq	$48, %rdi
+	orq	%r11, %rdi
+	shlq	$40, %rax
+	shlq	$32, %rdx
+	orq	%rax, %rdx
+	orq	%rdi, %rdx
+	shll	$24, %ecx
+	shll	$16, %r8d
+	orq	%rcx, %r8
+	shll	$8, %r10d
+	orq	%r8, %r10
+	orq	%rdx, %r10
+	orq	96(%rsp), %r10
+	movq	%r10, (%rsp)
+	movb	$3, %al
+	movl	$3318072773, %ecx
+	cmpl	%ecx, %r10d
+	jne	859f
+	leaq	.LT9296ae30(%rip), %rdx
+	movq	%rsp, %rdi
+	movl	$8, %esi
+	callq	core.cmp.slices.groups_equal._i8_31_core.cmp.numbers.U8PartialEq
+	xorb	$3, %al
+859:
+	movq	16(%rsp), %r13
+	testw	%r13w, %r13w
+	setne	%sil
+	xorl	%r11d, %r11d
+	addq	$1, %r12
+	movzbl	%al, %eax
+	leaq	.LJ3c3e2ee8_0(%rip), %rcx
+	movslq	(%rcx,%rax,4), %rax
+	addq	%rcx, %rax
+	xorl	%r14d, %r14d
+	movq	64(%rsp), %rbx
+	movq	8(%rsp), %r15
+	movq	24(%rsp), %r8
+	movq	32(%rsp), %r9
+	movq	40(%rsp), %r10
+	jmpq	*%rax
+969:
+	movb	$3, %al
+	movq	16(%rsp), %r13
+	testw	%r13w, %r13w
+	setne	%sil
+	xorl	%r11d, %r11d
+	addq	$8, %r12
+	movzbl	%al, %eax
+	leaq	.LJ3c3e2ee8_0(%rip), %rcx
+	movslq	(%rcx,%rax,4), %rax
+	addq	%rcx, %rax
+	xorl	%r14d, %r14d
+	movq	64(%rsp), %rbx
+	movq	8(%rsp), %r15
+	movq	24(%rsp), %r8
+	movq	32(%rsp), %r9
+	movq	40(%rsp), %r10
+	jmpq	*%rax
+	.p2align	4
+1:
+	testb	%sil, %sil
+	jne	409f
+	xorl	%ebp, %ebp
+	jmp	489b
+629:
+	incq	%r9
+	xorl	%ebp, %ebp
+	testb	%sil, %sil
+	je	972b
+	jmp	409f
+677:
+	incq	%r8
+	xorl	%ebp, %ebp
+	testb	%sil, %sil
+	je	928b
+409:
+	movb	$0, 4(%rsp)
+	movl	$0, (%rsp)
+	movb	$1, %cl
+	xorl	%eax, %eax
+	xorl	%ebp, %ebp
+	jmp	327b
+890:
+	xorl	%r14d, %r14d
+	xorl	%r11d, %r11d
+	xorl	%ebp, %ebp
+	movq	8(%rsp), %r15
+	movq	16(%rsp), %r13
+	movq	24(%rsp), %r8
+	movq	32(%rsp), %r9
+668:
+	movb	$0, 4(%rsp)
+	movl	$0, (%rsp)
+	xorl	%eax, %eax
+	xorl	%ecx, %ecx
 	jmp	327b
 	.size	tcrx_cltu_octets_at, .-tcrx_cltu_octets_at
 	.section	.rodata.tcrx_cltu_octets_at,"a",@progbits
 	.p2align	2
 .LJ3c3e2ee8_0:
-	.long	850b-.LJ3c3e2ee8_0
+	.long	1b-.LJ3c3e2ee8_0
 	.long	677b-.LJ3c3e2ee8_0
-	.long	850b-.LJ3c3e2ee8_0
-	.long	400b-.LJ3c3e2ee8_0
+	.long	1b-.LJ3c3e2ee8_0
 	.long	629b-.LJ3c3e2ee8_0
 	.section	.text.tcrx_cltu_search,"ax",@progbits
 	.globl	tcrx_cltu_search
