@@ -181,16 +181,18 @@ bool channel_release(channel *c, delivery *told) {
     return true;
 }
 
-size_t channel_take(channel *c, uint16_t apid, const uint8_t **octets) {
+size_t channel_take(channel *c, uint16_t apid, uint8_t *octets, size_t room) {
     uint32_t count;
     if (RARE(apid >= KEYS || c->places[apid] == NONE || c->queue.waiting == 0)) return 0;
-    *octets = oldest(&c->queue, &count);
+    const uint8_t *const packet = oldest(&c->queue, &count);
+    if (RARE(count > room)) return 0;
+    copy(octets, packet, count);
     pop(&c->queue);
     c->events++;
     return count;
 }
 
-uint64_t channel_events(const channel *c) { return c->events; }
+uint64_t channel_events(channel *c) { return c->events; }
 
 static ring made(uint32_t capacity, uint32_t size) {
     const uint32_t stride = (size + 4 + 15) & ~15u;

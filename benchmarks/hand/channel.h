@@ -29,9 +29,9 @@ reply channel_frame(channel *, const uint8_t *octets, size_t count);
 /** Whether a data field waited. */
 bool channel_release(channel *, delivery *);
 
-/** Lends the oldest packet and drops it. How many octets it has, or 0 if there is none. */
-size_t channel_take(channel *, uint16_t apid, const uint8_t **octets);
+/** Copies the oldest packet to octets that have room for it, and drops it. How many it has, or 0 if there is none. */
+size_t channel_take(channel *, uint16_t apid, uint8_t *octets, size_t room);
 
-uint64_t channel_events(const channel *);
+uint64_t channel_events(channel *);
 
 #endif

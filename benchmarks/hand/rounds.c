@@ -1,7 +1,7 @@
 /*
- * Makes so many rounds of a load of tc_bench on the channel by hand, and prints the same score; or of c/checks/rounds.c, and prints the same count.
+ * Makes so many rounds of a load of tc_bench on the channel by hand (channel.c) or on one of the library (library.c), and prints its score.
  *
- *   rounds sequenced|bypassing|packets|segments|calls COUNT
+ *   rounds sequenced|bypassing|packets|segments COUNT
  */
 #include "channel.h"
 
@@ -53,27 +53,9 @@ static void let_out(void) {
 }
 
 static void take(void) {
-    const uint8_t *octets = NULL;
-    const size_t count = channel_take(c, APID, &octets);
-    if (count > 0) add_packet(octets, count);
-}
-
-/* The rounds of c/checks/rounds.c, whose packets are copied. */
-uint8_t copied[64];
-
-static int call(unsigned long rounds) {
-    unsigned long taken = 0;
-    for (unsigned long i = 0; i < rounds; i++) {
-        const uint8_t *octets = NULL;
-        delivery told = {0, 0, false};
-        const reply brought = channel_frame(c, frames[i % 256].octets, frames[i % 256].count);
-        channel_release(c, &told);
-        const size_t count = channel_take(c, APID, &octets);
-        memcpy(copied, octets, count);
-        taken += brought.accepted + told.queued == 2 && count == 7 ? 1 : 0;
-    }
-    printf("%lu packets in %lu rounds\n", taken, rounds);
-    return taken == rounds ? 0 : 1;
+    static uint8_t packet[UNIT];
+    const size_t count = channel_take(c, APID, packet, sizeof packet);
+    if (count > 0) add_packet(packet, count);
 }
 
 /* A frame for spacecraft 42 and virtual channel 1, with this segment header and body. */
@@ -89,7 +71,7 @@ int main(int count, char **words) {
     if (count != 3) return 2;
     const char *const load = words[1];
     const unsigned long rounds = strtoul(words[2], NULL, 10);
-    const bool is_call = strcmp(load, "calls") == 0, is_sequenced = is_call || strcmp(load, "sequenced") == 0, is_small = is_sequenced || strcmp(load, "bypassing") == 0;
+    const bool is_sequenced = strcmp(load, "sequenced") == 0, is_small = is_sequenced || strcmp(load, "bypassing") == 0;
     const bool is_full = strcmp(load, "packets") == 0;
     c = channel_new(4, APID, is_full ? 128 : 16);
     if (is_small) {
@@ -109,7 +91,6 @@ int main(int count, char **words) {
             make(&frames[part], 0x20, 0, header, unit + part * BODY, left < BODY ? left : BODY);
         }
     }
-    if (is_call) return call(rounds);
     for (unsigned long i = 0; i < rounds; i++) {
         const size_t parts = is_small || is_full ? 1 : PARTS, packets = is_full ? PACKETS : 1;
         for (size_t part = 0; part < parts; part++) bring(&frames[is_small ? i % 256 : part]);

@@ -1,5 +1,5 @@
-//! The load of `tc_bench`: with no argument it prints the same three scores, and with `rounds kept COUNT` or
-//! `rounds flight COUNT` that of so many rounds on a bare channel, whose journal is kept or counted.
+//! The load of `tc_bench`: with no argument it prints the same three scores, and with `rounds recorded COUNT` or
+//! `rounds counting COUNT` that of so many rounds on a bare channel, whose journal is recorded or counted.
 use plain_receiver::channel::{Channel, Delivery, FrameReply, QueueSetting, Settings};
 use plain_receiver::journal::{Counted, Journal, Kept};
 use plain_receiver::link::{Header, Link, read_frame, write_frame};
@@ -167,7 +167,7 @@ fn main() -> ExitCode {
             let Ok(count) = count.parse() else {
                 return ExitCode::from(2);
             };
-            println!("{:016x}", if form == "kept" { play::<Kept>(count) } else { play::<Counted>(count) });
+            println!("{:016x}", if form == "recorded" { play::<Kept>(count) } else { play::<Counted>(count) });
         }
         _ => return ExitCode::from(2),
     }
