@@ -2,17 +2,17 @@ mod faults;
 mod growth;
 mod limits;
 mod queues;
+mod reported;
 mod rooms;
 mod run;
 mod steps;
 mod storage;
-mod told;
 
 use run::{Run, Step};
 use std::alloc::Global;
 use std::process::Abort;
 use tc_channel::{
-    Channel, Delivery, Event, FlightChannel, FrameReply, Items, NoMemory, Octets, ReleaseFault,
+    Channel, CountingChannel, Delivery, Event, FrameReply, Items, NoMemory, Octets, ReleaseFault,
     Settings, SettingsFault, TakeFault, TakeUnitFault,
 };
 use tc_fixed::{

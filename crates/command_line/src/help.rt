@@ -1,7 +1,7 @@
 //! What help prints beside the commands and options.
 
 /// The version of each program, which is that of CHANGELOG.md's newest heading; `checks/launcher` compares each place that says it.
-pub(crate) const VERSION: &str = "0.2.0";
+pub(crate) const VERSION: &str = "0.3.0";
 
 /// Of `tcrx`: the lines of a script with their limits, the statuses, and an example.
 pub(crate) const SCRIPTS: &str = "Lines of a script, those that set up first:

@@ -8,7 +8,7 @@ use std::io::Write;
 use std::marker::PhantomData;
 use tc_channel::{ReleaseFault, TakeFault, TakeUnitFault};
 use tc_link::read_frame;
-use tc_rack::{Answer, Founder, Operation, Refusal};
+use tc_rack::{Answer, Backend, Operation, Refusal};
 use tc_setup::Configuration;
 use tc_station::LocateFault;
 use tc_text::Reason;
@@ -19,21 +19,21 @@ const IDS: u8 = 64;
 
 /// Who makes channels of a form for the spacecraft with this id, and asks them. Nothing is promised of the form.
 #[derive(Drop)]
-pub(crate) struct LoneFounder<C> {
+pub(crate) struct LoneBackend<C> {
     scid: u16,
     form: PhantomData<C>,
 }
 
-impl<C: Form> LoneFounder<C> {
-    pub(crate) fn new(scid: u16) -> LoneFounder<C> {
-        LoneFounder {
+impl<C: Form> LoneBackend<C> {
+    pub(crate) fn new(scid: u16) -> LoneBackend<C> {
+        LoneBackend {
             scid,
             form: PhantomData,
         }
     }
 }
 
-impl<C: Form> Founder for LoneFounder<C> {
+impl<C: Form> Backend for LoneBackend<C> {
     ghost use Rattle.std.specs.Prelude.{⊤};
 
     type Founded = Lone<C>;

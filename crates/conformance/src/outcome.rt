@@ -7,7 +7,7 @@ use std::alloc::{AllocError, Global};
 use std::fmt;
 use std::sync::Wait;
 use std::thread::Threads;
-use tc_channel::{Channel, FlightChannel};
+use tc_channel::{Channel, CountingChannel};
 use tc_cli::{parallel_script, run_script};
 use tc_fixed::FixedChannel;
 use tc_station::FreeGate;
@@ -28,7 +28,7 @@ pub(crate) enum Command {
     Parallel,
     /// As `Run`, on channels in place of a station: each with its journal in memory, without one, or in rooms.
     Alone,
-    Flight,
+    Counting,
     Rooms,
 }
 
@@ -36,7 +36,7 @@ pub(crate) const COMMANDS: [Command; 5] = [
     Command::Run,
     Command::Parallel,
     Command::Alone,
-    Command::Flight,
+    Command::Counting,
     Command::Rooms,
 ];
 
@@ -46,7 +46,7 @@ impl fmt::Display for Command {
             Command::Run => "run",
             Command::Parallel => "parallel",
             Command::Alone => "alone",
-            Command::Flight => "in flight",
+            Command::Counting => "counting",
             Command::Rooms => "in rooms",
         })
     }
@@ -70,7 +70,12 @@ pub(crate) fn perform<T: Threads + Wait + Sync>(
             parallel_script(rt, alloc, &FreeGate, scid, &mut reader, &mut answers)
         }
         Command::Alone => replay::<Channel, _, _>(alloc, scid, &mut reader, &mut answers),
-        Command::Flight => replay::<FlightChannel, _, _>(alloc, scid, &mut reader, &mut answers),
+        Command::Counting => replay::<CountingChannel, _, _>(
+            alloc,
+            scid,
+            &mut reader,
+            &mut answers,
+        ),
         Command::Rooms => replay::<FixedChannel, _, _>(alloc, scid, &mut reader, &mut answers),
     };
     let fault = match done {

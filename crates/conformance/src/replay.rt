@@ -1,6 +1,6 @@
 //! A script on channels without a station, line by line, as `run` runs it on a station.
 
-use crate::lone::{Lone, LoneFounder};
+use crate::lone::{Lone, LoneBackend};
 use std::alloc::Global;
 use std::io::{Read, Write};
 use tc_rack::{Stage, perform, start};
@@ -16,16 +16,16 @@ pub(crate) fn replay<C: Form, R: Read, W: Write>(
     writer: &mut W,
 ) -> Result<(), ScriptFault> {
     let script = read_whole(alloc, reader)?;
-    let founder = LoneFounder::new(scid);
+    let backend = LoneBackend::new(scid);
     let mut stage: Stage<Lone<C>> = Stage::SettingUp(Configuration::new(alloc));
-    let lines = replay_lines(alloc, &founder, &mut stage, script.as_slice(), writer)?;
-    report(alloc, &founder, stage, writer, lines)
+    let lines = replay_lines(alloc, &backend, &mut stage, script.as_slice(), writer)?;
+    report(alloc, &backend, stage, writer, lines)
 }
 
 // Does the lines, and says how many there are.
 fn replay_lines<C: Form, W: Write>(
     alloc: Global,
-    founder: &LoneFounder<C>,
+    backend: &LoneBackend<C>,
     stage: &mut Stage<Lone<C>>,
     script: &[u8],
     writer: &mut W,
@@ -34,7 +34,7 @@ fn replay_lines<C: Form, W: Write>(
     let mut line = 0u32;
     while let Some((octets, after)) = next_line(rest) {
         line = line.saturating_add(1);
-        replay_line(alloc, founder, stage, octets, writer, line)?;
+        replay_line(alloc, backend, stage, octets, writer, line)?;
         rest = after;
     }
     Ok(line)
@@ -43,14 +43,14 @@ fn replay_lines<C: Form, W: Write>(
 // Does a line, and writes its answer where it has one.
 fn replay_line<C: Form, W: Write>(
     alloc: Global,
-    founder: &LoneFounder<C>,
+    backend: &LoneBackend<C>,
     stage: &mut Stage<Lone<C>>,
     octets: &[u8],
     writer: &mut W,
     line: u32,
 ) -> Result<(), ScriptFault> {
     let answer = match parse_line(alloc, octets) {
-        Ok(said) => perform(founder, alloc, stage, Instruction::of(alloc, said)),
+        Ok(said) => perform(backend, alloc, stage, Instruction::of(alloc, said)),
         Err(reason) => Err(reason),
     };
     match answer {
@@ -63,12 +63,12 @@ fn replay_line<C: Form, W: Write>(
 // The report at the end of a script with so many lines. Where no channel was set up there is none.
 fn report<C: Form, W: Write>(
     alloc: Global,
-    founder: &LoneFounder<C>,
+    backend: &LoneBackend<C>,
     stage: Stage<Lone<C>>,
     writer: &mut W,
     lines: u32,
 ) -> Result<(), ScriptFault> {
-    match start(founder, alloc, stage) {
+    match start(backend, alloc, stage) {
         Ok(channels) => channels.report(writer).map_err(|_| ScriptFault::Write),
         Err(Reason::NoChannel) => Ok(()),
         Err(reason) => Err(ScriptFault::Line {

@@ -7,7 +7,7 @@ use native.Mathlib.Decide.{ℕ_discrete, dec_le}
 use Rattle.logged_lock.specs.declared.views.Log.{Log}
 use Rattle.logged_lock.specs.declared.views.Account.{Account}
 use Rattle.logged_lock.specs.Log.{owned, made_by, total_made, IsMergeOf}
-use Rattle.logged_lock.specs.Rule.{seat_tag, told_tag, AreTold, NoSeatOwns}
+use Rattle.logged_lock.specs.Rule.{seat_tag, reported_tag, AreReported, NoSeatOwns}
 use Rattle.logged_lock.proofs.Owned.{owned-own, owned-other}
 
 -- the first n of a row of numbers, added up
@@ -69,93 +69,93 @@ count-owned t at (o ∷ os) (e ∷ es) len =
 
 -- how many of the first n have this tag: one at most
 tagged : ℕ → ℕ → ℕ
-tagged n o = sum_to (λ k. is o (told_tag k)) n
+tagged n o = sum_to (λ k. is o (reported_tag k)) n
 
 all_tagged : ℕ → List ℕ → ℕ
 all_tagged n [] = 0
 all_tagged n (o ∷ os) = tagged n o + all_tagged n os
 
-count-tagged : (n : ℕ) (os : List ℕ) → sum_to (λ k. count (told_tag k) os) n ≡ all_tagged n os
+count-tagged : (n : ℕ) (os : List ℕ) → sum_to (λ k. count (reported_tag k) os) n ≡ all_tagged n os
 unfolding count all_tagged tagged
 count-tagged n [] = sum_to-zero (λ k. 0) (λ k. refl) n
-count-tagged n (o ∷ os) = sum_to-add (λ k. is o (told_tag k)) (λ k. count (told_tag k) os) n ∙ ap (λ (m : ℕ). sum_to (λ k. is o (told_tag k)) n + m) (count-tagged n os)
+count-tagged n (o ∷ os) = sum_to-add (λ k. is o (reported_tag k)) (λ k. count (reported_tag k) os) n ∙ ap (λ (m : ℕ). sum_to (λ k. is o (reported_tag k)) n + m) (count-tagged n os)
 
-tag-apart : (k m : ℕ) → k < m → told_tag m ≢ told_tag k
+tag-apart : (k m : ℕ) → k < m → reported_tag m ≢ reported_tag k
 tag-apart k m lt = λ e. absurd (omega arith)
 
-tagged-none : (n m : ℕ) → n ≤ m → tagged n (told_tag m) ≡ 0
+tagged-none : (n m : ℕ) → n ≤ m → tagged n (reported_tag m) ≡ 0
 unfolding tagged sum_to
 tagged-none zero m le = refl
-tagged-none (suc n) m le = omega (arith, tagged-none n m (omega arith), is-else (told_tag m) (told_tag n) (tag-apart n m (omega arith)))
+tagged-none (suc n) m le = omega (arith, tagged-none n m (omega arith), is-else (reported_tag m) (reported_tag n) (tag-apart n m (omega arith)))
 
 tagged-one : (n o : ℕ) → tagged n o ≤ 1
 unfolding tagged sum_to
 tagged-one zero o = omega arith
-tagged-one (suc n) o = dite (ℕ_discrete o (told_tag n))
-    (λ same. omega (arith, is-same o (told_tag n) same, subst (λ (x : ℕ). tagged n x ≡ 0) (sym same) (tagged-none n n (omega arith))))
-    (λ apart. omega (arith, is-else o (told_tag n) apart, tagged-one n o))
+tagged-one (suc n) o = dite (ℕ_discrete o (reported_tag n))
+    (λ same. omega (arith, is-same o (reported_tag n) same, subst (λ (x : ℕ). tagged n x ≡ 0) (sym same) (tagged-none n n (omega arith))))
+    (λ apart. omega (arith, is-else o (reported_tag n) apart, tagged-one n o))
 
-tagged-there : (n o : ℕ) → tagged n o ≡ 1 → (k : ℕ) × (o ≡ told_tag k)
+tagged-there : (n o : ℕ) → tagged n o ≡ 1 → (k : ℕ) × (o ≡ reported_tag k)
 unfolding tagged sum_to
 tagged-there zero o one = absurd (omega arith)
-tagged-there (suc n) o one = dite (ℕ_discrete o (told_tag n)) (λ same. (n, same)) (λ apart. tagged-there n o (omega (arith, is-else o (told_tag n) apart, one)))
+tagged-there (suc n) o one = dite (ℕ_discrete o (reported_tag n)) (λ same. (n, same)) (λ apart. tagged-there n o (omega (arith, is-else o (reported_tag n) apart, one)))
 
 all-at-most : (n : ℕ) (os : List ℕ) → all_tagged n os ≤ length os
 unfolding all_tagged
 all-at-most n [] = omega arith
 all-at-most n (o ∷ os) = omega (arith, tagged-one n o, all-at-most n os)
 
-tagged-some : (n k : ℕ) → k < n → 1 ≤ tagged n (told_tag k)
+tagged-some : (n k : ℕ) → k < n → 1 ≤ tagged n (reported_tag k)
 unfolding tagged sum_to
 tagged-some zero k lt = absurd (omega (arith, lt))
 tagged-some (suc n) k lt = dite (dec_le n k)
-    (λ (le : n ≤ k). let same : k ≡ n = omega (arith, lt, le) in omega (arith, is-same (told_tag k) (told_tag n) (ap told_tag same)))
+    (λ (le : n ≤ k). let same : k ≡ n = omega (arith, lt, le) in omega (arith, is-same (reported_tag k) (reported_tag n) (ap reported_tag same)))
     (λ (no : n ≤ k → ⊥). omega (arith, tagged-some n k (lt_of_not-le no)))
 
-even : (o : ℕ) → o ≢ told_tag (o / 2) → o ≡ seat_tag (o / 2)
+even : (o : ℕ) → o ≢ reported_tag (o / 2) → o ≡ seat_tag (o / 2)
 even o n = dite (dec_le (suc (o / 2 + o / 2)) o)
     (λ (le : suc (o / 2 + o / 2) ≤ o). absurd (n (omega (arith, le))))
     (λ (no : suc (o / 2 + o / 2) ≤ o → ⊥). let lt : o < suc (o / 2 + o / 2) = lt_of_not-le no in omega (arith, lt))
 
 -- an owner that is no seat, and none of those that weren't told, was told
-tagged-whole : (n o : ℕ) → ((id : ℕ) → is o (seat_tag id) ≡ 0) → ((k : ℕ) → n ≤ k → is o (told_tag k) ≡ 0) → tagged n o ≡ 1
+tagged-whole : (n o : ℕ) → ((id : ℕ) → is o (seat_tag id) ≡ 0) → ((k : ℕ) → n ≤ k → is o (reported_tag k) ≡ 0) → tagged n o ≡ 1
 tagged-whole n o seats later =
     let k = o / 2 in
-    dite (ℕ_discrete o (told_tag k))
-    (λ (told : o ≡ told_tag k). dite (dec_le n k)
-    (λ (le : n ≤ k). absurd (omega (arith, later k le, is-same o (told_tag k) told)))
-    (λ (no : n ≤ k → ⊥). let some = tagged-some n k (lt_of_not-le no) in let is_some : 1 ≤ tagged n o = subst (λ (x : ℕ). 1 ≤ tagged n x) (sym told) some in omega (arith, is_some, tagged-one n o)))
-    (λ (seat : o ≢ told_tag k). absurd (omega (arith, seats k, is-same o (seat_tag k) (even o seat))))
+    dite (ℕ_discrete o (reported_tag k))
+    (λ (reported : o ≡ reported_tag k). dite (dec_le n k)
+    (λ (le : n ≤ k). absurd (omega (arith, later k le, is-same o (reported_tag k) reported)))
+    (λ (no : n ≤ k → ⊥). let some = tagged-some n k (lt_of_not-le no) in let is_some : 1 ≤ tagged n o = subst (λ (x : ℕ). 1 ≤ tagged n x) (sym reported) some in omega (arith, is_some, tagged-one n o)))
+    (λ (seat : o ≢ reported_tag k). absurd (omega (arith, seats k, is-same o (seat_tag k) (even o seat))))
 
-all-whole : (n : ℕ) (os : List ℕ) → ((id : ℕ) → count (seat_tag id) os ≡ 0) → ((k : ℕ) → n ≤ k → count (told_tag k) os ≡ 0) → all_tagged n os ≡ length os
+all-whole : (n : ℕ) (os : List ℕ) → ((id : ℕ) → count (seat_tag id) os ≡ 0) → ((k : ℕ) → n ≤ k → count (reported_tag k) os ≡ 0) → all_tagged n os ≡ length os
 unfolding all_tagged count
 all-whole n [] seats later = refl
 all-whole n (o ∷ os) seats later =
     let here = tagged-whole n o (λ id. omega (arith, seats id)) (λ k le. omega (arith, later k le)) in
     omega (arith, here, all-whole n os (λ id. omega (arith, seats id)) (λ k le. omega (arith, later k le)))
 
-made_by-past : {D E : Type 0} (told : List (Account D E)) (k : ℕ) → length told ≤ k → made_by told k ≡ []
+made_by-past : {D E : Type 0} (reported : List (Account D E)) (k : ℕ) → length reported ≤ k → made_by reported k ≡ []
 made_by-past [] k le = refl
-made_by-past (a ∷ told) zero le = absurd (omega (arith, le))
-made_by-past (a ∷ told) (suc k) le = made_by-past told k (omega (arith, le))
+made_by-past (a ∷ reported) zero le = absurd (omega (arith, le))
+made_by-past (a ∷ reported) (suc k) le = made_by-past reported k (omega (arith, le))
 
 -- where no seat owns anything, those that were told have made all
-pub made-whole : {D E : Type 0} (now : Log D E) (owners : List ℕ) (told : List (Account D E)) → length owners ≡ length now.entries → AreTold now owners told → NoSeatOwns now owners → total_made told ≡ length now.entries
-made-whole now owners told long are none =
-    let n = length told in
-    let each = sum_to-same (λ k. length (made_by told k)) (λ k. count (told_tag k) owners) (λ k. ap (λ l. length l) (sym (are.0 k)) ∙ count-owned (told_tag k) 0 owners now.entries long) n in
+pub made-whole : {D E : Type 0} (now : Log D E) (owners : List ℕ) (reported : List (Account D E)) → length owners ≡ length now.entries → AreReported now owners reported → NoSeatOwns now owners → total_made reported ≡ length now.entries
+made-whole now owners reported long are none =
+    let n = length reported in
+    let each = sum_to-same (λ k. length (made_by reported k)) (λ k. count (reported_tag k) owners) (λ k. ap (λ l. length l) (sym (are.0 k)) ∙ count-owned (reported_tag k) 0 owners now.entries long) n in
     let seats : (id : ℕ) → count (seat_tag id) owners ≡ 0 = λ id. sym (count-owned (seat_tag id) 0 owners now.entries long) ∙ ap (λ l. length l) (none id) in
-    let later : (k : ℕ) → n ≤ k → count (told_tag k) owners ≡ 0 = λ k le. sym (count-owned (told_tag k) 0 owners now.entries long) ∙ ap (λ l. length l) (are.0 k ∙ made_by-past told k le) in
-    total-sum told ∙ (each ∙ (count-tagged n owners ∙ (all-whole n owners seats later ∙ long)))
+    let later : (k : ℕ) → n ≤ k → count (reported_tag k) owners ≡ 0 = λ k le. sym (count-owned (reported_tag k) 0 owners now.entries long) ∙ ap (λ l. length l) (are.0 k ∙ made_by-past reported k le) in
+    total-sum reported ∙ (each ∙ (count-tagged n owners ∙ (all-whole n owners seats later ∙ long)))
 
 -- each owner's number in place of its tag
 abbrev number_of : ℕ → ℕ
 number_of o = o / 2
 
-numbered : (o j k : ℕ) → o ≡ told_tag j → (number_of o == k) ≡ (o == told_tag k)
+numbered : (o j k : ℕ) → o ≡ reported_tag j → (number_of o == k) ≡ (o == reported_tag k)
 numbered o j k tag = grind (arith, nat_tests)
 
-owned-numbered : {E : Type 0} (n k at : ℕ) (os : List ℕ) (es : List E) → all_tagged n os ≡ length os → owned k at (map number_of os) es ≡ owned (told_tag k) at os es
+owned-numbered : {E : Type 0} (n k at : ℕ) (os : List ℕ) (es : List E) → all_tagged n os ≡ length os → owned k at (map number_of os) es ≡ owned (reported_tag k) at os es
 unfolding all_tagged
 owned-numbered n k at (o ∷ os) (e ∷ es) all =
     let one : tagged n o ≡ 1 = omega (arith, tagged-one n o, all-at-most n os, all) in
@@ -164,11 +164,11 @@ owned-numbered n k at (o ∷ os) (e ∷ es) all =
     λ i. cond (numbered o j.0 k j.1 i) ((at, e) ∷ more i) (more i)
 owned-numbered n k at _ _ all = refl
 
-pub merges : {D E : Type 0} (now : Log D E) (owners : List ℕ) (told : List (Account D E)) → length owners ≡ length now.entries → AreTold now owners told → total_made told ≡ length now.entries → IsMergeOf now.entries told
-merges now owners told long are all =
-    let n = length told in
-    let each = sum_to-same (λ k. length (made_by told k)) (λ k. count (told_tag k) owners) (λ k. ap (λ l. length l) (sym (are.0 k)) ∙ count-owned (told_tag k) 0 owners now.entries long) n in
-    let whole : all_tagged n owners ≡ length owners = sym (count-tagged n owners) ∙ (sym each ∙ (sym (total-sum told) ∙ (all ∙ sym long))) in record {
+pub merges : {D E : Type 0} (now : Log D E) (owners : List ℕ) (reported : List (Account D E)) → length owners ≡ length now.entries → AreReported now owners reported → total_made reported ≡ length now.entries → IsMergeOf now.entries reported
+merges now owners reported long are all =
+    let n = length reported in
+    let each = sum_to-same (λ k. length (made_by reported k)) (λ k. count (reported_tag k) owners) (λ k. ap (λ l. length l) (sym (are.0 k)) ∙ count-owned (reported_tag k) 0 owners now.entries long) n in
+    let whole : all_tagged n owners ≡ length owners = sym (count-tagged n owners) ∙ (sym each ∙ (sym (total-sum reported) ∙ (all ∙ sym long))) in record {
       owners = map number_of owners;
       long = length-map owners number_of ∙ long;
       parts = λ k. owned-numbered n k 0 owners now.entries whole ∙ are.0 k;

@@ -69,15 +69,15 @@ owned-renamed-new a b at (o ∷ os) (e ∷ es) none =
 owned-renamed-new a b at _ _ none = refl
 
 -- what was joined last
-pub made_by-last : {D E : Type 0} (told : List (Account D E)) (a : Account D E) → made_by (told ++ a ∷ []) (length told) ≡ a.made
+pub made_by-last : {D E : Type 0} (reported : List (Account D E)) (a : Account D E) → made_by (reported ++ a ∷ []) (length reported) ≡ a.made
 made_by-last [] a = refl
 made_by-last (x ∷ xs) a = made_by-last xs a
 
-pub made_by-end : {D E : Type 0} (told : List (Account D E)) → made_by told (length told) ≡ []
+pub made_by-end : {D E : Type 0} (reported : List (Account D E)) → made_by reported (length reported) ≡ []
 made_by-end [] = refl
 made_by-end (x ∷ xs) = made_by-end xs
 
-pub made_by-else : {D E : Type 0} (told : List (Account D E)) (a : Account D E) (k : ℕ) → k ≢ length told → made_by (told ++ a ∷ []) k ≡ made_by told k
+pub made_by-else : {D E : Type 0} (reported : List (Account D E)) (a : Account D E) (k : ℕ) → k ≢ length reported → made_by (reported ++ a ∷ []) k ≡ made_by reported k
 made_by-else [] a zero n = absurd (n refl)
 made_by-else (x ∷ xs) a (suc k) n = made_by-else xs a k (λ e. n (ap suc e))
 made_by-else _ a _ n = refl

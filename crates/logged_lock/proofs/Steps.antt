@@ -14,7 +14,7 @@ use Rattle.logged_lock.specs.declared.views.Log.{Log}
 use Rattle.logged_lock.specs.declared.views.Account.{Account}
 use Rattle.logged_lock.specs.declared.views.View.{View}
 use Rattle.logged_lock.specs.Log.{with_entry, IsBeginning, start_of, owned, made_by}
-use Rattle.logged_lock.specs.Rule.{words_of, seat_tag, told_tag, newcomer, guest, issued_one, gone, told_of, locked, unlocked, unlocked_with, makers_in, AreCounted, IsSeat, AreTold, IsFree, IsTakenOut, IsLock, IsIdle, HasLock, IsTaken, NoSeatOwns, IsSettled}
+use Rattle.logged_lock.specs.Rule.{words_of, seat_tag, reported_tag, newcomer, guest, issued_one, gone, reported_of, locked, unlocked, unlocked_with, makers_in, AreCounted, IsSeat, AreReported, IsFree, IsTakenOut, IsLock, IsIdle, HasLock, IsTaken, NoSeatOwns, IsSettled}
 use Rattle.logged_lock.proofs.Owned.{owned-here, owned-else, renamed, owned-renamed, owned-renamed-old, owned-renamed-new, made_by-last, made_by-end, made_by-else}
 
 pub some_word : (n : ℕ) → n ≡ 33 → 0 < n
@@ -101,20 +101,20 @@ seat-there (x ∷ xs) zero lt = (x, refl)
 seat-there (x ∷ xs) (suc id) lt = seat-there xs id (omega (arith, lt))
 
 -- what is known of the first seat stays where a seat's view is changed, but not what it was told and issued, and whether it is a maker
-first-stays : {D E : Type 0} (views : List (View D E)) (id : ℕ) (p v w : View D E) → get_elem? views 0 ≡ some p → get_elem? views id ≡ some v → w.told ≡ v.told → w.maker ≡ v.maker → w.own.issued ≡ v.own.issued
-    → AreCounted views p → (q : View D E) × (get_elem? (set views id w) 0 ≡ some q) × (q.told ≡ p.told) × AreCounted (set views id w) q
+first-stays : {D E : Type 0} (views : List (View D E)) (id : ℕ) (p v w : View D E) → get_elem? views 0 ≡ some p → get_elem? views id ≡ some v → w.reported ≡ v.reported → w.maker ≡ v.maker → w.own.issued ≡ v.own.issued
+    → AreCounted views p → (q : View D E) × (get_elem? (set views id w) 0 ≡ some q) × (q.reported ≡ p.reported) × AreCounted (set views id w) q
 first-stays [] id p v w at here same maker issued counted = absurd (some-ne-none p (sym at))
 first-stays {D = D} {E = E} (x ∷ xs) zero p v w at here same maker issued counted =
     let is : v ≡ p = sym (some-injective x v here) ∙ some-injective x p at in
-    let told : w.told ≡ p.told = same ∙ ap (λ (u : View D E). u.told) is in
+    let reported : w.reported ≡ p.reported = same ∙ ap (λ (u : View D E). u.reported) is in
     let many = counted.many in
-    let long : length w.told ≡ length p.told = ap (λ (l : List (Account D E)). length l) told in
+    let long : length w.reported ≡ length p.reported = ap (λ (l : List (Account D E)). length l) reported in
     let out : w.own.issued ≡ p.own.issued = issued ∙ ap (λ (u : View D E). u.own.issued) is in
     let makers : makers_in (set (x ∷ xs) 0 w) ≡ makers_in (x ∷ xs) = makers-set (x ∷ xs) 0 v w here maker in
-    (w, refl, told, record { lead = maker ∙ ap (λ (u : View D E). u.maker) is ∙ counted.lead; many = (λ i. makers i + long i) ∙ (many ∙ ap suc (sym out)) })
+    (w, refl, reported, record { lead = maker ∙ ap (λ (u : View D E). u.maker) is ∙ counted.lead; many = (λ i. makers i + long i) ∙ (many ∙ ap suc (sym out)) })
 first-stays (x ∷ xs) (suc id) p v w at here same maker issued counted =
     let makers : makers_in (set (x ∷ xs) (suc id) w) ≡ makers_in (x ∷ xs) = makers-set (x ∷ xs) (suc id) v w here maker in
-    (p, at, refl, record { lead = counted.lead; many = (λ i. makers i + length p.told) ∙ counted.many })
+    (p, at, refl, record { lead = counted.lead; many = (λ i. makers i + length p.reported) ∙ counted.many })
 
 seats-set : {D E : Type 0} (now : Log D E) (owners : List ℕ) (holder : Option ℕ) (views : List (View D E)) (id : ℕ) (w : View D E)
     → ((j : ℕ) (u : View D E) → j ≢ id → get_elem? views j ≡ some u → IsSeat now owners holder j u) → IsSeat now owners holder id w
@@ -149,10 +149,10 @@ number : {D E : Type 0} (h g : Log D E) → h ≡ g → 0 + length h.entries ≡
 number {D = D} {E = E} h g e = omega (arith, ap (λ (x : Log D E). length x.entries) e)
 
 module _ {S D E : Type 0} (log : S → Log D E) (fits : S → Type 0) (top : D) where
-  abbrev pub Kept : State S (View D E) → Type 0
-  Kept s = IsLock log fits top s.words s.homes s.views
+  abbrev pub Recorded : State S (View D E) → Type 0
+  Recorded s = IsLock log fits top s.words s.homes s.views
 
-  pub opens : (y : S) → fits y → log y ≡ start_of top → Kept (opening (words_of 0) (y ∷ []) (newcomer (start_of top)))
+  pub opens : (y : S) → fits y → log y ≡ start_of top → Recorded (opening (words_of 0) (y ∷ []) (newcomer (start_of top)))
   opens y fit same = record {
     now = start_of top;
     headed = refl;
@@ -163,7 +163,7 @@ module _ {S D E : Type 0} (log : S → Log D E) (fits : S → Type 0) (top : D) 
     others = λ id le. refl;
     first = newcomer (start_of top);
     at_first = refl;
-    told = ((λ k. refl), (λ k a e. absurd (some-ne-none a (sym e))));
+    reported = ((λ k. refl), (λ k a e. absurd (some-ne-none a (sym e))));
     counted = record { lead = refl; many = refl };
     lock = inl record { kept = y; mark = 0; small = omega arith; word = refl; home = refl; fitting = fit; same = same; nobody = refl };
   }
@@ -175,14 +175,14 @@ module _ {S D E : Type 0} (log : S → Log D E) (fits : S → Type 0) (top : D) 
   -- where nothing is changed but the lock
   relock : (words words' : List ℕ) (homes homes' : List (Option S)) (views : List (View D E)) (b : IsLock log fits top words homes views)
       → IsFree log fits words' homes' b.now b.holder ⊎ IsTakenOut words' homes' → IsLock log fits top words' homes' views
-  relock words words' homes homes' views b lock = record { now = b.now; headed = b.headed; owners = b.owners; long = b.long; holder = b.holder; seats = b.seats; others = b.others; first = b.first; at_first = b.at_first; told = b.told; counted = b.counted; lock = lock }
+  relock words words' homes homes' views b lock = record { now = b.now; headed = b.headed; owners = b.owners; long = b.long; holder = b.holder; seats = b.seats; others = b.others; first = b.first; at_first = b.at_first; reported = b.reported; counted = b.counted; lock = lock }
 
   -- where a view is put in its own place
   again : (words : List ℕ) (homes : List (Option S)) (views : List (View D E)) (id : ℕ) (v : View D E) → get_elem? views id ≡ some v → IsLock log fits top words homes views → IsLock log fits top words homes (set views id v)
   again words homes views id v at b = subst (λ l. IsLock log fits top words homes l) (sym (set_again views id v at)) b
 
   -- while a seat has the lock it isn't free
-  not-free : (s : State S (View D E)) (id : ℕ) (v : View D E) (b : Kept s) → get_elem? s.views id ≡ some v → v.locks ≡ true → IsTakenOut s.words s.homes
+  not-free : (s : State S (View D E)) (id : ℕ) (v : View D E) (b : Recorded s) → get_elem? s.views id ≡ some v → v.locks ≡ true → IsTakenOut s.words s.homes
   not-free s id v b at locks = ⊎_elim (λ (f : IsFree log fits s.words s.homes b.now b.holder). absurd (some-ne-none id (sym ((b.seats id v at).locks locks).0 ∙ f.nobody))) (λ (t : IsTakenOut s.words s.homes). t) b.lock
 
   -- what a step at the lock owes
@@ -198,7 +198,7 @@ module _ {S D E : Type 0} (log : S → Log D E) (fits : S → Type 0) (top : D) 
   Takes me current n w = MatchBool (n == current) (IsTaken log fits me w) (w ≡ me)
 
   -- nothing happens where the word is another
-  misses : (s : State S (View D E)) (id : ℕ) (me : Me S (View D E)) (m current next : ℕ) → Kept s → get_elem? s.views id ≡ some me.0
+  misses : (s : State S (View D E)) (id : ℕ) (me : Me S (View D E)) (m current next : ℕ) → Recorded s → get_elem? s.views id ≡ some me.0
       → s.words ≡ words_of m → m ≢ current → Owes id me (swapped current next) (Takes me current) s.views s.words s.homes
   misses s id me m current next b at word other =
       let no : (m == current) ≡ false = ne_eqb m current other in
@@ -211,7 +211,7 @@ module _ {S D E : Type 0} (log : S → Log D E) (fits : S → Type 0) (top : D) 
         subst (λ (c : Bool). MatchBool c (IsTaken log fits me me) (me ≡ me)) (sym no) refl,
       )
 
-  takes-free : (s : State S (View D E)) (id : ℕ) (me : Me S (View D E)) (current mark : ℕ) → IsIdle me → (b : Kept s) → get_elem? s.views id ≡ some me.0
+  takes-free : (s : State S (View D E)) (id : ℕ) (me : Me S (View D E)) (current mark : ℕ) → IsIdle me → (b : Recorded s) → get_elem? s.views id ≡ some me.0
       → (f : IsFree log fits s.words s.homes b.now b.holder) → f.mark ≡ current → Owes id me (swapped current (suc (suc mark))) (Takes me current) s.views s.words s.homes
   takes-free s id me current mark idle b at f same =
       let h = log f.kept in
@@ -230,7 +230,7 @@ module _ {S D E : Type 0} (log : S → Log D E) (fits : S → Type 0) (top : D) 
         others = others-set b.now b.owners s.views id w b.others;
         first = q.0;
         at_first = q.1;
-        told = subst (AreTold b.now b.owners) (sym q.2) b.told;
+        reported = subst (AreReported b.now b.owners) (sym q.2) b.reported;
         counted = q.3;
         lock = inr record { mark = mark; word = refl; away = refl };
       } in
@@ -252,7 +252,7 @@ module _ {S D E : Type 0} (log : S → Log D E) (fits : S → Type 0) (top : D) 
   not-current mark current free = λ e. absurd (omega arith)
 
   -- the lock is taken where its word is this free one
-  pub takes_lock : (slots id : ℕ) (me : Me S (View D E)) (current next : ℕ) → current < 2 → 2 ≤ next → IsIdle me → Allows Kept slots id me 16 (swapped current next) (Takes me current)
+  pub takes_lock : (slots id : ℕ) (me : Me S (View D E)) (current next : ℕ) → current < 2 → 2 ≤ next → IsIdle me → Allows Recorded slots id me 16 (swapped current next) (Takes me current)
   takes_lock slots id me current (suc (suc mark)) free some_mark idle s b len at small = ⊎_elim
       (λ (f : IsFree log fits s.words s.homes b.now b.holder). dite (ℕ_discrete f.mark current) (takes-free s id me current mark idle b at f) (misses s id me f.mark current (suc (suc mark)) b at f.word))
       (λ (t : IsTakenOut s.words s.homes). misses s id me (suc (suc t.mark)) current (suc (suc mark)) b at t.word (not-current t.mark current free))
@@ -260,7 +260,7 @@ module _ {S D E : Type 0} (log : S → Log D E) (fits : S → Type 0) (top : D) 
   takes_lock slots id me current _ free some_mark idle s b len at small = absurd (omega arith)
 
   -- a taken lock's word becomes another of a taken lock
-  marks-free : (s : State S (View D E)) (id : ℕ) (me : Me S (View D E)) (current next : ℕ) → 2 ≤ current → (b : Kept s) → get_elem? s.views id ≡ some me.0
+  marks-free : (s : State S (View D E)) (id : ℕ) (me : Me S (View D E)) (current next : ℕ) → 2 ≤ current → (b : Recorded s) → get_elem? s.views id ≡ some me.0
       → IsFree log fits s.words s.homes b.now b.holder → Owes id me (swapped current next) (λ _ w. w ≡ me) s.views s.words s.homes
   marks-free s id me current next taken b at f =
       let no : (f.mark == current) ≡ false = ne_eqb f.mark current (λ e. absurd (omega (arith, f.small, taken, e))) in
@@ -273,7 +273,7 @@ module _ {S D E : Type 0} (log : S → Log D E) (fits : S → Type 0) (top : D) 
         refl,
       )
 
-  marks-away : (s : State S (View D E)) (id : ℕ) (me : Me S (View D E)) (current mark : ℕ) → (b : Kept s) → get_elem? s.views id ≡ some me.0
+  marks-away : (s : State S (View D E)) (id : ℕ) (me : Me S (View D E)) (current mark : ℕ) → (b : Recorded s) → get_elem? s.views id ≡ some me.0
       → IsTakenOut s.words s.homes → Owes id me (swapped current (suc (suc mark))) (λ _ w. w ≡ me) s.views s.words s.homes
   marks-away s id me current mark b at t =
       let kept = again s.words s.homes s.views id me.0 at b in
@@ -287,19 +287,19 @@ module _ {S D E : Type 0} (log : S → Log D E) (fits : S → Type 0) (top : D) 
         refl,
       )
 
-  pub marks : (slots id : ℕ) (me : Me S (View D E)) (current next : ℕ) → 2 ≤ current → 2 ≤ next → Allows Kept slots id me 16 (swapped current next) (λ _ w. w ≡ me)
+  pub marks : (slots id : ℕ) (me : Me S (View D E)) (current next : ℕ) → 2 ≤ current → 2 ≤ next → Allows Recorded slots id me 16 (swapped current next) (λ _ w. w ≡ me)
   marks slots id me current (suc (suc mark)) taken some_mark s b len at small = ⊎_elim (marks-free s id me current (suc (suc mark)) taken b at) (marks-away s id me current mark b at) b.lock
   marks slots id me current _ taken some_mark s b len at small = absurd (omega arith)
 
   -- what is kept is put back, where the state but for the lock is right already
   puts-back : (s : State S (View D E)) (id : ℕ) (me : Me S (View D E)) (free : ℕ) (y : S) (w : View D E) (then : ℕ → Me S (View D E) → Type 0) → me.1 ≡ (0, y) ∷ [] → IsTakenOut s.words s.homes
       → IsLock log fits top (words_of free) (some y ∷ []) (set s.views id w) → ((n : ℕ) → then n (w, [])) → Owes id me (λ _. free) then s.views s.words s.homes
-  puts-back s id me free y w then hands t after told =
-      let here : Owes id (me.0, (0, y) ∷ []) (λ _. free) then s.views (words_of (suc (suc t.mark))) (none ∷ []) = (w, gives, tt, after, told (suc (suc t.mark))) in
+  puts-back s id me free y w then hands t after reported =
+      let here : Owes id (me.0, (0, y) ∷ []) (λ _. free) then s.views (words_of (suc (suc t.mark))) (none ∷ []) = (w, gives, tt, after, reported (suc (suc t.mark))) in
       subst (λ (x : List ℕ × List (Option S) × List (ℕ × S)). Owes id (me.0, x.2) (λ _. free) then s.views x.0 x.1) (λ i. (sym t.word i, sym t.away i, sym hands i)) here
 
   -- the lock is given back, and nothing happened
-  pub leaves : (slots id : ℕ) (me : Me S (View D E)) (free : ℕ) → free < 2 → HasLock log fits me me.0.own.seen → Allows Kept slots id me 16 (λ _. free) (λ _ w. w ≡ (unlocked me.0, []))
+  pub leaves : (slots id : ℕ) (me : Me S (View D E)) (free : ℕ) → free < 2 → HasLock log fits me me.0.own.seen → Allows Recorded slots id me 16 (λ _. free) (λ _ w. w ≡ (unlocked me.0, []))
   leaves slots id me free is_free turn s b len at small =
       let t = not-free s id me.0 b at turn.locks in
       let w = unlocked me.0 in
@@ -318,13 +318,13 @@ module _ {S D E : Type 0} (log : S → Log D E) (fits : S → Type 0) (top : D) 
         others = others-set b.now b.owners s.views id w b.others;
         first = q.0;
         at_first = q.1;
-        told = subst (AreTold b.now b.owners) (sym q.2) b.told;
+        reported = subst (AreReported b.now b.owners) (sym q.2) b.reported;
         counted = q.3;
         lock = inl record { kept = turn.kept; mark = free; small = is_free; word = refl; home = refl; fitting = turn.fitting; same = turn.same ∙ had.1; nobody = refl };
       } (λ _. refl)
 
   -- the lock is given back, and this event happened
-  pub leaves_with : (slots id : ℕ) (me : Me S (View D E)) (e : E) (free : ℕ) → free < 2 → me.0.maker ≡ true → HasLock log fits me (with_entry me.0.own.seen e) → Allows Kept slots id me 16 (λ _. free) (λ _ w. w ≡ (unlocked_with e me.0, []))
+  pub leaves_with : (slots id : ℕ) (me : Me S (View D E)) (e : E) (free : ℕ) → free < 2 → me.0.maker ≡ true → HasLock log fits me (with_entry me.0.own.seen e) → Allows Recorded slots id me 16 (λ _. free) (λ _ w. w ≡ (unlocked_with e me.0, []))
   leaves_with slots id me e free is_free maker turn s b len at small =
       let t = not-free s id me.0 b at turn.locks in
       let w = unlocked_with e me.0 in
@@ -357,19 +357,19 @@ module _ {S D E : Type 0} (log : S → Log D E) (fits : S → Type 0) (top : D) 
         others = λ j le. owned-else (seat_tag j) 0 (seat_tag id) b.owners b.now.entries e (λ h. away-from j id (length s.views) here (omega (arith, le, length-set s.views id w)) (sym h)) b.long ∙ b.others j (omega (arith, le, length-set s.views id w));
         first = q.0;
         at_first = q.1;
-        told = subst (AreTold now owners) (sym q.2) (
-          (λ k. owned-else (told_tag k) 0 (seat_tag id) b.owners b.now.entries e (λ h. even-odd id k h) b.long ∙ b.told.0 k),
-          (λ k a there. beginning-trans a.seen b.now now (b.told.1 k a there) later),
+        reported = subst (AreReported now owners) (sym q.2) (
+          (λ k. owned-else (reported_tag k) 0 (seat_tag id) b.owners b.now.entries e (λ h. even-odd id k h) b.long ∙ b.reported.0 k),
+          (λ k a there. beginning-trans a.seen b.now now (b.reported.1 k a there) later),
         );
         counted = q.3;
         lock = inl record { kept = turn.kept; mark = free; small = is_free; word = refl; home = refl; fitting = turn.fitting; same = turn.same ∙ ap (λ h. with_entry h e) had.1; nobody = refl };
       } (λ _. refl)
 
   -- a new seat
-  sits-at : (s : State S (View D E)) (b : Kept s) (views : List (View D E)) (first w : View D E) → length views ≡ length s.views
-      → ((j : ℕ) (u : View D E) → get_elem? views j ≡ some u → IsSeat b.now b.owners b.holder j u) → get_elem? views 0 ≡ some first → AreTold b.now b.owners first.told → AreCounted (views ++ w ∷ []) first
+  sits-at : (s : State S (View D E)) (b : Recorded s) (views : List (View D E)) (first w : View D E) → length views ≡ length s.views
+      → ((j : ℕ) (u : View D E) → get_elem? views j ≡ some u → IsSeat b.now b.owners b.holder j u) → get_elem? views 0 ≡ some first → AreReported b.now b.owners first.reported → AreCounted (views ++ w ∷ []) first
       → w.locks ≡ false → w.own.made ≡ [] → IsBeginning w.own.seen b.now → IsLock log fits top s.words s.homes (views ++ w ∷ [])
-  sits-at s b views first w long seats at_first told counted locks none_made behind = record {
+  sits-at s b views first w long seats at_first reported counted locks none_made behind = record {
     now = b.now;
     headed = b.headed;
     owners = b.owners;
@@ -387,51 +387,51 @@ module _ {S D E : Type 0} (log : S → Log D E) (fits : S → Type 0) (top : D) 
     others = λ j le. b.others j (omega (arith, le, long, length-append views (w ∷ [])));
     first = first;
     at_first = at_longer views (w ∷ []) 0 first at_first;
-    told = told;
+    reported = reported;
     counted = counted;
     lock = b.lock;
   }
 
-  pub sits : (slots : ℕ) → Enters Kept slots 16 (λ _ w. (◌≡◌ {A = Me S (View D E)} (w, []) (guest w.own.seen, [])) × (w.own.seen.head ≡ top))
+  pub sits : (slots : ℕ) → Enters Recorded slots 16 (λ _ w. (◌≡◌ {A = Me S (View D E)} (w, []) (guest w.own.seen, [])) × (w.own.seen.head ≡ top))
   sits slots s b len small =
       let w = guest b.now in
       let many = b.counted.many in
       let counted : AreCounted (s.views ++ w ∷ []) b.first = record { lead = b.counted.lead; many = omega (arith, many, makers-end s.views w) } in
-      (w, sits-at s b s.views b.first w refl b.seats b.at_first b.told counted refl refl (beginning-self b.now), (refl, b.headed))
+      (w, sits-at s b s.views b.first w refl b.seats b.at_first b.reported counted refl refl (beginning-self b.now), (refl, b.headed))
 
-  issues-first : (v : View D E) → v.live ≡ true → Splits Kept 0 v (issued_one v) (newcomer v.own.seen)
+  issues-first : (v : View D E) → v.live ≡ true → Splits Recorded 0 v (issued_one v) (newcomer v.own.seen)
   issues-first v live s b at =
       let w = newcomer v.own.seen in
       let one = issued_one v in
       let views = set s.views 0 one in
       let mine = b.seats 0 v at in
       let same : b.first ≡ v = some-injective b.first v (sym b.at_first ∙ at) in
-      let told : AreTold b.now b.owners v.told = subst (λ (u : View D E). AreTold b.now b.owners u.told) same b.told in
+      let reported : AreReported b.now b.owners v.reported = subst (λ (u : View D E). AreReported b.now b.owners u.reported) same b.reported in
       let before : AreCounted s.views v = subst (AreCounted s.views) same b.counted in
       let many = before.many in
       let as-many = makers-set s.views 0 v one at refl in
       let counted : AreCounted (views ++ w ∷ []) one = record { lead = before.lead; many = omega (arith, many, as-many, makers-end views w) } in
       sits-at s b views one w (length-set s.views 0 one)
       (seats-set b.now b.owners b.holder s.views 0 one (λ j u _ e. b.seats j u e) record { mine = mine.mine; behind = mine.behind; locks = mine.locks; quiet = mine.quiet })
-      (set_here s.views 0 one (inside s.views 0 v at)) told counted refl refl (mine.behind live)
+      (set_here s.views 0 one (inside s.views 0 v at)) reported counted refl refl (mine.behind live)
 
-  pub issues : (id : ℕ) (v : View D E) → id ≡ 0 → v.live ≡ true → Splits Kept id v (issued_one v) (newcomer v.own.seen)
-  issues id v is_first live = subst (λ (i : ℕ). Splits Kept i v (issued_one v) (newcomer v.own.seen)) (sym is_first) (issues-first v live)
+  pub issues : (id : ℕ) (v : View D E) → id ≡ 0 → v.live ≡ true → Splits Recorded id v (issued_one v) (newcomer v.own.seen)
+  issues id v is_first live = subst (λ (i : ℕ). Splits Recorded i v (issued_one v) (newcomer v.own.seen)) (sym is_first) (issues-first v live)
 
   -- the first seat is told what another has seen and made
-  tells-first : (d : D) (v : View D E) (other : ℕ) (w : View D E) → v.live ≡ true → w.live ≡ true → w.maker ≡ true → Joins Kept 0 v other w (told_of v w) (gone d)
+  tells-first : (d : D) (v : View D E) (other : ℕ) (w : View D E) → v.live ≡ true → w.live ≡ true → w.maker ≡ true → Joins Recorded 0 v other w (reported_of v w) (gone d)
   tells-first d v other w live live' maker s b at apart there =
-      let both = told_of v w in
+      let both = reported_of v w in
       let one = set s.views 0 both in
       let same : b.first ≡ v = some-injective b.first v (sym b.at_first ∙ at) in
       let was : get_elem? s.views other ≡ some w = sym (set_else s.views 0 other both apart) ∙ there in
       let mine = b.seats 0 v at in
       let theirs = b.seats other w was in
-      let n = length v.told in
+      let n = length v.reported in
       let a = seat_tag other in
-      let c = told_tag n in
+      let c = reported_tag n in
       let owners = map (renamed a c) b.owners in
-      let told : AreTold b.now b.owners v.told = subst (λ (u : View D E). AreTold b.now b.owners u.told) same b.told in
+      let reported : AreReported b.now b.owners v.reported = subst (λ (u : View D E). AreReported b.now b.owners u.reported) same b.reported in
       let lengths : length (set one other (gone d)) ≡ length s.views = length-set one other (gone d) ∙ length-set s.views 0 both in
       let inner = inside s.views other w was in record {
         now = b.now;
@@ -450,37 +450,37 @@ module _ {S D E : Type 0} (log : S → Log D E) (fits : S → Type 0) (top : D) 
         others = λ j le. owned-renamed a c (seat_tag j) 0 b.owners b.now.entries (λ h. away-from j other (length s.views) inner (omega (arith, le, lengths)) h) (λ h. even-odd j n h) ∙ b.others j (omega (arith, le, lengths));
         first = both;
         at_first = set_else one other 0 (gone d) (λ e. apart (sym e)) ∙ set_here s.views 0 both (inside s.views 0 v at);
-        told = (
+        reported = (
           (λ k. dite (ℕ_discrete k n)
-              (λ is. subst (λ (i : ℕ). owned (told_tag i) 0 owners b.now.entries ≡ made_by (v.told ++ w.own ∷ []) i) (sym is)
-              (owned-renamed-new a c 0 b.owners b.now.entries (told.0 n ∙ made_by-end v.told) ∙ (theirs.mine ∙ sym (made_by-last v.told w.own))))
-              (λ ne. owned-renamed a c (told_tag k) 0 b.owners b.now.entries (λ h. even-odd other k (sym h)) (λ h. ne (twice-odd k n h)) ∙ (told.0 k ∙ sym (made_by-else v.told w.own k ne)))),
+              (λ is. subst (λ (i : ℕ). owned (reported_tag i) 0 owners b.now.entries ≡ made_by (v.reported ++ w.own ∷ []) i) (sym is)
+              (owned-renamed-new a c 0 b.owners b.now.entries (reported.0 n ∙ made_by-end v.reported) ∙ (theirs.mine ∙ sym (made_by-last v.reported w.own))))
+              (λ ne. owned-renamed a c (reported_tag k) 0 b.owners b.now.entries (λ h. even-odd other k (sym h)) (λ h. ne (twice-odd k n h)) ∙ (reported.0 k ∙ sym (made_by-else v.reported w.own k ne)))),
           (λ k x e. ⊎_elim
-              (λ (at_k : get_elem? v.told k ≡ some x). told.1 k x at_k)
+              (λ (at_k : get_elem? v.reported k ≡ some x). reported.1 k x at_k)
               (λ (is : w.own ≡ x). subst (λ (y : Account D E). IsBeginning y.seen b.now) is (theirs.behind live'))
-              (at_snoc v.told w.own x k e)),
+              (at_snoc v.reported w.own x k e)),
         );
         counted =
             let before : AreCounted s.views v = subst (AreCounted s.views) same b.counted in
             let many = before.many in
             let as-many = makers-set s.views 0 v both at refl in
             let fewer = makers-fewer one other w (gone d) there maker refl in
-            record { lead = before.lead; many = omega (arith, many, as-many, fewer, length-append v.told (w.own ∷ [])) };
+            record { lead = before.lead; many = omega (arith, many, as-many, fewer, length-append v.reported (w.own ∷ [])) };
         lock = b.lock;
       }
 
-  pub tells : (d : D) (id : ℕ) (v : View D E) (other : ℕ) (w : View D E) → id ≡ 0 → v.live ≡ true → w.live ≡ true → w.maker ≡ true → Joins Kept id v other w (told_of v w) (gone d)
-  tells d id v other w is_first live live' maker = subst (λ (i : ℕ). Joins Kept i v other w (told_of v w) (gone d)) (sym is_first) (tells-first d v other w live live' maker)
+  pub tells : (d : D) (id : ℕ) (v : View D E) (other : ℕ) (w : View D E) → id ≡ 0 → v.live ≡ true → w.live ≡ true → w.maker ≡ true → Joins Recorded id v other w (reported_of v w) (gone d)
+  tells d id v other w is_first live live' maker = subst (λ (i : ℕ). Joins Recorded i v other w (reported_of v w) (gone d)) (sym is_first) (tells-first d v other w live live' maker)
 
   -- a load leaves the word as it is
-  word-stays : (s : State S (View D E)) (b : Kept s) → set s.words 16 (slice_index s.words 16) ≡ s.words
+  word-stays : (s : State S (View D E)) (b : Recorded s) → set s.words 16 (slice_index s.words 16) ≡ s.words
   word-stays s b = ⊎_elim
       (λ (f : IsFree log fits s.words s.homes b.now b.holder). subst (λ (ws : List ℕ). set ws 16 (slice_index ws 16) ≡ ws) (sym f.word) refl)
       (λ (t : IsTakenOut s.words s.homes). subst (λ (ws : List ℕ). set ws 16 (slice_index ws 16) ≡ ws) (sym t.word) refl)
       b.lock
 
   -- where the first seat has made nothing, and all that it issued were joined to it, no seat owns anything
-  no-seat-owns : (s : State S (View D E)) (b : Kept s) (v : View D E) → get_elem? s.views 0 ≡ some v → AreCounted s.views v → v.own.made ≡ [] → v.own.issued ≤ length v.told → NoSeatOwns b.now b.owners
+  no-seat-owns : (s : State S (View D E)) (b : Recorded s) (v : View D E) → get_elem? s.views 0 ≡ some v → AreCounted s.views v → v.own.made ≡ [] → v.own.issued ≤ length v.reported → NoSeatOwns b.now b.owners
   no-seat-owns s b v at counted idle back id =
       let many = counted.many in
       let one : makers_in s.views ≤ 1 = omega (arith, many, back) in
@@ -490,19 +490,19 @@ module _ {S D E : Type 0} (log : S → Log D E) (fits : S → Type 0) (top : D) 
       (λ (past : length s.views ≤ id). b.others id past)
       (λ (no : length s.views ≤ id → ⊥). let u = seat-there s.views id (lt_of_not-le no) in let k = b.seats id u.0 u.1 in k.mine ∙ k.quiet (only-first s.views v id u.0 at counted.lead one away u.1)))
 
-  settles-first : (slots : ℕ) (me : Me S (View D E)) → me.0.locks ≡ true → Allows Kept slots 0 me 16 (λ n. n) (λ _ w. (w ≡ me) × IsSettled me.0)
+  settles-first : (slots : ℕ) (me : Me S (View D E)) → me.0.locks ≡ true → Allows Recorded slots 0 me 16 (λ n. n) (λ _ w. (w ≡ me) × IsSettled me.0)
   settles-first slots me locks s b len at small =
       let same : b.first ≡ me.0 = some-injective b.first me.0 (sym b.at_first ∙ at) in
       let seen : b.now ≡ me.0.own.seen = sym ((b.seats 0 me.0 at).locks locks).1 in
-      let told : AreTold b.now b.owners me.0.told = subst (λ (u : View D E). AreTold b.now b.owners u.told) same b.told in
+      let reported : AreReported b.now b.owners me.0.reported = subst (λ (u : View D E). AreReported b.now b.owners u.reported) same b.reported in
       let counted : AreCounted s.views me.0 = subst (AreCounted s.views) same b.counted in
-      let whole : me.0.own.made ≡ [] → me.0.own.issued ≤ length me.0.told → NoSeatOwns b.now b.owners = λ idle back. no-seat-owns s b me.0 at counted idle back in (
+      let whole : me.0.own.made ≡ [] → me.0.own.issued ≤ length me.0.reported → NoSeatOwns b.now b.owners = λ idle back. no-seat-owns s b me.0 at counted idle back in (
         me.0,
         keeps,
         tt,
         subst (λ ws. IsLock log fits top ws s.homes (set s.views 0 me.0)) (sym (word-stays s b)) (again s.words s.homes s.views 0 me.0 at b),
-        (refl, subst (λ h. (owners : List ℕ) × (length owners ≡ length h.entries) × AreTold h owners me.0.told × (me.0.own.made ≡ [] → me.0.own.issued ≤ length me.0.told → NoSeatOwns h owners)) seen (b.owners, b.long, told, whole)),
+        (refl, subst (λ h. (owners : List ℕ) × (length owners ≡ length h.entries) × AreReported h owners me.0.reported × (me.0.own.made ≡ [] → me.0.own.issued ≤ length me.0.reported → NoSeatOwns h owners)) seen (b.owners, b.long, reported, whole)),
       )
 
-  pub settles : (slots id : ℕ) (me : Me S (View D E)) → id ≡ 0 → me.0.locks ≡ true → Allows Kept slots id me 16 (λ n. n) (λ _ w. (w ≡ me) × IsSettled me.0)
-  settles slots id me is_first locks = subst (λ (i : ℕ). Allows Kept slots i me 16 (λ n. n) (λ _ w. (w ≡ me) × IsSettled me.0)) (sym is_first) (settles-first slots me locks)
+  pub settles : (slots id : ℕ) (me : Me S (View D E)) → id ≡ 0 → me.0.locks ≡ true → Allows Recorded slots id me 16 (λ n. n) (λ _ w. (w ≡ me) × IsSettled me.0)
+  settles slots id me is_first locks = subst (λ (i : ℕ). Allows Recorded slots i me 16 (λ n. n) (λ _ w. (w ≡ me) × IsSettled me.0)) (sym is_first) (settles-first slots me locks)

@@ -22,36 +22,36 @@ words_of n = 0 ∷ 0 ∷ 0 ∷ 0 ∷ 0 ∷ 0 ∷ 0 ∷ 0 ∷ 0 ∷ 0 ∷ 0 ∷ 0
 abbrev pub seat_tag : ℕ → ℕ
 seat_tag id = id + id
 
-abbrev pub told_tag : ℕ → ℕ
-told_tag k = suc (k + k)
+abbrev pub reported_tag : ℕ → ℕ
+reported_tag k = suc (k + k)
 
 -- a seat that has seen this log, and has made nothing of it
 abbrev pub newcomer : {D E : Type 0} → Log D E → View D E
-newcomer l = record { live = true; locks = false; maker = true; own = record { seen = l; made = []; issued = 0 }; told = [] }
+newcomer l = record { live = true; locks = false; maker = true; own = record { seen = l; made = []; issued = 0 }; reported = [] }
 
 -- a seat that has seen this log, and makes nothing
 abbrev pub guest : {D E : Type 0} → Log D E → View D E
-guest l = record { live = true; locks = false; maker = false; own = record { seen = l; made = []; issued = 0 }; told = [] }
+guest l = record { live = true; locks = false; maker = false; own = record { seen = l; made = []; issued = 0 }; reported = [] }
 
 -- one seat more was issued from it
 abbrev pub issued_one : {D E : Type 0} → View D E → View D E
-issued_one v = record { live = v.live; locks = v.locks; maker = v.maker; own = record { seen = v.own.seen; made = v.own.made; issued = suc v.own.issued }; told = v.told }
+issued_one v = record { live = v.live; locks = v.locks; maker = v.maker; own = record { seen = v.own.seen; made = v.own.made; issued = suc v.own.issued }; reported = v.reported }
 
 -- what a seat leaves that was joined to the first
 abbrev pub gone : {D E : Type 0} → D → View D E
-gone d = record { live = false; locks = false; maker = false; own = record { seen = record { head = d; entries = [] }; made = []; issued = 0 }; told = [] }
+gone d = record { live = false; locks = false; maker = false; own = record { seen = record { head = d; entries = [] }; made = []; issued = 0 }; reported = [] }
 
 -- the first seat has learned what another had seen and made
-abbrev pub told_of : {D E : Type 0} → View D E → View D E → View D E
-told_of v w = record { live = v.live; locks = v.locks; maker = v.maker; own = v.own; told = v.told ++ w.own ∷ [] }
+abbrev pub reported_of : {D E : Type 0} → View D E → View D E → View D E
+reported_of v w = record { live = v.live; locks = v.locks; maker = v.maker; own = v.own; reported = v.reported ++ w.own ∷ [] }
 
 -- the seat has the lock, and has seen this log
 abbrev pub locked : {D E : Type 0} → Log D E → View D E → View D E
-locked l v = record { live = true; locks = true; maker = v.maker; own = record { seen = l; made = v.own.made; issued = v.own.issued }; told = v.told }
+locked l v = record { live = true; locks = true; maker = v.maker; own = record { seen = l; made = v.own.made; issued = v.own.issued }; reported = v.reported }
 
 -- the seat has given the lock back, and made nothing
 abbrev pub unlocked : {D E : Type 0} → View D E → View D E
-unlocked v = record { live = true; locks = false; maker = v.maker; own = v.own; told = v.told }
+unlocked v = record { live = true; locks = false; maker = v.maker; own = v.own; reported = v.reported }
 
 -- the seat has given the lock back, and this entry is its own, at the place after all that it had seen
 abbrev pub unlocked_with : {D E : Type 0} → E → View D E → View D E
@@ -60,7 +60,7 @@ unlocked_with e v = record {
   locks = false;
   maker = v.maker;
   own = record { seen = with_entry v.own.seen e; made = v.own.made ++ (length v.own.seen.entries, e) ∷ []; issued = v.own.issued };
-  told = v.told;
+  reported = v.reported;
 }
 
 -- what is so of a seat: what it has made is its own in the log, which begins with what it has seen; who has the lock has seen all; and
@@ -72,8 +72,8 @@ pub record IsSeat {D E : Type 0} (now : Log D E) (owners : List ℕ) (holder : O
   pub quiet : v.maker ≡ false → v.own.made ≡ []
 
 -- what was joined to the first seat is its own in the log
-abbrev pub AreTold : {D E : Type 0} → Log D E → List ℕ → List (Account D E) → Type 0
-AreTold now owners told = ((k : ℕ) → owned (told_tag k) 0 owners now.entries ≡ made_by told k) × AreBehind told now
+abbrev pub AreReported : {D E : Type 0} → Log D E → List ℕ → List (Account D E) → Type 0
+AreReported now owners reported = ((k : ℕ) → owned (reported_tag k) 0 owners now.entries ≡ made_by reported k) × AreBehind reported now
 
 -- how many of these seats are makers
 abbrev pub makers_in : {D E : Type 0} → List (View D E) → ℕ
@@ -83,7 +83,7 @@ makers_in (v ∷ vs) = (if v.maker then 1 else 0) + makers_in vs
 -- the makers are the first seat, and those that it issued and wasn't told of
 pub record AreCounted {D E : Type 0} (views : List (View D E)) (first : View D E) : Type 0 where
   pub lead : first.maker ≡ true
-  pub many : makers_in views + length first.told ≡ suc first.own.issued
+  pub many : makers_in views + length first.reported ≡ suc first.own.issued
 
 -- the lock is free: what lies under it is at home, and its log is the one log
 pub record IsFree {S D E : Type 0} (log : S → Log D E) (fits : S → Type 0) (words : List ℕ) (homes : List (Option S)) (now : Log D E) (holder : Option ℕ) : Type 0 where
@@ -113,7 +113,7 @@ pub record IsLock {S D E : Type 0} (log : S → Log D E) (fits : S → Type 0) (
   pub others : (id : ℕ) → length views ≤ id → owned (seat_tag id) 0 owners now.entries ≡ []
   pub first : View D E
   pub at_first : get_elem? views 0 ≡ some first
-  pub told : AreTold now owners first.told
+  pub reported : AreReported now owners first.reported
   pub counted : AreCounted views first
   pub lock : IsFree log fits words homes now holder ⊎ IsTakenOut words homes
 
@@ -146,5 +146,5 @@ NoSeatOwns now owners = (id : ℕ) → owned (seat_tag id) 0 owners now.entries 
 -- The log that was seen is made of what was joined to the first seat, and of what other seats made; of the first alone where all that
 -- it issued were joined to it, and it has made nothing.
 abbrev pub IsSettled : {D E : Type 0} → View D E → Type 0
-IsSettled v = (owners : List ℕ) × (length owners ≡ length v.own.seen.entries) × AreTold v.own.seen owners v.told
-    × (v.own.made ≡ [] → v.own.issued ≤ length v.told → NoSeatOwns v.own.seen owners)
+IsSettled v = (owners : List ℕ) × (length owners ≡ length v.own.seen.entries) × AreReported v.own.seen owners v.reported
+    × (v.own.made ≡ [] → v.own.issued ≤ length v.reported → NoSeatOwns v.own.seen owners)

@@ -3,7 +3,7 @@
 ghost use Rattle.std.specs.Prelude.{◌≡◌, ◌<◌, ◌≤◌, [], ◌∷◌, length, IfOk, MatchBool, true};
 ghost use Rattle.logged_lock.specs.Log.{start_of, with_entry, total_made, IsMergeOf, AreBehind};
 ghost use Rattle.logged_lock.specs.Word.{is_open, asking, given_back};
-ghost use Rattle.logged_lock.specs.Rule.{newcomer, guest, issued_one, unlocked, unlocked_with, told_of, IsIdle, HasLock, IsTaken, IsSettled};
+ghost use Rattle.logged_lock.specs.Rule.{newcomer, guest, issued_one, unlocked, unlocked_with, reported_of, IsIdle, HasLock, IsTaken, IsSettled};
 
 use crate::rule::{
     Issues, Leaves, LeavesWith, LockRule, LockSeat, Marks, NextEntry, Settles, Sits, Takes, Tells,
@@ -282,7 +282,7 @@ impl<S: Logged<D, E>, D: Head, E> LoggedLock<S, D, E> {
         requires idle { IsIdle other.me }
         requires maker { other.me.0.maker ≡ true }
         ensures same { (first.new.table_id ≡ first.old.table_id) × (first.new.id ≡ first.old.id) }
-        ensures told { first.new.me ≡ (told_of first.old.me.0 other.me.0, first.old.me.1) }
+        ensures reported { first.new.me ≡ (reported_of first.old.me.0 other.me.0, first.old.me.1) }
     {
         self.table.shared.join_seat::<Tells>(first, other);
     }
@@ -296,9 +296,9 @@ impl<S: Logged<D, E>, D: Head, E> LoggedLock<S, D, E> {
         requires locks { first.old.me.0.locks ≡ true }
         ensures same { (first.new.table_id ≡ first.old.table_id) × (first.new.id ≡ first.old.id) × (first.new.me ≡ first.old.me) }
         ensures settled { IsSettled first.old.me.0 }
-        ensures behind { AreBehind first.old.me.0.told first.old.me.0.own.seen }
-        ensures whole { first.old.me.0.own.made ≡ [] → first.old.me.0.own.issued ≤ length first.old.me.0.told → total_made first.old.me.0.told ≡ length first.old.me.0.own.seen.entries }
-        ensures merge { total_made first.old.me.0.told ≡ length first.old.me.0.own.seen.entries → IsMergeOf first.old.me.0.own.seen.entries first.old.me.0.told }
+        ensures behind { AreBehind first.old.me.0.reported first.old.me.0.own.seen }
+        ensures whole { first.old.me.0.own.made ≡ [] → first.old.me.0.own.issued ≤ length first.old.me.0.reported → total_made first.old.me.0.reported ≡ length first.old.me.0.own.seen.entries }
+        ensures merge { total_made first.old.me.0.reported ≡ length first.old.me.0.own.seen.entries → IsMergeOf first.old.me.0.own.seen.entries first.old.me.0.reported }
     {
         self.table.shared.load::<Settles>(first, WORD);
     }

@@ -97,9 +97,9 @@ impl<D, E> Split<View<D, E>> for Issues {
 pub struct Tells;
 
 impl<D: Head, E> Join<View<D, E>> for Tells {
-    ghost use Rattle.logged_lock.specs.Rule.{told_of, gone};
+    ghost use Rattle.logged_lock.specs.Rule.{reported_of, gone};
 
-    ghost both = { told_of };
+    ghost both = { reported_of };
 
     ghost spent = { gone D.blank };
 }

@@ -41,5 +41,5 @@ pub struct View<D, E> {
     pub maker: bool,
     pub own: Account<D, E>,
     /// What was known at the seats that were joined to this one, in their order.
-    pub told: LinkedList<Account<D, E>>,
+    pub reported: LinkedList<Account<D, E>>,
 }

@@ -1,7 +1,6 @@
 -- A journal is determined by what each has made of it, with its places.
 use Rattle.std.proofs.Common.{◌≡◌, ℕ, zero, suc, ◌+◌, Bool, true, false, List, [], ◌∷◌, length, Some, refl, sym, ap, subst, ◌∙◌, arith}
 use Rattle.std.specs.Prelude.{slice_get, ◌==◌, if◌then◌else◌}
-use Rattle.std.proofs.lemmas.Option.{slice_get_within}
 use Rattle.logged_lock.specs.Log.{IsMergeOf, made_by, owned}
 use Rattle.tc_channel.specs.declared.event.Event.{Event}
 use Rattle.tc_channel.specs.Journal.{History}
@@ -9,9 +8,8 @@ use Rattle.tc_desk.specs.Log.{Own, accounts_of}
 use Rattle.tc_desk.specs.Together.{column}
 use Rattle.tc_station.specs.Roster.{Roster, settings_in}
 use Rattle.tc_station.specs.Tally.{AtStation}
-use Rattle.tc_station.specs.Together.{AreClosedTogether, crews_of}
-use Rattle.tc_station.proofs.ClosedSince.{post-there}
-use Rattle.tc_apart.proofs.GivenOut.{settings-out}
+use Rattle.tc_station.specs.Together.{AreClosedTogether, operator_lists_of}
+use Rattle.tc_apart.proofs.GivenOut.{given-out}
 
 same-self : (k : ℕ) → (k == k) ≡ true
 same-self k = grind arith
@@ -82,23 +80,13 @@ all-alike (e ∷ es) (f ∷ fs) go back =
 pub same-channel : (station other : Roster) (operators others : List AtStation) (closed shut : List History) (place at : ℕ) (one two : History)
     → AreClosedTogether station operators closed → AreClosedTogether other others shut → slice_get closed place ≡ Some one → slice_get shut at ≡ Some two
     → slice_get (settings_in station) place ≡ slice_get (settings_in other) at
-    → ((k : ℕ) → made_by (accounts_of (column place (crews_of operators))) k ≡ made_by (accounts_of (column at (crews_of others))) k) → one ≡ two
+    → ((k : ℕ) → made_by (accounts_of (column place (operator_lists_of operators))) k ≡ made_by (accounts_of (column at (operator_lists_of others))) k) → one ≡ two
 same-channel station other operators others closed shut place at one two together apart here there same made =
-    let m = merge station operators closed place one together here in
-    let r = merge other others shut at two apart there in
-    let go = carried-over one.journal two.journal (accounts_of (column place (crews_of operators))) (accounts_of (column at (crews_of others))) m r made in
-    let back = carried-over two.journal one.journal (accounts_of (column at (crews_of others))) (accounts_of (column place (crews_of operators))) r m (λ k. sym (made k)) in
+    let mine = given-out station operators closed place one together here in
+    let theirs = given-out other others shut at two apart there in
+    let go = carried-over one.journal two.journal (accounts_of (column place (operator_lists_of operators))) (accounts_of (column at (operator_lists_of others))) mine.1 theirs.1 made in
+    let back = carried-over two.journal one.journal (accounts_of (column at (operator_lists_of others))) (accounts_of (column place (operator_lists_of operators))) theirs.1 mine.1 (λ k. sym (made k)) in
     let journals = all-alike one.journal two.journal go back in
-    let both : Some one.settings ≡ Some two.settings = sym (settings-out station operators closed place one together here) ∙ same ∙ settings-out other others shut at two apart there in
+    let both : Some one.settings ≡ Some two.settings = sym mine.0 ∙ same ∙ theirs.0 in
     let settings : one.settings ≡ two.settings = cc in
     λ i. record { settings = settings i; journal = journals i }
-  where
-    merge : (station : Roster) (operators : List AtStation) (closed : List History) (place : ℕ) (channel : History) → AreClosedTogether station operators closed → slice_get closed place ≡ Some channel
-        → IsMergeOf channel.journal (accounts_of (column place (crews_of operators)))
-    merge station operators closed place channel together out =
-        let all = together.2 in
-        let inside = slice_get_within closed place channel out in
-        let many = all.as_many in
-        let post = post-there together.0 place (omega (arith, inside, many)) in
-        let one = all.each place post.0 channel post.1 out in
-        one.merge

@@ -1,13 +1,12 @@
 -- Operations on several channels, seen from one of them.
 use Rattle.std.proofs.Common.{◌≡◌, ◌≢◌, ℕ, zero, suc, ◌<◌, Bool, true, false, List, [], ◌∷◌, length, map, filter, take, get_or, Some, refl, sym, ap, subst, ◌∙◌, ◌⊎◌, inl, inr, arith}
 use Rattle.std.specs.Prelude.{slice_get, slice_set, ◌==◌}
-use Rattle.std.proofs.lemmas.Bool.Decides.{eqb_tells}
-use Rattle.std.proofs.lemmas.List.{get_or-take}
+use Rattle.std.proofs.lemmas.Bool.{eqb-false, eqb-true}
 use Rattle.std.proofs.lemmas.Option.{get_or_from_slice_get, slice_get_within}
-use Rattle.tc_link.specs.Frame.{BeginsWith, named_length}
+use Rattle.tc_link.specs.Frame.{BeginsWith}
 use Rattle.tc_channel.specs.Reply.{take_reply, unit_reply}
 use Rattle.std.specs.Option.{option_and_then}
-use Rattle.tc_rack.specs.Linked.{Linked, IsFrameAnswered, IsPacketRefused, IsReleaseAnswered, IsUnitRefused, IsTakeAnswered, IsUnitAnswered, told_word, vcid_of}
+use Rattle.tc_rack.specs.Linked.{Linked, IsFrameAnswered, IsPacketRefused, IsReleaseAnswered, IsUnitRefused, IsTakeAnswered, IsUnitAnswered, reported_word, vcid_of}
 use Rattle.tc_rack.specs.Operation.{IsAnswerOf, IsChannelAnswer, IsClcwAnswer, IsFrameAnswer}
 use Rattle.tc_rack.specs.Rack.{Racked, AreChannelsApart, HasChannel, IsOf}
 use Rattle.tc_rack.specs.declared.answer.Answer.{Answer}
@@ -87,7 +86,7 @@ IsAnsweredOn (Frame octets) old answer new = (frame : List ℕ) × BeginsWith oc
 IsAnsweredOn (Release vcid) old answer new = IsReleaseAnswered old answer new
 IsAnsweredOn (Take vcid apid) old answer new = IsTakeAnswered apid old answer new
 IsAnsweredOn (TakeUnit vcid map_id) old answer new = IsUnitAnswered map_id old answer new
-IsAnsweredOn (Clcw vcid) old answer new = (answer ≡ told_word old) × (new ≡ old)
+IsAnsweredOn (Clcw vcid) old answer new = (answer ≡ reported_word old) × (new ≡ old)
 
 -- after an operation the channel is as it says, where it is on it, and else as before
 record IsStep (operation : Operation) (answer : Answer) (new : Racked) (vcid p : ℕ) (c : Linked) : Type 0 where
@@ -95,18 +94,6 @@ record IsStep (operation : Operation) (answer : Answer) (new : Racked) (vcid p :
   at : IsOnlyAt new.channels vcid p later
   own : is_on vcid operation answer ≡ true → IsAnsweredOn operation c answer later
   others : is_on vcid operation answer ≡ false → later ≡ c
-
-eqb-is : (a b : ℕ) → (a == b) ≡ true → a ≡ b
-eqb-is a b e = elim (eqb_tells a b) [
-  | inl same ↦ same.1
-  | inr other ↦ absurd (let q = other.0 in cc)
-]
-
-eqb-not : (a b : ℕ) → (a == b) ≡ false → a ≢ b
-eqb-not a b e = elim (eqb_tells a b) [
-  | inl same ↦ absurd (let q = same.0 in cc)
-  | inr other ↦ other.1
-]
 
 release-id : (old new : Linked) (answer : Answer) → IsReleaseAnswered old answer new → vcid_of new ≡ vcid_of old
 release-id old new answer (inl done) = ap vcid_of done.2
@@ -141,12 +128,12 @@ answered own vcid p operation Answers old new answer c kept on says o (inl chang
       later = s.0;
       at = subst (λ (r : Racked). IsOnlyAt r.channels vcid p s.0) (sym change.5) s.1;
       own = λ e.
-          let is = s.2.0 (at.1 ∙ eqb-is own vcid (sym on ∙ e)) in
+          let is = s.2.0 (at.1 ∙ eqb-true own vcid (sym on ∙ e)) in
           subst (λ (x : Linked). IsAnsweredOn operation x answer s.0) is.0 (subst (λ (y : Linked). IsAnsweredOn operation before answer y) (sym is.1) (says before after change.4));
-      others = λ e. s.2.1 (λ same. eqb-not own vcid (sym on ∙ e) (sym at.1 ∙ same));
+      others = λ e. s.2.1 (λ same. eqb-false own vcid (sym on ∙ e) (sym at.1 ∙ same));
     }
 answered own vcid p operation Answers old new answer c kept on says o (inr unknown) = stays operation answer old new vcid p c o unknown.1
-    (λ e. absurd (not-unknown old.channels vcid p c o (subst (λ v. ¬ HasChannel old.channels v) (eqb-is own vcid (sym on ∙ e)) unknown.0.0)))
+    (λ e. absurd (not-unknown old.channels vcid p c o (subst (λ v. ¬ HasChannel old.channels v) (eqb-true own vcid (sym on ∙ e)) unknown.0.0)))
 
 framed : (octets : List ℕ) (old new : Racked) (answer : Answer) (vcid p : ℕ) (c : Linked) → IsOnlyAt old.channels vcid p c → IsFrameAnswer octets old answer new → IsStep (Frame octets) answer new vcid p c
 framed octets old new answer vcid p c o (inl brought) =
@@ -161,9 +148,9 @@ framed octets old new answer vcid p c o (inl brought) =
       later = s.0;
       at = subst (λ (r : Racked). IsOnlyAt r.channels vcid p s.0) (sym change.5) s.1;
       own = λ e.
-          let its = s.2.0 (eqb-is (vcid_of before) vcid (sym on ∙ e)) in
+          let its = s.2.0 (eqb-true (vcid_of before) vcid (sym on ∙ e)) in
           (frame, brought.1, subst (λ (x : Linked). IsFrameAnswered frame x answer s.0) its.0 (subst (λ (y : Linked). IsFrameAnswered frame before answer y) (sym its.1) is));
-      others = λ e. s.2.1 (eqb-not (vcid_of before) vcid (sym on ∙ e));
+      others = λ e. s.2.1 (eqb-false (vcid_of before) vcid (sym on ∙ e));
     }
 framed octets old new answer vcid p c o (inr fault) = stays (Frame octets) answer old new vcid p c o fault.3 (λ e. absurd (let q : answers_frame vcid answer ≡ false = ap (answers_frame vcid) fault.2 in cc))
 
@@ -172,13 +159,13 @@ step (Frame octets) answer old new vcid p c o is = framed octets old new answer 
 step (Release own) answer old new vcid p c o is = answered own vcid p (Release own) IsReleaseAnswered old new answer c (λ x y h. release-id x y answer h) refl (λ x y h. h) o is
 step (Take own apid) answer old new vcid p c o is = answered own vcid p (Take own apid) (IsTakeAnswered apid) old new answer c (λ x y h. take-id apid x y answer h) refl (λ x y h. h) o is
 step (TakeUnit own map_id) answer old new vcid p c o is = answered own vcid p (TakeUnit own map_id) (IsUnitAnswered map_id) old new answer c (λ x y h. unit-id map_id x y answer h) refl (λ x y h. h) o is
-step (Clcw own) answer old new vcid p c o is = stays (Clcw own) answer old new vcid p c o is.1 (λ e. word (eqb-is own vcid e) is.0) where
-  word : own ≡ vcid → IsClcwAnswer own old answer → (answer ≡ told_word c) × (c ≡ c)
-  word same (inl told) =
-      let there : told.0 ≡ p = o.only told.0 told.1 told.2.0 (told.2.1 ∙ same) in
-      let is : Some told.1 ≡ Some c = sym told.2.0 ∙ ap (slice_get old.channels) there ∙ o.at in
-      let its : told.1 ≡ c = cc in
-      (told.3 ∙ ap told_word its, refl)
+step (Clcw own) answer old new vcid p c o is = stays (Clcw own) answer old new vcid p c o is.1 (λ e. word (eqb-true own vcid e) is.0) where
+  word : own ≡ vcid → IsClcwAnswer own old answer → (answer ≡ reported_word c) × (c ≡ c)
+  word same (inl reported) =
+      let there : reported.0 ≡ p = o.only reported.0 reported.1 reported.2.0 (reported.2.1 ∙ same) in
+      let is : Some reported.1 ≡ Some c = sym reported.2.0 ∙ ap (slice_get old.channels) there ∙ o.at in
+      let its : reported.1 ≡ c = cc in
+      (reported.3 ∙ ap reported_word its, refl)
   word same (inr unknown) = absurd (not-unknown old.channels vcid p c o (subst (λ v. ¬ HasChannel old.channels v) same unknown.0))
 
 -- operations on one channel, one after the other
@@ -202,20 +189,9 @@ seen-from (d ∷ done) old new vcid p c o is =
     by s true e rest = record { last = rest.last; at = rest.at; own = rw e (s.later, s.own e, rest.own) }
     by s false e rest = record { last = rest.last; at = rest.at; own = rw e (subst (λ (x : Linked). AreAnsweredOn (filter (is_own vcid) done) x rest.last) (s.others e) rest.own) }
 
--- the frame with which octets begin is the only one
-front : (octets frame : List ℕ) (k : ℕ) → frame ≡ take (length frame) octets → k < length frame → get_or octets k 0 ≡ get_or frame k 0
-front octets frame k e lt = sym (ap (λ xs. get_or xs k 0) e ∙ get_or-take (length frame) octets k 0 lt)
-
-long-as-named : (octets frame : List ℕ) → BeginsWith octets frame → length frame ≡ named_length octets
-long-as-named octets frame b =
-    let least = b.0.least in
-    let e2 = front octets frame 2 b.1 (omega arith) in
-    let e3 = front octets frame 3 b.1 (omega arith) in
-    let same : named_length octets ≡ named_length frame = cc in
-    sym (same ∙ b.0.named)
-
-same-frame : (octets one other : List ℕ) → BeginsWith octets one → BeginsWith octets other → one ≡ other
-same-frame octets one other b d = b.1 ∙ ap (λ n. take n octets) (long-as-named octets one b ∙ sym (long-as-named octets other d)) ∙ sym d.1
+-- what tc_link's law says
+abbrev pub IsOneAtMost : Type 0
+IsOneAtMost = (octets one other : List ℕ) → BeginsWith octets one → BeginsWith octets other → one ≡ other
 
 packet-refused : (apid : ℕ) (old : Linked) (a b : Answer) → IsPacketRefused apid old a → IsPacketRefused apid old b → a ≡ b
 packet-refused apid old a b (inl p) (inl q) = p.1 ∙ sym q.1
@@ -241,57 +217,46 @@ no-unit map_id old unit b taken (inr empty) = let e = sym taken ∙ ap (option_a
 abbrev AreSame : Answer → Answer → Linked → Linked → Type 0
 AreSame a b x y = (a ≡ b) × (x ≡ y)
 
-determined : (operation : Operation) (old x y : Linked) (a b : Answer) → IsAnsweredOn operation old a x → IsAnsweredOn operation old b y → AreSame a b x y
-determined (Frame octets) old x y a b p q = framed-alike (same-frame octets p.0 q.0 p.1 q.1) p.2 q.2 where
+determined : IsOneAtMost → (operation : Operation) (old x y : Linked) (a b : Answer) → IsAnsweredOn operation old a x → IsAnsweredOn operation old b y → AreSame a b x y
+determined alone (Frame octets) old x y a b p q = framed-alike (alone octets p.0 q.0 p.1 q.1) p.2 q.2 where
   framed-alike : p.0 ≡ q.0 → IsFrameAnswered p.0 old a x → IsFrameAnswered q.0 old b y → AreSame a b x y
   framed-alike same h k = let g = subst (λ (f : List ℕ). IsFrameAnswered f old a x) same h in (g.0 ∙ sym k.0, g.1 ∙ sym k.1)
-determined (Release vcid) old x y a b (inl p) (inl q) = (p.1 ∙ sym q.1, p.2 ∙ sym q.2)
-determined (Release vcid) old x y a b (inr p) (inr q) = (p.1 ∙ sym q.1, p.2 ∙ sym q.2)
-determined (Release vcid) old x y a b (inl p) (inr q) = absurd (p.0 q.0)
-determined (Release vcid) old x y a b (inr p) (inl q) = absurd (q.0 p.0)
-determined (Take vcid apid) old x y a b (inl p) (inl q) = let same : Some p.0 ≡ Some q.0 = sym p.1 ∙ q.1 in let is : p.0 ≡ q.0 = cc in (p.2 ∙ ap (answers.Take (vcid_of old) apid) is ∙ sym q.2, p.3 ∙ sym q.3)
-determined (Take vcid apid) old x y a b (inr p) (inr q) = (packet-refused apid old a b p.0 q.0, p.1 ∙ sym q.1)
-determined (Take vcid apid) old x y a b (inl p) (inr q) = absurd (no-packet apid old p.0 b p.1 q.0)
-determined (Take vcid apid) old x y a b (inr p) (inl q) = absurd (no-packet apid old q.0 a q.1 p.0)
-determined (TakeUnit vcid map_id) old x y a b (inl p) (inl q) = let same : Some p.0 ≡ Some q.0 = sym p.1 ∙ q.1 in let is : p.0 ≡ q.0 = cc in (p.2 ∙ ap (answers.Unit (vcid_of old) map_id) is ∙ sym q.2, p.3 ∙ sym q.3)
-determined (TakeUnit vcid map_id) old x y a b (inr p) (inr q) = (unit-refused map_id old a b p.0 q.0, p.1 ∙ sym q.1)
-determined (TakeUnit vcid map_id) old x y a b (inl p) (inr q) = absurd (no-unit map_id old p.0 b p.1 q.0)
-determined (TakeUnit vcid map_id) old x y a b (inr p) (inl q) = absurd (no-unit map_id old q.0 a q.1 p.0)
-determined (Clcw vcid) old x y a b p q = (p.0 ∙ sym q.0, p.1 ∙ sym q.1)
+determined alone (Release vcid) old x y a b (inl p) (inl q) = (p.1 ∙ sym q.1, p.2 ∙ sym q.2)
+determined alone (Release vcid) old x y a b (inr p) (inr q) = (p.1 ∙ sym q.1, p.2 ∙ sym q.2)
+determined alone (Release vcid) old x y a b (inl p) (inr q) = absurd (p.0 q.0)
+determined alone (Release vcid) old x y a b (inr p) (inl q) = absurd (q.0 p.0)
+determined alone (Take vcid apid) old x y a b (inl p) (inl q) = let same : Some p.0 ≡ Some q.0 = sym p.1 ∙ q.1 in let is : p.0 ≡ q.0 = cc in (p.2 ∙ ap (answers.Take (vcid_of old) apid) is ∙ sym q.2, p.3 ∙ sym q.3)
+determined alone (Take vcid apid) old x y a b (inr p) (inr q) = (packet-refused apid old a b p.0 q.0, p.1 ∙ sym q.1)
+determined alone (Take vcid apid) old x y a b (inl p) (inr q) = absurd (no-packet apid old p.0 b p.1 q.0)
+determined alone (Take vcid apid) old x y a b (inr p) (inl q) = absurd (no-packet apid old q.0 a q.1 p.0)
+determined alone (TakeUnit vcid map_id) old x y a b (inl p) (inl q) = let same : Some p.0 ≡ Some q.0 = sym p.1 ∙ q.1 in let is : p.0 ≡ q.0 = cc in (p.2 ∙ ap (answers.Unit (vcid_of old) map_id) is ∙ sym q.2, p.3 ∙ sym q.3)
+determined alone (TakeUnit vcid map_id) old x y a b (inr p) (inr q) = (unit-refused map_id old a b p.0 q.0, p.1 ∙ sym q.1)
+determined alone (TakeUnit vcid map_id) old x y a b (inl p) (inr q) = absurd (no-unit map_id old p.0 b p.1 q.0)
+determined alone (TakeUnit vcid map_id) old x y a b (inr p) (inl q) = absurd (no-unit map_id old q.0 a q.1 p.0)
+determined alone (Clcw vcid) old x y a b p q = (p.0 ∙ sym q.0, p.1 ∙ sym q.1)
 
 same-answered : (d e : Answered) → d.operation ≡ e.operation → d.answer ≡ e.answer → d ≡ e
 same-answered d e p q = λ i. record { operation = p i; answer = q i }
 
-determined-all : (one other : List Answered) (old x y : Linked) → AreAnsweredOn one old x → AreAnsweredOn other old y → map operation_of one ≡ map operation_of other → (one ≡ other) × (x ≡ y)
-determined-all [] [] old x y p q e = (refl, p ∙ sym q)
-determined-all [] (d ∷ other) old x y p q e = absurd cc
-determined-all (d ∷ one) [] old x y p q e = absurd cc
-determined-all (d ∷ one) (f ∷ other) old x y p q e =
+determined-all : IsOneAtMost → (one other : List Answered) (old x y : Linked) → AreAnsweredOn one old x → AreAnsweredOn other old y → map operation_of one ≡ map operation_of other → (one ≡ other) × (x ≡ y)
+determined-all alone [] [] old x y p q e = (refl, p ∙ sym q)
+determined-all alone [] (d ∷ other) old x y p q e = absurd cc
+determined-all alone (d ∷ one) [] old x y p q e = absurd cc
+determined-all alone (d ∷ one) (f ∷ other) old x y p q e =
     let operation : d.operation ≡ f.operation = cc in
     let more : map operation_of one ≡ map operation_of other = cc in
-    let s = determined f.operation old p.0 q.0 d.answer f.answer (subst (λ (o : Operation). IsAnsweredOn o old d.answer p.0) operation p.1) q.1 in
-    let rest = determined-all one other q.0 x y (subst (λ (m : Linked). AreAnsweredOn one m x) s.1 p.2) q.2 more in
+    let s = determined alone f.operation old p.0 q.0 d.answer f.answer (subst (λ (o : Operation). IsAnsweredOn o old d.answer p.0) operation p.1) q.1 in
+    let rest = determined-all alone one other q.0 x y (subst (λ (m : Linked). AreAnsweredOn one m x) s.1 p.2) q.2 more in
     ((λ i. same-answered d f operation s.0 i ∷ rest.0 i), rest.1)
 
 -- of two lists of operations
-both-seen : (vcid : ℕ) (one other : List Answered) (a after b behind : Racked) (channel : Linked) → AreChannelsApart a.channels → AreChannelsApart b.channels
+pub both-seen : IsOneAtMost → (vcid : ℕ) (one other : List Answered) (a after b behind : Racked) (channel : Linked) → AreChannelsApart a.channels → AreChannelsApart b.channels
     → IsOf a vcid (λ c. c ≡ channel) → IsOf b vcid (λ c. c ≡ channel) → ArePerformed one a after → ArePerformed other b behind
     → map operation_of (filter (is_own vcid) one) ≡ map operation_of (filter (is_own vcid) other)
     → (filter (is_own vcid) one ≡ filter (is_own vcid) other) × ((last : Linked) × IsOf after vcid (λ c. c ≡ last) × IsOf behind vcid (λ c. c ≡ last))
-both-seen vcid one other a after b behind channel apart_a apart_b of_a of_b done_a done_b same =
+both-seen alone vcid one other a after b behind channel apart_a apart_b of_a of_b done_a done_b same =
     let s = seen-from one a after vcid of_a.0 of_a.1 (only-of-apart a.channels vcid of_a.0 of_a.1 apart_a of_a.2.0 of_a.2.1) done_a in
     let r = seen-from other b behind vcid of_b.0 of_b.1 (only-of-apart b.channels vcid of_b.0 of_b.1 apart_b of_b.2.0 of_b.2.1) done_b in
-    let d = determined-all (filter (is_own vcid) one) (filter (is_own vcid) other) channel s.last r.last
+    let d = determined-all alone (filter (is_own vcid) one) (filter (is_own vcid) other) channel s.last r.last
     (subst (λ (c : Linked). AreAnsweredOn (filter (is_own vcid) one) c s.last) of_a.3 s.own) (subst (λ (c : Linked). AreAnsweredOn (filter (is_own vcid) other) c r.last) of_b.3 r.own) same in
     (d.0, (s.last, (of_a.0, s.last, (s.at.at, s.at.named), refl), (of_b.0, r.last, (r.at.at, r.at.named), sym d.1)))
-
-pub same-answers : (vcid : ℕ) (one other : List Answered) (a after b behind : Racked) (channel : Linked) → AreChannelsApart a.channels → AreChannelsApart b.channels
-    → IsOf a vcid (λ c. c ≡ channel) → IsOf b vcid (λ c. c ≡ channel) → ArePerformed one a after → ArePerformed other b behind
-    → map operation_of (filter (is_own vcid) one) ≡ map operation_of (filter (is_own vcid) other) → filter (is_own vcid) one ≡ filter (is_own vcid) other
-same-answers vcid one other a after b behind channel apart_a apart_b of_a of_b done_a done_b same = (both-seen vcid one other a after b behind channel apart_a apart_b of_a of_b done_a done_b same).0
-
-pub same-channel : (vcid : ℕ) (one other : List Answered) (a after b behind : Racked) (channel : Linked) → AreChannelsApart a.channels → AreChannelsApart b.channels
-    → IsOf a vcid (λ c. c ≡ channel) → IsOf b vcid (λ c. c ≡ channel) → ArePerformed one a after → ArePerformed other b behind
-    → map operation_of (filter (is_own vcid) one) ≡ map operation_of (filter (is_own vcid) other)
-    → (last : Linked) × IsOf after vcid (λ c. c ≡ last) × IsOf behind vcid (λ c. c ≡ last)
-same-channel vcid one other a after b behind channel apart_a apart_b of_a of_b done_a done_b same = (both-seen vcid one other a after b behind channel apart_a apart_b of_a of_b done_a done_b same).1

@@ -7,10 +7,12 @@ ghost use Rattle.tc_desk.specs.Log.{accounts_of};
 ghost use Rattle.tc_desk.specs.Together.{column};
 ghost use Rattle.tc_station.specs.Roster.{Roster, settings_in};
 ghost use Rattle.tc_station.specs.Tally.{AtStation};
-ghost use Rattle.tc_station.specs.Together.{AreClosedTogether, crews_of};
+ghost use Rattle.tc_station.specs.Together.{AreClosedTogether, operator_lists_of};
 ghost use Rattle.tc_rack.specs.Linked.{Linked};
 ghost use Rattle.tc_rack.specs.Rack.{Racked, AreChannelsApart, IsOf};
 ghost use Rattle.tc_apart.specs.Apart.{Answered, ArePerformed, is_own, operation_of};
+
+use tc_link::each_input_begins_with_one_frame_at_most;
 
 /// Two lists of operations are performed, each on channels of its own. Where a channel of this id is the same in both at first, and the same
 /// operations are brought to it in the same order, whatever is done on other channels in between, these have the same answers, and the channel is the
@@ -23,7 +25,9 @@ pub fn channels_do_not_touch_each_other()
         → IsOf a vcid (λ c. c ≡ channel) → IsOf b vcid (λ c. c ≡ channel) → ArePerformed one a after → ArePerformed other b behind
         → map operation_of (filter (is_own vcid) one) ≡ map operation_of (filter (is_own vcid) other)
         → (last : Linked) × IsOf after vcid (λ c. c ≡ last) × IsOf behind vcid (λ c. c ≡ last) }
-{}
+{
+    each_input_begins_with_one_frame_at_most();
+}
 
 /// Two stations are closed, each together with its operators. Where a channel of the one has the settings of a channel of the other, and the operators
 /// made the same events at it, each at the same place of its journal, the two channels that are given out are the same, whatever was done at other
@@ -32,5 +36,5 @@ pub fn channels_of_a_station_do_not_touch_each_other()
     ensures { (station other : Roster) (operators others : List AtStation) (closed shut : List History) (place at : ℕ) (one two : History)
         → AreClosedTogether station operators closed → AreClosedTogether other others shut → slice_get closed place ≡ Some one → slice_get shut at ≡ Some two
         → slice_get (settings_in station) place ≡ slice_get (settings_in other) at
-        → ((k : ℕ) → made_by (accounts_of (column place (crews_of operators))) k ≡ made_by (accounts_of (column at (crews_of others))) k) → one ≡ two }
+        → ((k : ℕ) → made_by (accounts_of (column place (operator_lists_of operators))) k ≡ made_by (accounts_of (column at (operator_lists_of others))) k) → one ≡ two }
 {}

@@ -1,6 +1,6 @@
 //! From a sender's packets to what takes give, over any threads.
 
-ghost use Rattle.std.specs.Prelude.{Bool, List, ℕ, ◌++◌, ◌≡◌, length, slice_get, true, Some};
+ghost use Rattle.std.specs.Prelude.{Bool, List, ℕ, ◌++◌, ◌≡◌, length, slice_get, Some};
 ghost use Rattle.std.specs.List.{AllByRecursion};
 ghost use Rattle.tc_link.specs.declared.frame.Header.{Header};
 ghost use Rattle.tc_cltu.specs.Reception.{Reception};
@@ -36,14 +36,14 @@ pub fn a_station_gives_out_what_a_loop_sent()
         → passed_since no_limits channel.settings l.before (run channel.settings channel.journal).passed ≡ sent_from (sent l) 0 (released_since no_limits channel.settings l.before channel.journal) }
     ensures given { (station : Roster) (operators : List AtStation) (closed : List History) (place : ℕ) (channel : History) (l : Loop) (session : List Action) (header : Header) (units : List UnitSent) (frames : List (List ℕ)) (apid : ℕ) (q : Queue)
         → AreClosedTogether station operators closed → slice_get closed place ≡ Some channel → slice_get (settings_in station) place ≡ Some l.settings → l.limits ≡ no_limits
-        → IsLoop l session → channel.journal ≡ journal l session → AllByRecursion (CanBeSent l.limits) units → AreNumbered header units frames → AreFrom l.frames frames → SendsOnly (length frames) session
-        → l.settings.segmented ≡ true → queue_of apid (receiver l session).queues ≡ Some q
+        → IsLoop l session → channel.journal ≡ journal l session → AllByRecursion (CanBeSent l.limits l.settings.segmented) units → AreNumbered l.settings.segmented header units frames → AreFrom l.frames frames → SendsOnly (length frames) session
+        → queue_of apid (receiver l session).queues ≡ Some q
         → AreGivenOf no_limits channel.settings apid l.before channel.journal (length frames) (units_on units) }
     ensures in_cltus { (station : Roster) (operators : List AtStation) (closed : List History) (place : ℕ) (channel : History) (s : Start) (header : Header) (units : List UnitSent) (frames : List (List ℕ)) (apid : ℕ) (q : Queue) (mode : Mode) (field : Bool) (state : Reception) (coming : List Coming) (came : List Event)
         → AreClosedTogether station operators closed → slice_get closed place ≡ Some channel → slice_get (settings_in station) place ≡ Some s.loop.settings → s.loop.limits ≡ no_limits
-        → IsStart s → channel.journal ≡ s.loop.before ++ came → AllByRecursion (CanBeSent s.loop.limits) units → AreNumbered header units frames → AreFrom (era s).frames frames → SendsOnly (length frames) (era_session s)
+        → IsStart s → channel.journal ≡ s.loop.before ++ came → AllByRecursion (CanBeSent s.loop.limits s.loop.settings.segmented) units → AreNumbered s.loop.settings.segmented header units frames → AreFrom (era s).frames frames → SendsOnly (length frames) (era_session s)
         → AltersNothing mode field s.loop.frames state s.session coming → AreEventsOf mode field state coming came
-        → s.loop.settings.segmented ≡ true → queue_of apid (run_within s.loop.limits s.loop.settings (s.loop.before ++ came)).queues ≡ Some q
+        → queue_of apid (run_within s.loop.limits s.loop.settings (s.loop.before ++ came)).queues ≡ Some q
         → AreGivenOf no_limits channel.settings apid (era s).before channel.journal (length frames) (units_on units) }
 {
     the_segments_of_a_unit_make_the_unit();

@@ -1,18 +1,21 @@
 //! Each kind of call, one after the other.
 
-use crate::calls::Call::{Again, Bypassing, Clcw, Next, Release, Take, TakeUnit, Unlock};
+use crate::calls::Call::{Again, Bypassing, Clcw, Next, Release, Take, Unlock};
 use crate::filler::{
     CONTINUING, DROPPED, FIRST, Field, Filler, Items, Kind, LAST, NOTHING, ONE, PACKETS,
     UNSEGMENTED,
 };
-use crate::form::Form;
+use crate::form::{Form, Oldest};
 use crate::plan::{CALLED, PLAIN};
+use crate::score::Score;
 use anyhow::Result;
 
 // The chosen MAP, which is 0, and the application of the packets.
 const CHOSEN: u8 = 0;
 
 const APID: u16 = 1;
+
+const PACKET: Oldest = Oldest::Packet(APID);
 
 // One packet of seven octets, unsegmented, and two.
 const ONE_PACKET: Field = (Some(UNSEGMENTED | PACKETS), 0, 7);
@@ -57,9 +60,8 @@ enum Call {
     Unlock,
     // A release, likewise.
     Release(Items, &'static str),
-    // So many packets are taken, or units of the chosen MAP.
-    Take(u16),
-    TakeUnit(u16),
+    // So many are taken, with the beginning of the line.
+    Take(Oldest, u16, &'static str),
     Clcw,
 }
 
@@ -72,12 +74,12 @@ static FIRST_CALLS: [Call; 30] = [
     // An unsegmented unit, which is cut into packets.
     Next(ONE_PACKET),
     Release(ONE, ", one packet queued"),
-    Take(1),
+    Take(PACKET, 1, "take"),
     Bypassing(ONE_PACKET, ONE, ", one packet queued"),
     Bypassing(TWO_PACKETS, (2, 0), ", two packets queued"),
     Bypassing(ONE_PACKET, ONE, ", one packet queued"),
     Bypassing(ONE_PACKET, DROPPED, ", one packet dropped"),
-    Take(4),
+    Take(PACKET, 4, "take"),
     // Segments, the last of which ends a unit that is one packet. The block of a run that grew the first time is there the second
     // time.
     Bypassing(BEGUN, NOTHING, ", first segment"),
@@ -85,7 +87,7 @@ static FIRST_CALLS: [Call; 30] = [
     Bypassing(TWO, NOTHING, ", next segment"),
     Bypassing(TWO, NOTHING, ", next segment"),
     Bypassing(LAST_TWO, ONE, ", last segment, one packet queued"),
-    Take(1),
+    Take(PACKET, 1, "take"),
     // The same by the buffer.
     Next(BEGUN),
     Next(FOURTEEN),
@@ -93,14 +95,14 @@ static FIRST_CALLS: [Call; 30] = [
     Release(NOTHING, ", first segment"),
     Release(NOTHING, ", next segment"),
     Release(ONE, ", last segment, one packet queued"),
-    Take(1),
+    Take(PACKET, 1, "take"),
     // Units of the chosen MAP.
     Bypassing(UNIT, ONE, ", whole unit queued"),
     Next(UNIT),
     Release(ONE, ", whole unit queued"),
     Bypassing(UNIT_BEGUN, NOTHING, ", first segment"),
     Bypassing(UNIT_ENDED, ONE, ", whole unit queued"),
-    TakeUnit(3),
+    Take(Oldest::Unit(CHOSEN), 3, "take_unit"),
 ];
 
 // Fields of a plain channel.
@@ -108,13 +110,13 @@ static PLAIN_CALLS: [Call; 4] = [
     Bypassing(PLAIN_FIELD, ONE, " on a plain channel, one packet queued"),
     Next(PLAIN_FIELD),
     Release(ONE, " on a plain channel, one packet queued"),
-    Take(2),
+    Take(PACKET, 2, "take"),
 ];
 
 /// Makes each kind of call, and again, and prints a line after each.
 pub(crate) fn print<F: Form, R: AllocGlobal + Print>(rt: &R) -> Result<()> {
-    let mut first = Filler::new(F::made(rt.alloc(), CALLED.settings(rt.alloc())?)?);
-    let mut plain = Filler::new(F::made(rt.alloc(), PLAIN.settings(rt.alloc())?)?);
+    let mut first = Filler::new(F::made(rt.alloc(), CALLED.settings(rt.alloc(), 1)?)?);
+    let mut plain = Filler::new(F::made(rt.alloc(), PLAIN.settings(rt.alloc(), 1)?)?);
     first.apid = APID;
     plain.apid = APID;
     print_once(rt, &mut first, &mut plain)?;
@@ -166,20 +168,15 @@ fn make<F: Form>(filler: &mut Filler<F>, call: Call) -> Result<(&'static str, &'
             filler.release(items)?;
             Ok(("release", end))
         }
-        Take(count) => {
+        Take(oldest, count, name) => {
+            let mut score = Score { sum: 0 };
             for _ in 0..count {
-                filler.channel.take_packet(APID)?;
+                filler.channel.take_oldest(oldest, &mut score)?;
             }
-            Ok(("take", ""))
-        }
-        TakeUnit(count) => {
-            for _ in 0..count {
-                filler.channel.take_whole(CHOSEN)?;
-            }
-            Ok(("take_unit", ""))
+            Ok((name, ""))
         }
         Clcw => {
-            let _ = filler.channel.word();
+            let _ = filler.channel.word_and_events();
             Ok(("clcw", ""))
         }
     }

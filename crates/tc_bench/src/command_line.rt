@@ -4,9 +4,9 @@
 #[derive(Clone, Copy)]
 pub(crate) enum Kind {
     /// The journal is kept in memory.
-    Kept,
+    Recorded,
     /// The journal takes no memory.
-    Flight,
+    Counting,
     /// The journal takes no memory, and all else has rooms, which are made with the channel.
     Rooms,
 }
@@ -56,8 +56,8 @@ pub(crate) fn judge(words: &[String]) -> Option<Action<'_>> {
 // So many rounds of a load on a channel of the form that a word names.
 fn rounds(word: &str, form: &str, load: &str, count: &str) -> Option<Action<'static>> {
     let form = match (word, form) {
-        ("rounds", "kept") => Kind::Kept,
-        ("rounds", "flight") => Kind::Flight,
+        ("rounds", "recorded") => Kind::Recorded,
+        ("rounds", "counting") => Kind::Counting,
         ("rounds", "rooms") => Kind::Rooms,
         _ => return None,
     };

@@ -2,13 +2,13 @@
 
 use crate::calls;
 use crate::filler::{
-    CONTINUING, DROPPED, FIRST, Filler, Items, Kind, LAST, NOTHING, ONE, PACKETS, UNSEGMENTED,
-    segment,
+    CONTINUING, DROPPED, FIRST, Filler, Items, Kind, LARGEST, LAST, NOTHING, ONE, PACKETS,
+    UNSEGMENTED,
 };
 use crate::form::Form;
-use crate::plan::{LIMITED, MANY, PLAIN, Plan, SMALL, plain_of};
+use crate::plan::{LIMITED, MANY, PLAIN, Plan, SMALL};
 use anyhow::{Result, anyhow};
-use tc_channel::{Channel, FlightChannel};
+use tc_channel::{Channel, CountingChannel};
 use tc_fixed::{FixedChannel, Limits, MapLimit, storage_with_limits};
 
 // What a row brings for a key.
@@ -22,9 +22,8 @@ enum Piece {
     Segment(Kind, u8, u16),
     // A run of as many octets as the largest unit, which is left open on the MAP.
     Run(Kind),
-    // The largest packet for the application, with all its segments.
+    // The largest packet for the application, and the largest unit on the MAP, with all their segments. The last one has no octet.
     LargestPacket,
-    // The largest unit on the MAP, with all its segments.
     LargestUnit,
 }
 
@@ -104,14 +103,9 @@ fn filling_rows(plan: &Plan, packet: Piece, ended: Items) -> [Row; 8] {
     ]
 }
 
-// What fills a channel with segment headers by largest packets and units.
-fn largest_rows(plan: &Plan) -> [Row; 8] {
-    filling_rows(plan, Piece::LargestPacket, DROPPED)
-}
-
 // Makes the channel of a plan, tells the memory that it takes, and brings it these rows, with a line before and after.
 fn print<F: Form, R: AllocGlobal + Print>(rt: &R, plan: &Plan, rows: &[Row]) -> Result<()> {
-    let settings = plan.settings(rt.alloc())?;
+    let settings = plan.settings(rt.alloc(), 1)?;
     let (name, octets) = F::memory(&settings);
     println!(rt; "{name} {octets}")?;
     print_rows(rt, F::made(rt.alloc(), settings)?, rows)
@@ -119,7 +113,7 @@ fn print<F: Form, R: AllocGlobal + Print>(rt: &R, plan: &Plan, rows: &[Row]) -> 
 
 // The same of a channel in rooms within limits: of 1,024 octets for the MAP of packets, and of none for each other MAP.
 fn print_limited<R: AllocGlobal + Print>(rt: &R) -> Result<()> {
-    let settings = LIMITED.settings(rt.alloc())?;
+    let settings = LIMITED.settings(rt.alloc(), 1)?;
     let limit = MapLimit {
         map: PACKETS,
         octets: 1_024,
@@ -155,48 +149,56 @@ fn bring_piece<F: Form>(
     key: u16,
     items: Items,
 ) -> Result<()> {
-    let map = (key % 64) as u8;
-    filler.apid = match piece {
-        Piece::Plain(_) | Piece::Packet | Piece::LargestPacket => key,
-        _ => 0,
+    let (apid, map) = match piece {
+        Piece::Plain(_) | Piece::Packet | Piece::LargestPacket => (key, PACKETS),
+        _ => (0, (key % 64) as u8),
     };
+    filler.apid = apid;
     match piece {
         Piece::Plain(kind) => filler.bring(kind, (None, 1_012, 1_019), items),
-        Piece::Packet => filler.bring(Kind::Bypassing, (Some(UNSEGMENTED | PACKETS), 0, 7), items),
+        Piece::Packet => filler.bring(Kind::Bypassing, (Some(UNSEGMENTED | map), 0, 7), items),
         Piece::Segment(kind, flags, count) => {
-            filler.bring(kind, segment(flags | map, count), items)
+            filler.bring(kind, (Some(flags | map), LARGEST, count), items)
         }
         Piece::Run(kind) => filler.open(kind, map),
-        Piece::LargestPacket => filler.bring_largest(PACKETS, items),
-        Piece::LargestUnit => filler.bring_largest(map, items),
+        Piece::LargestPacket | Piece::LargestUnit => {
+            filler.open(Kind::Bypassing, map)?;
+            filler.bring(Kind::Bypassing, (Some(LAST | map), LARGEST, 0), items)
+        }
     }
-}
-
-fn print_plain<F: Form, R: AllocGlobal + Print>(rt: &R, plan: &Plan) -> Result<()> {
-    print::<F, R>(rt, plan, &plain_rows(plan))
 }
 
 // Does what a word says for a channel of this form.
 fn fill<F: Form, R: AllocGlobal + Print>(rt: &R, word: &str) -> Result<()> {
+    let mut plan = PLAIN;
     match word {
-        "plain" => print_plain::<F, R>(rt, &PLAIN),
-        "plain_7" => print_plain::<F, R>(rt, &plain_of(7)),
-        "plain_8" => print_plain::<F, R>(rt, &plain_of(8)),
-        "plain_63" => print_plain::<F, R>(rt, &plain_of(63)),
-        "one" => print::<F, R>(rt, &SMALL, &largest_rows(&SMALL)),
-        "many" => print::<F, R>(rt, &MANY, &largest_rows(&MANY)),
-        "calls" => calls::print::<F, R>(rt),
-        _ => Err(anyhow!("nothing to fill has that name: {word}")),
+        "plain" => {}
+        "plain_7" => plan.queues = (7, 1),
+        "plain_8" => plan.queues = (8, 1),
+        "plain_63" => plan.queues = (63, 1),
+        "one" => plan = SMALL,
+        "many" => plan = MANY,
+        "calls" => return calls::print::<F, R>(rt),
+        _ => return Err(anyhow!("nothing to fill has that name: {word}")),
+    }
+    if plan.segmented {
+        print::<F, R>(
+            rt,
+            &plan,
+            &filling_rows(&plan, Piece::LargestPacket, DROPPED),
+        )
+    } else {
+        print::<F, R>(rt, &plan, &plain_rows(&plan))
     }
 }
 
 /// Does what this word says.
 pub(crate) fn obey<R: AllocGlobal + Print>(rt: &R, word: &str) -> Result<()> {
     match (word, word.strip_prefix("fixed_")) {
-        ("kept", _) => calls::print::<Channel, R>(rt),
+        ("recorded", _) => calls::print::<Channel, R>(rt),
         ("fixed_hostile", _) => print::<FixedChannel, R>(rt, &MANY, &HOSTILE_ROWS),
         ("fixed_limited", _) => print_limited(rt),
         (_, Some(plan)) => fill::<FixedChannel, R>(rt, plan),
-        (_, None) => fill::<FlightChannel, R>(rt, word),
+        (_, None) => fill::<CountingChannel, R>(rt, word),
     }
 }

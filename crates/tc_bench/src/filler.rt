@@ -51,17 +51,9 @@ pub(crate) enum Kind {
     Unlock,
 }
 
-fn delivery_of((queued, dropped): Items) -> Delivery {
-    Delivery {
-        queued,
-        dropped,
-        rest: false,
-    }
-}
-
 // What a frame of this kind is answered by FARM-1's table, with so many items.
 fn reply_of(kind: Kind, items: Items) -> FrameReply {
-    let (event, accepted, items) = match kind {
+    let (event, accepted, (queued, dropped)) = match kind {
         Kind::Next => (1, true, items),
         Kind::Released => (1, true, NOTHING),
         Kind::Again => (4, false, items),
@@ -70,13 +62,12 @@ fn reply_of(kind: Kind, items: Items) -> FrameReply {
     };
     FrameReply {
         act: Act { event, accepted },
-        delivery: delivery_of(items),
+        delivery: Delivery {
+            queued,
+            dropped,
+            rest: false,
+        },
     }
-}
-
-/// A segment that has the front of the largest packet.
-pub(crate) fn segment(header: u8, count: u16) -> Field {
-    (Some(header), LARGEST, count)
 }
 
 /// A channel, the N(S) of its next Type-AD frame, the application whose packets are brought, and the place in their unit at which a
@@ -158,7 +149,7 @@ impl<F: Form> Filler<F> {
     /// Releases a data field, of whose unit so many items must be queued and dropped.
     pub(crate) fn release(&mut self, items: Items) -> Result<()> {
         let delivery = self.channel.let_out()?;
-        if delivery == delivery_of(items) {
+        if delivery == reply_of(Kind::Bypassing, items).delivery {
             Ok(())
         } else {
             Err(anyhow!("released {delivery:?}"))
@@ -168,16 +159,10 @@ impl<F: Form> Filler<F> {
     /// Opens a run that has as many octets as the largest unit, and whose room was doubled once too often: six octets and then as
     /// many as a segment has make 1,024, of which the largest unit is 64 times as many and six more.
     pub(crate) fn open(&mut self, kind: Kind, map: u8) -> Result<()> {
-        self.bring(kind, segment(FIRST | map, 6), NOTHING)?;
+        self.bring(kind, (Some(FIRST | map), LARGEST, 6), NOTHING)?;
         for _ in 0..64 {
-            self.bring(kind, segment(CONTINUING | map, BODY), NOTHING)?;
+            self.bring(kind, (Some(CONTINUING | map), LARGEST, BODY), NOTHING)?;
         }
-        self.bring(kind, segment(CONTINUING | map, 384), NOTHING)
-    }
-
-    /// Brings the largest unit on a MAP. Its last segment has no octet of its own.
-    pub(crate) fn bring_largest(&mut self, map: u8, items: Items) -> Result<()> {
-        self.open(Kind::Bypassing, map)?;
-        self.bring(Kind::Bypassing, segment(LAST | map, 0), items)
+        self.bring(kind, (Some(CONTINUING | map), LARGEST, 384), NOTHING)
     }
 }

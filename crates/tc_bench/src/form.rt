@@ -2,12 +2,22 @@
 
 use crate::score::Score;
 use crate::seen::{NO_FLAG, call_clcw, call_drop_oldest_unit, call_new, call_take};
-use crate::station::APID;
 use anyhow::{Result, anyhow};
 use std::alloc::Global;
 use tc_channel::{ChannelWith, Delivery, FrameReply, Journal, Settings};
 use tc_fixed::{FixedChannel, storage};
 use tc_link::Frame;
+
+/// The oldest item of a queue.
+#[derive(Clone, Copy)]
+pub(crate) enum Oldest {
+    /// The packet of an application.
+    Packet(u16),
+    /// The same, which is read in its room, where it can be, and then dropped.
+    LentPacket(u16),
+    /// The unit of a MAP.
+    Unit(u8),
+}
 
 /// What is done to a channel of whatever form.
 pub(crate) trait Form: Drop {
@@ -23,20 +33,11 @@ pub(crate) trait Form: Drop {
     /// Lets the oldest data field out of the buffer.
     fn let_out(&mut self) -> Result<Delivery>;
 
-    /// Takes the oldest packet of an application.
-    fn take_packet(&mut self, apid: u16) -> Result<()>;
+    /// Takes an item, and adds to the score what is read of it.
+    fn take_oldest(&mut self, oldest: Oldest, score: &mut Score) -> Result<()>;
 
-    /// Takes the oldest packet of the load, and adds it to the score. Where it can be read in its room, it is, and then dropped.
-    fn add_taken(&mut self, score: &mut Score) -> Option<()>;
-
-    /// Takes the oldest unit of a MAP.
-    fn take_whole(&mut self, map: u8) -> Result<()>;
-
-    /// The CLCW.
-    fn word(&self) -> u32;
-
-    /// How many events there were.
-    fn count(&self) -> u64;
+    /// The CLCW, and how many events there were.
+    fn word_and_events(&self) -> (u32, u64);
 }
 
 // Of a packet that isn't small, its first octets and its last one stand for all.
@@ -68,27 +69,16 @@ impl<J: Journal> Form for ChannelWith<J> {
         Ok(self.release()?)
     }
 
-    fn take_packet(&mut self, apid: u16) -> Result<()> {
-        drop(self.take(apid)?);
+    fn take_oldest(&mut self, oldest: Oldest, score: &mut Score) -> Result<()> {
+        match oldest {
+            Oldest::Packet(apid) | Oldest::LentPacket(apid) => add(&self.take(apid)?, score),
+            Oldest::Unit(map) => add(&self.take_unit(map)?, score),
+        }
         Ok(())
     }
 
-    fn add_taken(&mut self, score: &mut Score) -> Option<()> {
-        add(&self.take(APID).ok()?, score);
-        Some(())
-    }
-
-    fn take_whole(&mut self, map: u8) -> Result<()> {
-        drop(self.take_unit(map)?);
-        Ok(())
-    }
-
-    fn word(&self) -> u32 {
-        self.clcw(NO_FLAG)
-    }
-
-    fn count(&self) -> u64 {
-        self.events()
+    fn word_and_events(&self) -> (u32, u64) {
+        (self.clcw(NO_FLAG), self.events())
     }
 }
 
@@ -111,32 +101,24 @@ impl Form for FixedChannel {
         Ok(self.release()?)
     }
 
-    fn take_packet(&mut self, apid: u16) -> Result<()> {
-        call_take(self, apid, &mut [0; 1_024])?;
-        Ok(())
-    }
-
-    fn add_taken(&mut self, score: &mut Score) -> Option<()> {
-        add(self.oldest(APID)?, score);
-        if self.drop_oldest(APID) {
-            Some(())
-        } else {
-            None
-        }
-    }
-
-    fn take_whole(&mut self, map: u8) -> Result<()> {
-        if call_drop_oldest_unit(self, map) {
+    fn take_oldest(&mut self, oldest: Oldest, score: &mut Score) -> Result<()> {
+        let is_taken = match oldest {
+            Oldest::Packet(apid) => call_take(self, apid, &mut [0; 1_024]).is_ok(),
+            Oldest::LentPacket(apid) => {
+                if let Some(octets) = self.oldest(apid) {
+                    add(octets, score);
+                }
+                self.drop_oldest(apid)
+            }
+            Oldest::Unit(map) => call_drop_oldest_unit(self, map),
+        };
+        if is_taken {
             return Ok(());
         }
-        Err(anyhow!("no unit"))
+        Err(anyhow!("nothing to take"))
     }
 
-    fn word(&self) -> u32 {
-        call_clcw(self)
-    }
-
-    fn count(&self) -> u64 {
-        self.events()
+    fn word_and_events(&self) -> (u32, u64) {
+        (call_clcw(self), self.events())
     }
 }

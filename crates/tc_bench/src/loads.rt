@@ -33,23 +33,17 @@ fn bypassing(alloc: Global, field: &[u8]) -> Result<Octets> {
     Ok(Octets::from(write_frame(alloc, &header, field)?))
 }
 
-/// A frame that is full of small packets.
-pub(crate) fn full(alloc: Global) -> Result<Octets> {
-    let mut field = vec![in alloc; UNSEGMENTED]?;
-    for _ in 0..PACKETS {
-        add_packet(&mut field, 0)?;
-    }
-    bypassing(alloc, &field)
-}
-
-/// The frames with the segments of the largest packet.
-pub(crate) fn segments(alloc: Global) -> Result<Vec<Octets>> {
+/// Frames with the segments of a unit of so many packets, with this number in the length field of each.
+pub(crate) fn frames(alloc: Global, packets: usize, length: u16) -> Result<Vec<Octets>> {
     let mut unit = Vec::new(alloc);
-    add_packet(&mut unit, u16::MAX)?;
+    for _ in 0..packets {
+        add_packet(&mut unit, length)?;
+    }
     let count = unit.len().div_ceil(usize::from(BODY));
     let mut frames = Vec::with_capacity(alloc, count)?;
     for (place, body) in unit.chunks(usize::from(BODY)).enumerate() {
         let header = match place {
+            0 if count == 1 => UNSEGMENTED,
             0 => FIRST,
             _ if place + 1 == count => LAST,
             _ => CONTINUING,

@@ -2,12 +2,12 @@
 //! they cost.
 //!
 //! With no argument it does the load and prints scores that each answer changes: a receiver that answers otherwise prints
-//! others. With `rounds kept`, `rounds flight` or `rounds rooms` and a number it makes so many rounds on a bare channel of that
+//! others. With `rounds recorded`, `rounds counting` or `rounds rooms` and a number it makes so many rounds on a bare channel of that
 //! form, of Type-AD frames or of the load that another word names, and prints what their answers add up to.
 //!
-//! With `fill` and `plain`, `one` or `many` it makes a channel in flight of that plan, tells the bound of its memory, and fills it, with
+//! With `fill` and `plain`, `one` or `many` it makes a counting channel of that plan, tells the bound of its memory, and fills it, with
 //! `plain_7`, `plain_8` and `plain_63` a plain one of so many queues. With `fill calls` it makes each kind of call once, and again, and
-//! prints a line after each, with `fill kept` likewise on a channel whose journal is kept. Each of these words but `kept` with `fixed_`
+//! prints a line after each, with `fill recorded` likewise on a channel whose journal is recorded. Each of these words but `recorded` with `fixed_`
 //! before it does so with the channel in rooms. Nothing that it keeps beside the channel grows between two lines. With `fixed_limited`
 //! it fills one in rooms within limits. With `fixed_hostile` it brings to that of `fixed_many` the frames of a sender who means harm.
 //! With `worst` it makes one call of it, once, behind what makes that cost most.
@@ -15,11 +15,11 @@
 
 mod calls;
 mod command_line;
-mod crew;
 mod fill;
 mod filler;
 mod form;
 mod loads;
+mod operator_list;
 mod plan;
 mod rounds;
 mod score;
@@ -67,7 +67,7 @@ fn obey<R: Threads + Wait + Sync + AllocGlobal + Print + Eprint>(
         Some(Action::Worst(call, queues)) => worst::print(rt, call, queues),
         None => {
             let _ = eprintln!(rt;
-                "usage: tc_bench [rounds (kept | flight | rooms) COUNT [bypassing | packets | segments]], or\ntc_bench fill ([fixed_](plain[_(7 | 8 | 63)] | one | many | calls) | kept | fixed_limited | fixed_hostile), or\ntc_bench worst CALL QUEUES"
+                "usage: tc_bench [rounds (recorded | counting | rooms) COUNT [bypassing | packets | segments]], or\ntc_bench fill ([fixed_](plain[_(7 | 8 | 63)] | one | many | calls) | recorded | fixed_limited | fixed_hostile), or\ntc_bench worst CALL QUEUES"
             );
             return ExitCode::from(BAD_COMMAND_LINE);
         }

@@ -1,13 +1,15 @@
-//! The channels that are filled, and on which calls are made.
+//! The channels.
 
+use crate::station::APID;
 use std::alloc::{AllocError, Global};
 use tc_channel::{Items, MapSetting, QueueSetting, Settings};
 
-/// A channel: how many data fields its buffer holds, how many queues it has with so many packets each, how many chosen MAPs with so
-/// many units each, and whether its data fields have segment headers. The queues are for the first APIDs, the MAPs are the first.
+/// A channel: how many data fields its buffer holds, the first APID with a queue, how many queues it has with so many packets each,
+/// how many chosen MAPs with so many units each, and whether its data fields have segment headers. The MAPs are the first.
 #[derive(Clone, Copy)]
 pub(crate) struct Plan {
     pub(crate) buffer: u8,
+    pub(crate) apid: u16,
     pub(crate) queues: (u16, u16),
     pub(crate) maps: (u8, u16),
     pub(crate) segmented: bool,
@@ -16,22 +18,16 @@ pub(crate) struct Plan {
 /// A plain channel.
 pub(crate) const PLAIN: Plan = Plan {
     buffer: 4,
+    apid: 0,
     queues: (2, 4),
     maps: (0, 0),
     segmented: false,
 };
 
-/// A plain channel of so many queues for one packet each.
-pub(crate) fn plain_of(queues: u16) -> Plan {
-    Plan {
-        queues: (queues, 1),
-        ..PLAIN
-    }
-}
-
 /// Room for one data field, and for one packet.
 pub(crate) const SMALL: Plan = Plan {
     buffer: 1,
+    apid: 0,
     queues: (1, 1),
     maps: (0, 0),
     segmented: true,
@@ -40,6 +36,7 @@ pub(crate) const SMALL: Plan = Plan {
 /// So many queues that a call works with a table of them, and chosen MAPs.
 pub(crate) const MANY: Plan = Plan {
     buffer: 64,
+    apid: 0,
     queues: (70, 2),
     maps: (3, 3),
     segmented: true,
@@ -48,6 +45,7 @@ pub(crate) const MANY: Plan = Plan {
 /// The channel that is made within limits.
 pub(crate) const LIMITED: Plan = Plan {
     buffer: 8,
+    apid: 0,
     queues: (4, 8),
     maps: (0, 0),
     segmented: true,
@@ -56,17 +54,28 @@ pub(crate) const LIMITED: Plan = Plan {
 /// The channel on which calls are counted.
 pub(crate) const CALLED: Plan = Plan {
     buffer: 4,
+    apid: 0,
     queues: (2, 4),
     maps: (1, 4),
     segmented: true,
 };
 
+/// The channels of stations, and those on which rounds are made.
+pub(crate) const LOADED: Plan = Plan {
+    buffer: 4,
+    apid: APID,
+    queues: (1, 16),
+    maps: (0, 0),
+    segmented: true,
+};
+
 impl Plan {
-    /// The settings of such a channel, virtual channel 1 with a window of 10 and V(R) 0 first.
-    pub(crate) fn settings(&self, alloc: Global) -> Result<Settings, AllocError> {
+    /// The settings of such a channel, with a window of 10 and V(R) 0 first.
+    pub(crate) fn settings(&self, alloc: Global, vcid: u8) -> Result<Settings, AllocError> {
         let mut queues = Vec::with_capacity(alloc, usize::from(self.queues.0))?;
         let capacity = self.queues.1;
-        for apid in 0..self.queues.0 {
+        for place in 0..self.queues.0 {
+            let apid = self.apid.wrapping_add(place);
             queues.push(QueueSetting { apid, capacity })?;
         }
         let mut maps = Vec::with_capacity(alloc, usize::from(self.maps.0))?;
@@ -75,7 +84,7 @@ impl Plan {
             maps.push(MapSetting { map, capacity })?;
         }
         Ok(Settings {
-            vcid: 1,
+            vcid,
             width: 10,
             buffer: self.buffer,
             first: 0,

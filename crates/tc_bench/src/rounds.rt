@@ -1,19 +1,22 @@
 //! Rounds on a bare channel, of whatever form.
 
 use crate::command_line::{Kind, Load};
-use crate::form::Form;
-use crate::loads::{PACKETS, full, segments};
+use crate::form::{Form, Oldest};
+use crate::loads::{PACKETS, frames};
+use crate::plan::LOADED;
 use crate::score::Score;
 use crate::sender::{Sender, Sent};
-use crate::station::{APID, settings};
+use crate::station::APID;
 use anyhow::{Result, anyhow};
 use std::alloc::Global;
-use tc_channel::{Channel, FlightChannel, Items, Octets, QueueSetting};
+use tc_channel::{Channel, CountingChannel, Octets};
 use tc_fixed::FixedChannel;
 use tc_link::read_frame;
 
 // As many packets as the queue has room for, so that all of a full data field wait in it.
 const CAPACITY: u16 = 128;
+
+const OLDEST: Oldest = Oldest::LentPacket(APID);
 
 /// Makes so many rounds of a load on a channel of this form, and prints their score.
 pub(crate) fn print<R: AllocGlobal + Print>(
@@ -23,8 +26,8 @@ pub(crate) fn print<R: AllocGlobal + Print>(
     count: u32,
 ) -> Result<()> {
     let score = match kind {
-        Kind::Kept => play::<Channel>(rt.alloc(), load, count)?,
-        Kind::Flight => play::<FlightChannel>(rt.alloc(), load, count)?,
+        Kind::Recorded => play::<Channel>(rt.alloc(), load, count)?,
+        Kind::Counting => play::<CountingChannel>(rt.alloc(), load, count)?,
         Kind::Rooms => play::<FixedChannel>(rt.alloc(), load, count)?,
     };
     println!(rt; "{score:016x}")?;
@@ -32,75 +35,62 @@ pub(crate) fn print<R: AllocGlobal + Print>(
 }
 
 fn play<F: Form>(alloc: Global, load: Load, count: u32) -> Result<u64> {
-    let mut settings = settings(alloc, 1)?;
+    let mut plan = LOADED;
     if let Load::Packets = load {
-        let queue = QueueSetting {
-            apid: APID,
-            capacity: CAPACITY,
-        };
-        settings.queues = Items::from(Vec::from_slice(alloc, &[queue])?);
+        plan.queues = (1, CAPACITY);
     }
-    let mut channel = F::made(alloc, settings)?;
-    let mut score = Score::new();
+    let mut channel = F::made(alloc, plan.settings(alloc, 1)?)?;
+    let mut score = Score { sum: 0 };
     let done = match load {
-        Load::Sequenced => sequenced(&mut channel, &Sender::new(alloc, 1)?, count, &mut score),
-        Load::Bypassing => bypassing(&mut channel, &Sender::new(alloc, 1)?, count, &mut score),
-        Load::Packets => packets(&mut channel, full(alloc)?.as_slice(), count, &mut score),
-        Load::Segments => in_segments(&mut channel, &segments(alloc)?, count, &mut score),
+        Load::Packets => {
+            let frames = frames(alloc, PACKETS, 0)?;
+            units(&mut channel, &frames, PACKETS, count, &mut score)
+        }
+        Load::Segments => {
+            let frames = frames(alloc, 1, u16::MAX)?;
+            units(&mut channel, &frames, 1, count, &mut score)
+        }
+        _ => packets(
+            &mut channel,
+            &Sender::new(alloc, 1)?,
+            load,
+            count,
+            &mut score,
+        ),
     };
     if done.is_none() {
         return Err(anyhow!("a call was refused"));
     }
-    score.add(channel.count());
-    Ok(score.value())
+    score.add(channel.word_and_events().1);
+    Ok(score.sum)
 }
 
-// Frames are taken in, their data fields released, and their packets taken.
-fn sequenced<F: Form>(
+// Frames with a packet each are taken in, and their packets taken. Those that don't bypass the window are released before.
+fn packets<F: Form>(
     channel: &mut F,
     sender: &Sender,
+    load: Load,
     count: u32,
     score: &mut Score,
 ) -> Option<()> {
     for number in 0..count {
-        let octets = sender.octets(Sent::Sequenced((number % 256) as u8));
-        bring(channel, octets, score)?;
-        score.add_delivery(channel.let_out().ok()?);
-        channel.add_taken(score)?;
-    }
-    Some(())
-}
-
-// Frames that bypass the window are taken in, and their packets taken.
-fn bypassing<F: Form>(
-    channel: &mut F,
-    sender: &Sender,
-    count: u32,
-    score: &mut Score,
-) -> Option<()> {
-    for number in 0..count {
-        let octets = sender.octets(Sent::Bypassing((number % 256) as u8));
-        bring(channel, octets, score)?;
-        channel.add_taken(score)?;
-    }
-    Some(())
-}
-
-// A frame that is full of small packets is taken in, and each of them taken.
-fn packets<F: Form>(channel: &mut F, frame: &[u8], count: u32, score: &mut Score) -> Option<()> {
-    for _ in 0..count {
-        bring(channel, frame, score)?;
-        for _ in 0..PACKETS {
-            channel.add_taken(score)?;
+        let octet = (number % 256) as u8;
+        if let Load::Bypassing = load {
+            bring(channel, sender.octets(Sent::Bypassing(octet)), score)?;
+        } else {
+            bring(channel, sender.octets(Sent::Sequenced(octet)), score)?;
+            score.add_delivery(channel.let_out().ok()?);
         }
+        channel.take_oldest(OLDEST, score).ok()?;
     }
     Some(())
 }
 
-// The segments of the largest packet are taken in, and it is taken.
-fn in_segments<F: Form>(
+// The frames with the segments of a unit are taken in, and its packets taken.
+fn units<F: Form>(
     channel: &mut F,
     frames: &[Octets],
+    packets: usize,
     count: u32,
     score: &mut Score,
 ) -> Option<()> {
@@ -108,7 +98,9 @@ fn in_segments<F: Form>(
         for frame in frames {
             bring(channel, frame.as_slice(), score)?;
         }
-        channel.add_taken(score)?;
+        for _ in 0..packets {
+            channel.take_oldest(OLDEST, score).ok()?;
+        }
     }
     Some(())
 }

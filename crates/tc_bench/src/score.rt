@@ -5,23 +5,14 @@ use tc_channel::{Delivery, FrameReply};
 /// What the score so far is multiplied by before a word is added: a prime above 2^40.
 const FACTOR: u64 = 1_099_511_628_211;
 
-/// A number that the answers and their order determine.
+/// A number that the answers and their order determine, 0 before the first.
 #[derive(Drop)]
 pub(crate) struct Score {
-    sum: u64,
+    /// The number.
+    pub(crate) sum: u64,
 }
 
 impl Score {
-    /// The score of no answer.
-    pub(crate) fn new() -> Score {
-        Score { sum: 0 }
-    }
-
-    /// The number.
-    pub(crate) fn value(&self) -> u64 {
-        self.sum
-    }
-
     /// Adds a word of an answer.
     pub(crate) fn add(&mut self, word: u64) {
         self.sum = self.sum.wrapping_mul(FACTOR).wrapping_add(word);

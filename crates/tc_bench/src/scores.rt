@@ -1,9 +1,9 @@
 //! The scores of the load.
 
-use crate::crew::Crew;
+use crate::operator_list::OperatorList;
 use crate::score::Score;
 use crate::seen::NO_FLAG;
-use crate::sender::{Sender, Sent, second};
+use crate::sender::Sender;
 use crate::station::APID;
 use crate::workers::work;
 use anyhow::{Result, anyhow};
@@ -12,22 +12,22 @@ use std::sync::Wait;
 use std::thread::Threads;
 use tc_channel::Channel;
 
-const ONE: [u8; 1] = [1];
+// What a score is of: the virtual channels, how many rounds are made on each, and whether a worker for each channel makes them, or one
+// thread makes a round on each in turn.
+type Row = (&'static str, &'static [u8], u32, bool);
 
-const FOUR: [u8; 4] = [1, 2, 3, 63];
+static ROWS: [Row; 3] = [
+    ("one channel", &[1], 20_000, false),
+    ("four channels", &[1, 2, 3, 63], 5_000, false),
+    ("four workers", &[1, 2, 3, 63], 5_000, true),
+];
 
-/// Does the load on one channel, on four channels in turn, and on four channels by workers, and prints a score for each.
+/// Does the load of each row, and prints its score.
 pub(crate) fn print<R: Threads + Wait + Sync + AllocGlobal + Print>(rt: &R) -> Result<()> {
-    let one = in_turn(rt, rt.alloc(), &ONE, 20_000)?;
-    print_score(rt, "one channel", one)?;
-    let four = in_turn(rt, rt.alloc(), &FOUR, 5_000)?;
-    print_score(rt, "four channels", four)?;
-    let workers = by_workers(rt, rt.alloc(), &FOUR, 5_000)?;
-    print_score(rt, "four workers", workers)
-}
-
-fn print_score(rt: &impl Print, what: &str, score: u64) -> Result<()> {
-    println!(rt; "{what} {score:016x}")?;
+    for (what, vcids, rounds, by_workers) in &ROWS {
+        let score = score_of(rt, rt.alloc(), vcids, *rounds, *by_workers)?;
+        println!(rt; "{what} {score:016x}")?;
+    }
     Ok(())
 }
 
@@ -40,68 +40,46 @@ fn senders(alloc: Global, vcids: &[u8]) -> Result<Vec<Sender>> {
     Ok(senders)
 }
 
-// Brings the frame with this number, which is the next one, and a second; reads the status; releases and takes.
-fn make_round(
-    rt: &impl Wait,
-    crew: &mut Crew,
-    sender: &Sender,
-    number: u8,
-    score: &mut Score,
-) -> Result<()> {
-    crew.bring(rt, sender.octets(Sent::Sequenced(number)), score)?;
-    crew.bring(rt, sender.octets(second(number)), score)?;
-    crew.status(rt, sender.vcid, score)?;
-    crew.release(rt, sender.vcid, score)?;
-    crew.take(rt, sender.vcid, score)
-}
-
-// Such a round for each sender in turn.
-fn make_rounds(
-    rt: &impl Wait,
-    crew: &mut Crew,
-    senders: &[Sender],
-    number: u8,
-    score: &mut Score,
-) -> Result<()> {
-    for sender in senders {
-        make_round(rt, crew, sender, number, score)?;
-    }
-    Ok(())
-}
-
-// One thread makes a round on each channel in turn, so many times. Each answer is added.
-fn in_turn(rt: &impl Wait, alloc: Global, vcids: &[u8], rounds: u32) -> Result<u64> {
-    let senders = senders(alloc, vcids)?;
-    score_of(rt, alloc, Crew::new(alloc, vcids)?, &senders, rounds)
-}
-
-fn score_of(
-    rt: &impl Wait,
-    alloc: Global,
-    mut crew: Crew,
-    senders: &[Sender],
-    rounds: u32,
-) -> Result<u64> {
-    let mut score = Score::new();
-    for number in 0..rounds {
-        make_rounds(rt, &mut crew, senders, (number % 256) as u8, &mut score)?;
-    }
-    add_channels(&mut score, &crew.close(alloc)?)?;
-    Ok(score.value())
-}
-
-// A worker for each channel makes as many rounds there. What the closed channels tell is added.
-fn by_workers<R: Threads + Wait + Sync>(
+// What each answer in turn tells is added, and what the closed channels tell.
+fn score_of<R: Threads + Wait + Sync>(
     rt: &R,
     alloc: Global,
     vcids: &[u8],
     rounds: u32,
+    by_workers: bool,
 ) -> Result<u64> {
     let senders = senders(alloc, vcids)?;
-    let channels = work(rt, alloc, vcids, &senders, rounds)?;
-    let mut score = Score::new();
+    let mut score = Score { sum: 0 };
+    let channels = if by_workers {
+        work(rt, alloc, vcids, &senders, rounds)?
+    } else {
+        in_turn(
+            rt,
+            alloc,
+            OperatorList::new(alloc, vcids)?,
+            &senders,
+            rounds,
+            &mut score,
+        )?
+    };
     add_channels(&mut score, &channels)?;
-    Ok(score.value())
+    Ok(score.sum)
+}
+
+fn in_turn(
+    rt: &impl Wait,
+    alloc: Global,
+    mut operator_list: OperatorList,
+    senders: &[Sender],
+    rounds: u32,
+    score: &mut Score,
+) -> Result<Vec<Channel>> {
+    for number in 0..rounds {
+        for sender in senders {
+            operator_list.make_round(rt, sender, (number % 256) as u8, score)?;
+        }
+    }
+    operator_list.close(alloc)
 }
 
 // Adds what closed channels tell.

@@ -21,16 +21,9 @@ pub(crate) fn work<R: Threads + Wait + Sync>(
     rounds: u32,
 ) -> Result<Vec<Channel>> {
     let lists = work_lists(alloc, senders, rounds)?;
-    work_on(rt, new_station(alloc, vcids)?, &lists)
-}
-
-fn work_on<R: Threads + Wait + Sync>(
-    rt: &R,
-    mut station: Station,
-    lists: &[WorkList],
-) -> Result<Vec<Channel>> {
+    let mut station = new_station(alloc, vcids)?;
     let mut operators = station.operators(u16::try_from(lists.len())?)?;
-    do_lists(rt, &station, &mut operators, lists)?;
+    do_lists(rt, &station, &mut operators, &lists)?;
     Ok(station.close(operators)?)
 }
 
@@ -51,20 +44,16 @@ fn do_lists<R: Threads + Wait + Sync>(
 fn work_lists(alloc: Global, senders: &[Sender], rounds: u32) -> Result<Vec<WorkList>, AllocError> {
     let mut lists = Vec::with_capacity(alloc, senders.len())?;
     for sender in senders {
-        lists.push(work_list(alloc, sender, rounds)?)?;
+        let mut jobs = Vec::new(alloc);
+        for number in 0..rounds {
+            add_round(alloc, &mut jobs, sender, number)?;
+        }
+        lists.push(WorkList {
+            vcid: sender.vcid,
+            jobs: Items::from(jobs),
+        })?;
     }
     Ok(lists)
-}
-
-fn work_list(alloc: Global, sender: &Sender, rounds: u32) -> Result<WorkList, AllocError> {
-    let mut jobs = Vec::new(alloc);
-    for number in 0..rounds {
-        add_round(alloc, &mut jobs, sender, number)?;
-    }
-    Ok(WorkList {
-        vcid: sender.vcid,
-        jobs: Items::from(jobs),
-    })
 }
 
 // The jobs of a round, whose number stands for the line.

@@ -11,7 +11,7 @@ use crate::seen::{
 };
 use anyhow::{Result, anyhow};
 use std::alloc::Global;
-use tc_channel::{Delivery, Items, QueueSetting};
+use tc_channel::{Items, QueueSetting};
 use tc_fixed::FixedChannel;
 use tc_link::read_frame;
 
@@ -48,11 +48,12 @@ impl Caller {
     fn new(alloc: Global, queues: u16) -> Result<Caller> {
         let plan = Plan {
             buffer: 64,
+            apid: 0,
             queues: (queues, 1),
             maps: (CHOSEN + 1, 1),
             segmented: true,
         };
-        let mut settings = plan.settings(alloc)?;
+        let mut settings = plan.settings(alloc, 1)?;
         let apid = queues.saturating_sub(1);
         let mut list = settings.queues.into_vec();
         list.pop();
@@ -84,52 +85,47 @@ impl Caller {
         Ok(())
     }
 
-    fn queue_largest(&mut self, last: Field) -> Result<()> {
-        self.open(Kind::Bypassing, last)?;
-        self.filler.bring(Kind::Bypassing, last, ONE)
-    }
-
-    // Brings a frame by the call that is seen, behind what comes before its field; how many items came to queues, with those that
-    // found no room.
-    fn frame(&mut self, kind: Kind, field: Field) -> Result<u64> {
+    // Brings a frame by the call that is seen, or buffers its field and releases it by that call, behind what comes before it; how many
+    // items came to queues, with those that found no room.
+    fn items(&mut self, kind: Kind, field: Field) -> Result<u64> {
         self.open(kind, field)?;
-        let octets = self.filler.octets(kind, field);
-        let reply = call_frame(&mut self.filler.channel, &read_frame(&octets)?);
-        Ok(items(&reply.delivery))
-    }
-
-    // Buffers a field likewise, and releases it by the call that is seen.
-    fn release(&mut self, field: Field) -> Result<u64> {
-        self.open(Kind::Released, field)?;
-        self.filler.bring(Kind::Next, field, NOTHING)?;
-        Ok(items(&call_release(&mut self.filler.channel)?))
+        let delivery = if let Kind::Released = kind {
+            self.filler.bring(Kind::Next, field, NOTHING)?;
+            call_release(&mut self.filler.channel)?
+        } else {
+            let octets = self.filler.octets(kind, field);
+            call_frame(&mut self.filler.channel, &read_frame(&octets)?).delivery
+        };
+        Ok(u64::from(delivery.queued) + u64::from(delivery.dropped))
     }
 
     // Makes the call with this name; what it answers, as a number.
     fn answer(&mut self, name: &str) -> Result<u64> {
         match name {
-            "frame_buffered" => self.frame(Kind::Next, FIRST_FIELD),
-            "frame_field" => self.frame(Kind::Bypassing, PACKETS_FIELD),
-            "frame_packets" => self.frame(Kind::Bypassing, PACKETS_END),
-            "frame_whole" => self.frame(Kind::Bypassing, WHOLE_END),
-            "release_field" => self.release(PACKETS_FIELD),
-            "release_packets" => self.release(PACKETS_END),
-            "release_whole" => self.release(WHOLE_END),
+            "frame_buffered" => self.items(Kind::Next, FIRST_FIELD),
+            "frame_field" => self.items(Kind::Bypassing, PACKETS_FIELD),
+            "frame_packets" => self.items(Kind::Bypassing, PACKETS_END),
+            "frame_whole" => self.items(Kind::Bypassing, WHOLE_END),
+            "release_field" => self.items(Kind::Released, PACKETS_FIELD),
+            "release_packets" => self.items(Kind::Released, PACKETS_END),
+            "release_whole" => self.items(Kind::Released, WHOLE_END),
             _ => self.answer_full(name),
         }
     }
 
     // The same where a largest packet is queued for the last application, and a largest unit for the last chosen MAP.
     fn answer_full(&mut self, name: &str) -> Result<u64> {
-        self.queue_largest(PACKET_END)?;
-        self.queue_largest(WHOLE_END)?;
+        for last in [PACKET_END, WHOLE_END] {
+            self.open(Kind::Bypassing, last)?;
+            self.filler.bring(Kind::Bypassing, last, ONE)?;
+        }
         let apid = self.filler.apid;
         let channel = &mut self.filler.channel;
         let count = match name {
             "take" => call_take(channel, apid, &mut self.taken)?,
             "take_unit" => call_take_unit(channel, CHOSEN, &mut self.taken)?,
-            "drop_oldest" => number(call_drop_oldest(channel, apid)),
-            "drop_oldest_unit" => number(call_drop_oldest_unit(channel, CHOSEN)),
+            "drop_oldest" => usize::from(call_drop_oldest(channel, apid)),
+            "drop_oldest_unit" => usize::from(call_drop_oldest_unit(channel, CHOSEN)),
             "oldest" => length(call_oldest(channel, apid)),
             "oldest_unit" => length(call_oldest_unit(channel, CHOSEN)),
             "queued" => call_queued(channel, apid).unwrap_or(0),
@@ -140,15 +136,6 @@ impl Caller {
         };
         Ok(count as u64)
     }
-}
-
-// How many items a unit had.
-fn items(delivery: &Delivery) -> u64 {
-    u64::from(delivery.queued) + u64::from(delivery.dropped)
-}
-
-fn number(is_dropped: bool) -> usize {
-    usize::from(u8::from(is_dropped))
 }
 
 fn length(octets: Option<&[u8]>) -> usize {

@@ -6,19 +6,19 @@ use Rattle.std.proofs.BoxSteps.Form.{Bx}
 use Rattle.std.specs.contracts.alloc.Global as Heap
 use Rattle.std.specs.contracts.impls.GlobalAllocator.TheImpl.{ghosts, dict}
 use Rattle.std.proofs.alloc.Global.TheLaws as heap
-use Rattle.tc_channel.specs.contracts.unkept.Unkept as Unkept
-use Rattle.tc_fixed.specs.contracts.noted.UnkeptNoted.TheImpl as journal
+use Rattle.tc_channel.specs.contracts.unrecorded.Unrecorded as Unrecorded
+use Rattle.tc_fixed.specs.contracts.noted.UnrecordedNoted.TheImpl as journal
 use Rattle.tc_fixed.proofs.channel.FixedChannelWith.TheLaws as channel
-use Rattle.tc_channel.proofs.unkept.Unkept.TheLaws as unkept
+use Rattle.tc_channel.proofs.unrecorded.Unrecorded.TheLaws as unrecorded
 use Rattle.tc_c.specs.Place.{channel_row}
 use Rattle.tc_c.specs.contracts.parts.Parts as Parts
 use Rattle.tc_c.specs.contracts.place.Place as Place
 
--- the box of a channel in flight
+-- the box of a counting channel
 abbrev pub E : Bx
 E = record {
   row = channel_row;
-  laws = channel.the_row_laws Unkept.the_row journal.ghosts unkept.the_row_laws;
+  laws = channel.the_row_laws Unrecorded.the_row journal.ghosts unrecorded.the_row_laws;
   al = record { row = Heap.the_row; laws = heap.the_row_laws; g = ghosts; d = dict; drops = impl [] tnil dnil };
 }
 

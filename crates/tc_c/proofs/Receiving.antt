@@ -84,11 +84,6 @@ counted-more count mode room i n k m os first state at now h =
     let more : k ≡ counted_in count mode room (state_after mode room first (take i os)) (take n (drop i os)) = now ∙ ap (λ (s : Reception). counted_in count mode room s (take n (drop i os))) at in
     omega (arith, all, more, h)
 
--- ---- the first octets
-pub first-one : (os : List ℕ) → 0 < length os → take 1 os ≡ get_or os 0 0 ∷ []
-first-one [] some = absurd (omega arith)
-first-one (o ∷ os) some = refl
-
 -- nothing ends before the last octet of a code block
 pub block-quiet : (mode : Mode) (room : ℕ) (frame os : List ℕ) → 8 ≤ length os → frames_of mode room (Decoding frame []) (take 7 os) ≡ []
 block-quiet mode room frame (a ∷ b ∷ c ∷ d ∷ e ∷ f ∷ g ∷ h ∷ os) some = refl

@@ -8,13 +8,13 @@ use Rattle.std.specs.Coded.{coded_option}
 use Rattle.std.specs.Box.Ownership.{box_owns}
 use Rattle.std.specs.Global.{Global}
 use Rattle.std.specs.contracts.impls.GlobalAllocator.TheImpl.{ghosts}
-use Rattle.tc_channel.specs.contracts.unkept.Unkept as Unkept
+use Rattle.tc_channel.specs.contracts.unrecorded.Unrecorded as Unrecorded
 use Rattle.tc_fixed.specs.History.{LimitedHistory}
 use Rattle.tc_fixed.specs.contracts.channel.FixedChannelWith as Channel
-use Rattle.tc_fixed.specs.contracts.noted.UnkeptNoted.TheImpl as journal
+use Rattle.tc_fixed.specs.contracts.noted.UnrecordedNoted.TheImpl as journal
 
 abbrev pub channel_row : RattleType
-channel_row = Channel.the_row Unkept.the_row journal.ghosts
+channel_row = Channel.the_row Unrecorded.the_row journal.ghosts
 
 abbrev pub history_coded : Coded (Option LimitedHistory)
 history_coded = coded_option channel_row.coded

@@ -10,10 +10,10 @@ ghost use Rattle.tc_fixed.specs.Limits.{limit_of};
 ghost use Rattle.tc_c.specs.Status.{code_of, frame_status};
 ghost use Rattle.tc_c.specs.Channel.{reply_record, no_reply, delivery_record, no_delivery};
 
-use crate::lent::Uncounted;
+use crate::lent::NoSteps;
 use crate::seat::Seat;
 use crate::status::{Status, code, frame_fault};
-use tc_channel::{Count, Delivery, FrameReply};
+use tc_channel::{Delivery, FrameReply, Tick};
 use tc_fixed::{FixedChannel, NothingReleased};
 use tc_link::read_frame;
 
@@ -47,7 +47,7 @@ pub struct DeliveryRecord {
     pub rest: u8,
 }
 
-fn reply_told(reply: FrameReply) -> ReplyRecord
+fn reply_reported(reply: FrameReply) -> ReplyRecord
     ensures { result ≡ reply_record reply }
 {
     ReplyRecord {
@@ -73,7 +73,7 @@ fn reply_refused(fault: Status) -> ReplyRecord
     }
 }
 
-fn delivery_told(delivery: Delivery) -> DeliveryRecord
+fn delivery_reported(delivery: Delivery) -> DeliveryRecord
     ensures { result ≡ delivery_record delivery }
 {
     DeliveryRecord {
@@ -97,7 +97,7 @@ fn delivery_refused(fault: Status) -> DeliveryRecord
 
 /// What [`tcrx_channel_frame_at`] runs once with the channel of its seat, and with a count that isn't kept. A step is a packet that is
 /// cut from the unit that the frame ends, or a queue that is looked at; what is refused takes none.
-pub fn frame_counted<C: Count>(
+pub fn frame_with_steps<C: Tick>(
     channel: &mut FixedChannel,
     octets: &[u8],
     steps: &mut C,
@@ -109,7 +109,7 @@ pub fn frame_counted<C: Count>(
     ensures quiet { 0 < result.status → C.taken steps.new ≡ C.taken steps.old }
 {
     match read_frame(octets) {
-        Ok(frame) => reply_told(channel.frame_counted(&frame, steps)),
+        Ok(frame) => reply_reported(channel.frame_with_steps(&frame, steps)),
         Err(fault) => reply_refused(frame_fault(fault)),
     }
 }
@@ -127,21 +127,21 @@ pub extern "C" fn tcrx_channel_frame_at(seat: &mut Seat, octets: &[u8]) -> Reply
     ensures no_channel { IfNone seat.old.place.channel (result ≡ no_reply Status.NoChannel) }
 {
     match seat.lend() {
-        Some(held) => frame_counted(held, octets, &mut Uncounted),
+        Some(held) => frame_with_steps(held, octets, &mut NoSteps),
         None => reply_refused(Status::NoChannel),
     }
 }
 
 /// What [`tcrx_channel_release_at`] runs once with the channel of its seat, and with a count that isn't kept. Steps are those of
-/// [`frame_counted`].
-pub fn release_counted<C: Count>(channel: &mut FixedChannel, steps: &mut C) -> DeliveryRecord
+/// [`frame_with_steps`].
+pub fn release_with_steps<C: Tick>(channel: &mut FixedChannel, steps: &mut C) -> DeliveryRecord
     ensures done { buffered_fields_within (limit_of channel.old.limits) channel.old.settings channel.old.journal ≢ [] → (result ≡ delivery_record (release_reply_within (limit_of channel.old.limits) channel.old.settings channel.old.journal)) × (channel.new ≡ with_limited_event channel.old Event.Release) }
     ensures empty { buffered_fields_within (limit_of channel.old.limits) channel.old.settings channel.old.journal ≡ [] → result ≡ no_delivery Status.Empty }
     ensures refused { 0 < result.status → channel.new ≡ channel.old }
     ensures cost { C.taken steps.new ≤ C.taken steps.old + release_steps_within (limit_of channel.old.limits) channel.old.settings channel.old.journal }
 {
-    match channel.release_counted(steps) {
-        Ok(delivery) => delivery_told(delivery),
+    match channel.release_with_steps(steps) {
+        Ok(delivery) => delivery_reported(delivery),
         Err(NothingReleased::Empty) => delivery_refused(Status::Empty),
     }
 }
@@ -158,7 +158,7 @@ pub extern "C" fn tcrx_channel_release_at(seat: &mut Seat) -> DeliveryRecord
     ensures no_channel { IfNone seat.old.place.channel (result ≡ no_delivery Status.NoChannel) }
 {
     match seat.lend() {
-        Some(held) => release_counted(held, &mut Uncounted),
+        Some(held) => release_with_steps(held, &mut NoSteps),
         None => delivery_refused(Status::NoChannel),
     }
 }

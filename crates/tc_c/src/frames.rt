@@ -60,7 +60,7 @@ pub extern "C" fn tcrx_read_frame_at(octets: &[u8]) -> FrameRecord
     match read_frame(octets) {
         Ok(frame) => FrameRecord {
             status: code(Status::Done),
-            header: told(frame.header()),
+            header: reported(frame.header()),
             length: frame.octets().len() as u16,
         },
         Err(fault) => FrameRecord {
@@ -77,7 +77,7 @@ pub extern "C" fn tcrx_read_frame_at(octets: &[u8]) -> FrameRecord
     }
 }
 
-fn told(header: Header) -> HeaderRecord
+fn reported(header: Header) -> HeaderRecord
     ensures { result ≡ header_record header }
 {
     HeaderRecord {
@@ -98,7 +98,7 @@ pub extern "C" fn tcrx_kind_at(octets: &[u8]) -> KindRecord
     ensures fault { IfSome (fault_of octets.now) (λ fault. result ≡ no_kind (frame_status fault)) }
 {
     match read_frame(octets) {
-        Ok(frame) => kind_told(kind(&frame)),
+        Ok(frame) => kind_reported(kind(&frame)),
         Err(fault) => KindRecord {
             status: code(frame_fault(fault)),
             kind: 0,
@@ -107,7 +107,7 @@ pub extern "C" fn tcrx_kind_at(octets: &[u8]) -> KindRecord
     }
 }
 
-fn kind_told(kind: Kind) -> KindRecord
+fn kind_reported(kind: Kind) -> KindRecord
     ensures { result ≡ kind_record kind }
 {
     let (kind, number) = match kind {

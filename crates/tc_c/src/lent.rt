@@ -4,14 +4,14 @@ ghost use Rattle.std.specs.Prelude.{◌≡◌, is_some, option_map};
 ghost use Rattle.std.specs.Borrow.{sem};
 
 use crate::seat::Seat;
-use tc_channel::Count;
+use tc_channel::Tick;
 use tc_fixed::FixedChannel;
 
 /// A count that isn't kept. It is for the calls that C makes, each of which runs its counted body with it.
 #[derive(Drop)]
-pub(crate) struct Uncounted;
+pub(crate) struct NoSteps;
 
-impl Count for Uncounted {
+impl Tick for NoSteps {
     ghost use Rattle.std.specs.Prelude.{false};
 
     ghost taken = { λ _. 0 };

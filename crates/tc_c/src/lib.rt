@@ -30,7 +30,7 @@ mod writing;
 
 pub use buffer::{WrittenRecord, tcrx_text_at};
 pub use channel::{
-    DeliveryRecord, ReplyRecord, frame_counted, release_counted, tcrx_channel_frame_at,
+    DeliveryRecord, ReplyRecord, frame_with_steps, release_with_steps, tcrx_channel_frame_at,
     tcrx_channel_free_at, tcrx_channel_release_at,
 };
 pub use clcw::{ClcwFieldsRecord, ClcwRecord, tcrx_clcw, tcrx_read_clcw};
@@ -60,7 +60,9 @@ pub use seat::Seat;
 pub use settings::{SettingsRecord, tcrx_channel_new_at, tcrx_channel_new_with_limits_at};
 pub use status::Status;
 pub use storage::{tcrx_storage_at, tcrx_storage_with_limits_at};
-pub use takes::{take_counted, take_unit_counted, tcrx_channel_take_at, tcrx_channel_take_unit_at};
+pub use takes::{
+    take_unit_with_steps, take_with_steps, tcrx_channel_take_at, tcrx_channel_take_unit_at,
+};
 pub use telemetry::{TmFieldsRecord, TmHeaderRecord, tcrx_read_tm_at, tcrx_write_tm_at};
 pub use writing::{
     PacketHeaderRecord, tcrx_add_fecf_at, tcrx_check_fecf_at, tcrx_write_command_at,

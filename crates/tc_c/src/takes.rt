@@ -10,10 +10,10 @@ ghost use Rattle.tc_c.specs.Channel.{no_octets, too_short, taken, IsCopied};
 ghost use Rattle.tc_c.specs.Status.{code_of};
 
 use crate::buffer::{WrittenRecord, not_written, written};
-use crate::lent::Uncounted;
+use crate::lent::NoSteps;
 use crate::seat::Seat;
 use crate::status::{Status, code};
-use tc_channel::Count;
+use tc_channel::Tick;
 use tc_fixed::{FixedChannel, NoUnitTaken, NothingTaken};
 
 // The answer where there is no room for an item of so many octets.
@@ -28,11 +28,11 @@ fn no_room(needed: Option<usize>) -> WrittenRecord
 }
 
 // How long the packet is that would be taken next.
-fn packet_length<C: Count>(channel: &FixedChannel, apid: u16, steps: &mut C) -> Option<usize>
+fn packet_length<C: Tick>(channel: &FixedChannel, apid: u16, steps: &mut C) -> Option<usize>
     ensures length { result ≡ option_map length (take_reply_within (limit_of channel.now.limits) channel.now.settings channel.now.journal apid) }
     ensures cost { C.taken steps.new ≤ C.taken steps.old + looks_for apid (length channel.now.settings.queues) }
 {
-    match channel.oldest_counted(apid, steps) {
+    match channel.oldest_with_steps(apid, steps) {
         Some(packet) => Some(packet.len()),
         None => None,
     }
@@ -40,7 +40,7 @@ fn packet_length<C: Count>(channel: &FixedChannel, apid: u16, steps: &mut C) -> 
 
 /// What [`tcrx_channel_take_at`] runs once with the channel of its seat, and with a count that isn't kept. A step is a queue that is
 /// looked at; where the buffer is too short it is looked for once more, for the length.
-pub fn take_counted<C: Count>(
+pub fn take_with_steps<C: Tick>(
     channel: &mut FixedChannel,
     apid: u16,
     to: &mut [u8],
@@ -54,7 +54,7 @@ pub fn take_counted<C: Count>(
     ensures cost { result.status ≢ code_of Status.NoRoom → C.taken steps.new ≤ C.taken steps.old + take_steps apid (length channel.old.settings.queues) }
     ensures over_cost { C.taken steps.new ≤ C.taken steps.old + (take_steps apid (length channel.old.settings.queues) + looks_for apid (length channel.old.settings.queues)) }
 {
-    match channel.take_counted(apid, to, steps) {
+    match channel.take_with_steps(apid, to, steps) {
         Ok(length) => written(length),
         Err(NothingTaken::NoRoom) => no_room(packet_length(channel, apid, steps)),
         Err(NothingTaken::NoQueue) => not_written(Status::NoQueue),
@@ -80,17 +80,17 @@ pub extern "C" fn tcrx_channel_take_at(
     ensures no_channel { IfNone seat.old.place.channel (result ≡ no_octets Status.NoChannel) }
 {
     match seat.lend() {
-        Some(held) => take_counted(held, apid, buffer, &mut Uncounted),
+        Some(held) => take_with_steps(held, apid, buffer, &mut NoSteps),
         None => not_written(Status::NoChannel),
     }
 }
 
 // How long the unit is that would be taken next.
-fn unit_length<C: Count>(channel: &FixedChannel, map: u8, steps: &mut C) -> Option<usize>
+fn unit_length<C: Tick>(channel: &FixedChannel, map: u8, steps: &mut C) -> Option<usize>
     ensures length { result ≡ option_map length (unit_reply_within (limit_of channel.now.limits) channel.now.settings channel.now.journal map) }
     ensures cost { C.taken steps.new ≤ C.taken steps.old + looks_for map (length channel.now.settings.maps) }
 {
-    match channel.oldest_unit_counted(map, steps) {
+    match channel.oldest_unit_with_steps(map, steps) {
         Some(unit) => Some(unit.len()),
         None => None,
     }
@@ -98,7 +98,7 @@ fn unit_length<C: Count>(channel: &FixedChannel, map: u8, steps: &mut C) -> Opti
 
 /// What [`tcrx_channel_take_unit_at`] runs once with the channel of its seat, and with a count that isn't kept. A step is a queue that is
 /// looked at; where the buffer is too short it is looked for once more, for the length.
-pub fn take_unit_counted<C: Count>(
+pub fn take_unit_with_steps<C: Tick>(
     channel: &mut FixedChannel,
     map: u8,
     to: &mut [u8],
@@ -112,7 +112,7 @@ pub fn take_unit_counted<C: Count>(
     ensures cost { result.status ≢ code_of Status.NoRoom → C.taken steps.new ≤ C.taken steps.old + take_steps map (length channel.old.settings.maps) }
     ensures over_cost { C.taken steps.new ≤ C.taken steps.old + (take_steps map (length channel.old.settings.maps) + looks_for map (length channel.old.settings.maps)) }
 {
-    match channel.take_unit_counted(map, to, steps) {
+    match channel.take_unit_with_steps(map, to, steps) {
         Ok(length) => written(length),
         Err(NoUnitTaken::NoRoom) => no_room(unit_length(channel, map, steps)),
         Err(NoUnitTaken::NoMap) => not_written(Status::NoMap),
@@ -138,7 +138,7 @@ pub extern "C" fn tcrx_channel_take_unit_at(
     ensures no_channel { IfNone seat.old.place.channel (result ≡ no_octets Status.NoChannel) }
 {
     match seat.lend() {
-        Some(held) => take_unit_counted(held, map, buffer, &mut Uncounted),
+        Some(held) => take_unit_with_steps(held, map, buffer, &mut NoSteps),
         None => not_written(Status::NoChannel),
     }
 }

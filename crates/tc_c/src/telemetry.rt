@@ -174,7 +174,7 @@ pub extern "C" fn tcrx_read_tm_at(fecf: u8, octets: &[u8]) -> TmFieldsRecord
         Ok(fields) => TmFieldsRecord {
             status: code(Status::Done),
             clcw: u32::from_be_bytes(fields.control),
-            header: told(fields.header),
+            header: reported(fields.header),
             pointer: fields.pointer,
         },
         Err(fault) => TmFieldsRecord {
@@ -191,7 +191,7 @@ pub extern "C" fn tcrx_read_tm_at(fecf: u8, octets: &[u8]) -> TmFieldsRecord
     }
 }
 
-fn told(header: TmHeader) -> TmHeaderRecord
+fn reported(header: TmHeader) -> TmHeaderRecord
     ensures { result ≡ tm_header_record header }
 {
     TmHeaderRecord {

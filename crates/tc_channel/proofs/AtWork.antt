@@ -1,6 +1,6 @@
 -- What a channel works with, over what rooms add to it.
-use Rattle.tc_channel.proofs.Names.{◌≡◌, ℕ, ◌<◌, Bool, true, false, cond, eqb, List, [], ◌∷◌, ◌++◌, length, drop, Option, Some, None, refl, sym, ap, subst, ◌∙◌, arith, slice_get, IsSome, option_map, HoldsWithin, at_most, run_left, run_at, Settings, Event, Take, TakeUnit, AreRuns, first_of, Service, Bd, Store, open_runs, limit_at, HeldQueue, queue_for, oldest_for, popped, shorter, Keyed, rings_in, room_sizes, AreSettled, Ad, no_limits, held, ring_in, run_within, length-map, QueueSetting, MapSetting}
-use Rattle.tc_channel.specs.Workings.{HaveLimits, inside_of, Parts, HoldsInRooms, AreWorkings}
+use Rattle.tc_channel.proofs.Names.{◌≡◌, ℕ, ◌<◌, Bool, true, false, cond, eqb, List, [], ◌∷◌, ◌++◌, length, drop, Option, Some, None, refl, sym, ap, subst, ◌∙◌, arith, slice_get, IsSome, option_map, HoldsWithin, at_most, run_left, run_at, Settings, Event, Take, TakeUnit, AreRuns, first_of, Service, Bd, Store, open_runs, limit_at, StoredQueue, queue_for, oldest_for, popped, shorter, Keyed, rings_in, room_sizes, AreCommitted, Ad, no_limits, stored, ring_in, run_within, length-map, QueueSetting, MapSetting}
+use Rattle.tc_channel.specs.ChannelCore.{HaveLimits, inside_of, Parts, HoldsInRooms, AreChannelCore}
 use Rattle.std.specs.Prelude.{OnErr, Result, Ok, Err}
 use Rattle.tc_channel.specs.Reply.{take_reply_within, unit_reply_within}
 use Rattle.tc_packet.specs.Reassembly.{place_of}
@@ -51,24 +51,24 @@ unit-is map_id k = ap oldest (units-wait map_id k.holds)
 -- there are as many queues as the settings have
 pub queue-count : {limits : ℕ → ℕ} {s : Settings} {journal : List Event} {parts : Parts} → HoldsInRooms limits s journal parts → length parts.queues ≡ length s.queues
 queue-count {limits} {s} {journal} {parts} k =
-    sym (length-map parts.queues ring_in) ∙ ap length k.holds.queues ∙ length-map (run_within limits s journal).queues held
+    sym (length-map parts.queues ring_in) ∙ ap length k.holds.queues ∙ length-map (run_within limits s journal).queues stored
     ∙ sym (length-map (run_within limits s journal).queues key_and_capacity) ∙ ap length (queues-are limits s journal) ∙ length-map s.queues (λ (q : QueueSetting). (q.apid, q.capacity))
 
 pub unit-count : {limits : ℕ → ℕ} {s : Settings} {journal : List Event} {parts : Parts} → HoldsInRooms limits s journal parts → length parts.units ≡ length s.maps
 unit-count {limits} {s} {journal} {parts} k =
-    sym (length-map parts.units ring_in) ∙ ap length k.holds.units ∙ length-map (run_within limits s journal).units held
+    sym (length-map parts.units ring_in) ∙ ap length k.holds.units ∙ length-map (run_within limits s journal).units stored
     ∙ sym (length-map (run_within limits s journal).units key_and_capacity) ∙ ap length (units-are limits s journal) ∙ length-map s.maps (λ (m : MapSetting). (m.map, m.capacity))
 
--- what a step leaves, where rooms and limits are as before and nothing is laid that doesn't count
+-- what a step leaves, where rooms and limits are as before and nothing is staged that doesn't count
 pub holds-on : {limits : ℕ → ℕ} {s : Settings} {journal : List Event} {parts : Parts} (next : List Event) (later : Parts) → HoldsInRooms limits s journal parts → HoldsWithin limits s next (inside_of later)
-    → later.fields.size ≡ parts.fields.size → later.fields.laid ≡ [] → ((place : ℕ) → limit_at later.store place ≡ limit_at parts.store place) → later.store.segmented ≡ parts.store.segmented
-    → room_sizes later.queues ≡ room_sizes parts.queues → room_sizes later.units ≡ room_sizes parts.units → AreSettled later.queues → AreSettled later.units → HoldsInRooms limits s next later
-holds-on next later k holds size fields limits_are segmented sizes unit_sizes settled units_settled = record {
+    → later.fields.size ≡ parts.fields.size → later.fields.staged ≡ [] → ((place : ℕ) → limit_at later.store place ≡ limit_at parts.store place) → later.store.segmented ≡ parts.store.segmented
+    → room_sizes later.queues ≡ room_sizes parts.queues → room_sizes later.units ≡ room_sizes parts.units → AreCommitted later.queues → AreCommitted later.units → HoldsInRooms limits s next later
+holds-on next later k holds size fields limits_are segmented sizes unit_sizes committed units_committed = record {
   holds = holds;
   field_size = size ∙ k.field_size;
-  fields_settled = fields;
-  settled = settled;
-  units_settled = units_settled;
+  fields_committed = fields;
+  committed = committed;
+  units_committed = units_committed;
   limits_are = λ service map_id inside. limits_are _ ∙ k.limits_are service map_id inside;
   small = λ place inside. rw (limits_are place) (k.small place inside);
   sizes = λ place inside. rw (sizes, limits_are place, segmented) (k.sizes place inside);
@@ -77,59 +77,59 @@ holds-on next later k holds size fields limits_are segmented sizes unit_sizes se
 
 -- the queues were changed, with rooms as large as before
 with-queues : {limits : ℕ → ℕ} {s : Settings} {journal : List Event} {parts : Parts} (next : List Event) (queues units : List Keyed) → HoldsInRooms limits s journal parts → HoldsWithin limits s next (inside_of (record parts { queues = queues; units = units }))
-    → room_sizes queues ≡ room_sizes parts.queues → room_sizes units ≡ room_sizes parts.units → AreSettled queues → AreSettled units → HoldsInRooms limits s next (record parts { queues = queues; units = units })
-with-queues {parts = parts} next queues units k holds = holds-on next (record parts { queues = queues; units = units }) k holds refl k.fields_settled (λ _. refl) refl
+    → room_sizes queues ≡ room_sizes parts.queues → room_sizes units ≡ room_sizes parts.units → AreCommitted queues → AreCommitted units → HoldsInRooms limits s next (record parts { queues = queues; units = units })
+with-queues {parts = parts} next queues units k holds = holds-on next (record parts { queues = queues; units = units }) k holds refl k.fields_committed (λ _. refl) refl
 
 -- the oldest packet was taken, and its room is free
 pub packet-taken : {limits : ℕ → ℕ} {s : Settings} {journal : List Event} {parts : Parts} (later : List Keyed) (apid : ℕ)
     → HoldsInRooms limits s journal parts → IsSome (oldest_for apid (rings_in parts.queues)) → rings_in later ≡ popped apid (rings_in parts.queues)
-    → room_sizes later ≡ room_sizes parts.queues → (AreSettled parts.queues → AreSettled later) → HoldsInRooms limits s (journal ++ Take apid ∷ []) (record parts { queues = later })
+    → room_sizes later ≡ room_sizes parts.queues → (AreCommitted parts.queues → AreCommitted later) → HoldsInRooms limits s (journal ++ Take apid ∷ []) (record parts { queues = later })
 packet-taken {journal = journal} {parts = parts} later apid k has is same still =
     let item = some-item (oldest_for apid (rings_in parts.queues)) has in
-    with-queues (journal ++ Take apid ∷ []) later parts.units k (take-keeps (rings_in later) apid item.0 k.holds item.1 is) same refl (still k.settled) k.units_settled
+    with-queues (journal ++ Take apid ∷ []) later parts.units k (take-keeps (rings_in later) apid item.0 k.holds item.1 is) same refl (still k.committed) k.units_committed
 
 -- the oldest unit was taken
 pub unit-taken : {limits : ℕ → ℕ} {s : Settings} {journal : List Event} {parts : Parts} (later : List Keyed) (map_id : ℕ)
     → HoldsInRooms limits s journal parts → IsSome (oldest_for map_id (rings_in parts.units)) → rings_in later ≡ popped map_id (rings_in parts.units)
-    → room_sizes later ≡ room_sizes parts.units → (AreSettled parts.units → AreSettled later) → HoldsInRooms limits s (journal ++ TakeUnit map_id ∷ []) (record parts { units = later })
+    → room_sizes later ≡ room_sizes parts.units → (AreCommitted parts.units → AreCommitted later) → HoldsInRooms limits s (journal ++ TakeUnit map_id ∷ []) (record parts { units = later })
 unit-taken {journal = journal} {parts = parts} later map_id k has is same still =
     let item = some-item (oldest_for map_id (rings_in parts.units)) has in
-    with-queues (journal ++ TakeUnit map_id ∷ []) parts.queues later k (take-unit-keeps (rings_in later) map_id item.0 k.holds item.1 is) refl same k.settled (still k.units_settled)
+    with-queues (journal ++ TakeUnit map_id ∷ []) parts.queues later k (take-unit-keeps (rings_in later) map_id item.0 k.holds item.1 is) refl same k.committed (still k.units_committed)
 
 -- where no item waits, none is dropped
-nothing-shorter : (w : HeldQueue) → slice_get w.ring.items 0 ≡ None → shorter w ≡ w
+nothing-shorter : (w : StoredQueue) → slice_get w.ring.items 0 ≡ None → shorter w ≡ w
 nothing-shorter w none = by w.ring.items refl none where
   by : (items : List (List ℕ)) → w.ring.items ≡ items → slice_get items 0 ≡ None → shorter w ≡ w
   by [] is none = (let e : drop 1 w.ring.items ≡ w.ring.items = rw is refl in ap (λ (x : List (List ℕ)). record w { ring = buffer x w.ring.capacity }) e)
   by (x ∷ xs) is none = absurd cc
 
-popped-none : (key : ℕ) (ws : List HeldQueue) → oldest_for key ws ≡ None → popped key ws ≡ ws
+popped-none : (key : ℕ) (ws : List StoredQueue) → oldest_for key ws ≡ None → popped key ws ≡ ws
 popped-none key [] none = refl
 popped-none key (w ∷ ws) none = by (eqb w.key key) (λ e. popped-none key ws e) none where
-  by : (t : Bool) → (oldest_for key ws ≡ None → popped key ws ≡ ws) → oldest (option_map (λ (q : HeldQueue). q.ring.items) (cond t (Some w) (queue_for key ws))) ≡ None → cond t (shorter w ∷ ws) (w ∷ popped key ws) ≡ w ∷ ws
-  by true rest e = ap (λ (x : HeldQueue). x ∷ ws) (nothing-shorter w e)
-  by false rest e = ap (λ (x : List HeldQueue). w ∷ x) (rest e)
+  by : (t : Bool) → (oldest_for key ws ≡ None → popped key ws ≡ ws) → oldest (option_map (λ (q : StoredQueue). q.ring.items) (cond t (Some w) (queue_for key ws))) ≡ None → cond t (shorter w ∷ ws) (w ∷ popped key ws) ≡ w ∷ ws
+  by true rest e = ap (λ (x : StoredQueue). x ∷ ws) (nothing-shorter w e)
+  by false rest e = ap (λ (x : List StoredQueue). w ∷ x) (rest e)
 
--- with the oldest packet taken, if one waited, they are the workings of some channel
-pub queues-work : (parts : Parts) (later : List Keyed) (apid : ℕ) → AreWorkings parts → rings_in later ≡ popped apid (rings_in parts.queues)
-    → room_sizes later ≡ room_sizes parts.queues → (AreSettled parts.queues → AreSettled later) → AreWorkings (record parts { queues = later })
+-- with the oldest packet taken, if one waited, it is the core of some channel
+pub queues-work : (parts : Parts) (later : List Keyed) (apid : ℕ) → AreChannelCore parts → rings_in later ≡ popped apid (rings_in parts.queues)
+    → room_sizes later ≡ room_sizes parts.queues → (AreCommitted parts.queues → AreCommitted later) → AreChannelCore (record parts { queues = later })
 queues-work parts later apid w is same still = by (oldest_for apid (rings_in parts.queues)) refl where
-  by : (o : Option (List ℕ)) → oldest_for apid (rings_in parts.queues) ≡ o → AreWorkings (record parts { queues = later })
-  by None none = (w.0, w.1, w.2, with-queues w.2 later parts.units w.3 (rw (is ∙ popped-none apid (rings_in parts.queues) none) w.3.holds) same refl (still w.3.settled) w.3.units_settled)
+  by : (o : Option (List ℕ)) → oldest_for apid (rings_in parts.queues) ≡ o → AreChannelCore (record parts { queues = later })
+  by None none = (w.0, w.1, w.2, with-queues w.2 later parts.units w.3 (rw (is ∙ popped-none apid (rings_in parts.queues) none) w.3.holds) same refl (still w.3.committed) w.3.units_committed)
   by (Some item) some = (w.0, w.1, w.2 ++ Take apid ∷ [], packet-taken later apid w.3 (rw some refl) is same still)
 
 -- the same of the oldest unit
-pub units-work : (parts : Parts) (later : List Keyed) (map_id : ℕ) → AreWorkings parts → rings_in later ≡ popped map_id (rings_in parts.units)
-    → room_sizes later ≡ room_sizes parts.units → (AreSettled parts.units → AreSettled later) → AreWorkings (record parts { units = later })
+pub units-work : (parts : Parts) (later : List Keyed) (map_id : ℕ) → AreChannelCore parts → rings_in later ≡ popped map_id (rings_in parts.units)
+    → room_sizes later ≡ room_sizes parts.units → (AreCommitted parts.units → AreCommitted later) → AreChannelCore (record parts { units = later })
 units-work parts later map_id w is same still = by (oldest_for map_id (rings_in parts.units)) refl where
-  by : (o : Option (List ℕ)) → oldest_for map_id (rings_in parts.units) ≡ o → AreWorkings (record parts { units = later })
-  by None none = (w.0, w.1, w.2, with-queues w.2 parts.queues later w.3 (rw (is ∙ popped-none map_id (rings_in parts.units) none) w.3.holds) refl same w.3.settled (still w.3.units_settled))
+  by : (o : Option (List ℕ)) → oldest_for map_id (rings_in parts.units) ≡ o → AreChannelCore (record parts { units = later })
+  by None none = (w.0, w.1, w.2, with-queues w.2 parts.queues later w.3 (rw (is ∙ popped-none map_id (rings_in parts.units) none) w.3.holds) refl same w.3.committed (still w.3.units_committed))
   by (Some item) some = (w.0, w.1, w.2 ++ TakeUnit map_id ∷ [], unit-taken later map_id w.3 (rw some refl) is same still)
 
 -- a call that was refused leaves them as they were but for what doesn't count
 pub still-holds : {limits : ℕ → ℕ} {s : Settings} {journal : List Event} {parts : Parts} (store : Store) (queues units : List Keyed)
     → HoldsInRooms limits s journal parts → open_runs store ≡ open_runs parts.store → rings_in queues ≡ rings_in parts.queues → rings_in units ≡ rings_in parts.units
     → ((place : ℕ) → limit_at store place ≡ limit_at parts.store place) → store.segmented ≡ parts.store.segmented → room_sizes queues ≡ room_sizes parts.queues → room_sizes units ≡ room_sizes parts.units
-    → AreSettled queues → AreSettled units → HoldsInRooms limits s journal (record parts { store = store; queues = queues; units = units })
-still-holds {journal = journal} {parts = parts} store queues units k runs_are queues_are units_are limits_are segmented sizes unit_sizes settled units_settled =
-    holds-on journal (record parts { store = store; queues = queues; units = units }) k (rw (runs_are, queues_are, units_are) k.holds) refl k.fields_settled limits_are segmented sizes unit_sizes settled units_settled
+    → AreCommitted queues → AreCommitted units → HoldsInRooms limits s journal (record parts { store = store; queues = queues; units = units })
+still-holds {journal = journal} {parts = parts} store queues units k runs_are queues_are units_are limits_are segmented sizes unit_sizes committed units_committed =
+    holds-on journal (record parts { store = store; queues = queues; units = units }) k (rw (runs_are, queues_are, units_are) k.holds) refl k.fields_committed limits_are segmented sizes unit_sizes committed units_committed

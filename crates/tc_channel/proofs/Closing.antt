@@ -6,7 +6,7 @@ use Rattle.tc_channel.proofs.Faults.{no-fault}
 use Rattle.tc_channel.proofs.BufferSize.{buffer-fits}
 use Rattle.tc_channel.proofs.Small.{clcw-fits}
 use Rattle.tc_channel.proofs.Eras.{each-era}
-use Rattle.tc_channel.proofs.Delivered.{all-told}
+use Rattle.tc_channel.proofs.Delivered.{all-reported}
 use Rattle.tc_channel.proofs.Growth.{queues-are, units-are}
 use Rattle.tc_channel.proofs.StateQueues.{queues-kept, units-kept}
 use Rattle.tc_channel.proofs.Sound.{state-sound}
@@ -16,26 +16,26 @@ use Rattle.tc_channel.proofs.Given.{fields-in-order, packets-in-order, units-in-
 use Rattle.tc_channel.proofs.Through.{packets-are-made, units-are-made, part-whole}
 use Rattle.tc_channel.proofs.Octets.{fields-fit, packets-fit, units-fit, waits-within, packets-within, units-within}
 use Rattle.std.proofs.lemmas.List.{set-get_or}
-use Rattle.tc_channel.proofs.InRooms.{fit-at, key-in, laid-of-none-at, put-in, same-rings, same-sizes, settled-at, settled-set}
+use Rattle.tc_channel.proofs.InRooms.{fit-at, key-in, staged-of-none-at, put-in, same-rings, same-sizes, committed-at, committed-set}
 use Rattle.tc_channel.proofs.Found.{empty-in, first-here, found-in, keys-set, none-more, none-waits, not-found, oldest-in, one-waits, popped-in}
-use Rattle.tc_channel.proofs.Laid.{laid-at, passed-none, settled-one}
+use Rattle.tc_channel.proofs.Contents.{staged-at, passed-none, committed-one}
 use Rattle.tc_channel.proofs.Passes.{not-telecommand}
-use Rattle.tc_channel.proofs.Tables.{first-key, keys-length, told-first, told-none}
+use Rattle.tc_channel.proofs.Tables.{first-key, keys-length, reported-first, reported-none}
 use Rattle.tc_channel.proofs.AtWork.{packet-is, unit-is}
 
-pub ruleset at_place = (fit-at, laid-of-none-at, put-in, same-rings, same-sizes, settled-at, settled-set, empty-in, keys-set, none-waits, oldest-in, one-waits, popped-in, laid-at, map-set_same, set-get_or)
+pub ruleset at_place = (fit-at, staged-of-none-at, put-in, same-rings, same-sizes, committed-at, committed-set, empty-in, keys-set, none-waits, oldest-in, one-waits, popped-in, staged-at, map-set_same, set-get_or)
 
 pub ruleset by_key = (found-in, not-found)
 
 pub ruleset searched = (none-more, first-here, key-in)
 
-pub ruleset told = (keys-length, told-first, told-none, first-key)
+pub ruleset reported = (keys-length, reported-first, reported-none, first-key)
 
-pub ruleset passing = (passed-none, settled-one, keys-set, not-telecommand)
+pub ruleset passing = (passed-none, committed-one, keys-set, not-telecommand)
 
 pub ruleset at_work = (packet-is, unit-is)
 
-pub ruleset laws = (run-append, lawful-before, lawful-after, whole-only, packets-only, one-kept, others-stay, no-fault, buffer-fits, chosen-by-settings, clcw-fits, each-era, all-told, queues-are, units-are, queues-kept, units-kept, state-sound, run-limit, run-segmented, few-packets, steps-by-octets, steps-of-largest)
+pub ruleset laws = (run-append, lawful-before, lawful-after, whole-only, packets-only, one-kept, others-stay, no-fault, buffer-fits, chosen-by-settings, clcw-fits, each-era, all-reported, queues-are, units-are, queues-kept, units-kept, state-sound, run-limit, run-segmented, few-packets, steps-by-octets, steps-of-largest)
 
 pub ruleset flow = (fields-in-order, packets-in-order, units-in-order, packets-are-made, units-are-made, part-whole)
 

@@ -1,5 +1,5 @@
 -- Queues with distinct keys take no item twice, where one key alone wants it.
-use Rattle.tc_channel.proofs.Names.{◌≡◌, ◌≢◌, ℕ, ◌+◌, ◌-◌, ◌≤◌, Bool, true, false, cond, eqb, ◌&&◌, List, [], ◌∷◌, length, map, filter, refl, inl, inr, arith, AllByRecursion, sum_by, length-take, sum_by-cons, eqb_tells, apid_of, is_telecommand, is_for, HeldQueue, share, keys_of, AreDistinct}
+use Rattle.tc_channel.proofs.Names.{◌≡◌, ◌≢◌, ℕ, ◌+◌, ◌-◌, ◌≤◌, Bool, true, false, cond, eqb, ◌&&◌, List, [], ◌∷◌, length, map, filter, refl, inl, inr, arith, AllByRecursion, sum_by, length-take, sum_by-cons, eqb_tells, apid_of, is_telecommand, is_for, StoredQueue, share, keys_of, AreDistinct}
 
 abbrev meant : (ℕ → List ℕ → Bool) → List (List ℕ) → ℕ → ℕ
 meant wanted ps key = length (filter (wanted key) ps)
@@ -67,12 +67,12 @@ all-meant wanted alone (p ∷ ps) keys apart =
     let s = sums-cons wanted p ps keys in
     omega arith
 
-shares-meant : (wanted : ℕ → List ℕ → Bool) (ps : List (List ℕ)) (ws : List HeldQueue) → sum_by length (map (share wanted ps) ws) ≤ sum_by (meant wanted ps) (keys_of ws)
+shares-meant : (wanted : ℕ → List ℕ → Bool) (ps : List (List ℕ)) (ws : List StoredQueue) → sum_by length (map (share wanted ps) ws) ≤ sum_by (meant wanted ps) (keys_of ws)
 shares-meant wanted ps [] = omega arith
 shares-meant wanted ps (w ∷ ws) =
     let ih = shares-meant wanted ps ws in
     omega (arith, sum_by-cons length (share wanted ps w) (map (share wanted ps) ws), sum_by-cons (meant wanted ps) w.key (keys_of ws), length-take (w.ring.capacity - length w.ring.items) (filter (wanted w.key) ps))
 
 -- no more items are queued than there are
-pub queued-within : (wanted : ℕ → List ℕ → Bool) → IsForOneKey wanted → (ps : List (List ℕ)) (ws : List HeldQueue) → AreDistinct (keys_of ws) → sum_by length (map (share wanted ps) ws) ≤ length ps
+pub queued-within : (wanted : ℕ → List ℕ → Bool) → IsForOneKey wanted → (ps : List (List ℕ)) (ws : List StoredQueue) → AreDistinct (keys_of ws) → sum_by length (map (share wanted ps) ws) ≤ length ps
 queued-within wanted alone ps ws apart = let a = shares-meant wanted ps ws in let b = all-meant wanted alone ps (keys_of ws) apart in omega arith

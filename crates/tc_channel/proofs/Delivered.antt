@@ -1,5 +1,5 @@
 -- How many packets of a unit are queued and dropped, or whether it is as a whole, and that queues which are given the same packet have the same APID.
-use Rattle.tc_channel.proofs.Names.{◌≡◌, ℕ, ◌+◌, ◌≤◌, Bool, true, false, eqb, List, [], ◌∷◌, length, map, filter, Option, Some, None, refl, sym, subst, ◌∙◌, arith, All, ne_eqb, Settings, Event, Delivery, ChannelState, Queue, map_of, is_chosen, is_for, is_of_map, packets_offered, units_offered, queued_of, room_of, share_of, apid_of, is_telecommand, packets_of, delivered, delivery_of, run_within, IsAllowed, keys_of, held, AreDistinct}
+use Rattle.tc_channel.proofs.Names.{◌≡◌, ℕ, ◌+◌, ◌≤◌, Bool, true, false, eqb, List, [], ◌∷◌, length, map, filter, Option, Some, None, refl, sym, subst, ◌∙◌, arith, All, ne_eqb, Settings, Event, Delivery, ChannelState, Queue, map_of, is_chosen, is_for, is_of_map, packets_offered, units_offered, queued_of, room_of, share_of, apid_of, is_telecommand, packets_of, delivered, delivery_of, run_within, IsAllowed, keys_of, stored, AreDistinct}
 use Rattle.std.specs.List.{Contains}
 use Rattle.std.proofs.lemmas.Bool.{and_parts, eqb-true}
 use Rattle.std.proofs.lemmas.List.Elements.{All-take, filter_passes}
@@ -11,25 +11,25 @@ use Rattle.tc_channel.proofs.Takes.{same-keys}
 -- no more are queued than there are
 queued-few : (wanted : ℕ → List ℕ → Bool) → IsForOneKey wanted → (items : List (List ℕ)) (qs : List Queue) → AreDistinct (keys qs) → queued_of wanted items qs ≤ length items
 queued-few wanted alone items qs apart =
-    let distinct : AreDistinct (keys_of (map held qs)) = rw (same-keys qs) apart in
-    omega (arith, queued-within wanted alone items (map held qs) distinct, queued-is wanted items qs)
+    let distinct : AreDistinct (keys_of (map stored qs)) = rw (same-keys qs) apart in
+    omega (arith, queued-within wanted alone items (map stored qs) distinct, queued-is wanted items qs)
 
 -- a unit has one MAP
 for-one-map : (map_id : ℕ) → IsForOneKey (is_of_map map_id)
 for-one-map map_id a b unit h apart = ne_eqb b map_id (λ e. apart (eqb-true a map_id h ∙ sym e))
 
-pub all-told : (limits : ℕ → ℕ) (s : Settings) (journal : List Event) (field : List ℕ) (unit : Option (List ℕ)) → IsAllowed s
+pub all-reported : (limits : ℕ → ℕ) (s : Settings) (journal : List Event) (field : List ℕ) (unit : Option (List ℕ)) → IsAllowed s
     → (delivery_of field unit (run_within limits s journal)).queued + (delivery_of field unit (run_within limits s journal)).dropped
     ≡ length (packets_offered unit (is_chosen (run_within limits s journal) field)) + length (units_offered unit (is_chosen (run_within limits s journal) field))
-all-told limits s journal field None allowed = refl
-all-told limits s journal field (Some unit) allowed = by (is_chosen b field) where
+all-reported limits s journal field None allowed = refl
+all-reported limits s journal field (Some unit) allowed = by (is_chosen b field) where
   b : ChannelState
   b = run_within limits s journal
 
-  told : Bool → Delivery
-  told t = delivered (Some unit) t (queued_of is_for (packets_offered (Some unit) t) b.queues + queued_of (is_of_map (map_of field)) (units_offered (Some unit) t) b.units)
+  reported : Bool → Delivery
+  reported t = delivered (Some unit) t (queued_of is_for (packets_offered (Some unit) t) b.queues + queued_of (is_of_map (map_of field)) (units_offered (Some unit) t) b.units)
 
-  by : (t : Bool) → (told t).queued + (told t).dropped ≡ length (packets_offered (Some unit) t) + length (units_offered (Some unit) t)
+  by : (t : Bool) → (reported t).queued + (reported t).dropped ≡ length (packets_offered (Some unit) t) + length (units_offered (Some unit) t)
   by true = omega (arith, queued-few is_for for-one [] b.queues (queues-apart limits s journal allowed), queued-few (is_of_map (map_of field)) (for-one-map (map_of field)) (unit ∷ []) b.units (units-apart limits s journal allowed))
   by false = omega (arith, queued-few is_for for-one (packets_of unit) b.queues (queues-apart limits s journal allowed), queued-few (is_of_map (map_of field)) (for-one-map (map_of field)) [] b.units (units-apart limits s journal allowed))
 

@@ -1,5 +1,5 @@
 -- Where a key stands, and what is read and written there.
-use Rattle.tc_channel.proofs.Names.{◌≡◌, ◌≢◌, ℕ, zero, suc, ◌<◌, false, List, [], ◌∷◌, length, drop, take, get_or, Option, Some, None, refl, sym, ap, ◌∙◌, arith, set, slice_get, option_map, IsTrue, IsSome, option_and_then, AllByRecursion, eq-eqb, ne_eqb, map-set, get_or-map, keys_of, queue_for, shorter, popped, HeldQueue, oldest_for, slotted, Keyed, ring_in, rings_in, IsFirst}
+use Rattle.tc_channel.proofs.Names.{◌≡◌, ◌≢◌, ℕ, zero, suc, ◌<◌, false, List, [], ◌∷◌, length, drop, take, get_or, Option, Some, None, refl, sym, ap, ◌∙◌, arith, set, slice_get, option_map, IsTrue, IsSome, option_and_then, AllByRecursion, eq-eqb, ne_eqb, map-set, get_or-map, keys_of, queue_for, shorter, popped, StoredQueue, oldest_for, slotted, Keyed, ring_in, rings_in, IsFirst}
 use Rattle.circular_buffer.specs.Buffer.{buffer}
 
 -- no queue so far has the key
@@ -17,23 +17,23 @@ first-here key (r ∷ qs) zero q inside is here none = here ∙ ap (λ (x : Keye
 first-here key (r ∷ qs) (suc i) q inside is here none = (none.0, first-here key qs i q (omega arith) is here none.1)
 
 -- what a list of queues has for the key
-pub found : (key i : ℕ) (ws : List HeldQueue) (w : HeldQueue) → IsFirst key i (keys_of ws) → w ≡ get_or ws i w → queue_for key ws ≡ Some w
+pub found : (key i : ℕ) (ws : List StoredQueue) (w : StoredQueue) → IsFirst key i (keys_of ws) → w ≡ get_or ws i w → queue_for key ws ≡ Some w
 found key i [] w first is = absurd first
-found key zero (v ∷ ws) w first is = rw (eq-eqb v.key key (sym first)) (ap (λ (x : HeldQueue). Some x) (sym is))
+found key zero (v ∷ ws) w first is = rw (eq-eqb v.key key (sym first)) (ap (λ (x : StoredQueue). Some x) (sym is))
 found key (suc i) (v ∷ ws) w first is = rw (ne_eqb v.key key (λ e. first.0 (sym e))) (found key i ws w first.1 is)
 
-pub not-found : (key : ℕ) (ws : List HeldQueue) → AllByRecursion (λ (other : ℕ). key ≢ other) (keys_of ws) → queue_for key ws ≡ None
+pub not-found : (key : ℕ) (ws : List StoredQueue) → AllByRecursion (λ (other : ℕ). key ≢ other) (keys_of ws) → queue_for key ws ≡ None
 not-found key [] none = refl
 not-found key (w ∷ ws) none = rw (ne_eqb w.key key (λ e. none.0 (sym e))) (not-found key ws none.1)
 
-pub popped-first : (key i : ℕ) (ws : List HeldQueue) (w : HeldQueue) → IsFirst key i (keys_of ws) → w ≡ get_or ws i w → popped key ws ≡ set ws i (shorter w)
+pub popped-first : (key i : ℕ) (ws : List StoredQueue) (w : StoredQueue) → IsFirst key i (keys_of ws) → w ≡ get_or ws i w → popped key ws ≡ set ws i (shorter w)
 popped-first key i [] w first is = absurd first
-popped-first key zero (v ∷ ws) w first is = rw (eq-eqb v.key key (sym first)) (ap (λ (x : HeldQueue). shorter x ∷ ws) (sym is))
-popped-first key (suc i) (v ∷ ws) w first is = rw (ne_eqb v.key key (λ e. first.0 (sym e))) (ap (λ (x : List HeldQueue). v ∷ x) (popped-first key i ws w first.1 is))
+popped-first key zero (v ∷ ws) w first is = rw (eq-eqb v.key key (sym first)) (ap (λ (x : StoredQueue). shorter x ∷ ws) (sym is))
+popped-first key (suc i) (v ∷ ws) w first is = rw (ne_eqb v.key key (λ e. first.0 (sym e))) (ap (λ (x : List StoredQueue). v ∷ x) (popped-first key i ws w first.1 is))
 
-pub popped-none : (key : ℕ) (ws : List HeldQueue) → AllByRecursion (λ (other : ℕ). key ≢ other) (keys_of ws) → popped key ws ≡ ws
+pub popped-none : (key : ℕ) (ws : List StoredQueue) → AllByRecursion (λ (other : ℕ). key ≢ other) (keys_of ws) → popped key ws ≡ ws
 popped-none key [] none = refl
-popped-none key (w ∷ ws) none = rw (ne_eqb w.key key (λ e. none.0 (sym e))) (ap (λ (x : List HeldQueue). w ∷ x) (popped-none key ws none.1))
+popped-none key (w ∷ ws) none = rw (ne_eqb w.key key (λ e. none.0 (sym e))) (ap (λ (x : List StoredQueue). w ∷ x) (popped-none key ws none.1))
 
 ring-at : (qs : List Keyed) (i : ℕ) (q : Keyed) → i < length qs → q ≡ get_or qs i q → ring_in q ≡ get_or (rings_in qs) i (ring_in q)
 ring-at qs i q inside is = ap ring_in is ∙ sym (get_or-map ring_in qs i q (ring_in q) inside)
@@ -44,34 +44,34 @@ found-in key i qs q inside is first = found key i (rings_in qs) (ring_in q) firs
 
 -- its oldest item is dropped
 pub popped-in : (key i : ℕ) (qs : List Keyed) (q next : Keyed) → i < length qs → q ≡ get_or qs i q → next.key ≡ q.key
-    → next.slots ≡ slotted (drop 1 q.slots.ring.items) q.slots.ring.capacity q.slots.laid q.slots.size → IsFirst key i (keys_of (rings_in qs)) → rings_in (set qs i next) ≡ popped key (rings_in qs)
+    → next.slots ≡ slotted (drop 1 q.slots.ring.items) q.slots.ring.capacity q.slots.staged q.slots.size → IsFirst key i (keys_of (rings_in qs)) → rings_in (set qs i next) ≡ popped key (rings_in qs)
 popped-in key i qs q next inside is key_is slots first =
     let ring_is : ring_in next ≡ shorter (ring_in q) = rw (key_is, slots) refl in
-    map-set ring_in qs i next ∙ ap (λ (x : HeldQueue). set (rings_in qs) i x) ring_is ∙ sym (popped-first key i (rings_in qs) (ring_in q) first (ring-at qs i q inside is))
+    map-set ring_in qs i next ∙ ap (λ (x : StoredQueue). set (rings_in qs) i x) ring_is ∙ sym (popped-first key i (rings_in qs) (ring_in q) first (ring-at qs i q inside is))
 
 -- where none waits, nothing is dropped
 drop-none : (xs : List (List ℕ)) → length xs ≡ 0 → drop 1 xs ≡ xs
 drop-none [] none = refl
 drop-none (x ∷ xs) none = absurd (omega arith)
 
-popped-empty : (key i : ℕ) (ws : List HeldQueue) (w : HeldQueue) → IsFirst key i (keys_of ws) → w ≡ get_or ws i w → length w.ring.items ≡ 0 → popped key ws ≡ ws
+popped-empty : (key i : ℕ) (ws : List StoredQueue) (w : StoredQueue) → IsFirst key i (keys_of ws) → w ≡ get_or ws i w → length w.ring.items ≡ 0 → popped key ws ≡ ws
 popped-empty key i [] w first is none = absurd first
 popped-empty key zero (v ∷ ws) w first is none =
     let same : shorter w ≡ w = ap (λ (xs : List (List ℕ)). record { key = w.key; ring = buffer xs w.ring.capacity }) (drop-none w.ring.items none) in
-    popped-first key zero (v ∷ ws) w first is ∙ ap (λ (x : HeldQueue). x ∷ ws) (same ∙ is)
-popped-empty key (suc i) (v ∷ ws) w first is none = rw (ne_eqb v.key key (λ e. first.0 (sym e))) (ap (λ (x : List HeldQueue). v ∷ x) (popped-empty key i ws w first.1 is none))
+    popped-first key zero (v ∷ ws) w first is ∙ ap (λ (x : StoredQueue). x ∷ ws) (same ∙ is)
+popped-empty key (suc i) (v ∷ ws) w first is none = rw (ne_eqb v.key key (λ e. first.0 (sym e))) (ap (λ (x : List StoredQueue). v ∷ x) (popped-empty key i ws w first.1 is none))
 
 pub empty-in : (key i : ℕ) (qs : List Keyed) (q : Keyed) → i < length qs → q ≡ get_or qs i q → length q.slots.ring.items ≡ 0 → IsFirst key i (keys_of (rings_in qs)) → rings_in qs ≡ popped key (rings_in qs)
 empty-in key i qs q inside is none first = sym (popped-empty key i (rings_in qs) (ring_in q) first (ring-at qs i q inside is) none)
 
 -- the oldest item
-abbrev oldest-of : Option HeldQueue → Option (List ℕ)
-oldest-of q = option_and_then (λ (items : List (List ℕ)). slice_get items 0) (option_map (λ (x : HeldQueue). x.ring.items) q)
+abbrev oldest-of : Option StoredQueue → Option (List ℕ)
+oldest-of q = option_and_then (λ (items : List (List ℕ)). slice_get items 0) (option_map (λ (x : StoredQueue). x.ring.items) q)
 
 pub oldest-in : (key i : ℕ) (qs : List Keyed) (q : Keyed) → i < length qs → q ≡ get_or qs i q → IsFirst key i (keys_of (rings_in qs)) → oldest_for key (rings_in qs) ≡ slice_get q.slots.ring.items 0
 oldest-in key i qs q inside is first = ap oldest-of (found-in key i qs q inside is first)
 
-pub oldest-none : (key : ℕ) (ws : List HeldQueue) → AllByRecursion (λ (other : ℕ). key ≢ other) (keys_of ws) → oldest_for key ws ≡ None
+pub oldest-none : (key : ℕ) (ws : List StoredQueue) → AllByRecursion (λ (other : ℕ). key ≢ other) (keys_of ws) → oldest_for key ws ≡ None
 oldest-none key ws none = ap oldest-of (not-found key ws none)
 
 pub none-waits : (items : List (List ℕ)) → length items ≡ 0 → IsSome (slice_get items 0) → IsTrue false

@@ -1,5 +1,5 @@
 -- Queues in rooms, read and written at one place.
-use Rattle.tc_channel.proofs.Names.{◌≡◌, ℕ, zero, suc, ◌-◌, ◌<◌, ◌≤◌, Bool, List, [], ◌∷◌, length, map, get_or, refl, sym, ap, subst, ◌∙◌, arith, set, map-set_same, map-map, append-nil, length-map, map-set, get_or-map, keys_of, room_in, HeldQueue, Keyed, ring_in, rings_in, laid_in, all_laid_in, room_sizes, Fit, AreSettled, room_at}
+use Rattle.tc_channel.proofs.Names.{◌≡◌, ℕ, zero, suc, ◌-◌, ◌<◌, ◌≤◌, Bool, List, [], ◌∷◌, length, map, get_or, refl, sym, ap, subst, ◌∙◌, arith, set, map-set_same, map-map, append-nil, length-map, map-set, get_or-map, keys_of, room_in, StoredQueue, Keyed, ring_in, rings_in, staged_in, all_staged_in, room_sizes, Fit, AreCommitted, room_at}
 use Rattle.circular_buffer.specs.Buffer.{buffer}
 use Rattle.tc_channel.specs.Keyed.{IsPutBehind}
 use Rattle.tc_channel.specs.Delivering.{IsPutAt}
@@ -19,26 +19,26 @@ fit-at octets [] i q fits inside is = absurd (omega arith)
 fit-at octets (r ∷ qs) zero q fits inside is = subst (λ (x : Keyed). length octets ≤ x.slots.size) (sym is) fits.0
 fit-at octets (r ∷ qs) (suc i) q fits inside is = fit-at octets qs i q fits.1 (omega arith) is
 
--- where nothing is laid, what waits is all
-laid-one : (q : Keyed) → q.slots.laid ≡ [] → laid_in q ≡ ring_in q
-laid-one q none = ap (λ (xs : List (List ℕ)). record { key = q.key; ring = buffer xs q.slots.ring.capacity }) (rw none (append-nil q.slots.ring.items))
+-- where nothing is staged, what waits is all
+staged-one : (q : Keyed) → q.slots.staged ≡ [] → staged_in q ≡ ring_in q
+staged-one q none = ap (λ (xs : List (List ℕ)). record { key = q.key; ring = buffer xs q.slots.ring.capacity }) (rw none (append-nil q.slots.ring.items))
 
-pub laid-none : (qs : List Keyed) → AreSettled qs → all_laid_in qs ≡ rings_in qs
-laid-none [] all = refl
-laid-none (q ∷ qs) all = ap (λ (x : HeldQueue). x ∷ all_laid_in qs) (laid-one q all.0) ∙ ap (λ (x : List HeldQueue). ring_in q ∷ x) (laid-none qs all.1)
+pub staged-none : (qs : List Keyed) → AreCommitted qs → all_staged_in qs ≡ rings_in qs
+staged-none [] all = refl
+staged-none (q ∷ qs) all = ap (λ (x : StoredQueue). x ∷ all_staged_in qs) (staged-one q all.0) ∙ ap (λ (x : List StoredQueue). ring_in q ∷ x) (staged-none qs all.1)
 
--- the keys with what is laid and without
-pub same-keys : (qs : List Keyed) → keys_of (all_laid_in qs) ≡ keys_of (rings_in qs)
-same-keys qs = map-map (λ (w : HeldQueue). w.key) laid_in qs ∙ sym (map-map (λ (w : HeldQueue). w.key) ring_in qs)
+-- the keys with what is staged and without
+pub same-keys : (qs : List Keyed) → keys_of (all_staged_in qs) ≡ keys_of (rings_in qs)
+same-keys qs = map-map (λ (w : StoredQueue). w.key) staged_in qs ∙ sym (map-map (λ (w : StoredQueue). w.key) ring_in qs)
 
 -- the key at a place
 pub key-in : (qs : List Keyed) (i k : ℕ) (q : Keyed) → i < length qs → q ≡ get_or qs i q → k ≡ q.key → k ≡ get_or (keys_of (rings_in qs)) i k
 key-in qs i k q inside is k_is =
-    k_is ∙ sym (get_or-map (λ (x : HeldQueue). x.key) (rings_in qs) i (ring_in q) k (omega (arith, length-map qs ring_in))
-    ∙ ap (λ (x : HeldQueue). x.key) (get_or-map ring_in qs i q (ring_in q) inside ∙ ap ring_in (sym is)))
+    k_is ∙ sym (get_or-map (λ (x : StoredQueue). x.key) (rings_in qs) i (ring_in q) k (omega (arith, length-map qs ring_in))
+    ∙ ap (λ (x : StoredQueue). x.key) (get_or-map ring_in qs i q (ring_in q) inside ∙ ap ring_in (sym is)))
 
--- an item that is put into the queue at a place is put there, with what is laid and without
-pub put-in : (f : Keyed → HeldQueue) (qs : List Keyed) (i : ℕ) (q next : Keyed) (p : List ℕ) (place : Bool) → i < length qs → q ≡ get_or qs i q → IsPutBehind p (f q) (f next) place → IsPutAt i p (map f qs) (map f (set qs i next)) place
+-- an item that is put into the queue at a place is put there, with what is staged and without
+pub put-in : (f : Keyed → StoredQueue) (qs : List Keyed) (i : ℕ) (q next : Keyed) (p : List ℕ) (place : Bool) → i < length qs → q ≡ get_or qs i q → IsPutBehind p (f q) (f next) place → IsPutAt i p (map f qs) (map f (set qs i next)) place
 put-in f qs i q next p place inside is behind =
     let here : f q ≡ get_or (map f qs) i (f q) = ap f is ∙ sym (get_or-map f qs i q (f q) inside) in
     let room : room_at i (map f qs) ≡ (f q).ring.capacity - length (f q).ring.items = get_or-map room_in (map f qs) i (f q) 0 (omega (arith, length-map qs f)) ∙ ap room_in (sym here) in
@@ -46,24 +46,24 @@ put-in f qs i q next p place inside is behind =
       done = λ yes.
           let d = behind.done yes in
           let fits = d.1 in
-          (map-set f qs i next ∙ ap (λ (x : HeldQueue). set (map f qs) i x) (d.0 ∙ sym (longer-fits (f q) p fits)) ∙ put-set (map f qs) i (f q) p here (omega (arith, length-map qs f)), omega arith);
+          (map-set f qs i next ∙ ap (λ (x : StoredQueue). set (map f qs) i x) (d.0 ∙ sym (longer-fits (f q) p fits)) ∙ put-set (map f qs) i (f q) p here (omega (arith, length-map qs f)), omega arith);
       full = λ no.
           let n = behind.full no in
           let full = n.1 in
           (map-set_same f qs i next q (n.0 ∙ ap f is), omega arith);
     }
 
--- what is written at one place has nothing laid behind it
-pub settled-at : (qs : List Keyed) (i : ℕ) (next : Keyed) → AreSettled qs → next.slots.laid ≡ [] → AreSettled (set qs i next)
-settled-at [] i next all one = tt
-settled-at (r ∷ qs) zero next all one = (one, all.1)
-settled-at (r ∷ qs) (suc i) next all one = (all.0, settled-at qs i next all.1 one)
+-- what is written at one place has nothing staged behind it
+pub committed-at : (qs : List Keyed) (i : ℕ) (next : Keyed) → AreCommitted qs → next.slots.staged ≡ [] → AreCommitted (set qs i next)
+committed-at [] i next all one = tt
+committed-at (r ∷ qs) zero next all one = (one, all.1)
+committed-at (r ∷ qs) (suc i) next all one = (all.0, committed-at qs i next all.1 one)
 
-pub laid-of-none-at : (qs : List Keyed) (i : ℕ) (q : Keyed) → AreSettled qs → i < length qs → q ≡ get_or qs i q → q.slots.laid ≡ []
-laid-of-none-at [] i q all inside is = absurd (omega arith)
-laid-of-none-at (r ∷ qs) zero q all inside is = ap (λ (x : Keyed). x.slots.laid) is ∙ all.0
-laid-of-none-at (r ∷ qs) (suc i) q all inside is = laid-of-none-at qs i q all.1 (omega arith) is
+pub staged-of-none-at : (qs : List Keyed) (i : ℕ) (q : Keyed) → AreCommitted qs → i < length qs → q ≡ get_or qs i q → q.slots.staged ≡ []
+staged-of-none-at [] i q all inside is = absurd (omega arith)
+staged-of-none-at (r ∷ qs) zero q all inside is = ap (λ (x : Keyed). x.slots.staged) is ∙ all.0
+staged-of-none-at (r ∷ qs) (suc i) q all inside is = staged-of-none-at qs i q all.1 (omega arith) is
 
--- nothing is laid in the others, nor in the one that is written
-pub settled-set : (qs : List Keyed) (i : ℕ) (q next : Keyed) → AreSettled qs → i < length qs → q ≡ get_or qs i q → next.slots.laid ≡ q.slots.laid → AreSettled (set qs i next)
-settled-set qs i q next all inside is same = settled-at qs i next all (same ∙ laid-of-none-at qs i q all inside is)
+-- nothing is staged in the others, nor in the one that is written
+pub committed-set : (qs : List Keyed) (i : ℕ) (q next : Keyed) → AreCommitted qs → i < length qs → q ≡ get_or qs i q → next.slots.staged ≡ q.slots.staged → AreCommitted (set qs i next)
+committed-set qs i q next all inside is same = committed-at qs i next all (same ∙ staged-of-none-at qs i q all inside is)

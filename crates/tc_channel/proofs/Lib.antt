@@ -17,7 +17,7 @@ pub mod Takes
 pub mod Limits
 pub mod Octets
 pub mod Filled
-pub mod Held
+pub mod Stored
 pub mod Small
 pub mod Eras
 pub mod Faults
@@ -33,7 +33,7 @@ pub mod Within
 pub mod AtWork
 pub mod Found
 pub mod Tables
-pub mod Laid
+pub mod Contents
 pub mod Counts
 pub mod Closing
 pub mod Acknowledged

@@ -18,10 +18,10 @@ pub use Rattle.tc_channel.specs.Admission.{is_chosen, is_for, is_of_map, map_of,
 pub use Rattle.tc_channel.specs.Channel.{AreRuns, EndsAtOnceWithin, EndsWithin, FollowsKindWithin, FollowsWithin, HoldsWithin, Inside}
 pub use Rattle.tc_channel.specs.ChannelState.{Accepted, ChannelState, Queue, buffer, empty_queue, empty_unit_queue, first_state_within, has_room, queue_of, waiting}
 unfoldable pub use Rattle.tc_channel.specs.ChannelState.{no_limits}
-pub use Rattle.tc_channel.specs.Delivering.{AreLaidOf, IsAmong, IsDelivered, IsOnItsWay, room_at}
+pub use Rattle.tc_channel.specs.Delivering.{AreStagedOf, IsAmong, IsDelivered, IsOnItsWay, room_at}
 pub use Rattle.tc_channel.specs.Given.{as_list, packets_given, units_given}
-pub use Rattle.tc_channel.specs.HeldQueues.{AreDistinct, AreShares, HeldQueue, Placed, copied_to, copies_from, held, keys_of, longer, oldest_for, placed, popped, put, put_all, queue_for, room_in, share, shared, shares_in, shorter, with_items}
-pub use Rattle.tc_channel.specs.Keyed.{AreSettled, Fit, Keyed, all_laid_in, laid_in, let_go, ring_in, rings_in, room_sizes, settled}
+pub use Rattle.tc_channel.specs.StoredQueues.{AreDistinct, AreShares, StoredQueue, Placed, copied_to, copies_from, stored, keys_of, longer, oldest_for, placed, popped, put, put_all, queue_for, room_in, share, shared, shares_in, shorter, with_items}
+pub use Rattle.tc_channel.specs.Keyed.{AreCommitted, Fit, Keyed, all_staged_in, staged_in, roll_back, ring_in, rings_in, room_sizes, committed}
 pub use Rattle.tc_channel.specs.Places.{AreFirst, IsFirst}
 pub use Rattle.tc_channel.specs.Reply.{delivered, delivery_of}
 unfoldable pub use Rattle.tc_channel.specs.Reply.{clcw_within}

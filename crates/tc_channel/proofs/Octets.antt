@@ -1,6 +1,6 @@
 -- How many items and octets wait in the queues and in the buffer, and the bound of memory: no more items wait than it counts.
 use Rattle.tc_channel.proofs.Names.{ℕ, zero, suc, ◌+◌, ◌*◌, ◌≤◌, Bool, true, false, cond, List, [], ◌∷◌, length, take, map, drop, filter, Option, Some, refl, arith, ◌≡◌, AllByRecursion, length-drop, length-map, length-take, sum_by-cons, accepts, Service, Bd, IsWithinLimit, unit_ended, largest_unit, stream, Settings, Event, Frame, Release, Take, TakeUnit, ChannelState, Accepted, Queue, empty_queue, empty_unit_queue, buffer, waiting, map_of, is_chosen, packets_offered, units_offered, share_of, with_shares, room_of, is_for, is_of_map, step, row_of, taken_from, unit_of, first_of, IsLawfulWithin, run_within, Ad, passed_on, sym, ap, ◌∙◌, sum_by, QueueSetting, MapSetting, with_share}
-use Rattle.tc_channel.specs.Memory.{packets_held, units_held, waiting_in_all, largest_item, largest_field, octets_in, octets_waiting, room_words, queue_words, runs_memory, tables_memory, segment_memory, memory_waiting, memory_bound}
+use Rattle.tc_channel.specs.Memory.{packets_stored, units_stored, waiting_in_all, largest_item, largest_field, octets_in, octets_waiting, room_words, queue_words, runs_memory, tables_memory, segment_memory, memory_waiting, memory_bound}
 use Rattle.tc_packet.specs.SpacePacket.{begins, named_length, packets_within}
 use Rattle.tc_channel.proofs.BufferSize.{buffer-fits}
 use Rattle.tc_channel.proofs.Limits.{within-unit, within-both}
@@ -33,8 +33,8 @@ room-new : {A : Type 0} (f : A → Queue) (capacity : A → ℕ) (xs : List A) �
 room-new f capacity [] same = refl
 room-new f capacity (x ∷ xs) same = omega (arith, room-cons (f x) (map f xs), same x, room-new f capacity xs same, sum_by-cons capacity x xs)
 
-room-stays : (limits : ℕ → ℕ) (s : Settings) (journal : List Event) → (room (run_within limits s journal).queues ≡ packets_held s) × (room (run_within limits s journal).units ≡ units_held s)
-room-stays limits s journal = run-both limits (λ qs. room qs ≡ packets_held s) (λ qs. room qs ≡ units_held s) (room-goes-on (packets_held s)) (room-goes-on (units_held s)) s journal (room-new empty_queue (λ (q : QueueSetting). q.capacity) s.queues (λ q. refl)) (room-new empty_unit_queue (λ (m : MapSetting). m.capacity) s.maps (λ m. refl))
+room-stays : (limits : ℕ → ℕ) (s : Settings) (journal : List Event) → (room (run_within limits s journal).queues ≡ packets_stored s) × (room (run_within limits s journal).units ≡ units_stored s)
+room-stays limits s journal = run-both limits (λ qs. room qs ≡ packets_stored s) (λ qs. room qs ≡ units_stored s) (room-goes-on (packets_stored s)) (room-goes-on (units_stored s)) s journal (room-new empty_queue (λ (q : QueueSetting). q.capacity) s.queues (λ q. refl)) (room-new empty_unit_queue (λ (m : MapSetting). m.capacity) s.maps (λ m. refl))
 
 waiting-within : (qs : List Queue) → AreKept qs → waiting_in_all qs ≤ room qs
 waiting-within [] h = omega arith
@@ -42,10 +42,10 @@ waiting-within (q ∷ qs) h =
     let capacity = h.0.capacity in
     omega (arith, sum_by-cons (λ (x : Queue). length (waiting x)) q qs, length-drop q.taken q.admitted, room-cons q qs, waiting-within qs h.1)
 
-pub packets-within : (limits : ℕ → ℕ) (s : Settings) (journal : List Event) → waiting_in_all (run_within limits s journal).queues ≤ packets_held s
+pub packets-within : (limits : ℕ → ℕ) (s : Settings) (journal : List Event) → waiting_in_all (run_within limits s journal).queues ≤ packets_stored s
 packets-within limits s journal = omega (arith, waiting-within (run_within limits s journal).queues (queues-kept limits s journal), (room-stays limits s journal).0)
 
-pub units-within : (limits : ℕ → ℕ) (s : Settings) (journal : List Event) → waiting_in_all (run_within limits s journal).units ≤ units_held s
+pub units-within : (limits : ℕ → ℕ) (s : Settings) (journal : List Event) → waiting_in_all (run_within limits s journal).units ≤ units_stored s
 units-within limits s journal = omega (arith, waiting-within (run_within limits s journal).units (units-kept limits s journal), (room-stays limits s journal).1)
 
 -- none of the items is longer than the largest unit
@@ -123,10 +123,10 @@ all-within (q ∷ qs) h =
     let short = octets-within (drop q.taken q.admitted) (all-drop IsShort q.taken q.admitted h.0) in
     omega (arith, sum_by-cons (λ (x : Queue). octets_in (waiting x)) q qs, sum_by-cons (λ (x : Queue). length (waiting x)) q qs, short, all-within qs h.1)
 
-pub packets-fit : (limits : ℕ → ℕ) (s : Settings) (journal : List Event) → octets_waiting (run_within limits s journal).queues ≤ packets_held s * largest_unit
+pub packets-fit : (limits : ℕ → ℕ) (s : Settings) (journal : List Event) → octets_waiting (run_within limits s journal).queues ≤ packets_stored s * largest_unit
 packets-fit limits s journal = omega (arith, all-within (run_within limits s journal).queues (run-hold limits s journal).0, packets-within limits s journal)
 
-pub units-fit : (limits : ℕ → ℕ) (s : Settings) (journal : List Event) → octets_waiting (run_within limits s journal).units ≤ units_held s * largest_unit
+pub units-fit : (limits : ℕ → ℕ) (s : Settings) (journal : List Event) → octets_waiting (run_within limits s journal).units ≤ units_stored s * largest_unit
 units-fit limits s journal = omega (arith, all-within (run_within limits s journal).units (run-hold limits s journal).1, units-within limits s journal)
 
 -- each accepted frame has a data field that fits one
@@ -153,16 +153,16 @@ fields-fit limits s journal lawful =
 
 -- ---- what waits in a channel, and the bound of its memory
 -- of plain numbers: so many queues and MAPs, the packets, units and data fields that they may hold, those that wait, with their octets
-fits : (segmented : Bool) (queues maps held held_units fields packets octets units unit_octets field_octets runs tables segment : ℕ) → segmented ≡ true
-    → packets ≤ held → octets ≤ held * largest_unit → units ≤ held_units → unit_octets ≤ held_units * largest_unit → field_octets ≤ fields * largest_field
+fits : (segmented : Bool) (queues maps stored stored_units fields packets octets units unit_octets field_octets runs tables segment : ℕ) → segmented ≡ true
+    → packets ≤ stored → octets ≤ stored * largest_unit → units ≤ stored_units → unit_octets ≤ stored_units * largest_unit → field_octets ≤ fields * largest_field
     → (queues + maps) * queue_words + (packets * room_words + octets) + (units * room_words + unit_octets) + field_octets
-    ≤ fields * (room_words + largest_field) + runs + ((queues + maps) * queue_words + held * (room_words + largest_item segmented) + held_units * (room_words + largest_unit)) + tables + segment
-fits true queues maps held held_units fields packets octets units unit_octets field_octets runs tables segment e a b c d f = omega arith
-fits false queues maps held held_units fields packets octets units unit_octets field_octets runs tables segment e a b c d f = absurd cc
+    ≤ fields * (room_words + largest_field) + runs + ((queues + maps) * queue_words + stored * (room_words + largest_item segmented) + stored_units * (room_words + largest_unit)) + tables + segment
+fits true queues maps stored stored_units fields packets octets units unit_octets field_octets runs tables segment e a b c d f = omega arith
+fits false queues maps stored stored_units fields packets octets units unit_octets field_octets runs tables segment e a b c d f = absurd cc
 
 pub waits-within : (limits : ℕ → ℕ) (s : Settings) (journal : List Event) → s.segmented ≡ true → IsLawfulWithin limits s journal → memory_waiting s (run_within limits s journal) ≤ memory_bound s
 unfolding memory_bound
 waits-within limits s journal segmented lawful =
     let state = run_within limits s journal in
-    fits s.segmented (length s.queues) (length s.maps) (packets_held s) (units_held s) s.buffer (waiting_in_all state.queues) (octets_waiting state.queues) (waiting_in_all state.units) (octets_waiting state.units) (octets_in (buffer state)) (runs_memory s) (tables_memory s) (segment_memory s)
+    fits s.segmented (length s.queues) (length s.maps) (packets_stored s) (units_stored s) s.buffer (waiting_in_all state.queues) (octets_waiting state.queues) (waiting_in_all state.units) (octets_waiting state.units) (octets_in (buffer state)) (runs_memory s) (tables_memory s) (segment_memory s)
     segmented (packets-within limits s journal) (packets-fit limits s journal) (units-within limits s journal) (units-fit limits s journal) (fields-fit limits s journal lawful)

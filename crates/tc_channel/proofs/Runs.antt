@@ -1,5 +1,5 @@
 -- A run goes on by one event, or by several.
-use Rattle.tc_channel.proofs.Names.{ℕ, ◌≡◌, List, [], ◌∷◌, ◌++◌, map, refl, subst, ◌∙◌, append_assoc, append-nil, Settings, Event, ChannelState, first_state_within, buffer, HasStep, step, run_from, AreRuns, Inside, HoldsWithin, held, run_within, IsLawfulWithin}
+use Rattle.tc_channel.proofs.Names.{ℕ, ◌≡◌, List, [], ◌∷◌, ◌++◌, map, refl, subst, ◌∙◌, append_assoc, append-nil, Settings, Event, ChannelState, first_state_within, buffer, HasStep, step, run_from, AreRuns, Inside, HoldsWithin, stored, run_within, IsLawfulWithin}
 use Rattle.tc_channel.specs.Run.{AreSteps}
 
 pub run_from-append : (c : Settings) (b : ChannelState) (es fs : List Event) → run_from c b (es ++ fs) ≡ run_from c (run_from c b es) fs
@@ -37,11 +37,11 @@ pub lawful-after : (limits : ℕ → ℕ) (c : Settings) (past future : List Eve
 unfolding run_within IsLawfulWithin
 lawful-after limits c past future all = AreSteps-later c (first_state_within limits c) past future all
 
--- what is held of a run goes on by one event
+-- what is stored of a run goes on by one event
 pub step-keeps : {limits : ℕ → ℕ} {c : Settings} {j : List Event} {i : Inside} (e : Event) (later : Inside) → HoldsWithin limits c j i → HasStep c (run_within limits c j) e
     → later.farm.width ≡ i.farm.width → later.farm.report ≡ (step c (run_within limits c j) e).report → later.ring.capacity ≡ i.ring.capacity → later.ring.items ≡ buffer (step c (run_within limits c j) e)
-    → AreRuns limits later.open_runs (step c (run_within limits c j) e).segmented (step c (run_within limits c j) e).passed → later.rings ≡ map held (step c (run_within limits c j) e).queues
-    → later.unit_rings ≡ map held (step c (run_within limits c j) e).units → HoldsWithin limits c (j ++ e ∷ []) later
+    → AreRuns limits later.open_runs (step c (run_within limits c j) e).segmented (step c (run_within limits c j) e).passed → later.rings ≡ map stored (step c (run_within limits c j) e).queues
+    → later.unit_rings ≡ map stored (step c (run_within limits c j) e).units → HoldsWithin limits c (j ++ e ∷ []) later
 step-keeps {limits} {c} {j} e later k has width report capacity fields runs queues units =
     let pushed = run-push limits c j e in
     record {

@@ -3,7 +3,7 @@ use Rattle.tc_channel.proofs.Names.{◌≡◌, ℕ, zero, suc, ◌≤◌, ◌<�
 use Rattle.tc_channel.specs.Memory.{largest_item}
 use Rattle.std.specs.Prelude.{min}
 use Rattle.tc_channel.specs.Keyed.{FitsIn}
-use Rattle.tc_channel.specs.Workings.{AreEnough, AreSmall}
+use Rattle.tc_channel.specs.ChannelCore.{AreEnough, AreSmall}
 
 -- octets that are no more than the least room
 pub fit-enough : (octets : List ℕ) (least : ℕ) (sizes : List ℕ) → AllByRecursion (λ (n : ℕ). least ≤ n) sizes → length octets ≤ least → Fit octets sizes

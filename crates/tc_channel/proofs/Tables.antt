@@ -1,5 +1,5 @@
 -- The table of the places of all keys that an APID can be.
-use Rattle.tc_channel.proofs.Names.{◌≡◌, ◌≢◌, ℕ, zero, suc, ◌+◌, ◌<◌, ◌≤◌, List, [], ◌∷◌, ◌++◌, length, take, replicate, get_or, ◌⊎◌, inl, inr, refl, sym, ap, ◌∙◌, arith, AllByRecursion, cases_eq, set, get_or-set_same, get_or-set_other, get_or-replicate, length-replicate, length-set, length-take, length-map, take_more, map_push, keys_of, HeldQueue, Keyed, ring_in, rings_in, IsFirst, AreFirst}
+use Rattle.tc_channel.proofs.Names.{◌≡◌, ◌≢◌, ℕ, zero, suc, ◌+◌, ◌<◌, ◌≤◌, List, [], ◌∷◌, ◌++◌, length, take, replicate, get_or, ◌⊎◌, inl, inr, refl, sym, ap, ◌∙◌, arith, AllByRecursion, cases_eq, set, get_or-set_same, get_or-set_other, get_or-replicate, length-replicate, length-set, length-take, length-map, take_more, map_push, keys_of, StoredQueue, Keyed, ring_in, rings_in, IsFirst, AreFirst}
 use Rattle.tc_channel.specs.Places.{TellsFirst}
 use Rattle.tc_channel.proofs.Lists.{all-append}
 
@@ -28,19 +28,19 @@ tells-more keys none a b n other (inl at) = inl (first-push a b n keys at)
 tells-more keys none a b n other (inr away) = inr (away.0, all-append (λ x. a ≢ x) keys (b ∷ []) away.1 (other, tt))
 
 -- an entry that tells none is of a key that none has
-none-told : (keys : List ℕ) (none a n : ℕ) → length keys ≤ none → n ≡ none → TellsFirst keys none a n → AllByRecursion (λ x. a ≢ x) keys
-none-told keys none a n le is (inl at) = let lt = first-within a n keys at in absurd (omega arith)
-none-told keys none a n le is (inr away) = away.1
+none-reported : (keys : List ℕ) (none a n : ℕ) → length keys ≤ none → n ≡ none → TellsFirst keys none a n → AllByRecursion (λ x. a ≢ x) keys
+none-reported keys none a n le is (inl at) = let lt = first-within a n keys at in absurd (omega arith)
+none-reported keys none a n le is (inr away) = away.1
 
 -- an entry that tells a place keeps it
-told-kept : (keys : List ℕ) (none a b n : ℕ) → n ≢ none → TellsFirst keys none a n → TellsFirst (keys ++ b ∷ []) none a n
-told-kept keys none a b n is (inl at) = inl (first-push a b n keys at)
-told-kept keys none a b n is (inr away) = absurd (is away.0)
+reported-kept : (keys : List ℕ) (none a b n : ℕ) → n ≢ none → TellsFirst keys none a n → TellsFirst (keys ++ b ∷ []) none a n
+reported-kept keys none a b n is (inl at) = inl (first-push a b n keys at)
+reported-kept keys none a b n is (inr away) = absurd (is away.0)
 
 table-more : (keys : List ℕ) (none b n : ℕ) (table : List ℕ) → AreFirst keys none table → n ≡ length keys → length keys ≤ none → b < 2048 → get_or table b 0 ≡ none → AreFirst (keys ++ b ∷ []) none (set table b n)
 table-more keys none b n table t is le lt free = record { size = length-set table b n ∙ t.size; tells = λ a small. by a small (cases_eq a b) } where
   new : IsFirst b n (keys ++ b ∷ [])
-  new = rw is (first-last b keys (none-told keys none b (get_or table b 0) le free (t.tells b lt)))
+  new = rw is (first-last b keys (none-reported keys none b (get_or table b 0) le free (t.tells b lt)))
 
   by : (a : ℕ) → a < 2048 → (a ≡ b) ⊎ (a ≢ b) → TellsFirst (keys ++ b ∷ []) none a (get_or (set table b n) a 0)
   by a small (inl same) = rw (same, get_or-set_same table b n 0 (let s = t.size in omega arith)) (inl new)
@@ -49,7 +49,7 @@ table-more keys none b n table t is le lt free = record { size = length-set tabl
 table-kept : (keys : List ℕ) (none b : ℕ) (table : List ℕ) → AreFirst keys none table → get_or table b 0 ≢ none → AreFirst (keys ++ b ∷ []) none table
 table-kept keys none b table t taken = record { size = t.size; tells = λ a small. by a small (cases_eq a b) } where
   by : (a : ℕ) → a < 2048 → (a ≡ b) ⊎ (a ≢ b) → TellsFirst (keys ++ b ∷ []) none a (get_or table a 0)
-  by a small (inl same) = told-kept keys none a b (get_or table a 0) (rw same taken) (t.tells a small)
+  by a small (inl same) = reported-kept keys none a b (get_or table a 0) (rw same taken) (t.tells a small)
   by a small (inr other) = tells-more keys none a b (get_or table a 0) other (t.tells a small)
 
 table-skip : (keys : List ℕ) (none b : ℕ) (table : List ℕ) → AreFirst keys none table → 2048 ≤ b → AreFirst (keys ++ b ∷ []) none table
@@ -58,10 +58,10 @@ table-skip keys none b table t far = record { size = t.size; tells = λ a small.
 keys-more : (qs : List Keyed) (i : ℕ) (q : Keyed) → i < length qs → q ≡ get_or qs i q → keys_of (rings_in (take (i + 1) qs)) ≡ keys_of (rings_in (take i qs)) ++ q.key ∷ []
 keys-more qs i q lt is =
     ap (λ (x : List Keyed). keys_of (rings_in x)) (take_more qs i q lt ∙ ap (λ (x : Keyed). take i qs ++ x ∷ []) (sym is))
-    ∙ ap keys_of (map_push ring_in (take i qs) q) ∙ map_push (λ (w : HeldQueue). w.key) (rings_in (take i qs)) (ring_in q)
+    ∙ ap keys_of (map_push ring_in (take i qs) q) ∙ map_push (λ (w : StoredQueue). w.key) (rings_in (take i qs)) (ring_in q)
 
 keys-count : (qs : List Keyed) (i : ℕ) → i ≤ length qs → length (keys_of (rings_in (take i qs))) ≡ i
-keys-count qs i le = omega (arith, length-take i qs, length-map (take i qs) ring_in, length-map (rings_in (take i qs)) (λ (w : HeldQueue). w.key))
+keys-count qs i le = omega (arith, length-take i qs, length-map (take i qs) ring_in, length-map (rings_in (take i qs)) (λ (w : StoredQueue). w.key))
 
 pub next-place : (qs : List Keyed) (i none : ℕ) (q : Keyed) (table : List ℕ) → i < length qs → length qs ≤ none → q ≡ get_or qs i q → q.key < 2048 → get_or table q.key 0 ≡ none
     → AreFirst (keys_of (rings_in (take i qs))) none table → AreFirst (keys_of (rings_in (take (i + 1) qs))) none (set table q.key i)
@@ -78,20 +78,20 @@ pub skip-place : (qs : List Keyed) (i none : ℕ) (q : Keyed) (table : List ℕ)
 skip-place qs i none q table lt is far t = rw (keys-more qs i q lt is) (table-skip (keys_of (rings_in (take i qs))) none q.key table t far)
 
 -- what the table tells of a key
-pub told-first : (keys table : List ℕ) (none key : ℕ) → AreFirst keys none table → none ≡ length keys → key < length table → get_or table key 0 < length keys → IsFirst key (get_or table key 0) keys
-told-first keys table none key t is lt at = by (t.tells key (let s = t.size in omega arith)) where
+pub reported-first : (keys table : List ℕ) (none key : ℕ) → AreFirst keys none table → none ≡ length keys → key < length table → get_or table key 0 < length keys → IsFirst key (get_or table key 0) keys
+reported-first keys table none key t is lt at = by (t.tells key (let s = t.size in omega arith)) where
   by : TellsFirst keys none key (get_or table key 0) → IsFirst key (get_or table key 0) keys
   by (inl first) = first
   by (inr away) = let e = away.0 in absurd (omega arith)
 
-pub told-none : (keys table : List ℕ) (none key : ℕ) → AreFirst keys none table → key < length table → length keys ≤ get_or table key 0 → AllByRecursion (λ (x : ℕ). key ≢ x) keys
-told-none keys table none key t lt at = by (t.tells key (let s = t.size in omega arith)) where
+pub reported-none : (keys table : List ℕ) (none key : ℕ) → AreFirst keys none table → key < length table → length keys ≤ get_or table key 0 → AllByRecursion (λ (x : ℕ). key ≢ x) keys
+reported-none keys table none key t lt at = by (t.tells key (let s = t.size in omega arith)) where
   by : TellsFirst keys none key (get_or table key 0) → AllByRecursion (λ (x : ℕ). key ≢ x) keys
   by (inl first) = let i = first-within key (get_or table key 0) keys first in absurd (omega arith)
   by (inr away) = away.1
 
 pub keys-length : (qs : List Keyed) → length (keys_of (rings_in qs)) ≡ length qs
-keys-length qs = length-map (rings_in qs) (λ (w : HeldQueue). w.key) ∙ length-map qs ring_in
+keys-length qs = length-map (rings_in qs) (λ (w : StoredQueue). w.key) ∙ length-map qs ring_in
 
 -- before the first queue
 pub no-queue : (table : List ℕ) (none n : ℕ) → table ≡ replicate 2048 n → n ≡ none → AreFirst [] none table

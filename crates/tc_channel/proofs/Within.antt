@@ -1,8 +1,8 @@
 -- What is said of a stream by the limit of its room, said by the limit of its MAP.
 use Rattle.tc_channel.proofs.Names.{◌≡◌, ℕ, List, [], ◌∷◌, ◌++◌, Option, subst, ◌∙◌, arith, Kind, Service, Bd, OpenRuns, at_most, run_at, run_left, stream_place, map_of, FollowsWithin, FollowsKindWithin, EndsWithin, EndsAtOnceWithin, Store, limit_at, open_runs}
-use Rattle.tc_channel.specs.Workings.{HaveLimits}
-use Rattle.tc_packet.proofs.Stores.{settled-limits, settled-segmented, settled-others}
-use Rattle.tc_packet.specs.Store.{LeaveWithin, settled}
+use Rattle.tc_channel.specs.ChannelCore.{HaveLimits}
+use Rattle.tc_packet.proofs.Stores.{committed-limits, committed-segmented, committed-others}
+use Rattle.tc_packet.specs.Store.{LeaveWithin, committed}
 use Rattle.tc_packet.specs.declared.runs.Ended.{Ended}
 
 limit-is : (limits : ℕ → ℕ) (store : Store) (service : Service) (field : List ℕ) → HaveLimits limits store → limit_at store (stream_place service field) ≡ limits (map_of field)
@@ -24,17 +24,17 @@ pub ends-at-once-is : (limits : ℕ → ℕ) (store : Store) (kind : Kind) (fiel
     → EndsAtOnceWithin (limit_at store (stream_place Bd field)) kind (open_runs store) field unit → EndsAtOnceWithin (limits (map_of field)) kind (open_runs store) field unit
 ends-at-once-is limits store kind field unit have ends = subst (λ (n : ℕ). EndsAtOnceWithin n kind (open_runs store) field unit) (limit-is limits store Bd field have) ends
 
--- a field that was laid, and whose unit is delivered, has moved its stream on
-pub settled-follows : (old mid new : Store) (ended : Ended) (service : Service) (field : List ℕ) (at : ℕ) → at ≡ stream_place service field → new ≡ settled ended at mid
+-- a field that was staged, and whose unit is delivered, has moved its stream on
+pub committed-follows : (old mid new : Store) (ended : Ended) (service : Service) (field : List ℕ) (at : ℕ) → at ≡ stream_place service field → new ≡ committed ended at mid
     → mid.segmented ≡ old.segmented → ((place : ℕ) → limit_at mid place ≡ limit_at old place)
-    → ((fields : List (List ℕ)) → LeaveWithin fields old (stream_place service field) → LeaveWithin (fields ++ field ∷ []) (settled ended (stream_place service field) mid) (stream_place service field))
+    → ((fields : List (List ℕ)) → LeaveWithin fields old (stream_place service field) → LeaveWithin (fields ++ field ∷ []) (committed ended (stream_place service field) mid) (stream_place service field))
     → ((other : ℕ) → (other ≡ stream_place service field → ⊥) → run_at (open_runs mid).runs other ≡ run_at (open_runs old).runs other)
     → FollowsWithin (limit_at old (stream_place service field)) (open_runs old) (open_runs new) service field
-settled-follows old mid new ended service field at at_is new_is segmented limits run others =
+committed-follows old mid new ended service field at at_is new_is segmented limits run others =
     let place = stream_place service field in
     rw (new_is, at_is) (record {
-      run = λ fields left. subst (λ (n : ℕ). at_most n (run_left (settled ended place mid).segmented (fields ++ field ∷ [])) ≡ run_at (open_runs (settled ended place mid)).runs place)
-          (settled-limits mid ended place place ∙ limits place) (run fields left);
-      others = λ other apart. settled-others mid ended place other apart ∙ others other apart;
-      segmented = settled-segmented mid ended place ∙ segmented;
+      run = λ fields left. subst (λ (n : ℕ). at_most n (run_left (committed ended place mid).segmented (fields ++ field ∷ [])) ≡ run_at (open_runs (committed ended place mid)).runs place)
+          (committed-limits mid ended place place ∙ limits place) (run fields left);
+      others = λ other apart. committed-others mid ended place other apart ∙ others other apart;
+      segmented = committed-segmented mid ended place ∙ segmented;
     })

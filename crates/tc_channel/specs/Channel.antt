@@ -12,7 +12,7 @@ use Rattle.tc_channel.specs.declared.settings.Settings.{Settings}
 use Rattle.tc_channel.specs.Settings.{IsAllowed}
 use Rattle.tc_channel.specs.declared.event.Event.{Event}
 use Rattle.tc_channel.specs.ChannelState.{buffer}
-use Rattle.tc_channel.specs.HeldQueues.{held, HeldQueue}
+use Rattle.tc_channel.specs.StoredQueues.{stored, StoredQueue}
 use Rattle.tc_channel.specs.Run.{run_within, IsLawfulWithin}
 
 -- the fields leave the run at this place, if it is no longer than the limit
@@ -61,8 +61,8 @@ pub record Inside : Type 0 where
   pub farm : Machine
   pub ring : Buffer (List ℕ)
   pub open_runs : OpenRuns
-  pub rings : List HeldQueue
-  pub unit_rings : List HeldQueue
+  pub rings : List StoredQueue
+  pub unit_rings : List StoredQueue
 
 -- all that a channel works with is that of the journal's run, with a limit for each MAP
 pub record HoldsWithin (limits : ℕ → ℕ) (s : Settings) (journal : List Event) (inside : Inside) : Type 0 where
@@ -73,5 +73,5 @@ pub record HoldsWithin (limits : ℕ → ℕ) (s : Settings) (journal : List Eve
   pub capacity : inside.ring.capacity ≡ s.buffer
   pub fields : inside.ring.items ≡ buffer (run_within limits s journal)
   pub runs : AreRuns limits inside.open_runs (run_within limits s journal).segmented (run_within limits s journal).passed
-  pub queues : inside.rings ≡ map held (run_within limits s journal).queues
-  pub units : inside.unit_rings ≡ map held (run_within limits s journal).units
+  pub queues : inside.rings ≡ map stored (run_within limits s journal).queues
+  pub units : inside.unit_rings ≡ map stored (run_within limits s journal).units

@@ -4,12 +4,12 @@ use Rattle.std.specs.List.{AllByRecursion}
 use Rattle.tc_packet.specs.SpacePacket.{packets_of}
 use Rattle.tc_channel.specs.Admission.{is_for, is_of_map, packets_offered, units_offered}
 use Rattle.tc_channel.specs.Reply.{delivered}
-use Rattle.tc_channel.specs.HeldQueues.{HeldQueue, Placed, copies_from, put, put_all, room_in, placed, queue_for, IsUnderWay, AreShares}
+use Rattle.tc_channel.specs.StoredQueues.{StoredQueue, Placed, copies_from, put, put_all, room_in, placed, queue_for, IsUnderWay, AreShares}
 use Rattle.tc_channel.specs.declared.reply.Delivery.{Delivery}
 use Rattle.tc_channel.specs.Keyed.{Keyed}
 
 -- after some of a unit's packets: what went into the queues, what they then hold, and how many packets these were
-pub record IsOnItsWay (base : List HeldQueue) (left all : List (List ℕ)) (queued : ℕ) (now : List HeldQueue) : Type 0 where
+pub record IsOnItsWay (base : List StoredQueue) (left all : List (List ℕ)) (queued : ℕ) (now : List StoredQueue) : Type 0 where
   pub made : List Placed
   pub free : List ℕ
   pub way : IsUnderWay base left all made free
@@ -17,21 +17,21 @@ pub record IsOnItsWay (base : List HeldQueue) (left all : List (List ℕ)) (queu
   pub count : queued ≡ length made
 
 -- the packets of a unit are in their queues
-pub record ArePut (unit : List ℕ) (old new : List HeldQueue) (delivery : Delivery) : Type 0 where
+pub record ArePut (unit : List ℕ) (old new : List StoredQueue) (delivery : Delivery) : Type 0 where
   pub made : List Placed
   pub shares : AreShares is_for (packets_of unit) old made
   pub new_is : new ≡ put_all old made
   pub delivery_is : delivery ≡ delivered (Some unit) false (length made)
 
 -- a unit of this MAP is in its queue, or dropped whole
-pub record IsPutWhole (map_id : ℕ) (unit : List ℕ) (old new : List HeldQueue) (delivery : Delivery) : Type 0 where
+pub record IsPutWhole (map_id : ℕ) (unit : List ℕ) (old new : List StoredQueue) (delivery : Delivery) : Type 0 where
   pub made : Option Placed
   pub whole : placed made ≡ copies_from (is_of_map map_id) 0 (unit ∷ []) old
   pub new_is : new ≡ put_all old (placed made)
   pub delivery_is : delivery ≡ delivered (Some unit) true (length (placed made))
 
 -- a unit, if any, is delivered: whole where its MAP is chosen, else by its packets
-pub record IsDelivered (map_id : ℕ) (unit : Option (List ℕ)) (queues later units later_units : List HeldQueue) (delivery : Delivery) : Type 0 where
+pub record IsDelivered (map_id : ℕ) (unit : Option (List ℕ)) (queues later units later_units : List StoredQueue) (delivery : Delivery) : Type 0 where
   pub made : List Placed
   pub whole : Option Placed
   pub shares : AreShares is_for (packets_offered unit (is_some (queue_for map_id units))) queues made
@@ -41,11 +41,11 @@ pub record IsDelivered (map_id : ℕ) (unit : Option (List ℕ)) (queues later u
   pub units_are : later_units ≡ put_all units (placed whole)
 
 -- how much room the ring at this place has
-abbrev pub room_at : ℕ → List HeldQueue → ℕ
+abbrev pub room_at : ℕ → List StoredQueue → ℕ
 room_at place rings = get_or (map room_in rings) place 0
 
 -- an item is put behind those of the ring at this place, or that is full
-pub record IsPutAt (place : ℕ) (item : List ℕ) (old new : List HeldQueue) (room : Bool) : Type 0 where
+pub record IsPutAt (place : ℕ) (item : List ℕ) (old new : List StoredQueue) (room : Bool) : Type 0 where
   pub done : room ≡ true → (new ≡ put old place item) × (0 < room_at place old)
   pub full : room ≡ false → (new ≡ old) × (room_at place old ≡ 0)
 
@@ -54,6 +54,6 @@ abbrev pub IsAmong : ℕ → List (List ℕ) → Type 0
 IsAmong key [] = ⊥
 IsAmong key (packet ∷ packets) = (is_for key packet ≡ true) ⊎ IsAmong key packets
 
--- what is laid in the queues is of these packets: nothing is laid in a queue that none of them is for
-abbrev pub AreLaidOf : List (List ℕ) → List Keyed → Type 0
-AreLaidOf packets queues = AllByRecursion (λ (q : Keyed). (q.slots.laid ≡ []) ⊎ IsAmong q.key packets) queues
+-- what is staged in the queues is of these packets: nothing is staged in a queue that none of them is for
+abbrev pub AreStagedOf : List (List ℕ) → List Keyed → Type 0
+AreStagedOf packets queues = AllByRecursion (λ (q : Keyed). (q.slots.staged ≡ []) ⊎ IsAmong q.key packets) queues

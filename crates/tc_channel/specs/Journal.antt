@@ -22,5 +22,5 @@ event_of (Take apid) = events.Take apid
 event_of (TakeUnit map_id) = events.TakeUnit map_id
 
 -- the number of its events is told as it is: 2^64 - 1 is told for as many or more
-abbrev pub IsNumberTold : History → Type 0
-IsNumberTold channel = length channel.journal < 18446744073709551615
+abbrev pub IsNumberReported : History → Type 0
+IsNumberReported channel = length channel.journal < 18446744073709551615

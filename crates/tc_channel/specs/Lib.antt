@@ -11,11 +11,11 @@ pub mod Through
 pub mod Account
 pub mod Holding
 pub mod Laws
-pub mod HeldQueues
+pub mod StoredQueues
 pub mod Channel
 pub mod Keyed
 pub mod Places
 pub mod Delivering
 pub mod Steps
-pub mod Workings
+pub mod ChannelCore
 pub mod Examples

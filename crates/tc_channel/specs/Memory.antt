@@ -31,12 +31,12 @@ abbrev pub largest_item : Bool → ℕ
 largest_item segmented = if segmented then largest_unit else largest_field
 
 -- how many packets the packet queues hold at most, all together
-abbrev pub packets_held : Settings → ℕ
-packets_held s = sum_by (λ (q : QueueSetting). q.capacity) s.queues
+abbrev pub packets_stored : Settings → ℕ
+packets_stored s = sum_by (λ (q : QueueSetting). q.capacity) s.queues
 
 -- how many units the unit queues hold at most, all together
-abbrev pub units_held : Settings → ℕ
-units_held s = sum_by (λ (m : MapSetting). m.capacity) s.maps
+abbrev pub units_stored : Settings → ℕ
+units_stored s = sum_by (λ (m : MapSetting). m.capacity) s.maps
 
 -- a room for each data field of the buffer
 abbrev pub buffer_memory : Settings → ℕ
@@ -48,7 +48,7 @@ runs_memory s = if s.segmented then stream_count * (run_words + run_room) else 0
 
 -- each queue full of the largest packets, and each unit queue full of the largest units
 abbrev pub queues_memory : Settings → ℕ
-queues_memory s = (length s.queues + length s.maps) * queue_words + packets_held s * (room_words + largest_item s.segmented) + units_held s * (room_words + largest_unit)
+queues_memory s = (length s.queues + length s.maps) * queue_words + packets_stored s * (room_words + largest_item s.segmented) + units_stored s * (room_words + largest_unit)
 
 -- the place of the queue of each of 2,048 keys, where there are 8 queues or more
 abbrev pub table_memory : ℕ → ℕ

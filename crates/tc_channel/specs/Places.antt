@@ -1,7 +1,7 @@
 -- Where a key stands among those of the queues, and a table of it.
 use Rattle.std.specs.Prelude.{◌≡◌, ◌≢◌, ◌<◌, ◌≤◌, ℕ, zero, suc, List, [], ◌∷◌, length, get_or, ◌⊎◌}
 use Rattle.std.specs.List.{AllByRecursion}
-use Rattle.tc_channel.specs.HeldQueues.{apid_count}
+use Rattle.tc_channel.specs.StoredQueues.{apid_count}
 
 -- the first of the numbers that is the key stands at this place
 abbrev pub IsFirst : ℕ → ℕ → List ℕ → Type 0
@@ -24,6 +24,6 @@ IsTableOf keys table = length table ≢ 0 → AreFirst keys (length keys) table
 
 -- as above, and there is a table where it pays and can tell the places
 pub record IsTabled (keys table : List ℕ) : Type 0 where
-  pub told : IsTableOf keys table
+  pub reported : IsTableOf keys table
   pub few : length table ≢ 0 → 8 ≤ length keys
   pub many : 8 ≤ length keys → length keys ≤ 65535 → length table ≢ 0

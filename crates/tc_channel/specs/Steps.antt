@@ -6,7 +6,7 @@ use Rattle.tc_packet.specs.SpacePacket.{packets_of}
 use Rattle.tc_channel.specs.declared.settings.Settings.{Settings}
 use Rattle.tc_channel.specs.declared.event.Event.{Event}
 use Rattle.tc_channel.specs.ChannelState.{ChannelState, buffer, no_limits}
-use Rattle.tc_channel.specs.HeldQueues.{apid_count}
+use Rattle.tc_channel.specs.StoredQueues.{apid_count}
 use Rattle.tc_channel.specs.Keyed.{Keyed}
 use Rattle.tc_channel.specs.Run.{field_of, first_of, row_of, run_within, unit_of}
 
@@ -27,7 +27,7 @@ looks_for key count = if nat_lt key apid_count then most_looks count else count
 abbrev pub pass_steps : ℕ → ℕ → ℕ
 pass_steps packets looks_for_one = packets * (looks_for_one + 1)
 
--- the queue of the MAP is looked for. Then the packets are laid in their queues, and these are settled: one by one, or all
+-- the queue of the MAP is looked for. Then the packets are staged in their queues, and these are committed: one by one, or all
 abbrev pub unit_steps : ℕ → ℕ → ℕ → ℕ
 unit_steps packets looks_for_one looks_for_map = looks_for_map + (pass_steps packets looks_for_one + (pass_steps packets looks_for_one + looks_for_one))
 

@@ -8,16 +8,16 @@ ghost use Rattle.tc_channel.specs.Reply.{IsBypassData, frame_reply, release_repl
 ghost use Rattle.tc_channel.specs.Era.{CountsUpInItsEra};
 ghost use Rattle.tc_channel.specs.Steps.{frame_steps, release_steps, take_steps};
 
+use crate::channel_core::ChannelCore;
 use crate::event::Event;
 use crate::journal::Journal;
-use crate::kept::Kept;
 use crate::lent::LentEvent;
 use crate::past::Past;
+use crate::recorded::Recorded;
 use crate::reply::{Delivery, FrameReply, NoMemory, ReleaseFault, TakeFault, TakeUnitFault};
 use crate::settings::{Settings, SettingsFault};
-use crate::steps::Count;
-use crate::unkept::Unkept;
-use crate::workings::Workings;
+use crate::steps::Tick;
+use crate::unrecorded::Unrecorded;
 use std::alloc::Global;
 use std::marker::Model;
 use std::snapshot::Snapshot;
@@ -25,11 +25,11 @@ use tc_link::{Frame, Link, Report, clcw_word};
 use tc_packet::LARGEST_UNIT;
 use tc_rooms::{GrowingRoom, Runs};
 
-// A count that isn't kept. No other module can name it, so what the calls of a channel run counts all that it looks at.
+// Steps that nobody counts. No other module can name it, so what the calls of a channel run counts all that it looks at.
 #[derive(Drop)]
-struct Uncounted;
+struct NoSteps;
 
-impl Count for Uncounted {
+impl Tick for NoSteps {
     ghost use Rattle.std.specs.Prelude.{false};
 
     ghost taken = { λ _. 0 };
@@ -45,16 +45,19 @@ impl Count for Uncounted {
 pub struct ChannelWith<J: Journal> {
     alloc: Global,
     settings: Settings,
-    workings: Workings<GrowingRoom>,
+    channel_core: ChannelCore<GrowingRoom>,
     journal: J,
 }
 
 /// A channel that keeps its journal in memory, and gives it out.
-pub type Channel = ChannelWith<Kept>;
+pub type Channel = ChannelWith<Recorded>;
 
 /// A channel whose journal is read by clauses alone and takes no memory, for flight software and long simulations. It does
 /// what [`Channel`] does, by the same proof, but gives no journal out.
-pub type FlightChannel = ChannelWith<Unkept>;
+pub type CountingChannel = ChannelWith<Unrecorded>;
+
+/// The name of [`CountingChannel`] before version 0.3.0; the next version has it no longer.
+pub type FlightChannel = CountingChannel;
 
 impl<J: Journal> Model for ChannelWith<J> {
     ghost use Rattle.tc_channel.specs.Journal.{History};
@@ -62,11 +65,11 @@ impl<J: Journal> Model for ChannelWith<J> {
     ghost Value = { History };
 
     ghost use Rattle.tc_channel.specs.ChannelState.{no_limits};
-    ghost use Rattle.tc_channel.specs.Workings.{HoldsInRooms};
+    ghost use Rattle.tc_channel.specs.ChannelCore.{HoldsInRooms};
 
     ghost view = { λ c. record { settings = c.settings; journal = J.events c.journal } };
 
-    ghost invariant = { λ c. HoldsInRooms no_limits c.settings (J.events c.journal) c.workings };
+    ghost invariant = { λ c. HoldsInRooms no_limits c.settings (J.events c.journal) c.channel_core };
 }
 
 impl<J: Journal> ChannelWith<J> {
@@ -86,8 +89,8 @@ impl<J: Journal> ChannelWith<J> {
 
     /// Takes a frame in, of whatever virtual channel. An accepted AD data field is buffered; of an accepted BD data field
     /// the unit that it ends is queued at once: whole where its MAP is chosen, else its packets. It copies the octets for a
-    /// journal that is kept, an accepted AD data field for the buffer, and the unit or each packet that is queued.
-    /// With a journal that isn't kept, only a frame of Type-BD may be refused.
+    /// recorded journal, an accepted AD data field for the buffer, and the unit or each packet that is queued.
+    /// With one that isn't recorded, only a frame of Type-BD may be refused.
     pub fn frame(&mut self, frame: &Frame) -> Result<FrameReply, NoMemory>
         ensures allowed { IsAllowed self.old.settings }
         ensures lawful { IsLawful self.old.settings self.old.journal }
@@ -96,12 +99,12 @@ impl<J: Journal> ChannelWith<J> {
         ensures refused { OnErr result (self.new ≡ self.old) }
         ensures answered { J.grows ≡ false → OnErr result (IsBypassData frame.now) }
     {
-        self.frame_counted(frame, &mut Uncounted)
+        self.frame_with_steps(frame, &mut NoSteps)
     }
 
-    /// As [`frame`](ChannelWith::frame), which runs it with a count that isn't kept. A step is a packet that is cut from the unit that the
+    /// As [`frame`](ChannelWith::frame), which counts no steps. A step is a packet that is cut from the unit that the
     /// frame ends, or a queue that is looked at; a frame that isn't of Type-BD takes none.
-    pub fn frame_counted<C: Count>(
+    pub fn frame_with_steps<C: Tick>(
         &mut self,
         frame: &Frame,
         steps: &mut C,
@@ -118,7 +121,7 @@ impl<J: Journal> ChannelWith<J> {
     {
         let event = LentEvent::Frame(frame.octets());
         let entry = self.journal.prepare(self.alloc, &event)?;
-        let reply = self.workings.frame(frame, steps)?;
+        let reply = self.channel_core.frame(frame, steps)?;
         self.journal.append(&event, entry);
         Ok(reply)
     }
@@ -133,12 +136,12 @@ impl<J: Journal> ChannelWith<J> {
         ensures done { OnOk result (self.new ≡ with_event self.old Event.Release) }
         ensures refused { OnErr result (self.new ≡ self.old) }
     {
-        self.release_counted(&mut Uncounted)
+        self.release_with_steps(&mut NoSteps)
     }
 
-    /// As [`release`](ChannelWith::release), which runs it with a count that isn't kept. Steps are those of
-    /// [`frame_counted`](ChannelWith::frame_counted).
-    pub fn release_counted<C: Count>(&mut self, steps: &mut C) -> Result<Delivery, ReleaseFault>
+    /// As [`release`](ChannelWith::release), which counts no steps. Steps are those of
+    /// [`frame_with_steps`](ChannelWith::frame_with_steps).
+    pub fn release_with_steps<C: Tick>(&mut self, steps: &mut C) -> Result<Delivery, ReleaseFault>
         ensures allowed { IsAllowed self.old.settings }
         ensures lawful { IsLawful self.old.settings self.old.journal }
         ensures empty { IsErrOf result ReleaseFault.Empty ↔ (buffered_fields self.old.settings self.old.journal ≡ []) }
@@ -148,17 +151,17 @@ impl<J: Journal> ChannelWith<J> {
         ensures cost { OnOk result (C.taken steps.new ≤ C.taken steps.old + release_steps self.old.settings self.old.journal) }
         ensures refused_cost { OnErr result (C.taken steps.new ≤ C.taken steps.old + (release_steps self.old.settings self.old.journal + length self.old.settings.queues)) }
     {
-        if self.workings.buffered() == 0 {
+        if self.channel_core.buffered() == 0 {
             return Err(ReleaseFault::Empty);
         }
         let entry = self.journal.prepare(self.alloc, &LentEvent::Release)?;
-        let delivery = self.workings.release(steps)?;
+        let delivery = self.channel_core.release(steps)?;
         self.journal.append(&LentEvent::Release, entry);
         Ok(delivery)
     }
 
-    /// Takes the oldest packet out of the queue with this APID. The packet is moved, not copied; a journal that is kept may grow,
-    /// and nothing else does. So with a journal that isn't kept it never runs out of memory.
+    /// Takes the oldest packet out of the queue with this APID. The packet is moved, not copied; a recorded journal may grow,
+    /// and nothing else does. So with one that isn't recorded it never runs out of memory.
     pub fn take(&mut self, apid: u16) -> Result<Vec<u8>, TakeFault>
         ensures allowed { IsAllowed self.old.settings }
         ensures lawful { IsLawful self.old.settings self.old.journal }
@@ -169,11 +172,15 @@ impl<J: Journal> ChannelWith<J> {
         ensures refused { OnErr result (self.new ≡ self.old) }
         ensures answered { J.grows ≡ false → IsErrOf result TakeFault.NoMemory → ⊥ }
     {
-        self.take_counted(apid, &mut Uncounted)
+        self.take_with_steps(apid, &mut NoSteps)
     }
 
-    /// As [`take`](ChannelWith::take), which runs it with a count that isn't kept. A step is a queue that is looked at.
-    pub fn take_counted<C: Count>(&mut self, apid: u16, steps: &mut C) -> Result<Vec<u8>, TakeFault>
+    /// As [`take`](ChannelWith::take), which counts no steps. A step is a queue that is looked at.
+    pub fn take_with_steps<C: Tick>(
+        &mut self,
+        apid: u16,
+        steps: &mut C,
+    ) -> Result<Vec<u8>, TakeFault>
         ensures allowed { IsAllowed self.old.settings }
         ensures lawful { IsLawful self.old.settings self.old.journal }
         ensures no_queue { IsErrOf result TakeFault.NoQueue ↔ (waiting_packets self.old.settings self.old.journal apid ≡ None) }
@@ -184,20 +191,20 @@ impl<J: Journal> ChannelWith<J> {
         ensures answered { J.grows ≡ false → IsErrOf result TakeFault.NoMemory → ⊥ }
         ensures cost { C.taken steps.new ≤ C.taken steps.old + take_steps apid (length self.old.settings.queues) }
     {
-        match self.workings.queued(apid, steps) {
+        match self.channel_core.queued(apid, steps) {
             None => return Err(TakeFault::NoQueue),
             Some(0) => return Err(TakeFault::Empty),
             Some(_) => {}
         }
         let taken = LentEvent::Take(apid);
         let entry = self.journal.prepare(self.alloc, &taken)?;
-        let packet = self.workings.take(apid, steps).unwrap();
+        let packet = self.channel_core.take(apid, steps).unwrap();
         self.journal.append(&taken, entry);
         Ok(packet)
     }
 
-    /// Takes the oldest unit out of the queue of this chosen MAP. The unit is moved, not copied; a journal that is kept may grow,
-    /// and nothing else does. So with a journal that isn't kept it never runs out of memory.
+    /// Takes the oldest unit out of the queue of this chosen MAP. The unit is moved, not copied; a recorded journal may grow,
+    /// and nothing else does. So with one that isn't recorded it never runs out of memory.
     pub fn take_unit(&mut self, map: u8) -> Result<Vec<u8>, TakeUnitFault>
         ensures allowed { IsAllowed self.old.settings }
         ensures lawful { IsLawful self.old.settings self.old.journal }
@@ -208,11 +215,11 @@ impl<J: Journal> ChannelWith<J> {
         ensures refused { OnErr result (self.new ≡ self.old) }
         ensures answered { J.grows ≡ false → IsErrOf result TakeUnitFault.NoMemory → ⊥ }
     {
-        self.take_unit_counted(map, &mut Uncounted)
+        self.take_unit_with_steps(map, &mut NoSteps)
     }
 
-    /// As [`take_unit`](ChannelWith::take_unit), which runs it with a count that isn't kept. A step is a queue that is looked at.
-    pub fn take_unit_counted<C: Count>(
+    /// As [`take_unit`](ChannelWith::take_unit), which counts no steps. A step is a queue that is looked at.
+    pub fn take_unit_with_steps<C: Tick>(
         &mut self,
         map: u8,
         steps: &mut C,
@@ -227,14 +234,14 @@ impl<J: Journal> ChannelWith<J> {
         ensures answered { J.grows ≡ false → IsErrOf result TakeUnitFault.NoMemory → ⊥ }
         ensures cost { C.taken steps.new ≤ C.taken steps.old + take_steps map (length self.old.settings.maps) }
     {
-        match self.workings.units(map, steps) {
+        match self.channel_core.units(map, steps) {
             None => return Err(TakeUnitFault::NoMap),
             Some(0) => return Err(TakeUnitFault::Empty),
             Some(_) => {}
         }
         let taken = LentEvent::TakeUnit(map);
         let entry = self.journal.prepare(self.alloc, &taken)?;
-        let unit = self.workings.take_unit(map, steps).unwrap();
+        let unit = self.channel_core.take_unit(map, steps).unwrap();
         self.journal.append(&taken, entry);
         Ok(unit)
     }
@@ -246,7 +253,7 @@ impl<J: Journal> ChannelWith<J> {
         ensures allowed { IsAllowed self.now.settings }
         ensures lawful { IsLawful self.now.settings self.now.journal }
     {
-        self.workings.oldest(apid, &mut Uncounted)
+        self.channel_core.oldest(apid, &mut NoSteps)
     }
 
     /// The octets of the unit that [`take_unit`](ChannelWith::take_unit) with this MAP gives next, lent. None where the MAP isn't
@@ -256,7 +263,7 @@ impl<J: Journal> ChannelWith<J> {
         ensures allowed { IsAllowed self.now.settings }
         ensures lawful { IsLawful self.now.settings self.now.journal }
     {
-        self.workings.oldest_unit(map, &mut Uncounted)
+        self.channel_core.oldest_unit(map, &mut NoSteps)
     }
 
     /// FARM-1's components.
@@ -267,7 +274,7 @@ impl<J: Journal> ChannelWith<J> {
         ensures lawful { IsLawful self.now.settings self.now.journal }
         ensures era { CountsUpInItsEra self.now.settings self.now.journal }
     {
-        self.workings.report()
+        self.channel_core.report()
     }
 
     /// The communications link control word.
@@ -276,7 +283,7 @@ impl<J: Journal> ChannelWith<J> {
         ensures allowed { IsAllowed self.now.settings }
         ensures lawful { IsLawful self.now.settings self.now.journal }
     {
-        clcw_word(&self.workings.report(), self.settings.vcid, link)
+        clcw_word(&self.channel_core.report(), self.settings.vcid, link)
     }
 
     /// How many data fields wait in the buffer.
@@ -285,7 +292,7 @@ impl<J: Journal> ChannelWith<J> {
         ensures allowed { IsAllowed self.now.settings }
         ensures lawful { IsLawful self.now.settings self.now.journal }
     {
-        self.workings.buffered()
+        self.channel_core.buffered()
     }
 
     /// How many packets wait in the queue with this APID, if there is one.
@@ -294,7 +301,7 @@ impl<J: Journal> ChannelWith<J> {
         ensures allowed { IsAllowed self.now.settings }
         ensures lawful { IsLawful self.now.settings self.now.journal }
     {
-        self.workings.queued(apid, &mut Uncounted)
+        self.channel_core.queued(apid, &mut NoSteps)
     }
 
     /// How many units wait in the queue of this MAP, if it is chosen.
@@ -303,7 +310,7 @@ impl<J: Journal> ChannelWith<J> {
         ensures allowed { IsAllowed self.now.settings }
         ensures lawful { IsLawful self.now.settings self.now.journal }
     {
-        self.workings.units(map, &mut Uncounted)
+        self.channel_core.units(map, &mut NoSteps)
     }
 
     /// How many events there are in the journal; where they are more than 2^64 - 1, that number.
@@ -337,7 +344,7 @@ impl<J: Journal> ChannelWith<J> {
     }
 }
 
-impl ChannelWith<Kept> {
+impl ChannelWith<Recorded> {
     /// The events so far, the oldest first.
     pub fn journal(&self) -> &[Event]
         ensures journal { result.now ≡ self.now.journal }
@@ -355,11 +362,11 @@ fn start<J: Journal>(alloc: Global, settings: Settings) -> Result<ChannelWith<J>
     ensures journal { IfOk result (λ channel. channel.journal ≡ []) }
 {
     let runs = Runs::new(alloc, settings.segmented, LARGEST_UNIT)?;
-    let workings = Workings::new(alloc, &settings, runs, LARGEST_UNIT, &mut Uncounted)?;
+    let channel_core = ChannelCore::new(alloc, &settings, runs, LARGEST_UNIT, &mut NoSteps)?;
     Ok(ChannelWith {
         alloc,
         settings,
-        workings,
+        channel_core,
         journal: J::start(alloc),
     })
 }

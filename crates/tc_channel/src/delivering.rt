@@ -3,18 +3,18 @@
 ghost use Rattle.std.specs.Prelude.{◌<◌, ◌≤◌, ◌≡◌, ◌+◌, length, get_or, false, IfOk, IsOk, OnErr, Some};
 ghost use Rattle.std.specs.Box.{boxed_slice_items};
 ghost use Rattle.tc_packet.specs.SpacePacket.{packets_of};
-ghost use Rattle.tc_channel.specs.HeldQueues.{keys_of, AreDistinct};
-ghost use Rattle.tc_channel.specs.Keyed.{rings_in, room_sizes, Fit, AreSettled};
+ghost use Rattle.tc_channel.specs.StoredQueues.{keys_of, AreDistinct};
+ghost use Rattle.tc_channel.specs.Keyed.{rings_in, room_sizes, Fit, AreCommitted};
 ghost use Rattle.tc_channel.specs.Places.{IsTableOf};
 ghost use Rattle.tc_channel.specs.Delivering.{IsPutAt, ArePut, IsPutWhole, IsDelivered};
 ghost use Rattle.tc_channel.specs.Steps.{looks, pass_steps, unit_steps};
 
-use crate::laying::lay_packets;
+use crate::committing::{commit_packets, roll_back};
 use crate::places::place_of;
 use crate::queue::Queue;
 use crate::reply::Delivery;
-use crate::settling::{let_go, settle_packets};
-use crate::steps::Count;
+use crate::staging::stage_packets;
+use crate::steps::Tick;
 use std::alloc::AllocError;
 use std::boxed::BoxedSlice;
 use tc_packet::LARGEST_UNIT;
@@ -29,10 +29,10 @@ fn put_item_at<R: Room>(
 ) -> Result<bool, AllocError>
     requires place { place < length (boxed_slice_items queues.old) }
     requires fits { Fit octets.now (room_sizes (boxed_slice_items queues.old)) }
-    requires settled { AreSettled (boxed_slice_items queues.old) }
+    requires committed { AreCommitted (boxed_slice_items queues.old) }
     ensures put { IfOk result (IsPutAt place octets.now (rings_in (boxed_slice_items queues.old)) (rings_in (boxed_slice_items queues.new))) }
     ensures refused { OnErr result (rings_in (boxed_slice_items queues.new) ≡ rings_in (boxed_slice_items queues.old)) }
-    ensures settled { AreSettled (boxed_slice_items queues.new) }
+    ensures committed { AreCommitted (boxed_slice_items queues.new) }
     ensures keys { keys_of (rings_in (boxed_slice_items queues.new)) ≡ keys_of (rings_in (boxed_slice_items queues.old)) }
     ensures sizes { room_sizes (boxed_slice_items queues.new) ≡ room_sizes (boxed_slice_items queues.old) }
     ensures answered { R.grows ≡ false → IsOk result }
@@ -52,10 +52,10 @@ fn deliver_whole<R: Room>(
     requires key { map ≡ get_or (keys_of (rings_in (boxed_slice_items units.old))) place map }
     requires distinct { AreDistinct (keys_of (rings_in (boxed_slice_items units.old))) }
     requires fits { Fit unit.now (room_sizes (boxed_slice_items units.old)) }
-    requires settled { AreSettled (boxed_slice_items units.old) }
+    requires committed { AreCommitted (boxed_slice_items units.old) }
     ensures put { IfOk result (IsPutWhole map unit.now (rings_in (boxed_slice_items units.old)) (rings_in (boxed_slice_items units.new))) }
     ensures refused { OnErr result (rings_in (boxed_slice_items units.new) ≡ rings_in (boxed_slice_items units.old)) }
-    ensures settled { AreSettled (boxed_slice_items units.new) }
+    ensures committed { AreCommitted (boxed_slice_items units.new) }
     ensures keys { keys_of (rings_in (boxed_slice_items units.new)) ≡ keys_of (rings_in (boxed_slice_items units.old)) }
     ensures sizes { room_sizes (boxed_slice_items units.new) ≡ room_sizes (boxed_slice_items units.old) }
     ensures answered { R.grows ≡ false → IsOk result }
@@ -77,7 +77,7 @@ fn deliver_whole<R: Room>(
 
 // Delivers a unit by its packets. Where memory runs out the queues are as they were.
 #[inline(always)]
-fn deliver_packets<R: Room, C: Count>(
+fn deliver_packets<R: Room, C: Tick>(
     queues: &mut BoxedSlice<Queue<R>>,
     table: &[u16],
     unit: &[u8],
@@ -87,23 +87,23 @@ fn deliver_packets<R: Room, C: Count>(
     requires within { length unit.now ≤ LARGEST_UNIT }
     requires distinct { AreDistinct (keys_of (rings_in (boxed_slice_items queues.old))) }
     requires fits { Fit unit.now (room_sizes (boxed_slice_items queues.old)) }
-    requires settled { AreSettled (boxed_slice_items queues.old) }
+    requires committed { AreCommitted (boxed_slice_items queues.old) }
     ensures put { IfOk result (ArePut unit.now (rings_in (boxed_slice_items queues.old)) (rings_in (boxed_slice_items queues.new))) }
     ensures refused { OnErr result (rings_in (boxed_slice_items queues.new) ≡ rings_in (boxed_slice_items queues.old)) }
-    ensures settled { AreSettled (boxed_slice_items queues.new) }
+    ensures committed { AreCommitted (boxed_slice_items queues.new) }
     ensures keys { keys_of (rings_in (boxed_slice_items queues.new)) ≡ keys_of (rings_in (boxed_slice_items queues.old)) }
     ensures sizes { room_sizes (boxed_slice_items queues.new) ≡ room_sizes (boxed_slice_items queues.old) }
     ensures answered { R.grows ≡ false → IsOk result }
     ensures cost { IfOk result (λ _. C.taken steps.new ≤ C.taken steps.old + (pass_steps (length (packets_of unit.now)) (looks (boxed_slice_items queues.old) table.now) + (pass_steps (length (packets_of unit.now)) (looks (boxed_slice_items queues.old) table.now) + looks (boxed_slice_items queues.old) table.now))) }
     ensures refused_cost { OnErr result (C.taken steps.new ≤ C.taken steps.old + (pass_steps (length (packets_of unit.now)) (looks (boxed_slice_items queues.old) table.now) + length (boxed_slice_items queues.old))) }
 {
-    match lay_packets(queues, table, unit, steps) {
+    match stage_packets(queues, table, unit, steps) {
         Ok(delivery) => {
-            settle_packets(queues, table, unit, delivery.queued as usize, steps);
+            commit_packets(queues, table, unit, delivery.queued as usize, steps);
             Ok(delivery)
         }
         Err(error) => {
-            let_go(queues, steps);
+            roll_back(queues, steps);
             Err(error)
         }
     }
@@ -111,7 +111,7 @@ fn deliver_packets<R: Room, C: Count>(
 
 /// Delivers a unit: whole where its MAP is chosen, else by its packets. Where memory runs out all queues are as they were.
 #[inline(always)]
-pub(crate) fn deliver<R: Room, C: Count>(
+pub(crate) fn deliver<R: Room, C: Tick>(
     queues: &mut BoxedSlice<Queue<R>>,
     table: &[u16],
     units: &mut BoxedSlice<Queue<R>>,
@@ -127,13 +127,13 @@ pub(crate) fn deliver<R: Room, C: Count>(
     requires units_distinct { AreDistinct (keys_of (rings_in (boxed_slice_items units.old))) }
     requires fits { Fit unit.now (room_sizes (boxed_slice_items queues.old)) }
     requires units_fit { Fit unit.now (room_sizes (boxed_slice_items units.old)) }
-    requires settled { AreSettled (boxed_slice_items queues.old) }
-    requires units_settled { AreSettled (boxed_slice_items units.old) }
+    requires committed { AreCommitted (boxed_slice_items queues.old) }
+    requires units_committed { AreCommitted (boxed_slice_items units.old) }
     ensures delivered { IfOk result (IsDelivered map (Some unit.now) (rings_in (boxed_slice_items queues.old)) (rings_in (boxed_slice_items queues.new))
         (rings_in (boxed_slice_items units.old)) (rings_in (boxed_slice_items units.new))) }
     ensures refused { OnErr result ((rings_in (boxed_slice_items queues.new) ≡ rings_in (boxed_slice_items queues.old)) × (rings_in (boxed_slice_items units.new) ≡ rings_in (boxed_slice_items units.old))) }
-    ensures settled { AreSettled (boxed_slice_items queues.new) }
-    ensures units_settled { AreSettled (boxed_slice_items units.new) }
+    ensures committed { AreCommitted (boxed_slice_items queues.new) }
+    ensures units_committed { AreCommitted (boxed_slice_items units.new) }
     ensures keys { keys_of (rings_in (boxed_slice_items queues.new)) ≡ keys_of (rings_in (boxed_slice_items queues.old)) }
     ensures unit_keys { keys_of (rings_in (boxed_slice_items units.new)) ≡ keys_of (rings_in (boxed_slice_items units.old)) }
     ensures sizes { room_sizes (boxed_slice_items queues.new) ≡ room_sizes (boxed_slice_items queues.old) }

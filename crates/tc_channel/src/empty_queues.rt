@@ -2,8 +2,8 @@
 
 ghost use Rattle.std.specs.Prelude.{◌≡◌, length, map, replicate, IfOk};
 ghost use Rattle.tc_channel.specs.ChannelState.{empty_queue, empty_unit_queue};
-ghost use Rattle.tc_channel.specs.HeldQueues.{held};
-ghost use Rattle.tc_channel.specs.Keyed.{rings_in, room_sizes, AreSettled};
+ghost use Rattle.tc_channel.specs.StoredQueues.{stored};
+ghost use Rattle.tc_channel.specs.Keyed.{rings_in, room_sizes, AreCommitted};
 
 use crate::queue::Queue;
 use crate::settings::{MapSetting, QueueSetting};
@@ -16,9 +16,9 @@ pub(crate) fn empty_queues<R: Room>(
     settings: &[QueueSetting],
     size: usize,
 ) -> Result<Vec<Queue<R>>, AllocError>
-    ensures rings { IfOk result (λ v. rings_in v.items ≡ map held (map empty_queue settings.now)) }
+    ensures rings { IfOk result (λ v. rings_in v.items ≡ map stored (map empty_queue settings.now)) }
     ensures sizes { IfOk result (λ v. room_sizes v.items ≡ replicate (length settings.now) size) }
-    ensures settled { IfOk result (λ v. AreSettled v.items) }
+    ensures committed { IfOk result (λ v. AreCommitted v.items) }
 {
     let mut queues = Vec::with_capacity(alloc, settings.len())?;
     for setting in settings {
@@ -34,9 +34,9 @@ pub(crate) fn empty_unit_queues<R: Room>(
     maps: &[MapSetting],
     size: usize,
 ) -> Result<Vec<Queue<R>>, AllocError>
-    ensures rings { IfOk result (λ v. rings_in v.items ≡ map held (map empty_unit_queue maps.now)) }
+    ensures rings { IfOk result (λ v. rings_in v.items ≡ map stored (map empty_unit_queue maps.now)) }
     ensures sizes { IfOk result (λ v. room_sizes v.items ≡ replicate (length maps.now) size) }
-    ensures settled { IfOk result (λ v. AreSettled v.items) }
+    ensures committed { IfOk result (λ v. AreCommitted v.items) }
 {
     let mut units = Vec::with_capacity(alloc, maps.len())?;
     for chosen in maps {

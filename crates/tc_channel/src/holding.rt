@@ -63,15 +63,15 @@ fn packets_in<J: Journal>(
     channel: &ChannelWith<J>,
     queues: &[QueueSetting],
 ) -> Result<Vec<QueueHolding>, NoMemory>
-    ensures { IfOk result (λ told. told.items ≡ filter_map (queue_holding channel.now.settings channel.now.journal) queues.now) }
+    ensures { IfOk result (λ reported. reported.items ≡ filter_map (queue_holding channel.now.settings channel.now.journal) queues.now) }
 {
-    let mut told = Vec::with_capacity(alloc, queues.len())?;
+    let mut reported = Vec::with_capacity(alloc, queues.len())?;
     for queue in queues {
         if let Some(holding) = packets_of(channel, queue) {
-            told.push_reserved(holding);
+            reported.push_reserved(holding);
         }
     }
-    Ok(told)
+    Ok(reported)
 }
 
 fn packets_of<J: Journal>(channel: &ChannelWith<J>, queue: &QueueSetting) -> Option<QueueHolding>
@@ -87,15 +87,15 @@ fn units_in<J: Journal>(
     channel: &ChannelWith<J>,
     maps: &[MapSetting],
 ) -> Result<Vec<MapHolding>, NoMemory>
-    ensures { IfOk result (λ told. told.items ≡ filter_map (map_holding channel.now.settings channel.now.journal) maps.now) }
+    ensures { IfOk result (λ reported. reported.items ≡ filter_map (map_holding channel.now.settings channel.now.journal) maps.now) }
 {
-    let mut told = Vec::with_capacity(alloc, maps.len())?;
+    let mut reported = Vec::with_capacity(alloc, maps.len())?;
     for chosen in maps {
         if let Some(holding) = units_of(channel, chosen) {
-            told.push_reserved(holding);
+            reported.push_reserved(holding);
         }
     }
-    Ok(told)
+    Ok(reported)
 }
 
 fn units_of<J: Journal>(channel: &ChannelWith<J>, chosen: &MapSetting) -> Option<MapHolding>

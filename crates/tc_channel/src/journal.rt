@@ -6,11 +6,11 @@ ghost use Rattle.tc_channel.specs.declared.lent.LentEvent.{LentEvent};
 ghost use Rattle.tc_channel.specs.Journal.{event_of};
 
 use crate::lent::LentEvent;
-use crate::unkept::EventsSeen;
+use crate::unrecorded::EventsSeen;
 use std::alloc::{AllocError, Global};
 
 /// The journal of a channel: all events that it answered, the oldest first. The clauses of a channel read them, whether the
-/// journal keeps them in memory ([`Kept`](crate::Kept)) or not ([`Unkept`](crate::Unkept)).
+/// journal keeps them in memory ([`Recorded`](crate::Recorded)) or not ([`Unrecorded`](crate::Unrecorded)).
 pub trait Journal: Drop {
     /// What is made of an event before the channel changes, so that nothing can be refused after it.
     type Entry: Drop;

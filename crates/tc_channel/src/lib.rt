@@ -1,6 +1,6 @@
 //! One virtual channel of a telecommand receiver, with the journal of its events.
 //!
-//! A contract sees a [`Channel`], and a [`FlightChannel`], whose journal takes no memory, as its
+//! A contract sees a [`Channel`], and a [`CountingChannel`], whose journal takes no memory, as its
 //! settings and its journal. All else that it has is the run of that journal: FARM-1's components, the buffered data
 //! fields, the open runs of reassembly, the packet queues and the unit queues. The laws over these definitions are the contracts of
 //! [`allowed_settings_have_no_fault`], [`wait_means_no_room`], [`each_frame_has_a_step`],
@@ -17,6 +17,8 @@
 
 mod answered;
 mod channel;
+mod channel_core;
+mod committing;
 mod delivering;
 mod empty_queues;
 mod event;
@@ -24,29 +26,28 @@ mod flow;
 mod holding;
 mod items;
 mod journal;
-mod kept;
 mod laws;
-mod laying;
 mod lent;
 mod memory;
 mod past;
 mod places;
 mod queue;
 mod queues;
+mod recorded;
 mod reply;
 mod settings;
-mod settling;
+mod staging;
 mod steps;
 mod taking;
-mod unkept;
-mod workings;
+mod unrecorded;
 
 pub use answered::{
     a_journal_comes_to_this, further_journals_are_answered_so,
     journals_within_limits_are_answered_so, memory_is_counted_so, settings_are_refused_so,
     short_journals_are_answered_so,
 };
-pub use channel::{Channel, ChannelWith, FlightChannel};
+pub use channel::{Channel, ChannelWith, CountingChannel, FlightChannel};
+pub use channel_core::{ChannelCore, LARGEST_FIELD};
 pub use event::Event;
 pub use flow::{
     a_clcw_tells_how_many_were_accepted, each_passed_field_is_accounted_for, passed_fields_make_so,
@@ -56,7 +57,6 @@ pub use flow::{
 pub use holding::{Holding, MapHolding, QueueHolding, holding_in};
 pub use items::{Items, Octets};
 pub use journal::Journal;
-pub use kept::Kept;
 pub use laws::{
     a_longer_run_goes_on, a_plain_channel_takes_each_field_as_a_unit,
     a_sender_s_frames_may_come_so, a_unit_beyond_the_limit_of_its_map_is_none,
@@ -73,8 +73,8 @@ pub use memory::{
     what_waits_is_within_the_bound_of_memory,
 };
 pub use past::Past;
+pub use recorded::Recorded;
 pub use reply::{Delivery, FrameReply, NoMemory, ReleaseFault, TakeFault, TakeUnitFault};
 pub use settings::{LentSettings, MapSetting, QueueSetting, Settings, SettingsFault};
-pub use steps::{Count, Steps};
-pub use unkept::{EventsSeen, Unkept};
-pub use workings::{LARGEST_FIELD, Workings};
+pub use steps::{Steps, Tick};
+pub use unrecorded::{EventsSeen, Unrecorded};

@@ -9,11 +9,11 @@ ghost use Rattle.tc_packet.specs.Reassembly.{largest_unit};
 ghost use Rattle.tc_channel.specs.ChannelState.{buffer};
 ghost use Rattle.tc_channel.specs.Run.{IsLawfulWithin, run_within};
 ghost use Rattle.tc_channel.specs.Settings.{settings_of};
-ghost use Rattle.tc_channel.specs.Memory.{buffer_memory, largest_field, largest_item, memory_bound, memory_waiting, octets_in, octets_waiting, packets_held, queues_memory, runs_memory, segment_memory, table_memory, tables_memory, units_held, waiting_in_all};
+ghost use Rattle.tc_channel.specs.Memory.{buffer_memory, largest_field, largest_item, memory_bound, memory_waiting, octets_in, octets_waiting, packets_stored, queues_memory, runs_memory, segment_memory, table_memory, tables_memory, units_stored, waiting_in_all};
 
+use crate::channel_core::LARGEST_FIELD;
 use crate::places::{KEYS, QUEUES_FOR_A_TABLE};
 use crate::settings::{LentSettings, MapSetting, QueueSetting, Settings};
-use crate::workings::LARGEST_FIELD;
 use tc_packet::LARGEST_UNIT;
 
 /// The octets of a room's own words: those of its block, and how many octets lie in it or may lie in it.
@@ -35,7 +35,7 @@ const RUN_ROOM: u128 = 131_072;
 const STREAMS: u128 = 128;
 
 impl Settings {
-    /// The most octets that a [`FlightChannel`](crate::FlightChannel) of these settings asks its allocator for and has not given
+    /// The most octets that a [`CountingChannel`](crate::CountingChannel) of these settings asks its allocator for and has not given
     /// back, at whatever moment from the start of `new` on, on a machine of 64 bits; 2^64 - 1 where it is more. What an allocator
     /// adds to a block is not counted, nor is the room of the lists of these settings themselves, which whoever made them chose.
     /// It takes a step a queue and a MAP, and no memory.
@@ -64,19 +64,19 @@ impl LentSettings<'_> {
     }
 
     /// How many packets the packet queues hold at most, all together.
-    pub fn packets_held(self) -> u128
-        ensures value { result ≡ packets_held (settings_of self.entry) }
+    pub fn packets_stored(self) -> u128
+        ensures value { result ≡ packets_stored (settings_of self.entry) }
         ensures within { result < 2 ^ 80 }
     {
-        held_packets(self.queues)
+        stored_packets(self.queues)
     }
 
     /// How many units the unit queues hold at most, all together.
-    pub fn units_held(self) -> u128
-        ensures value { result ≡ units_held (settings_of self.entry) }
+    pub fn units_stored(self) -> u128
+        ensures value { result ≡ units_stored (settings_of self.entry) }
         ensures within { result < 2 ^ 80 }
     {
-        held_units(self.maps)
+        stored_units(self.maps)
     }
 
     /// The octets of the largest packet: on a plain channel those of a data field, else those of the largest unit.
@@ -109,27 +109,27 @@ impl LentSettings<'_> {
 }
 
 // How many packets the packet queues hold, all together.
-fn held_packets(queues: &[QueueSetting]) -> u128
+fn stored_packets(queues: &[QueueSetting]) -> u128
     ensures value { result ≡ sum_by (λ (q : QueueSetting). q.capacity) queues.now }
     ensures within { result < 2 ^ 80 }
 {
-    let mut held: u128 = 0;
+    let mut stored: u128 = 0;
     for queue in queues {
-        held += u128::from(queue.capacity);
+        stored += u128::from(queue.capacity);
     }
-    held
+    stored
 }
 
 // How many units the unit queues hold, all together.
-fn held_units(maps: &[MapSetting]) -> u128
+fn stored_units(maps: &[MapSetting]) -> u128
     ensures value { result ≡ sum_by (λ (m : MapSetting). m.capacity) maps.now }
     ensures within { result < 2 ^ 80 }
 {
-    let mut held: u128 = 0;
+    let mut stored: u128 = 0;
     for chosen in maps {
-        held += u128::from(chosen.capacity);
+        stored += u128::from(chosen.capacity);
     }
-    held
+    stored
 }
 
 // The open runs, each of the largest unit.
@@ -151,8 +151,8 @@ fn queue_octets(settings: LentSettings<'_>) -> u128
 {
     let queues = settings.queues.len() as u128 + settings.maps.len() as u128;
     queues * QUEUE_WORDS
-        + settings.packets_held() * (ROOM_WORDS + settings.largest_item())
-        + settings.units_held() * (ROOM_WORDS + LARGEST_UNIT as u128)
+        + settings.packets_stored() * (ROOM_WORDS + settings.largest_item())
+        + settings.units_stored() * (ROOM_WORDS + LARGEST_UNIT as u128)
 }
 
 // The table of places of so many queues.
@@ -182,10 +182,10 @@ fn segment_octets(settings: LentSettings<'_>) -> u128
 /// more octets than as many largest units; in a lawful one its buffer holds no more octets than as many largest data fields.
 #[tactic(auto, using(crate::proofs::Closing::memory))]
 pub fn no_more_items_wait_than_memory_counts()
-    ensures packets { (limits : ℕ → ℕ) (s : Settings) (journal : List Event) → waiting_in_all (run_within limits s journal).queues ≤ packets_held s }
-    ensures units { (limits : ℕ → ℕ) (s : Settings) (journal : List Event) → waiting_in_all (run_within limits s journal).units ≤ units_held s }
-    ensures packet_octets { (limits : ℕ → ℕ) (s : Settings) (journal : List Event) → octets_waiting (run_within limits s journal).queues ≤ packets_held s * largest_unit }
-    ensures unit_octets { (limits : ℕ → ℕ) (s : Settings) (journal : List Event) → octets_waiting (run_within limits s journal).units ≤ units_held s * largest_unit }
+    ensures packets { (limits : ℕ → ℕ) (s : Settings) (journal : List Event) → waiting_in_all (run_within limits s journal).queues ≤ packets_stored s }
+    ensures units { (limits : ℕ → ℕ) (s : Settings) (journal : List Event) → waiting_in_all (run_within limits s journal).units ≤ units_stored s }
+    ensures packet_octets { (limits : ℕ → ℕ) (s : Settings) (journal : List Event) → octets_waiting (run_within limits s journal).queues ≤ packets_stored s * largest_unit }
+    ensures unit_octets { (limits : ℕ → ℕ) (s : Settings) (journal : List Event) → octets_waiting (run_within limits s journal).units ≤ units_stored s * largest_unit }
     ensures field_octets { (limits : ℕ → ℕ) (s : Settings) (journal : List Event) → IsLawfulWithin limits s journal → octets_in (buffer (run_within limits s journal)) ≤ s.buffer * largest_field }
 {}
 

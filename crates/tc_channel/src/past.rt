@@ -1,7 +1,7 @@
 //! What clauses see of a channel, without an octet.
 
 use crate::settings::Settings;
-use crate::unkept::EventsSeen;
+use crate::unrecorded::EventsSeen;
 use std::marker::Model;
 use std::snapshot::Snapshot;
 

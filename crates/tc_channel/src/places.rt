@@ -4,13 +4,13 @@ ghost use Rattle.std.specs.Prelude.{◌<◌, ◌≤◌, ◌+◌, ◌≡◌, ◌�
 ghost use Rattle.std.specs.Box.{boxed_slice_items};
 ghost use Rattle.std.specs.Option.{option_copied};
 ghost use Rattle.std.specs.List.{AllByRecursion};
-ghost use Rattle.tc_channel.specs.HeldQueues.{keys_of, queue_for};
+ghost use Rattle.tc_channel.specs.StoredQueues.{keys_of, queue_for};
 ghost use Rattle.tc_channel.specs.Keyed.{ring_in, rings_in};
 ghost use Rattle.tc_channel.specs.Places.{IsFirst, IsTableOf, IsTabled};
 ghost use Rattle.tc_channel.specs.Steps.{looks};
 
 use crate::queue::Queue;
-use crate::steps::Count;
+use crate::steps::Tick;
 use std::alloc::{AllocError, Global};
 use std::boxed::BoxedSlice;
 use tc_rooms::Room;
@@ -26,14 +26,14 @@ const QUEUES_IN_A_TABLE: usize = 65_535;
 
 // The place of the queue with this key, found by a search.
 #[tactic(auto, using(crate::proofs::Closing::searched))]
-fn search_place<R: Room, C: Count>(queues: &[Queue<R>], key: u16, steps: &mut C) -> Option<usize>
+fn search_place<R: Room, C: Tick>(queues: &[Queue<R>], key: u16, steps: &mut C) -> Option<usize>
     ensures first { IfSome result (λ place. IsFirst key place (keys_of (rings_in queues.now))) }
     ensures some { IfSome result (λ place. (place < length queues.now) × (key ≡ get_or (keys_of (rings_in queues.now)) place key)) }
     ensures none { IfNone result (AllByRecursion (λ other. key ≢ other) (keys_of (rings_in queues.now))) }
     ensures cost { C.taken steps.new ≤ C.taken steps.old + length queues.now }
 {
     for (place, queue) in queues.iter().enumerate() {
-        if key == queue.key_counted(steps) {
+        if key == queue.key_with_steps(steps) {
             return Some(place);
         }
     }
@@ -43,8 +43,8 @@ fn search_place<R: Room, C: Count>(queues: &[Queue<R>], key: u16, steps: &mut C)
 /// The place of the queue with this key: from the table where there is one and the key is in it. A step is taken for each queue that
 /// is looked at.
 #[inline(always)]
-#[tactic(auto, using(crate::proofs::Closing::told))]
-pub(crate) fn place_of<R: Room, C: Count>(
+#[tactic(auto, using(crate::proofs::Closing::reported))]
+pub(crate) fn place_of<R: Room, C: Tick>(
     queues: &[Queue<R>],
     table: &[u16],
     key: u16,
@@ -69,7 +69,7 @@ pub(crate) fn place_of<R: Room, C: Count>(
 }
 
 /// A table of the places of these queues, or an empty one where there are few.
-pub(crate) fn see_places<R: Room, C: Count>(
+pub(crate) fn see_places<R: Room, C: Tick>(
     alloc: Global,
     queues: &[Queue<R>],
     steps: &mut C,
@@ -82,7 +82,7 @@ pub(crate) fn see_places<R: Room, C: Count>(
     let none = queues.len() as u16;
     let mut table = vec![in alloc; none; KEYS]?;
     for (place, queue) in queues.iter().enumerate() {
-        let key = queue.key_counted(steps) as usize;
+        let key = queue.key_with_steps(steps) as usize;
         if key < KEYS && table[key] == none {
             table[key] = place as u16;
         }
@@ -92,7 +92,7 @@ pub(crate) fn see_places<R: Room, C: Count>(
 
 /// The queue with this key.
 #[tactic(auto, using(crate::proofs::Closing::by_key))]
-pub(crate) fn find_in<'a, R: Room, C: Count>(
+pub(crate) fn find_in<'a, R: Room, C: Tick>(
     queues: &'a [Queue<R>],
     table: &[u16],
     key: u16,

@@ -2,9 +2,9 @@
 
 ghost use Rattle.std.specs.Prelude.{◌≡◌, ◌≤◌, ◌+◌, [], length, drop, true, false, IfOk, IsOk, OnErr, None, slice_get, option_map};
 ghost use Rattle.tc_rooms.specs.Rooms.{slotted};
-ghost use Rattle.tc_channel.specs.Keyed.{ring_in, laid_in, settled, let_go as let_go_of, IsPutBehind};
+ghost use Rattle.tc_channel.specs.Keyed.{ring_in, staged_in, committed, roll_back as rolled_back_of, IsPutBehind};
 
-use crate::steps::Count;
+use crate::steps::Tick;
 use std::alloc::{AllocError, Global};
 use std::marker::Model;
 use tc_rooms::{GrowingRoom, Room, Slots};
@@ -40,7 +40,7 @@ impl<R: Room> Queue<R> {
 
     /// Its key. To look at it is a step, and there is no other way to it.
     #[inline(always)]
-    pub fn key_counted<C: Count>(&self, steps: &mut C) -> u16
+    pub fn key_with_steps<C: Tick>(&self, steps: &mut C) -> u16
         ensures key { result ≡ self.now.key }
         ensures most { C.taken steps.new ≤ C.taken steps.old + 1 }
         ensures one { C.counts ≡ true → C.taken steps.new ≡ C.taken steps.old + 1 }
@@ -63,34 +63,34 @@ impl<R: Room> Queue<R> {
         self.slots.front()
     }
 
-    // Lays an item behind the others, where there is a place, and says whether there was. It counts at once where no memory can be
+    // Stages an item behind the others, where there is a place, and says whether there was. It counts at once where no memory can be
     // refused.
     #[inline(always)]
-    pub(crate) fn lay(&mut self, octets: &[u8]) -> Result<bool, AllocError>
+    pub(crate) fn stage(&mut self, octets: &[u8]) -> Result<bool, AllocError>
         requires fits { length octets.now ≤ self.old.slots.size }
-        requires settled { R.grows ≡ false → self.old.slots.laid ≡ [] }
-        ensures laid { IfOk result (IsPutBehind octets.now (laid_in self.old) (laid_in self.new)) }
+        requires committed { R.grows ≡ false → self.old.slots.staged ≡ [] }
+        ensures staged { IfOk result (IsPutBehind octets.now (staged_in self.old) (staged_in self.new)) }
         ensures refused { OnErr result (self.new ≡ self.old) }
         ensures key { self.new.key ≡ self.old.key }
         ensures ring { R.grows ≡ true → self.new.slots.ring ≡ self.old.slots.ring }
-        ensures settled { R.grows ≡ false → self.new.slots.laid ≡ [] }
+        ensures committed { R.grows ≡ false → self.new.slots.staged ≡ [] }
         ensures size { self.new.slots.size ≡ self.old.slots.size }
         ensures answered { R.grows ≡ false → IsOk result }
     {
         if R::may_ask() {
-            return self.slots.lay(octets);
+            return self.slots.stage(octets);
         }
         self.put(octets)
     }
 
-    // Puts an item behind the others, where there is a place and nothing is laid, and says whether there was.
+    // Puts an item behind the others, where there is a place and nothing is staged, and says whether there was.
     #[inline(always)]
     pub(crate) fn put(&mut self, octets: &[u8]) -> Result<bool, AllocError>
         requires fits { length octets.now ≤ self.old.slots.size }
-        requires settled { self.old.slots.laid ≡ [] }
+        requires committed { self.old.slots.staged ≡ [] }
         ensures put { IfOk result (IsPutBehind octets.now (ring_in self.old) (ring_in self.new)) }
         ensures refused { OnErr result (self.new ≡ self.old) }
-        ensures settled { self.new.slots.laid ≡ [] }
+        ensures committed { self.new.slots.staged ≡ [] }
         ensures key { self.new.key ≡ self.old.key }
         ensures size { self.new.slots.size ≡ self.old.slots.size }
         ensures answered { R.grows ≡ false → IsOk result }
@@ -98,26 +98,26 @@ impl<R: Room> Queue<R> {
         self.slots.put(octets)
     }
 
-    // What was laid counts.
+    // What was staged counts.
     #[inline(always)]
-    pub(crate) fn settle(&mut self)
-        ensures { self.new ≡ settled self.old }
+    pub(crate) fn commit(&mut self)
+        ensures { self.new ≡ committed self.old }
     {
-        self.slots.settle();
+        self.slots.commit();
     }
 
-    // What was laid is let go.
-    pub(crate) fn let_go(&mut self)
-        ensures { self.new ≡ let_go_of self.old }
+    // What was staged is rolled back.
+    pub(crate) fn roll_back(&mut self)
+        ensures { self.new ≡ rolled_back_of self.old }
     {
-        self.slots.let_go();
+        self.slots.roll_back();
     }
 
     // Drops the oldest item, if there is one.
     #[inline(always)]
     pub(crate) fn pop_front(&mut self)
         ensures key { self.new.key ≡ self.old.key }
-        ensures slots { self.new.slots ≡ slotted (drop 1 self.old.slots.ring.items) self.old.slots.ring.capacity self.old.slots.laid self.old.slots.size }
+        ensures slots { self.new.slots ≡ slotted (drop 1 self.old.slots.ring.items) self.old.slots.ring.capacity self.old.slots.staged self.old.slots.size }
     {
         self.slots.pop_front();
     }
@@ -128,7 +128,7 @@ impl Queue<GrowingRoom> {
     pub(crate) fn take_front(&mut self) -> Option<Vec<u8>>
         ensures key { self.new.key ≡ self.old.key }
         ensures item { option_map (λ block. block.items) result ≡ slice_get self.old.slots.ring.items 0 }
-        ensures slots { self.new.slots ≡ slotted (drop 1 self.old.slots.ring.items) self.old.slots.ring.capacity self.old.slots.laid self.old.slots.size }
+        ensures slots { self.new.slots ≡ slotted (drop 1 self.old.slots.ring.items) self.old.slots.ring.capacity self.old.slots.staged self.old.slots.size }
         ensures refused { result ≡ None → self.new ≡ self.old }
     {
         self.slots.take_front()

@@ -3,10 +3,10 @@
 ghost use Rattle.std.specs.Prelude.{ℕ, List, ◌≡◌, ◌≤◌, ◌↔◌, ◌+◌, length, false, IfOk, IsOk, IsTrue, IsSome, OnErr, Some, None, option_map};
 ghost use Rattle.std.specs.Option.{option_copied};
 ghost use Rattle.tc_packet.specs.SpacePacket.{packets_of};
-ghost use Rattle.tc_channel.specs.HeldQueues.{keys_of, AreDistinct, queue_for, popped, HeldQueue, oldest_for};
+ghost use Rattle.tc_channel.specs.StoredQueues.{keys_of, AreDistinct, queue_for, popped, StoredQueue, oldest_for};
 ghost use Rattle.tc_packet.specs.declared.runs.Ended.TheVariants as Ended;
 ghost use Rattle.tc_packet.specs.Store.{unit_in, IsThere, IsAtMost};
-ghost use Rattle.tc_channel.specs.Keyed.{ring_in, rings_in, room_sizes, Fit, FitsIn, AreSettled};
+ghost use Rattle.tc_channel.specs.Keyed.{ring_in, rings_in, room_sizes, Fit, FitsIn, AreCommitted};
 ghost use Rattle.tc_channel.specs.Delivering.{IsDelivered};
 ghost use Rattle.tc_channel.specs.Steps.{delivery_steps, looks_for, packet_steps};
 
@@ -14,7 +14,7 @@ use crate::delivering::deliver;
 use crate::places::{find_in, see_places};
 use crate::queue::Queue;
 use crate::reply::Delivery;
-use crate::steps::Count;
+use crate::steps::Tick;
 use crate::taking::{pop_from, take_from};
 use std::alloc::{AllocError, Global};
 use std::boxed::BoxedSlice;
@@ -33,7 +33,7 @@ pub struct Queues<R: Room> {
 impl<R: Room> Model for Queues<R> {
     ghost use Rattle.std.specs.Prelude.{List};
     ghost use Rattle.std.specs.Box.{boxed_slice_items};
-    ghost use Rattle.tc_channel.specs.HeldQueues.{keys_of};
+    ghost use Rattle.tc_channel.specs.StoredQueues.{keys_of};
     ghost use Rattle.tc_channel.specs.Keyed.{Keyed, rings_in};
     ghost use Rattle.tc_channel.specs.Places.{IsTabled};
 
@@ -46,7 +46,7 @@ impl<R: Room> Model for Queues<R> {
 
 impl<R: Room> Queues<R> {
     /// These queues, whose keys stay. Where they are 8 or more, a table of the place of each APID's queue is made with them.
-    pub fn new<C: Count>(
+    pub fn new<C: Tick>(
         alloc: Global,
         queues: Vec<Queue<R>>,
         steps: &mut C,
@@ -61,7 +61,7 @@ impl<R: Room> Queues<R> {
     }
 
     /// The queue with this key.
-    pub fn find<C: Count>(&self, key: u16, steps: &mut C) -> Option<&Queue<R>>
+    pub fn find<C: Tick>(&self, key: u16, steps: &mut C) -> Option<&Queue<R>>
         ensures queue { option_map ring_in (option_copied result) ≡ queue_for key (rings_in self.now) }
         ensures cost { C.taken steps.new ≤ C.taken steps.old + looks_for key (length self.now) }
     {
@@ -69,7 +69,7 @@ impl<R: Room> Queues<R> {
     }
 
     /// The octets of the oldest item of the queue with this key.
-    pub fn oldest<C: Count>(&self, key: u16, steps: &mut C) -> Option<&[u8]>
+    pub fn oldest<C: Tick>(&self, key: u16, steps: &mut C) -> Option<&[u8]>
         ensures item { option_map (λ octets. octets.now) result ≡ oldest_for key (rings_in self.now) }
         ensures cost { C.taken steps.new ≤ C.taken steps.old + looks_for key (length self.now) }
     {
@@ -77,11 +77,11 @@ impl<R: Room> Queues<R> {
     }
 
     /// Drops the oldest item of the queue with this key, where one waits, and says whether it did.
-    pub fn pop<C: Count>(&mut self, key: u16, steps: &mut C) -> bool
+    pub fn pop<C: Tick>(&mut self, key: u16, steps: &mut C) -> bool
         ensures waits { IsTrue result ↔ IsSome (oldest_for key (rings_in self.old)) }
         ensures rings { rings_in self.new ≡ popped key (rings_in self.old) }
         ensures sizes { room_sizes self.new ≡ room_sizes self.old }
-        ensures settled { AreSettled self.old → AreSettled self.new }
+        ensures committed { AreCommitted self.old → AreCommitted self.new }
         ensures refused { result ≡ false → self.new ≡ self.old }
         ensures cost { C.taken steps.new ≤ C.taken steps.old + looks_for key (length self.old) }
     {
@@ -92,11 +92,11 @@ impl<R: Room> Queues<R> {
 impl Queues<GrowingRoom> {
     /// Takes the oldest item out of the queue with this key, where one waits, in its own block: none of its octets is copied, and no
     /// memory is asked for.
-    pub fn take<C: Count>(&mut self, key: u16, steps: &mut C) -> Option<Vec<u8>>
+    pub fn take<C: Tick>(&mut self, key: u16, steps: &mut C) -> Option<Vec<u8>>
         ensures item { option_map (λ block. block.items) result ≡ oldest_for key (rings_in self.old) }
         ensures rings { rings_in self.new ≡ popped key (rings_in self.old) }
         ensures sizes { room_sizes self.new ≡ room_sizes self.old }
-        ensures settled { AreSettled self.old → AreSettled self.new }
+        ensures committed { AreCommitted self.old → AreCommitted self.new }
         ensures refused { result ≡ None → self.new ≡ self.old }
         ensures cost { C.taken steps.new ≤ C.taken steps.old + looks_for key (length self.old) }
     {
@@ -106,7 +106,7 @@ impl Queues<GrowingRoom> {
 
 // Delivers a unit: whole where its MAP is chosen, else by its packets. Where memory runs out all queues are as they were.
 #[inline(always)]
-fn deliver_unit<R: Room, C: Count>(
+fn deliver_unit<R: Room, C: Tick>(
     queues: &mut Queues<R>,
     units: &mut Queues<R>,
     map: u8,
@@ -118,12 +118,12 @@ fn deliver_unit<R: Room, C: Count>(
     requires units_distinct { AreDistinct (keys_of (rings_in units.old)) }
     requires fits { Fit unit.now (room_sizes queues.old) }
     requires units_fit { Fit unit.now (room_sizes units.old) }
-    requires settled { AreSettled queues.old }
-    requires units_settled { AreSettled units.old }
+    requires committed { AreCommitted queues.old }
+    requires units_committed { AreCommitted units.old }
     ensures delivered { IfOk result (IsDelivered map (Some unit.now) (rings_in queues.old) (rings_in queues.new) (rings_in units.old) (rings_in units.new)) }
     ensures refused { OnErr result ((rings_in queues.new ≡ rings_in queues.old) × (rings_in units.new ≡ rings_in units.old)) }
-    ensures settled { AreSettled queues.new }
-    ensures units_settled { AreSettled units.new }
+    ensures committed { AreCommitted queues.new }
+    ensures units_committed { AreCommitted units.new }
     ensures sizes { room_sizes queues.new ≡ room_sizes queues.old }
     ensures unit_sizes { room_sizes units.new ≡ room_sizes units.old }
     ensures answered { R.grows ≡ false → IsOk result }
@@ -155,11 +155,11 @@ fn unit_of<'a, R: Room>(runs: &'a Runs<R>, field: &'a [u8], ended: Ended) -> Opt
 }
 
 /// Delivers the unit that a data field ended, if it ended one, from where it lies. Where memory runs out all queues are as they were.
-/// A step is counted for each packet that is cut from the unit, and for each queue that is looked at while one is found, settled or let
-/// go. So the steps grow as the unit's packets times the queues that are looked at where one is found: one where there are 8 queues or
-/// more, else each at most.
+/// A step is counted for each packet that is cut from the unit, and for each queue that is looked at while one is found,
+/// committed or rolled back. So the steps grow as the unit's packets times the queues that are looked at where one is found: one
+/// where there are 8 queues or more, else each at most.
 #[inline(always)]
-pub(crate) fn deliver_ended<R: Room, C: Count>(
+pub(crate) fn deliver_ended<R: Room, C: Tick>(
     runs: &Runs<R>,
     queues: &mut Queues<R>,
     units: &mut Queues<R>,
@@ -174,14 +174,14 @@ pub(crate) fn deliver_ended<R: Room, C: Count>(
     requires units_distinct { AreDistinct (keys_of (rings_in units.old)) }
     requires fits { FitsIn (room_sizes queues.old) (unit_in ended runs.now field.now) }
     requires units_fit { FitsIn (room_sizes units.old) (unit_in ended runs.now field.now) }
-    requires settled { AreSettled queues.old }
-    requires units_settled { AreSettled units.old }
+    requires committed { AreCommitted queues.old }
+    requires units_committed { AreCommitted units.old }
     ensures delivered { IfOk result (IsDelivered map (unit_in ended runs.now field.now) (rings_in queues.old) (rings_in queues.new)
         (rings_in units.old) (rings_in units.new)) }
     ensures refused { OnErr result ((rings_in queues.new ≡ rings_in queues.old) × (rings_in units.new ≡ rings_in units.old)) }
     ensures ended { OnErr result (ended ≡ Ended.Nothing → ⊥) }
-    ensures settled { AreSettled queues.new }
-    ensures units_settled { AreSettled units.new }
+    ensures committed { AreCommitted queues.new }
+    ensures units_committed { AreCommitted units.new }
     ensures sizes { room_sizes queues.new ≡ room_sizes queues.old }
     ensures unit_sizes { room_sizes units.new ≡ room_sizes units.old }
     ensures answered { R.grows ≡ false → IsOk result }
@@ -196,7 +196,7 @@ pub(crate) fn deliver_ended<R: Room, C: Count>(
 
 /// Delivers no unit.
 pub(crate) fn deliver_nothing() -> Delivery
-    ensures { (map_id : ℕ) (queues units : List HeldQueue) → IsDelivered map_id None queues queues units units result }
+    ensures { (map_id : ℕ) (queues units : List StoredQueue) → IsDelivered map_id None queues queues units units result }
 {
     Delivery {
         queued: 0,

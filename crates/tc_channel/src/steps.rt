@@ -7,7 +7,7 @@ use std::sync::ledger::{Blank, Book, Ledger, Share};
 
 /// What counts steps. The bodies that count are generic over it, and can't make one of their own: each step that they take is counted by
 /// the count that they were given.
-pub trait Count {
+pub trait Tick {
     // how many steps were counted
     ghost taken: { Self → ℕ };
 
@@ -20,7 +20,7 @@ pub trait Count {
         ensures one { counts ≡ true → taken self.new ≡ taken self.old + 1 };
 }
 
-/// How many steps were taken. It takes no octets, and only [`tick`](Count::tick) changes it.
+/// How many steps were taken. It takes no octets, and only [`tick`](Tick::tick) changes it.
 #[derive(Drop)]
 pub struct Steps<L: Ledger> {
     book: Book<L>,
@@ -50,7 +50,7 @@ impl<L: Ledger> Steps<L> {
     }
 }
 
-impl<L: Ledger> Count for Steps<L> {
+impl<L: Ledger> Tick for Steps<L> {
     ghost use Rattle.std.specs.Prelude.{true};
 
     ghost taken = { λ s. s };

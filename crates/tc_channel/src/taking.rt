@@ -2,14 +2,14 @@
 
 ghost use Rattle.std.specs.Prelude.{ℕ, ◌<◌, ◌≤◌, ◌≡◌, ◌↔◌, ◌+◌, length, false, IsTrue, IsSome, None, option_map};
 ghost use Rattle.std.specs.Box.{boxed_slice_items};
-ghost use Rattle.tc_channel.specs.HeldQueues.{keys_of, popped, oldest_for};
-ghost use Rattle.tc_channel.specs.Keyed.{rings_in, room_sizes, AreSettled};
+ghost use Rattle.tc_channel.specs.StoredQueues.{keys_of, popped, oldest_for};
+ghost use Rattle.tc_channel.specs.Keyed.{rings_in, room_sizes, AreCommitted};
 ghost use Rattle.tc_channel.specs.Places.{IsFirst, IsTableOf};
 ghost use Rattle.tc_channel.specs.Steps.{looks};
 
 use crate::places::place_of;
 use crate::queue::Queue;
-use crate::steps::Count;
+use crate::steps::Tick;
 use std::boxed::BoxedSlice;
 use tc_rooms::{GrowingRoom, Room};
 
@@ -21,7 +21,7 @@ fn pop_at<R: Room>(queues: &mut BoxedSlice<Queue<R>>, place: usize) -> bool
     ensures rings { (key : ℕ) → IsFirst key place (keys_of (rings_in (boxed_slice_items queues.old))) → rings_in (boxed_slice_items queues.new) ≡ popped key (rings_in (boxed_slice_items queues.old)) }
     ensures keys { keys_of (rings_in (boxed_slice_items queues.new)) ≡ keys_of (rings_in (boxed_slice_items queues.old)) }
     ensures sizes { room_sizes (boxed_slice_items queues.new) ≡ room_sizes (boxed_slice_items queues.old) }
-    ensures settled { AreSettled (boxed_slice_items queues.old) → AreSettled (boxed_slice_items queues.new) }
+    ensures committed { AreCommitted (boxed_slice_items queues.old) → AreCommitted (boxed_slice_items queues.new) }
     ensures refused { result ≡ false → boxed_slice_items queues.new ≡ boxed_slice_items queues.old }
 {
     if queues[place].len() == 0 {
@@ -39,14 +39,14 @@ fn take_at(queues: &mut BoxedSlice<Queue<GrowingRoom>>, place: usize) -> Option<
     ensures rings { (key : ℕ) → IsFirst key place (keys_of (rings_in (boxed_slice_items queues.old))) → rings_in (boxed_slice_items queues.new) ≡ popped key (rings_in (boxed_slice_items queues.old)) }
     ensures keys { keys_of (rings_in (boxed_slice_items queues.new)) ≡ keys_of (rings_in (boxed_slice_items queues.old)) }
     ensures sizes { room_sizes (boxed_slice_items queues.new) ≡ room_sizes (boxed_slice_items queues.old) }
-    ensures settled { AreSettled (boxed_slice_items queues.old) → AreSettled (boxed_slice_items queues.new) }
+    ensures committed { AreCommitted (boxed_slice_items queues.old) → AreCommitted (boxed_slice_items queues.new) }
     ensures refused { result ≡ None → boxed_slice_items queues.new ≡ boxed_slice_items queues.old }
 {
     queues[place].take_front()
 }
 
 /// Drops the oldest item of the queue with this key, where one waits, and says whether it did.
-pub(crate) fn pop_from<R: Room, C: Count>(
+pub(crate) fn pop_from<R: Room, C: Tick>(
     queues: &mut BoxedSlice<Queue<R>>,
     table: &[u16],
     key: u16,
@@ -57,7 +57,7 @@ pub(crate) fn pop_from<R: Room, C: Count>(
     ensures rings { rings_in (boxed_slice_items queues.new) ≡ popped key (rings_in (boxed_slice_items queues.old)) }
     ensures keys { keys_of (rings_in (boxed_slice_items queues.new)) ≡ keys_of (rings_in (boxed_slice_items queues.old)) }
     ensures sizes { room_sizes (boxed_slice_items queues.new) ≡ room_sizes (boxed_slice_items queues.old) }
-    ensures settled { AreSettled (boxed_slice_items queues.old) → AreSettled (boxed_slice_items queues.new) }
+    ensures committed { AreCommitted (boxed_slice_items queues.old) → AreCommitted (boxed_slice_items queues.new) }
     ensures refused { result ≡ false → boxed_slice_items queues.new ≡ boxed_slice_items queues.old }
     ensures cost { key < 2048 → C.taken steps.new ≤ C.taken steps.old + looks (boxed_slice_items queues.old) table.now }
     ensures far { 2048 ≤ key → C.taken steps.new ≤ C.taken steps.old + length (boxed_slice_items queues.old) }
@@ -69,7 +69,7 @@ pub(crate) fn pop_from<R: Room, C: Count>(
 }
 
 /// Takes the oldest item out of the queue with this key, in its own block.
-pub(crate) fn take_from<C: Count>(
+pub(crate) fn take_from<C: Tick>(
     queues: &mut BoxedSlice<Queue<GrowingRoom>>,
     table: &[u16],
     key: u16,
@@ -80,7 +80,7 @@ pub(crate) fn take_from<C: Count>(
     ensures rings { rings_in (boxed_slice_items queues.new) ≡ popped key (rings_in (boxed_slice_items queues.old)) }
     ensures keys { keys_of (rings_in (boxed_slice_items queues.new)) ≡ keys_of (rings_in (boxed_slice_items queues.old)) }
     ensures sizes { room_sizes (boxed_slice_items queues.new) ≡ room_sizes (boxed_slice_items queues.old) }
-    ensures settled { AreSettled (boxed_slice_items queues.old) → AreSettled (boxed_slice_items queues.new) }
+    ensures committed { AreCommitted (boxed_slice_items queues.old) → AreCommitted (boxed_slice_items queues.new) }
     ensures refused { result ≡ None → boxed_slice_items queues.new ≡ boxed_slice_items queues.old }
     ensures cost { key < 2048 → C.taken steps.new ≤ C.taken steps.old + looks (boxed_slice_items queues.old) table.now }
     ensures far { 2048 ≤ key → C.taken steps.new ≤ C.taken steps.old + length (boxed_slice_items queues.old) }

@@ -1,6 +1,6 @@
 -- What a script does is a function of its lines.
 use Rattle.std.proofs.Common.{◌≡◌, ◌<◌, ℕ, List, [], ◌∷◌, ◌++◌, ◌⊎◌, Ok, Option, None, Some, map, length, set, slice_get, inl, inr, refl, sym, ap, ◌∙◌, subst, arith, ◌≢◌, All, Contains, IsPermutation}
-use Rattle.tc_cli.proofs.Names.{Add, All-head, All-tail, Answer, AreAnswers, BeginsWith, Changes, Channel, Clcw, Does, Empty, Frame, HasChannel, History, Instruction, IsAnswerOf, IsChannelAnswer, IsClcwAnswer, IsDoneSo, IsFirstLine, IsFrameAnswer, IsFrameAnswered, IsInstructionAnswered, IsLineAnswered, IsPerformed, IsRackLocateFault, IsReleaseAnswered, IsReportOf, IsScriptReport, IsTakeAnswered, IsUnitAnswered, Linked, LocateFault, NoMap, NoQueue, Nothing, Operating, Operation, Progress, Racked, Release, SettingUp, Settings, Setup, Take, TakeUnit, Unlocated, at_first, cases_lt, header_of, histories, instruction_of, later, map-map, new_linked, nil_from_length, no-fault, none-some, one_more, option_and_then, phase_of, rack_for, report_text, same_Some, slice_get-get_or, told_word, vcid_of, waiting_packets, waiting_units}
+use Rattle.tc_cli.proofs.Names.{Add, All-head, All-tail, Answer, AreAnswers, BeginsWith, Changes, Channel, Clcw, Does, Empty, Frame, HasChannel, History, Instruction, IsAnswerOf, IsChannelAnswer, IsClcwAnswer, IsDoneSo, IsFirstLine, IsFrameAnswer, IsFrameAnswered, IsInstructionAnswered, IsLineAnswered, IsPerformed, IsRackLocateFault, IsReleaseAnswered, IsReportOf, IsScriptReport, IsTakeAnswered, IsUnitAnswered, Linked, LocateFault, NoMap, NoQueue, Nothing, Operating, Operation, Progress, Racked, Release, SettingUp, Settings, Setup, Take, TakeUnit, Unlocated, at_first, cases_lt, header_of, histories, instruction_of, later, map-map, new_linked, nil_from_length, no-fault, none-some, one_more, option_and_then, phase_of, rack_for, report_text, same_Some, slice_get-get_or, reported_word, vcid_of, waiting_packets, waiting_units}
 use Rattle.std.proofs.lemmas.List.{length_push, map_push}
 use Rattle.std.proofs.lemmas.List.Sorted.{length_permutation}
 use Rattle.tc_channel.specs.declared.event.Event.TheVariants as events
@@ -104,13 +104,13 @@ IsNoneThere waiting without answer = ((waiting ≡ None) × (answer ≡ without)
 
 -- the oldest of what waits is taken, where there is any
 abbrev IsOldestTaken : Option (List (List ℕ)) → (List ℕ → Answer) → Answer → Linked → Linked → Answer → Linked → Type 0
-IsOldestTaken waiting told without next old answer new =
-    ((item : List ℕ) × (option_and_then (λ items. slice_get items 0) waiting ≡ Some item) × (answer ≡ told item) × (new ≡ next))
+IsOldestTaken waiting reported without next old answer new =
+    ((item : List ℕ) × (option_and_then (λ items. slice_get items 0) waiting ≡ Some item) × (answer ≡ reported item) × (new ≡ next))
     ⊎ (IsNoneThere waiting without answer × (new ≡ old))
 
-oldest-determined : (waiting : Option (List (List ℕ))) (told : List ℕ → Answer) (without : Answer) (next old new other : Linked) (answer another : Answer)
-    → IsOldestTaken waiting told without next old answer new → IsOldestTaken waiting told without next old another other → (answer ≡ another) × (new ≡ other)
-oldest-determined waiting told without next old new other answer another one two = grind arith
+oldest-determined : (waiting : Option (List (List ℕ))) (reported : List ℕ → Answer) (without : Answer) (next old new other : Linked) (answer another : Answer)
+    → IsOldestTaken waiting reported without next old answer new → IsOldestTaken waiting reported without next old another other → (answer ≡ another) × (new ≡ other)
+oldest-determined waiting reported without next old new other answer another one two = grind arith
 
 take-determined : (apid : ℕ) → IsDetermined (IsTakeAnswered apid)
 take-determined apid old new other answer another one two =
@@ -180,7 +180,7 @@ operation-ids (operations.Clcw vcid) old new answer (read, still) = ap (λ (r : 
 -- a CLCW is that of the channel with the id
 word-determined : (vcid : ℕ) (rack : Racked) (answer another : Answer) → AreApart (map vcid_of rack.channels) → IsClcwAnswer vcid rack answer → IsClcwAnswer vcid rack another → answer ≡ another
 word-determined vcid rack answer another apart (inl (place, channel, at, is)) (inl (second, other, to, too)) =
-    is ∙ (ap told_word (same-at vcid_of rack.channels apart vcid place second channel other at.0 at.1 to.0 to.1).1 ∙ sym too)
+    is ∙ (ap reported_word (same-at vcid_of rack.channels apart vcid place second channel other at.0 at.1 to.0 to.1).1 ∙ sym too)
 word-determined vcid rack answer another apart (inl (place, channel, at, word)) (inr (none, too)) = absurd (none (any-here (λ (c : Linked). vcid_of c ≡ vcid) rack.channels place channel at.0 at.1))
 word-determined vcid rack answer another apart (inr (none, is)) (inl (place, channel, at, word)) = absurd (none (any-here (λ (c : Linked). vcid_of c ≡ vcid) rack.channels place channel at.0 at.1))
 word-determined vcid rack answer another apart (inr (none, is)) (inr (nothing, too)) = is ∙ sym too
@@ -254,7 +254,7 @@ addition-determined list new other vcid addition apart (place, s, at, allowed, i
 
 module _ (only : IsOneAtMost) (scid : ℕ) where
   done-apart : (operation : Operation) (old new : Progress) (answer : Option Answer) → AreApart (ids_of old) → IsDoneSo (IsPerformed scid) operation old answer new → AreApart (ids_of new)
-  done-apart operation old new answer apart (a, performed, told) =
+  done-apart operation old new answer apart (a, performed, reported) =
       let at = performed-at scid operation old new a performed in
       let same : ids_of new ≡ ids_of old = ap ids_of at.2 ∙ (operation-ids operation (rack_for scid old) at.0 a at.1 ∙ rack-ids scid old) in
       subst AreApart (sym same) apart
@@ -287,13 +287,13 @@ module _ (only : IsOneAtMost) (scid : ℕ) where
 
   done-determined : (operation : Operation) (old new other : Progress) (answer another : Option Answer) → AreApart (ids_of old) → IsDoneSo (IsPerformed scid) operation old answer new
       → IsDoneSo (IsPerformed scid) operation old another other → (new ≡ other) × (answer ≡ another)
-  done-determined operation old new other answer another apart (a, performed, told) (b, done, said) =
+  done-determined operation old new other answer another apart (a, performed, reported) (b, done, said) =
       let at = performed-at scid operation old new a performed in
       let to = performed-at scid operation old other b done in
       let ids : AreApart (map vcid_of (rack_for scid old).channels) = subst AreApart (sym (rack-ids scid old)) apart in
       let one = operation-determined only operation (rack_for scid old) at.0 to.0 a b ids at.1 to.1 in (
         at.2 ∙ (ap (λ (r : Racked). Operating r) one.1 ∙ sym to.2),
-        told ∙ (ap (λ (x : Answer). Some x) one.0 ∙ sym said),
+        reported ∙ (ap (λ (x : Answer). Some x) one.0 ∙ sym said),
       )
 
   line-determined : (instruction : Instruction) (old new other : Progress) (answer another : Option Answer) → AreApart (ids_of old)
@@ -335,13 +335,13 @@ module _ (only : IsOneAtMost) (scid : ℕ) where
       absurd (omega (arith, long, length_push before answer))
   same-way script answers others progress other rest left
       (one_more {answers = before} {stage = old} {rest = from} {line = line} {answer = answer} leads next answered)
-      (one_more {answers = prior} {stage = was} {rest = since} {line = read} {answer = another} led after told) long =
+      (one_more {answers = prior} {stage = was} {rest = since} {line = read} {answer = another} led after reported) long =
       let fewer : length before ≡ length prior = omega (arith, long, length_push before answer, length_push prior another) in
       let one = same-way script before prior old was from since leads led fewer in
       let first : IsFirstLine from read left = subst (λ (l : List ℕ). IsFirstLine l read left) (sym one.0) after in
       let parts = same-line from line rest read left next first in
-      let told_here = subst (λ (x : Progress × List ℕ). IsLineAnswered (IsPerformed scid) x.0 x.1 other another) (λ i. (sym one.1 i, sym parts.0 i)) told in
-      let both = next-determined line old progress other answer another (all-apart script before old from leads) answered told_here in
+      let reported_here = subst (λ (x : Progress × List ℕ). IsLineAnswered (IsPerformed scid) x.0 x.1 other another) (λ i. (sym one.1 i, sym parts.0 i)) reported in
+      let both = next-determined line old progress other answer another (all-apart script before old from leads) answered reported_here in
       (parts.1, both.0, λ i. one.2 i ++ both.1 i ∷ [])
 
   -- a way through fewer lines, after which a line follows
@@ -398,7 +398,7 @@ pub one-report : (only : IsOneAtMost) (scid : ℕ) (script : List ℕ) (answers 
 one-report only scid script answers progress text another leads (inl (none, is)) (inl (also, too)) = is ∙ sym too
 one-report only scid script answers progress text another leads (inl (none, is)) (inr (cs, moved, of)) = is ∙ sym (no-channels _ cs another (setup-report scid progress none) moved of)
 one-report only scid script answers progress text another leads (inr (cs, moved, of)) (inl (none, is)) = no-channels _ cs text (setup-report scid progress none) moved of ∙ sym is
-one-report only scid script answers progress text another leads (inr (cs, moved, of)) (inr (ds, turned, told)) =
+one-report only scid script answers progress text another leads (inr (cs, moved, of)) (inr (ds, turned, reported)) =
     let apart = all-apart only scid script answers progress [] leads in
-    let same : cs ≡ ds = one-order (histories (rack_for scid progress)) cs ds (keyed scid progress apart) moved turned of.rising told.rising in
-    of.written ∙ (ap report_text same ∙ sym told.written)
+    let same : cs ≡ ds = one-order (histories (rack_for scid progress)) cs ds (keyed scid progress apart) moved turned of.rising reported.rising in
+    of.written ∙ (ap report_text same ∙ sym reported.written)

@@ -1,6 +1,6 @@
 -- The channels of a closed station whose lists were worked side by side: they are those of the lines in order, and so is their report.
 use Rattle.std.proofs.Common.{◌≡◌, ◌<◌, ℕ, zero, suc, ◌+◌, List, [], ◌∷◌, Bool, true, false, Option, None, Some, All, map, length, get_or, cond, inl, inr, refl, sym, ap, ◌∙◌, subst, arith, eq-eqb, ne_eqb, not, ◌≢◌, ◌==◌, AllPairs, IsPermutation, nat_lt, slice_get, slice_index_or}
-use Rattle.tc_cli.proofs.Names.{Answer, AreAnswers, AreClosedTogether, AreWorkedChannels, AtLock, AtStation, Event, HasMadeNothing, HasSeenItsOwn, History, Identity, IsBeginning, IsClosed, IsPerformed, IsPlace, IsReportOf, IsScriptReport, IsWorkedOut, KnowsDesks, Linked, Parted, Progress, Racked, Roster, Settings, WorkList, column, crews_of, get_or_from_slice_get, heads_of, histories, length-map, lower, made_by, nobody, none-some, rack_for, report_text, same_Some, settings_in, slice_get_within, vcid_of, cases_lt}
+use Rattle.tc_cli.proofs.Names.{Answer, AreAnswers, AreClosedTogether, AreWorkedChannels, AtLock, AtStation, Event, HasMadeNothing, HasSeenItsOwn, History, Identity, IsBeginning, IsClosed, IsPerformed, IsPlace, IsReportOf, IsScriptReport, IsWorkedOut, KnowsDesks, Linked, Parted, Progress, Racked, Roster, Settings, WorkList, column, operator_lists_of, get_or_from_slice_get, heads_of, histories, length-map, lower, made_by, nobody, none-some, rack_for, report_text, same_Some, settings_in, slice_get_within, vcid_of, cases_lt}
 use mathlib.Core.Option.{some}
 use lib.ListN.{get_elem?}
 use Rattle.std.specs.List.{AllByRecursion, position_or_len}
@@ -51,17 +51,17 @@ all-made station (s ∷ shifts) each none zero x at =
 all-made station (s ∷ shifts) each none (suc k) x at = all-made station shifts each.1 (first-none s.refused (lowest shifts) none).1 k x at
 
 -- the k-th of the operators, as a maker of what was made at one desk
-maker-at : (ops : List AtStation) (place k : ℕ) (o : AtStation) → slice_get ops k ≡ Some o → made_by (accounts_of (column place (crews_of ops))) k ≡ (desk_at place o).own.made
+maker-at : (ops : List AtStation) (place k : ℕ) (o : AtStation) → slice_get ops k ≡ Some o → made_by (accounts_of (column place (operator_lists_of ops))) k ≡ (desk_at place o).own.made
 maker-at [] place k o at = absurd (none-some o at)
 maker-at (p ∷ ops) place zero o at = ap (λ (x : AtStation). (desk_at place x).own.made) (same_Some p o at)
 maker-at (p ∷ ops) place (suc k) o at = maker-at ops place k o at
 
-maker-past : (ops : List AtStation) (place k : ℕ) → slice_get ops k ≡ None → made_by (accounts_of (column place (crews_of ops))) k ≡ []
+maker-past : (ops : List AtStation) (place k : ℕ) → slice_get ops k ≡ None → made_by (accounts_of (column place (operator_lists_of ops))) k ≡ []
 maker-past [] place k at = refl
 maker-past (p ∷ ops) place zero at = absurd cc
 maker-past (p ∷ ops) place (suc k) at = maker-past ops place k at
 
-account-at : (ops : List AtStation) (place k : ℕ) (o : AtStation) → slice_get ops k ≡ Some o → get_elem? (accounts_of (column place (crews_of ops))) k ≡ some (desk_at place o).own
+account-at : (ops : List AtStation) (place k : ℕ) (o : AtStation) → slice_get ops k ≡ Some o → get_elem? (accounts_of (column place (operator_lists_of ops))) k ≡ some (desk_at place o).own
 account-at [] place k o at = absurd (none-some o at)
 account-at (p ∷ ops) place zero o at = ap (λ (x : AtStation). some (desk_at place x).own) (same_Some p o at)
 account-at (p ∷ ops) place (suc k) o at = account-at ops place k o at
@@ -111,10 +111,10 @@ module _ (laws : WorkLaws) (station : Roster) (lists : List WorkList) (rack : Ra
   -- the channel of a list, once it is closed
   one-closed : (shifts : List Shift) (befores ops : List AtStation) → map (λ (s : Shift). s.list) shifts ≡ lists → map (λ (s : Shift). s.before) shifts ≡ befores → map (λ (s : Shift). s.after) shifts ≡ ops
       → AllByRecursion (IsShift station) shifts → lowest shifts ≡ None → All HasMadeNothing befores → All (KnowsDesks station) befores
-      → (k : ℕ) (c : Linked) (x : Shift) (post : AtLock) (h : History) → slice_get rack.channels k ≡ Some c → slice_get shifts k ≡ Some x
-      → post.own.seen.head.settings ≡ c.history.settings → IsClosed post (column k (crews_of ops)) h → h ≡ c.history
-  one-closed shifts befores ops of-lists of-befores of-ops each none nothing knows k c x post h here at settings closed =
-      let makers = accounts_of (column k (crews_of ops)) in
+      → (k : ℕ) (c : Linked) (x : Shift) (owned_desk : AtLock) (h : History) → slice_get rack.channels k ≡ Some c → slice_get shifts k ≡ Some x
+      → owned_desk.own.seen.head.settings ≡ c.history.settings → IsClosed owned_desk (column k (operator_lists_of ops)) h → h ≡ c.history
+  one-closed shifts befores ops of-lists of-befores of-ops each none nothing knows k c x owned_desk h here at settings closed =
+      let makers = accounts_of (column k (operator_lists_of ops)) in
       let op-at : (i : ℕ) (y : Shift) → slice_get shifts i ≡ Some y → slice_get ops i ≡ Some y.after =
       λ i y is. ap (λ (l : List AtStation). slice_get l i) (sym of-ops) ∙ mapped-at (λ (s : Shift). s.after) shifts i y is in
       let before-at : (i : ℕ) (y : Shift) → slice_get shifts i ≡ Some y → slice_get befores i ≡ Some y.before =
@@ -139,7 +139,7 @@ module _ (laws : WorkLaws) (station : Roster) (lists : List WorkList) (rack : Ra
       let no-made : before.own.made ≡ [] = nothing-at x.before k (nothing-before k x at) in
       let its : HasSeenItsOwn before.own = let count = ap (length {A = ℕ × Event}) no-made in omega (arith, count) in
       let after = worked.here its in
-      let behind : IsBeginning own.seen (record { head = post.own.seen.head; entries = h.journal }) = closed.seen k own (account-at ops k k x.after (op-at k x at)) in
+      let behind : IsBeginning own.seen (record { head = owned_desk.own.seen.head; entries = h.journal }) = closed.seen k own (account-at ops k k x.after (op-at k x at)) in
       let whole = laws.maker makers k own h.journal (maker-at ops k k x.after (op-at k x at)) elsewhere after.0 (refl, behind.1) closed.merge in
       let start = after.1 whole.0 in
       let known : slice_get (map (λ (i : Identity). i.settings) (heads_of x.before.desks)) k ≡ Some c.history.settings =
@@ -152,21 +152,21 @@ module _ (laws : WorkLaws) (station : Roster) (lists : List WorkList) (rack : Ra
   -- all channels
   all-closed : (befores ops : List AtStation) (closed : List History) → All HasMadeNothing befores → All (KnowsDesks station) befores → AreWorked station lists None befores ops
       → AreClosedTogether station ops closed → closed ≡ histories rack
-  all-closed befores ops closed nothing knows (shifts, of-lists, of-befores, of-ops, each, none) (posts, posted, all) =
+  all-closed befores ops closed nothing knows (shifts, of-lists, of-befores, of-ops, each, none) (owned_desks, owned, all) =
       let head : AtLock → Identity = λ d. d.own.seen.head in
       let settings : Identity → Settings = λ d. d.settings in
-      let long-posts : length posts ≡ length station.heads = sym (length-map posts head) ∙ ap (length {A = Identity}) posted.1 in
+      let long-owned_desks : length owned_desks ≡ length station.heads = sym (length-map owned_desks head) ∙ ap (length {A = Identity}) owned.1 in
       let long-heads : length station.heads ≡ length rack.channels =
       sym (length-map station.heads settings) ∙ (ap (length {A = Settings}) (sym planned.settings) ∙ length-map rack.channels (λ (c : Linked). c.history.settings)) in
-      same-mapped (λ (c : Linked). c.history) rack.channels closed (all.as_many ∙ (long-posts ∙ long-heads)) (λ k c h here at.
+      same-mapped (λ (c : Linked). c.history) rack.channels closed (all.as_many ∙ (long-owned_desks ∙ long-heads)) (λ k c h here at.
       let inside = slice_get_within rack.channels k c here in
       let shift = element shifts k (omega (arith, inside, long-shifts shifts of-lists)) in
-      let post = element posts k (omega (arith, inside, long-posts, long-heads)) in
-      let known : slice_get (map (λ (i : Identity). i.settings) (heads_of posts)) k ≡ Some c.history.settings =
-      ap (λ (l : List Identity). slice_get (map (λ (i : Identity). i.settings) l) k) posted.1 ∙ settings-at k c here in
-      let own : post.0.own.seen.head.settings ≡ c.history.settings =
-      ap (λ (d : AtLock). d.own.seen.head.settings) (sym (get_or_from_slice_get posts k post.0 nobody post.1)) ∙ desk-settings posts k c.history.settings known in
-      one-closed shifts befores ops of-lists of-befores of-ops each none nothing knows k c shift.0 post.0 h here shift.1 own (all.each k post.0 h post.1 at))
+      let owned_desk = element owned_desks k (omega (arith, inside, long-owned_desks, long-heads)) in
+      let known : slice_get (map (λ (i : Identity). i.settings) (heads_of owned_desks)) k ≡ Some c.history.settings =
+      ap (λ (l : List Identity). slice_get (map (λ (i : Identity). i.settings) l) k) owned.1 ∙ settings-at k c here in
+      let own : owned_desk.0.own.seen.head.settings ≡ c.history.settings =
+      ap (λ (d : AtLock). d.own.seen.head.settings) (sym (get_or_from_slice_get owned_desks k owned_desk.0 nobody owned_desk.1)) ∙ desk-settings owned_desks k c.history.settings known in
+      one-closed shifts befores ops of-lists of-befores of-ops each none nothing knows k c shift.0 owned_desk.0 h here shift.1 own (all.each k owned_desk.0 h owned_desk.1 at))
 
 -- the channels that workers have made are those of the lines in order
 worked-channels : WorkLaws → (parted : Parted) (rack : Racked) (channels : List History) → IsPlanned parted rack → IsWorkedOut parted channels → IsPermutation (histories rack) channels

@@ -7,16 +7,16 @@ pub use Rattle.std.proofs.lemmas.List.Elements.{All-head, All-tail}
 pub use Rattle.std.proofs.lemmas.List.Quantifiers.{position-Some}
 pub use Rattle.std.proofs.lemmas.Option.{get_or_from_slice_get, none-some, same_Some, slice_get-get_or, slice_get_within}
 pub use Rattle.std.specs.Option.{option_and_then}
-pub use Rattle.tc_channel.specs.Journal.{History, IsNumberTold}
+pub use Rattle.tc_channel.specs.Journal.{History, IsNumberReported}
 pub use Rattle.tc_channel.specs.Reply.{buffered_fields, clcw, waiting_packets, waiting_units}
 pub use Rattle.tc_channel.specs.declared.event.Event.{Event}
 pub use Rattle.tc_channel.specs.declared.settings.Settings.{Settings}
-pub use Rattle.tc_cli.specs.Manned.{AllHaveMet, HasMetAt, HaveMet, IsAnsweredAt, IsBringAnswer, IsDeskAnswer, IsMannedCall, IsWordAnswer, Manned, linked}
+pub use Rattle.tc_cli.specs.Staffed.{AllHaveMet, HasMetAt, HaveMet, IsAnsweredAt, IsBringAnswer, IsDeskAnswer, IsStaffedCall, IsWordAnswer, Staffed, linked}
 pub use Rattle.tc_cli.specs.Parallel.{AreParted, ArePartedFor, AreWorkedChannels, GivesToFound, IsParted, Plan, none_parted, one_parted}
 pub use Rattle.tc_cli.specs.Parting.{IsFrameGiven, IsGiven, IsJobLine, IsWorkedOut, Parted, empty_list, with_job}
 pub use Rattle.tc_cli.specs.Report.{IsClosedReport}
 pub use Rattle.tc_cli.specs.Script.{IsBadLine, IsScriptCloseFault, IsScriptFault, Leads, goes_on, starts}
-pub use Rattle.tc_cli.specs.Session.{IsMannedFound, IsMannedOperated, Session}
+pub use Rattle.tc_cli.specs.Session.{IsStaffedFound, IsStaffedOperated, Session}
 pub use Rattle.tc_cli.specs.Written.{AreAnswers, IsLineAnswered, IsReportFault, IsScriptReport, at_first, one_more}
 pub use Rattle.tc_desk.specs.Alone.{HasMadeAll, HasSeenItsOwn}
 pub use Rattle.tc_desk.specs.Call.{HasSeenNoMore, IsCall, looked, made}
@@ -26,7 +26,7 @@ pub use Rattle.tc_desk.specs.Together.{column, heads_of, nobody}
 pub use Rattle.tc_link.specs.Frame.{BeginsWith, header_of}
 pub use Rattle.tc_link.specs.declared.location.LocateFault.{LocateFault}
 pub use Rattle.tc_rack.proofs.Performed.{rack-found}
-pub use Rattle.tc_rack.specs.Linked.{IsFrameAnswered, IsReleaseAnswered, IsTakeAnswered, IsUnitAnswered, Linked, later, new_linked, told_word, vcid_of}
+pub use Rattle.tc_rack.specs.Linked.{IsFrameAnswered, IsReleaseAnswered, IsTakeAnswered, IsUnitAnswered, Linked, later, new_linked, reported_word, vcid_of}
 pub use Rattle.tc_rack.specs.Operation.{IsAnswerOf, IsChannelAnswer, IsClcwAnswer, IsFrameAnswer}
 pub use Rattle.tc_rack.specs.Performing.{IsDoneSo, IsInstructionAnswered}
 pub use Rattle.tc_rack.specs.Progress.{IsPerformed, Progress, rack_for}
@@ -46,7 +46,7 @@ pub use Rattle.tc_station.specs.Location.{IsLocateFault, IsLocated}
 pub use Rattle.tc_station.specs.Lowest.{lower}
 pub use Rattle.tc_station.specs.Roster.{IsPlace, Roster, settings_in}
 pub use Rattle.tc_station.specs.Tally.{AtStation, HasMadeNothing, KnowsDesks}
-pub use Rattle.tc_station.specs.Together.{AreClosedTogether, crews_of}
+pub use Rattle.tc_station.specs.Together.{AreClosedTogether, operator_lists_of}
 pub use Rattle.tc_station.specs.declared.work.Job.{Job}
 pub use Rattle.tc_station.specs.declared.work.Order.{Order}
 pub use Rattle.tc_station.specs.declared.work.WorkList.{WorkList}

@@ -1,6 +1,6 @@
 -- A session whose station was closed together with its one operator: its answers are what the lines before them make them.
 use Rattle.std.proofs.Common.{◌≡◌, ◌<◌, ℕ, List, [], Option, All, length, get_or, inl, inr, refl, sym, ap, ◌∙◌, subst, arith, IsPermutation}
-use Rattle.tc_cli.proofs.Names.{Add, Answer, AreAnswers, AreClosedTogether, AtStation, Channel, Clcw, Does, Frame, History, Instruction, IsAnswerOf, IsClosed, IsDoneSo, IsInstructionAnswered, IsMannedFound, IsMannedOperated, IsNumberTold, IsPerformed, IsScriptReport, Manned, Nothing, Operating, Operation, Phase, Progress, Racked, Release, Roster, Session, SettingUp, Take, TakeUnit, at_first, column, crews_of, histories, instruction_of, nobody, one_more, phase_of, rack-found, rack_for, slice_get-get_or}
+use Rattle.tc_cli.proofs.Names.{Add, Answer, AreAnswers, AreClosedTogether, AtStation, Channel, Clcw, Does, Frame, History, Instruction, IsAnswerOf, IsClosed, IsDoneSo, IsInstructionAnswered, IsStaffedFound, IsStaffedOperated, IsNumberReported, IsPerformed, IsScriptReport, Staffed, Nothing, Operating, Operation, Phase, Progress, Racked, Release, Roster, Session, SettingUp, Take, TakeUnit, at_first, column, operator_lists_of, histories, instruction_of, nobody, one_more, phase_of, rack-found, rack_for, slice_get-get_or}
 use Rattle.tc_cli.specs.Written.{IsSessionReport}
 use Rattle.tc_rack.specs.declared.operation.Operation.TheVariants as operations
 use Rattle.tc_cli.proofs.Scripts.{set-up}
@@ -28,14 +28,14 @@ abbrev GoesOn : Session → Session → Type 0 → Type 0
 GoesOn s new Holds = IsSoundSession new × (IsAloneSession new → IsAloneSession s × Holds)
 
 -- the station that an operation finds
-found-alone : (scid : ℕ) (s : Session) (m : Manned) → IsMannedFound scid s m → IsSoundSession s → IsSound m × (IsAlone m → IsAloneSession s × (rack_of m ≡ rack_for scid (progress_of s)))
+found-alone : (scid : ℕ) (s : Session) (m : Staffed) → IsStaffedFound scid s m → IsSoundSession s → IsSound m × (IsAlone m → IsAloneSession s × (rack_of m ≡ rack_for scid (progress_of s)))
 found-alone scid (SettingUp list) m found sound = (new-sound scid list m found, λ alone. (tt, new-rack scid list m found alone.0))
-found-alone scid (Operating manned) m found sound = (subst IsSound (sym found) sound, λ alone. (subst IsAlone found alone, ap rack_of found))
+found-alone scid (Operating staffed) m found sound = (subst IsSound (sym found) sound, λ alone. (subst IsAlone found alone, ap rack_of found))
 
 module _ (laws : AloneLaws) (scid : ℕ) where
-  done-alone : (operation : Operation) (s new : Session) (answer : Option Answer) → IsSoundSession s → IsDoneSo (IsMannedOperated scid) operation s answer new
+  done-alone : (operation : Operation) (s new : Session) (answer : Option Answer) → IsSoundSession s → IsDoneSo (IsStaffedOperated scid) operation s answer new
       → GoesOn s new (IsDoneSo (IsPerformed scid) operation (progress_of s) answer (progress_of new))
-  done-alone operation s new answer sound (a, (m, after, found, answered, is), told) =
+  done-alone operation s new answer sound (a, (m, after, found, answered, is), reported) =
       let before = found-alone scid s m found sound in
       let one = answered-alone laws operation m after a before.0 answered in (
         subst IsSoundSession (sym is) one.0,
@@ -43,10 +43,10 @@ module _ (laws : AloneLaws) (scid : ℕ) where
             let met = one.1 (subst IsAloneSession is alone) in
             let start = before.1 met.0 in
             let performed = subst (λ (r : Racked). IsAnswerOf operation r a (rack_of after)) start.1 met.1 in
-            (start.0, (a, (rack_for scid (progress_of s), rack_of after, rack-found scid (progress_of s), performed, ap progress_of is), told)),
+            (start.0, (a, (rack_for scid (progress_of s), rack_of after, rack-found scid (progress_of s), performed, ap progress_of is), reported)),
       )
 
-  line-alone : (instruction : Instruction) (s new : Session) (answer : Option Answer) → IsSoundSession s → Does (phase_of s) instruction (phase_of new) → IsInstructionAnswered (IsMannedOperated scid) s instruction new answer
+  line-alone : (instruction : Instruction) (s new : Session) (answer : Option Answer) → IsSoundSession s → Does (phase_of s) instruction (phase_of new) → IsInstructionAnswered (IsStaffedOperated scid) s instruction new answer
       → GoesOn s new (IsInstructionAnswered (IsPerformed scid) (progress_of s) instruction (progress_of new) answer)
   line-alone Nothing s new answer sound does a = (subst IsSoundSession (sym a.1) sound, λ alone. (subst IsAloneSession a.1 alone, (a.0, ap progress_of a.1)))
   line-alone (Channel settings) s new answer sound (old, list, was, adds, is) a = (subst IsSoundSession (sym (set-up new list is)) tt, λ alone. (subst IsAloneSession (sym (set-up s old was)) tt, a))
@@ -57,7 +57,7 @@ module _ (laws : AloneLaws) (scid : ℕ) where
   line-alone (TakeUnit vcid map_id) s new answer sound does a = done-alone (operations.Unit vcid map_id) s new answer sound a
   line-alone (Clcw vcid) s new answer sound does a = done-alone (operations.Clcw vcid) s new answer sound a
 
-  all-alone : (script : List ℕ) (answers : List (Option Answer)) (s : Session) (rest : List ℕ) → AreAnswers (IsMannedOperated scid) script answers s rest
+  all-alone : (script : List ℕ) (answers : List (Option Answer)) (s : Session) (rest : List ℕ) → AreAnswers (IsStaffedOperated scid) script answers s rest
       → IsSoundSession s × (IsAloneSession s → AreAnswers (IsPerformed scid) script answers (progress_of s) rest)
   all-alone script answers s rest at_first = (tt, λ alone. at_first)
   all-alone script answers s rest (one_more {answers = before} {stage = old} {answer = answer} leads next answered) =
@@ -71,7 +71,7 @@ module _ (laws : AloneLaws) (scid : ℕ) where
       )
 
   -- the report at the end of a session is that of the script
-  pub reported-alone : (script : List ℕ) (answers : List (Option Answer)) (s : Session) (text : List ℕ) → AreAnswers (IsMannedOperated scid) script answers s [] → IsSessionReport scid s text
+  pub reported-alone : (script : List ℕ) (answers : List (Option Answer)) (s : Session) (text : List ℕ) → AreAnswers (IsStaffedOperated scid) script answers s [] → IsSessionReport scid s text
       → AreAnswers (IsPerformed scid) script answers (progress_of s) [] × IsScriptReport scid (progress_of s) text
   reported-alone script answers s text leads (inl (none, empty)) =
       ((all-alone script answers s [] leads).1 (subst IsAloneSession (sym (set-up s [] none)) tt), inl (sym (phase-of s) ∙ none, empty))
@@ -87,9 +87,9 @@ module _ (laws : AloneLaws) (scid : ℕ) where
 
 -- ---- the number of events of each channel that was closed
 
-pub closed-told : (station : Roster) (operators : List AtStation) (closed : List History) → AreClosedTogether station operators closed → All IsNumberTold closed
-closed-told station operators closed (posts, posted, all) = λ k c lt.
-    let inside : k < length posts = omega (arith, lt, all.as_many) in
-    let post = get_or posts k nobody in
-    let one : IsClosed post (column k (crews_of operators)) (get_or closed k c) = all.each k post (get_or closed k c) (slice_get-get_or posts k nobody inside) (slice_get-get_or closed k c lt) in
+pub closed-reported : (station : Roster) (operators : List AtStation) (closed : List History) → AreClosedTogether station operators closed → All IsNumberReported closed
+closed-reported station operators closed (owned_desks, owned, all) = λ k c lt.
+    let inside : k < length owned_desks = omega (arith, lt, all.as_many) in
+    let owned_desk = get_or owned_desks k nobody in
+    let one : IsClosed owned_desk (column k (operator_lists_of operators)) (get_or closed k c) = all.each k owned_desk (get_or closed k c) (slice_get-get_or owned_desks k nobody inside) (slice_get-get_or closed k c lt) in
     one.balanced.1

@@ -1,6 +1,6 @@
 -- The watchers of a script's channels, each of the desk at its place.
 use Rattle.std.proofs.Common.{◌≡◌, ◌<◌, ◌+◌, ℕ, List, [], ◌∷◌, ◌++◌, Some, Result, length, map, get_or, inl, inr, refl, sym, ap, ◌∙◌, subst, arith, ◌==◌, position, slice_get, slice_set, add-one}
-use Rattle.tc_cli.proofs.Names.{AtStation, Event, HasMetAt, HaveMet, Identity, IsEarlier, IsMannedCall, IsPlace, IsWordAnswer, Manned, Moment, Roster, Settings, Watching, clcw, eqb_tells, length-map, length-set, no_flag, same_Some, slice_get-get_or, slice_get_within}
+use Rattle.tc_cli.proofs.Names.{AtStation, Event, HasMetAt, HaveMet, Identity, IsEarlier, IsStaffedCall, IsPlace, IsWordAnswer, Staffed, Moment, Roster, Settings, Watching, clcw, eqb_tells, length-map, length-set, no_flag, same_Some, slice_get-get_or, slice_get_within}
 use Rattle.std.proofs.lemmas.Option.{slice_get_read}
 use Rattle.tc_channel.specs.Run.{IsLawful}
 use Rattle.tc_station.specs.Call.{IsMetAt, IsMetCallAt}
@@ -94,11 +94,11 @@ has-met station operator next items place vcid early late here seat (p, there, m
     let same : p ≡ place = same_Some p place (sym there ∙ here) in
     record { vcid = vcid; early = early; late = late; watched = seat; meeting = subst (λ (k : ℕ). IsMetAt k vcid early operator late next) same met; watchers = refl; station = refl }
 
-pub manned-call : {R F : Type 0} (e : Event) (ok : Moment → R → Type 0) (err : Moment → F → Type 0) (station : Roster) (operator next : AtStation) (items : List Watching) (place vcid : ℕ) (early late : Watching) (r : Result R F)
+pub staffed-call : {R F : Type 0} (e : Event) (ok : Moment → R → Type 0) (err : Moment → F → Type 0) (station : Roster) (operator next : AtStation) (items : List Watching) (place vcid : ℕ) (early late : Watching) (r : Result R F)
     → IsPlace station vcid place → slice_get items place ≡ Some early → (p : ℕ) × IsPlace station vcid p × IsMetCallAt p vcid e ok err early operator r late next
     → (p : ℕ) × IsPlace station vcid p
-    × IsMannedCall p vcid e ok err (record { station = station; operator = operator; watchers = items }) r (record { station = station; operator = next; watchers = slice_set items place late })
-manned-call e ok err station operator next items place vcid early late r here seat (p, there, call) =
+    × IsStaffedCall p vcid e ok err (record { station = station; operator = operator; watchers = items }) r (record { station = station; operator = next; watchers = slice_set items place late })
+staffed-call e ok err station operator next items place vcid early late r here seat (p, there, call) =
     let same : p ≡ place = same_Some p place (sym there ∙ here) in (
       place,
       here,
@@ -122,5 +122,5 @@ word-answered station operator items place vcid word early late here seat (head,
     )
 
 -- one meeting more
-pub one-more-met : (n : ℕ) (m mid met : Manned) → HaveMet n m mid → HasMetAt n mid met → HaveMet (n + 1) m met
+pub one-more-met : (n : ℕ) (m mid met : Staffed) → HaveMet n m mid → HasMetAt n mid met → HaveMet (n + 1) m met
 one-more-met n m mid met have at = rw add-one (mid, have, at)

@@ -1,6 +1,6 @@
 -- What a script writes, line by line.
 use Rattle.std.proofs.Common.{◌≡◌, ℕ, ◌+◌, List, [], ◌∷◌, ◌++◌, ◌⊎◌, Option, None, Some, Result, Ok, Err, IfSome, All, inl, inr, length, refl, sym, ap, ◌∙◌, subst, OnOk, IfErr, is_ok}
-use Rattle.tc_cli.proofs.Names.{AllHaveMet, Answer, AreAnswers, AreRising, AreWorkedChannels, AtStation, History, IsBadLine, IsClosedReport, IsFirstLine, IsLawfulHistory, IsLineAnswered, IsMannedFound, IsMannedOperated, IsNumberTold, IsPerformed, IsReadFault, IsReportFault, IsReportOf, IsScriptCloseFault, IsScriptReport, Leads, Line, Manned, NoMemory, Progress, Read, Reason, Roster, ScriptFault, Session, TooLong, Unbalanced, Write, at_first, goes_on, one_more, phase_of, report_text, starts}
+use Rattle.tc_cli.proofs.Names.{AllHaveMet, Answer, AreAnswers, AreRising, AreWorkedChannels, AtStation, History, IsBadLine, IsClosedReport, IsFirstLine, IsLawfulHistory, IsLineAnswered, IsStaffedFound, IsStaffedOperated, IsNumberReported, IsPerformed, IsReadFault, IsReportFault, IsReportOf, IsScriptCloseFault, IsScriptReport, Leads, Line, Staffed, NoMemory, Progress, Read, Reason, Roster, ScriptFault, Session, TooLong, Unbalanced, Write, at_first, goes_on, one_more, phase_of, report_text, starts}
 use Rattle.std.proofs.lemmas.List.{flat_map_more, length_push}
 use Rattle.std.proofs.lemmas.Option.{IfSome_then}
 use Rattle.std.proofs.lemmas.Result.{IfErr-weaker, on_ok_weaker}
@@ -26,7 +26,7 @@ on-ok-both (Ok x) A B C follows a b = follows a b
 on-ok-both (Err e) A B C follows a b = tt
 
 -- lines that are answered are good
-pub answered-leads : (scid : ℕ) (script : List ℕ) (answers : List (Option Answer)) (session : Session) (rest : List ℕ) → AreAnswers (IsMannedOperated scid) script answers session rest
+pub answered-leads : (scid : ℕ) (script : List ℕ) (answers : List (Option Answer)) (session : Session) (rest : List ℕ) → AreAnswers (IsStaffedOperated scid) script answers session rest
     → Leads script (length answers) (phase_of session) rest
 answered-leads scid script answers session rest at_first = starts
 answered-leads scid script answers session rest (one_more {answers = before} {stage = old} {answer = answer} leads next answered) =
@@ -36,9 +36,9 @@ answered-leads scid script answers session rest (one_more {answers = before} {st
 -- so many first lines were answered, and their answers written
 abbrev pub IsSoFar : ℕ → List ℕ → ℕ → Session → List ℕ → Option (List ℕ) → Option (List ℕ) → Type 0
 IsSoFar scid script count session rest old new =
-    (answers : List (Option Answer)) × AreAnswers (IsMannedOperated scid) script answers session rest × (count ≡ length answers) × Appends old new (answers_text answers)
+    (answers : List (Option Answer)) × AreAnswers (IsStaffedOperated scid) script answers session rest × (count ≡ length answers) × Appends old new (answers_text answers)
 
-pub none-so-far : (scid : ℕ) (script : List ℕ) (session : Session) (a : Option (List ℕ)) → AreAnswers (IsMannedOperated scid) script [] session script
+pub none-so-far : (scid : ℕ) (script : List ℕ) (session : Session) (a : Option (List ℕ)) → AreAnswers (IsStaffedOperated scid) script [] session script
     → IsSoFar scid script 0 session script a a
 none-so-far scid script session a leads = ([], leads, refl, Appends-nil a)
 
@@ -49,7 +49,7 @@ so-far-good scid script count session rest a b (answers, leads, is, text) =
 
 -- one line more
 pub one-more-so-far : (scid : ℕ) (script : List ℕ) (count : ℕ) (session new : Session) (rest line after : List ℕ) (answer : Option Answer) (a b c : Option (List ℕ))
-    → IsSoFar scid script count session rest a b → IsFirstLine rest line after → IsLineAnswered (IsMannedOperated scid) session line new answer → Appends b c (answer_line answer)
+    → IsSoFar scid script count session rest a b → IsFirstLine rest line after → IsLineAnswered (IsStaffedOperated scid) session line new answer → Appends b c (answer_line answer)
     → IsSoFar scid script (count + 1) new after a c
 one-more-so-far scid script count session new rest line after answer a b c (answers, leads, is, text) next answered more = (
   answers ++ answer ∷ [],
@@ -92,24 +92,24 @@ end-cut-short (Err fault) scid script count session rest a b c so-far end (inr (
     subst (IsScriptCutShort scid script a c) (sym memory) (inl (refl, inr (inr (unreported scid script count session rest a b c so-far end kept))))
 
 -- why the station of a session isn't closed
-pub not-closed : (scid : ℕ) (session : Session) (manned met : Manned) (station : Roster) (operator : AtStation) (operators : List AtStation) (lines : ℕ) (fault : ScriptFault)
-    → IsMannedFound scid session manned → AllHaveMet manned met → station ≡ met.station → operator ≡ met.operator → operators ≡ operator ∷ []
+pub not-closed : (scid : ℕ) (session : Session) (staffed met : Staffed) (station : Roster) (operator : AtStation) (operators : List AtStation) (lines : ℕ) (fault : ScriptFault)
+    → IsStaffedFound scid session staffed → AllHaveMet staffed met → station ≡ met.station → operator ≡ met.operator → operators ≡ operator ∷ []
     → IsScriptCloseFault station operators lines fault → IsReportFault scid session lines fault
-not-closed scid session manned met station operator operators lines fault found have place hand all (inl (unbalanced, cause)) =
+not-closed scid session staffed met station operator operators lines fault found have place hand all (inl (unbalanced, cause)) =
     let one = subst (λ (x : Roster × List AtStation). IsCauseAtStation x.0 x.1) (λ i. (place i, (all ∙ ap (λ (o : AtStation). o ∷ []) hand) i)) cause in
-    inr (inl (unbalanced, (manned, met, found, have, one)))
-not-closed scid session manned met station operator operators lines fault found have place hand all (inr memory) = inr (inr memory)
+    inr (inl (unbalanced, (staffed, met, found, have, one)))
+not-closed scid session staffed met station operator operators lines fault found have place hand all (inr memory) = inr (inr memory)
 
 -- the report of the station of a session
-pub reported : (scid : ℕ) (session : Session) (manned met : Manned) (station : Roster) (operator : AtStation) (operators : List AtStation) (channels shown : List History) (a b : Option (List ℕ))
-    → shown ≡ channels → IsMannedFound scid session manned → AllHaveMet manned met → station ≡ met.station → operator ≡ met.operator → IsOurs station operator → operators ≡ operator ∷ []
-    → IsClosedReport station operators channels → All IsNumberTold channels → All IsLawfulHistory shown → Appends a b (report_text shown)
+pub reported : (scid : ℕ) (session : Session) (staffed met : Staffed) (station : Roster) (operator : AtStation) (operators : List AtStation) (channels shown : List History) (a b : Option (List ℕ))
+    → shown ≡ channels → IsStaffedFound scid session staffed → AllHaveMet staffed met → station ≡ met.station → operator ≡ met.operator → IsOurs station operator → operators ≡ operator ∷ []
+    → IsClosedReport station operators channels → All IsNumberReported channels → All IsLawfulHistory shown → Appends a b (report_text shown)
     → IsSessionReportWritten scid session a b
-reported scid session manned met station operator operators channels shown a b lent found have place hand ours all closed told lawful text =
+reported scid session staffed met station operator operators channels shown a b lent found have place hand ours all closed numbers lawful text =
     let one = subst (λ (x : Roster × List AtStation). IsClosedReport x.0 x.1 channels) (λ i. (place i, (all ∙ ap (λ (o : AtStation). o ∷ []) hand) i)) closed in
     let mine = subst (λ (x : Roster × AtStation). IsOurs x.0 x.1) (λ i. (place i, hand i)) ours in
-    let of : IsReportOf channels (report_text shown) = record { rising = closed.rising; told = told; lawful = subst (All IsLawfulHistory) lent lawful; written = ap report_text lent } in
-    (report_text shown, inr (manned, met, channels, found, have, mine, one, of), text)
+    let of : IsReportOf channels (report_text shown) = record { rising = closed.rising; reported = numbers; lawful = subst (All IsLawfulHistory) lent lawful; written = ap report_text lent } in
+    (report_text shown, inr (staffed, met, channels, found, have, mine, one, of), text)
 
 -- the report of channels is that of a script where its lines are done in order
 abbrev pub IsReportInOrder : Type 0
@@ -118,12 +118,12 @@ IsReportInOrder = (scid : ℕ) (script : List ℕ) (channels : List History) (te
 
 -- what was read is the script, where the octets of the reader are known, and the report is that of its lines in order
 pub parallel-written : IsReportInOrder → (known : Option (List ℕ)) (scid : ℕ) (script read : List ℕ) (channels shown : List History) (a b c : Option (List ℕ))
-    → script ≡ read → IfSome known (λ octets. read ≡ octets) → shown ≡ channels → AreWorkedChannels scid script channels → AreRising channels → All IsNumberTold channels
+    → script ≡ read → IfSome known (λ octets. read ≡ octets) → shown ≡ channels → AreWorkedChannels scid script channels → AreRising channels → All IsNumberReported channels
     → All IsLawfulHistory shown → Appends a b (report_text shown) → Keeps b c → IfSome known (λ octets. IsWrittenInParallel scid octets a c)
-parallel-written in-order None scid script read channels shown a b c whole is lent worked rising told lawful text kept = tt
-parallel-written in-order (Some octets) scid script read channels shown a b c whole is lent worked rising told lawful text kept =
+parallel-written in-order None scid script read channels shown a b c whole is lent worked rising numbers lawful text kept = tt
+parallel-written in-order (Some octets) scid script read channels shown a b c whole is lent worked rising numbers lawful text kept =
     let of-script = subst (λ s. AreWorkedChannels scid s channels) (whole ∙ is) worked in
-    let of : IsReportOf channels (report_text shown) = record { rising = rising; told = told; lawful = subst (All IsLawfulHistory) lent lawful; written = ap report_text lent } in
+    let of : IsReportOf channels (report_text shown) = record { rising = rising; reported = numbers; lawful = subst (All IsLawfulHistory) lent lawful; written = ap report_text lent } in
     let one = in-order scid octets channels (report_text shown) of-script of in
     (one.0, one.1, report_text shown, one.2, one.3, Appends-kept a b c _ text kept)
 

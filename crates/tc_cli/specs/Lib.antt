@@ -2,7 +2,7 @@ pub use Rattle.tc_setup.specs.Configuration
 pub use Rattle.tc_setup.specs.Instruction
 pub use Rattle.tc_setup.specs.Phase
 pub mod Script
-pub mod Manned
+pub mod Staffed
 pub mod Watched
 pub mod Session
 pub mod Report

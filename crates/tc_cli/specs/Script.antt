@@ -64,7 +64,7 @@ IsScriptCloseFault station operators lines fault = ((fault ≡ Unbalanced) × Is
 -- what it is for a script of so many lines that its station isn't closed; a lock that isn't free is told as the station's own close tells it
 abbrev pub close_fault : ℕ → Refusal → ScriptFault
 close_fault lines refusals.NoMemory = Line lines NoMemory
-close_fault lines refusals.Held = Line lines NoMemory
+close_fault lines refusals.InUse = Line lines NoMemory
 close_fault lines refusals.Unbalanced = Unbalanced
 
 -- why a script with these octets ends early

@@ -1,6 +1,6 @@
 -- A script whose lines are done in order at a station: the station that an operation finds, and what the operation is answered there.
 use Rattle.std.specs.Prelude.{ℕ}
-use Rattle.tc_cli.specs.Manned.{Manned, IsNewlyManned, AreAsCounted, IsMannedAnswer}
+use Rattle.tc_cli.specs.Staffed.{Staffed, IsNewlyStaffed, AreAsCounted, IsStaffedAnswer}
 use Rattle.tc_rack.specs.Performing.{IsFound, IsLeft, IsOperated}
 use Rattle.tc_rack.specs.declared.answer.Answer.{Answer}
 use Rattle.tc_rack.specs.declared.operation.Operation.{Operation}
@@ -8,16 +8,16 @@ use Rattle.tc_rack.specs.declared.stage.Stage.{Stage}
 use Rattle.tc_text.specs.declared.fault.Reason.{Reason}
 
 abbrev pub Session : Type 0
-Session = Stage Manned
+Session = Stage Staffed
 
 -- the station that operations find: the one that is there, or a new one where none came before
-abbrev pub IsMannedFound : ℕ → Session → Manned → Type 0
-IsMannedFound scid session found = IsFound (IsNewlyManned scid) session found
+abbrev pub IsStaffedFound : ℕ → Session → Staffed → Type 0
+IsStaffedFound scid session found = IsFound (IsNewlyStaffed scid) session found
 
 -- what a refused line leaves: all as it was, or where memory ran out the station with what its operator had counted
 abbrev pub IsSessionLeft : ℕ → Reason → Session → Session → Type 0
-IsSessionLeft scid reason old new = IsLeft (IsNewlyManned scid) AreAsCounted reason old new
+IsSessionLeft scid reason old new = IsLeft (IsNewlyStaffed scid) AreAsCounted reason old new
 
 -- an operation is answered at the station that it finds
-abbrev pub IsMannedOperated : ℕ → Operation → Session → Answer → Session → Type 0
-IsMannedOperated scid operation old answer new = IsOperated (IsNewlyManned scid) IsMannedAnswer operation old answer new
+abbrev pub IsStaffedOperated : ℕ → Operation → Session → Answer → Session → Type 0
+IsStaffedOperated scid operation old answer new = IsOperated (IsNewlyStaffed scid) IsStaffedAnswer operation old answer new

@@ -14,14 +14,14 @@ use Rattle.tc_text.specs.declared.fault.ScriptFault.{ScriptFault}
 use Rattle.tc_text.specs.declared.fault.ScriptFault.TheVariants.{Line, Read, TooLong, Write, Unbalanced}
 use Rattle.tc_setup.specs.Instruction.{instruction_of}
 use Rattle.tc_setup.specs.Phase.{Setup, Does}
-use Rattle.tc_cli.specs.Manned.{Manned, AllHaveMet}
+use Rattle.tc_cli.specs.Staffed.{Staffed, AllHaveMet}
 use Rattle.tc_rack.specs.Printed.{answer_line}
 use Rattle.tc_rack.specs.Progress.{Progress, rack_for, IsPerformed}
 use Rattle.tc_rack.specs.Rack.{histories}
 use Rattle.tc_cli.specs.Report.{IsClosedReport}
 use Rattle.tc_rack.specs.Report.{IsReportOf}
 use Rattle.tc_cli.specs.Script.{IsBadLine}
-use Rattle.tc_cli.specs.Session.{Session, IsMannedFound, IsMannedOperated}
+use Rattle.tc_cli.specs.Session.{Session, IsStaffedFound, IsStaffedOperated}
 use Rattle.tc_rack.specs.Performing.{IsInstructionAnswered}
 use Rattle.tc_rack.specs.Stage.{phase_of}
 use Rattle.tc_rack.specs.declared.answer.Answer.{Answer}
@@ -57,13 +57,13 @@ IsScriptReport scid progress text =
 abbrev pub IsSessionReport : ℕ → Session → List ℕ → Type 0
 IsSessionReport scid session text =
     ((phase_of session ≡ Setup []) × (text ≡ []))
-    ⊎ ((found met : Manned) × (channels : List History) × IsMannedFound scid session found × AllHaveMet found met × IsOurs met.station met.operator
+    ⊎ ((found met : Staffed) × (channels : List History) × IsStaffedFound scid session found × AllHaveMet found met × IsOurs met.station met.operator
     × IsClosedReport met.station (met.operator ∷ []) channels × IsReportOf channels text)
 
 -- a station that was found at the end of a session is out of balance, once each watcher had met its desk, and this is the cause
 abbrev pub IsSessionUnbalanced : ℕ → Session → Type 0
 IsSessionUnbalanced scid session =
-    (found met : Manned) × IsMannedFound scid session found × AllHaveMet found met × IsCauseAtStation met.station (met.operator ∷ [])
+    (found met : Staffed) × IsStaffedFound scid session found × AllHaveMet found met × IsCauseAtStation met.station (met.operator ∷ [])
 
 -- why a session of so many good lines gets no report, or not the whole of it
 abbrev pub IsReportFault : ℕ → Session → ℕ → ScriptFault → Type 0
@@ -85,13 +85,13 @@ IsScriptWritten scid script old new =
 abbrev pub IsWrittenBefore : ℕ → List ℕ → ℕ → (Session → List ℕ → Type 0) → Option (List ℕ) → Option (List ℕ) → Type 0
 IsWrittenBefore scid script number IsSo old new =
     (answers : List (Option Answer)) × (session : Session) × (rest : List ℕ) × (line : List ℕ) × (after : List ℕ)
-    × AreAnswers (IsMannedOperated scid) script answers session rest × IsFirstLine rest line after × IsSo session line
+    × AreAnswers (IsStaffedOperated scid) script answers session rest × IsFirstLine rest line after × IsSo session line
     × (number ≡ length answers + 1) × Appends old new (answers_text answers)
 
 -- known octets grow by the answers of all lines, of which there are so many, and by no report
 abbrev pub IsScriptUnreported : ℕ → List ℕ → ℕ → Option (List ℕ) → Option (List ℕ) → Type 0
 IsScriptUnreported scid script count old new =
-    (answers : List (Option Answer)) × (session : Session) × AreAnswers (IsMannedOperated scid) script answers session [] × (count ≡ length answers)
+    (answers : List (Option Answer)) × (session : Session) × AreAnswers (IsStaffedOperated scid) script answers session [] × (count ≡ length answers)
     × Appends old new (answers_text answers)
 
 -- memory ran out before the first line, which is told as line 0; at the line with this number; or for the report, after the last line
@@ -102,7 +102,7 @@ IsOutOfMemory scid script number old new =
 -- known octets grow by the answers of all lines, and by no report, since the station is out of balance
 abbrev pub IsScriptUnbalanced : ℕ → List ℕ → Option (List ℕ) → Option (List ℕ) → Type 0
 IsScriptUnbalanced scid script old new =
-    (answers : List (Option Answer)) × (session : Session) × AreAnswers (IsMannedOperated scid) script answers session [] × IsSessionUnbalanced scid session
+    (answers : List (Option Answer)) × (session : Session) × AreAnswers (IsStaffedOperated scid) script answers session [] × IsSessionUnbalanced scid session
     × Appends old new (answers_text answers)
 
 -- what was written where a script ends early: nothing where it wasn't read; where a line ends it, the answers of the lines before; and

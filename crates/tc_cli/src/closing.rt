@@ -1,25 +1,25 @@
 //! The close of a script's station.
 
 ghost use Rattle.std.specs.Prelude.{◌≡◌, All, IfOk, IfErr};
-ghost use Rattle.tc_channel.specs.Journal.{IsNumberTold};
+ghost use Rattle.tc_channel.specs.Journal.{IsNumberReported};
 ghost use Rattle.tc_cli.specs.Report.{IsClosedReport};
 ghost use Rattle.tc_cli.specs.Script.{IsScriptCloseFault, close_fault};
 ghost use Rattle.tc_station.specs.Tally.{IsOurs};
 
-use tc_channel::FlightChannel;
-use tc_station::{FlightStation, Operator, Refusal};
+use tc_channel::CountingChannel;
+use tc_station::{CountingStation, Operator, Refusal};
 use tc_text::{Reason, ScriptFault};
 
 /// Closes the station of a script with so many lines, together with its operators. The channels come in rising virtual channel
 /// id, and each tells the number of its events as it is.
 pub(crate) fn close(
-    station: FlightStation,
+    station: CountingStation,
     operators: Vec<Operator>,
     lines: u32,
-) -> Result<Vec<FlightChannel>, ScriptFault>
+) -> Result<Vec<CountingChannel>, ScriptFault>
     requires ours { All (IsOurs station) operators.items }
     ensures closed { IfOk result (λ channels. IsClosedReport station operators.items channels.items) }
-    ensures told { IfOk result (λ channels. All IsNumberTold channels.items) }
+    ensures reported { IfOk result (λ channels. All IsNumberReported channels.items) }
     ensures fault { IfErr result (IsScriptCloseFault station operators.items lines) }
 {
     match station.close_together(operators) {
@@ -36,7 +36,7 @@ fn fault_of(refusal: Refusal, lines: u32) -> ScriptFault
     ensures { result ≡ close_fault lines refusal }
 {
     match refusal {
-        Refusal::NoMemory | Refusal::Held => ScriptFault::Line {
+        Refusal::NoMemory | Refusal::InUse => ScriptFault::Line {
             line: lines,
             reason: Reason::NoMemory,
         },

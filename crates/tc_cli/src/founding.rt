@@ -6,7 +6,7 @@ ghost use Rattle.tc_cli.specs.Parting.{empty_list, IsNewStation};
 use std::alloc::Global;
 use tc_channel::{Items, allowed_settings_have_no_fault};
 use tc_setup::Configuration;
-use tc_station::{FlightStation, StationFault, WorkList};
+use tc_station::{CountingStation, StationFault, WorkList};
 use tc_text::Reason;
 
 /// A station with these channels.
@@ -14,14 +14,14 @@ pub(crate) fn found(
     alloc: Global,
     scid: u16,
     configuration: Configuration,
-) -> Result<FlightStation, Reason>
+) -> Result<CountingStation, Reason>
     requires { scid ≤ 1023 }
     ensures station { IfOk result (IsNewStation scid configuration) }
     ensures some { OnOk result (configuration ≢ []) }
     ensures reason { IfErr result (λ reason. (reason ≡ Reason.NoMemory) ⊎ ((reason ≡ Reason.NoChannel) × (configuration ≡ []))) }
 {
     allowed_settings_have_no_fault();
-    match FlightStation::new(alloc, scid, configuration.into_channels()) {
+    match CountingStation::new(alloc, scid, configuration.into_channels()) {
         Ok(station) => Ok(station),
         Err(StationFault::NoChannel) => Err(Reason::NoChannel),
         Err(StationFault::NoMemory) => Err(Reason::NoMemory),

@@ -9,11 +9,11 @@
 mod closing;
 mod founding;
 mod laws;
-mod manned;
 mod parallel;
 mod parting;
 mod script;
 mod session;
+mod staffed;
 mod watchers;
 mod worked;
 

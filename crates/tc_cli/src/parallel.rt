@@ -9,7 +9,7 @@ ghost use Rattle.tc_rack.specs.Report.{AreRising};
 ghost use Rattle.tc_cli.specs.Script.{IsScriptFault, IsGood, IsGoodLine, IsBadLine};
 ghost use Rattle.tc_rack.specs.Stage.{phase_of, IsStageKept};
 ghost use Rattle.tc_cli.specs.Written.{IsWrittenInParallel};
-ghost use Rattle.tc_channel.specs.Journal.{IsNumberTold};
+ghost use Rattle.tc_channel.specs.Journal.{IsNumberReported};
 ghost use Rattle.tc_text.specs.Reading.{script_limit};
 
 use crate::laws::the_workers_report_is_that_of_the_lines_in_order;
@@ -19,7 +19,7 @@ use std::io::{Read, Write};
 use std::mem;
 use std::sync::Wait;
 use std::thread::Threads;
-use tc_channel::{FlightChannel, Octets};
+use tc_channel::{CountingChannel, Octets};
 use tc_rack::{Stage, write_report};
 use tc_setup::{Configuration, Instruction};
 use tc_station::{Gate, Job, Order};
@@ -89,11 +89,11 @@ fn work_lines<T: Threads + Wait + Sync, G: Gate + Sync>(
     gate: &G,
     scid: u16,
     script: &[u8],
-) -> Result<Vec<FlightChannel>, ScriptFault>
+) -> Result<Vec<CountingChannel>, ScriptFault>
     requires spacecraft { scid ≤ 1023 }
     requires within { length script.now ≤ script_limit }
     ensures rising { IfOk result (λ channels. AreRising channels.items) }
-    ensures told { IfOk result (λ channels. All IsNumberTold channels.items) }
+    ensures reported { IfOk result (λ channels. All IsNumberReported channels.items) }
     ensures worked { IfOk result (λ channels. AreWorkedChannels scid script.now channels.items) }
     ensures good { OnOk result (IsGood script.now) }
     ensures fault { IfErr result (IsScriptFault script.now) }

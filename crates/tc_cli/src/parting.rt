@@ -3,7 +3,7 @@
 ghost use Rattle.std.specs.Prelude.{◌≡◌, ◌≢◌, ◌≤◌, ◌⊎◌, [], All, IfOk, IfErr, OnOk, OnErr, MatchOption};
 ghost use Rattle.tc_cli.specs.Parting.{IsNewlyParted, IsGiven, IsFrameGiven, HasWorkList, IsListAt, IsWorkedOut, IsWorkFault};
 ghost use Rattle.tc_rack.specs.Report.{AreRising};
-ghost use Rattle.tc_channel.specs.Journal.{IsNumberTold};
+ghost use Rattle.tc_channel.specs.Journal.{IsNumberReported};
 ghost use Rattle.tc_station.specs.Work.{line_of_fault};
 
 use crate::closing::close;
@@ -12,15 +12,15 @@ use std::alloc::Global;
 use std::marker::Model;
 use std::sync::Wait;
 use std::thread::Threads;
-use tc_channel::{FlightChannel, Octets};
+use tc_channel::{CountingChannel, Octets};
 use tc_setup::{Configuration, append};
-use tc_station::{FlightStation, Gate, Job, OperatorsFault, Order, WorkFault, WorkList};
+use tc_station::{CountingStation, Gate, Job, OperatorsFault, Order, WorkFault, WorkList};
 use tc_text::{Reason, ScriptFault};
 
 /// A station that has issued no operator, and a list of jobs for each of its channels.
 #[derive(Drop)]
 pub(crate) struct Parted {
-    station: FlightStation,
+    station: CountingStation,
     lists: Vec<WorkList>,
 }
 
@@ -93,9 +93,9 @@ impl Parted {
         rt: &T,
         gate: &G,
         lines: u32,
-    ) -> Result<Vec<FlightChannel>, ScriptFault>
+    ) -> Result<Vec<CountingChannel>, ScriptFault>
         ensures rising { IfOk result (λ channels. AreRising channels.items) }
-        ensures told { IfOk result (λ channels. All IsNumberTold channels.items) }
+        ensures reported { IfOk result (λ channels. All IsNumberReported channels.items) }
         ensures worked { IfOk result (λ channels. IsWorkedOut self channels.items) }
         ensures fault { IfErr result (IsWorkFault lines self) }
     {

@@ -3,14 +3,14 @@
 ghost use Rattle.std.specs.Prelude.{◌≡◌, ◌⊎◌, ◌≤◌, length, IfOk, IfErr, OnOk, IfSome};
 ghost use Rattle.tc_cli.specs.Script.{IsScriptFault, IsGood, IsGoodLine, IsBadLine};
 ghost use Rattle.tc_text.specs.Reading.{script_limit};
-ghost use Rattle.tc_cli.specs.Session.{IsSessionLeft, IsMannedOperated};
+ghost use Rattle.tc_cli.specs.Session.{IsSessionLeft, IsStaffedOperated};
 ghost use Rattle.tc_rack.specs.Stage.{phase_of};
 ghost use Rattle.std.specs.Io.KnownBytes.{Appends, Keeps};
 ghost use Rattle.tc_rack.specs.Printed.{answer_line};
 ghost use Rattle.tc_cli.specs.Written.{IsReportFault, IsScriptCutShort, IsLineAnswered, IsSessionReportWritten, IsScriptWritten};
 
 use crate::closing::close;
-use crate::session::{Session, StationFounder};
+use crate::session::{Session, StationBackend};
 use std::alloc::Global;
 use std::io::{Read, Write};
 use std::sync::Wait;
@@ -131,13 +131,13 @@ fn perform_line(
 ) -> Result<Option<Answer>, Reason>
     requires { scid ≤ 1023 }
     ensures done { OnOk result (IsGoodLine (phase_of session.old) octets.now (phase_of session.new)) }
-    ensures answer { IfOk result (IsLineAnswered (IsMannedOperated scid) session.old octets.now session.new) }
+    ensures answer { IfOk result (IsLineAnswered (IsStaffedOperated scid) session.old octets.now session.new) }
     ensures reason { IfErr result (λ reason. (reason ≡ Reason.NoMemory) ⊎ IsBadLine (phase_of session.old) octets.now reason) }
     ensures refused { IfErr result (λ reason. IsSessionLeft scid reason session.old session.new) }
 {
     let said = parse_line(alloc, octets)?;
-    let founder = StationFounder { rt, scid };
-    perform(&founder, alloc, session, Instruction::of(alloc, said))
+    let backend = StationBackend { rt, scid };
+    perform(&backend, alloc, session, Instruction::of(alloc, said))
 }
 
 fn write_answer<W: Write>(answer: Option<Answer>, writer: &mut W) -> Result<(), ScriptFault>
@@ -164,9 +164,9 @@ fn report<W: Write>(
     ensures fault { IfErr result (IsReportFault scid session lines) }
     ensures kept { IfErr result (λ fault. (fault ≡ ScriptFault.Write) ⊎ Keeps (W.contents writer.old) (W.contents writer.new)) }
 {
-    let founder = StationFounder { rt, scid };
-    let mut manned = match start(&founder, alloc, session) {
-        Ok(manned) => manned,
+    let backend = StationBackend { rt, scid };
+    let mut staffed = match start(&backend, alloc, session) {
+        Ok(staffed) => staffed,
         Err(Reason::NoChannel) => return Ok(()),
         Err(reason) => {
             return Err(ScriptFault::Line {
@@ -175,8 +175,8 @@ fn report<W: Write>(
             });
         }
     };
-    manned.meet_all(rt);
-    let (station, operator) = manned.into_parts();
+    staffed.meet_all(rt);
+    let (station, operator) = staffed.into_parts();
     let Ok(operators) = vec![in alloc; operator] else {
         return Err(ScriptFault::Line {
             line: lines,

@@ -3,44 +3,48 @@
 ghost use Rattle.std.specs.Prelude.{◌≤◌};
 
 use crate::founding::found;
-use crate::manned::MannedStation;
+use crate::staffed::StaffedStation;
 use std::alloc::Global;
 use std::sync::Wait;
-use tc_rack::{Answer, Founder, Operation, Stage};
+use tc_rack::{Answer, Backend, Operation, Stage};
 use tc_setup::Configuration;
 use tc_text::Reason;
 
 /// How far a script has come whose operations are done one after the other.
-pub(crate) type Session = Stage<MannedStation>;
+pub(crate) type Session = Stage<StaffedStation>;
 
 /// Who makes the station of the spacecraft with this id, with its operator and its watchers.
 #[derive(Drop)]
-pub(crate) struct StationFounder<'rt, T: Wait> {
+pub(crate) struct StationBackend<'rt, T: Wait> {
     pub(crate) rt: &'rt T,
     pub(crate) scid: u16,
     ghost within: { scid ≤ 1023 },
 }
 
-impl<T: Wait> Founder for StationFounder<'_, T> {
-    ghost use Rattle.tc_cli.specs.Manned.{AreAsCounted, IsMannedAnswer, IsNewlyManned};
+impl<T: Wait> Backend for StationBackend<'_, T> {
+    ghost use Rattle.tc_cli.specs.Staffed.{AreAsCounted, IsStaffedAnswer, IsNewlyStaffed};
 
-    type Founded = MannedStation;
+    type Founded = StaffedStation;
 
-    ghost is_new = { λ f. IsNewlyManned f.scid };
+    ghost is_new = { λ f. IsNewlyStaffed f.scid };
 
-    ghost answers = { IsMannedAnswer };
+    ghost answers = { IsStaffedAnswer };
 
     ghost spares = { AreAsCounted };
 
     // It is made once for a script, so its code isn't inlined into what runs for each line.
     #[cold]
     #[inline(never)]
-    fn found(&self, alloc: Global, list: Configuration) -> Result<MannedStation, Reason> {
+    fn found(&self, alloc: Global, list: Configuration) -> Result<StaffedStation, Reason> {
         let vcids = list.vcids(alloc)?;
-        MannedStation::new(self.rt, alloc, found(alloc, self.scid, list)?, vcids)
+        StaffedStation::new(self.rt, alloc, found(alloc, self.scid, list)?, vcids)
     }
 
-    fn operate(&self, manned: &mut MannedStation, operation: Operation) -> Result<Answer, Reason> {
-        manned.operate(self.rt, operation)
+    fn operate(
+        &self,
+        staffed: &mut StaffedStation,
+        operation: Operation,
+    ) -> Result<Answer, Reason> {
+        staffed.operate(self.rt, operation)
     }
 }

@@ -7,7 +7,7 @@ ghost use Rattle.tc_station.specs.Moments.{IsWatcherOf};
 use std::alloc::Global;
 use std::sync::Wait;
 use tc_link::Link;
-use tc_station::{FlightStation, WatcherFault};
+use tc_station::{CountingStation, WatcherFault};
 use tc_status::Watcher;
 use tc_text::Reason;
 
@@ -21,7 +21,7 @@ pub(crate) const NO_FLAGS: Link = Link {
 pub(crate) fn watch_each(
     rt: &impl Wait,
     alloc: Global,
-    station: &FlightStation,
+    station: &CountingStation,
     vcids: &[u8],
 ) -> Result<Vec<Watcher>, Reason>
     requires all { vcids.now ≡ station.now.vcids }
@@ -38,7 +38,7 @@ pub(crate) fn watch_each(
     Ok(watchers)
 }
 
-fn watch_one(rt: &impl Wait, station: &FlightStation, vcid: u8) -> Result<Watcher, Reason>
+fn watch_one(rt: &impl Wait, station: &CountingStation, vcid: u8) -> Result<Watcher, Reason>
     requires { Contains station.now.vcids vcid }
     ensures own { IfOk result (IsWatcherOf station.now vcid) }
     ensures reason { IfErr result (λ reason. reason ≡ Reason.NoMemory) }

@@ -345,7 +345,7 @@ set-last _ octet l = absurd (omega arith)
 
 pub last-step : (mode : Mode) (room octet last count : ℕ) (frame block : List ℕ) (decoding : Bool) (value : Receiver) (o : Option (List ℕ))
     → decoding ≡ true → 7 ≤ count → count < 8 → length block ≡ 8
-    → record { mode = mode; state = (if decoding then Decoding frame (take count block) else Searching last); held = frame } ≡ value
+    → record { mode = mode; state = (if decoding then Decoding frame (take count block) else Searching last); carried = frame } ≡ value
     → o ≡ decoded mode (set block count octet) → reception_step value.mode room value.state octet ≡ after_block room frame o
 last-step mode room octet last count frame block decoding value o on more less l view h =
     let at : 7 ≡ count = omega arith in
@@ -359,7 +359,7 @@ last-step mode room octet last count frame block decoding value o on more less l
 
 pub last-fate : (mode : Mode) (room octet last count : ℕ) (frame block : List ℕ) (decoding : Bool) (value : Receiver) (f : Fate)
     → decoding ≡ true → 7 ≤ count → count < 8 → length block ≡ 8
-    → record { mode = mode; state = (if decoding then Decoding frame (take count block) else Searching last); held = frame } ≡ value
+    → record { mode = mode; state = (if decoding then Decoding frame (take count block) else Searching last); carried = frame } ≡ value
     → f ≡ fate_after mode room frame (set block count octet) → Some f ≡ fate_of value.mode room value.state octet
 last-fate mode room octet last count frame block decoding value f on more less l view h =
     let at : 7 ≡ count = omega arith in
@@ -438,6 +438,6 @@ taken-all room first after os rest given none t =
     let whole : take t.count os ≡ os = sym (append-nil (take t.count os)) ∙ ap (λ (x : List ℕ). take t.count os ++ x) (sym none ∙ t.left) ∙ take-append-drop t.count os in
     (t.state ∙ ap (state_after first.mode room first.state) whole, sym (ap (frames_of first.mode room first.state) whole) ∙ t.frames)
 
-pub taken-short : (room : ℕ) (first after : Receiver) (os rest : List ℕ) (given : List (List ℕ)) → IsTaken room first after os rest (given ++ after.held ∷ [])
+pub taken-short : (room : ℕ) (first after : Receiver) (os rest : List ℕ) (given : List (List ℕ)) → IsTaken room first after os rest (given ++ after.carried ∷ [])
     → StopsShort room first after os given
 taken-short room first after os rest given t = record { count = t.count; within = t.within; state = t.state; frames = t.frames }

@@ -107,7 +107,7 @@ overlong_in mode room state octets = counted_in overruns_of mode room state octe
 pub record Receiver : Type 0 where
   pub mode : Mode
   pub state : Reception
-  pub held : List ℕ
+  pub carried : List ℕ
 
 -- the front of these octets was taken, which gave these candidate frames; this is left
 pub record IsTaken (room : ℕ) (before after : Receiver) (octets rest : List ℕ) (given : List (List ℕ)) : Type 0 where
@@ -122,7 +122,7 @@ pub record StopsShort (room : ℕ) (before after : Receiver) (octets : List ℕ)
   pub count : ℕ
   pub within : count ≤ length octets
   pub state : after.state ≡ state_after before.mode room before.state (take count octets)
-  pub frames : frames_of before.mode room before.state (take count octets) ≡ given ++ after.held ∷ []
+  pub frames : frames_of before.mode room before.state (take count octets) ≡ given ++ after.carried ∷ []
 
 -- no two octets in a row count as the start sequence, nor do the first and the one before it
 abbrev pub HasNoStart : Mode → ℕ → List ℕ → Type 0

@@ -17,7 +17,7 @@ use std::mem::replace;
 pub struct Fed {
     /// What became of the code block that it ended.
     pub fate: Option<Fate>,
-    /// Whether it ended a candidate frame, which [`held`](Decoder::held) lends then.
+    /// Whether it ended a candidate frame, which [`carried`](Decoder::carried) lends then.
     pub ended: bool,
 }
 
@@ -52,7 +52,7 @@ impl Model for Decoder {
     ghost view = { λ d. record {
       mode = d.mode;
       state = (if d.decoding then Decoding d.frame.items (take d.count d.block) else Searching d.last);
-      held = d.frame.items;
+      carried = d.frame.items;
     } };
 
     ghost invariant = { λ d. (d.count < 8) × (most_octets ≤ vec_capacity d.frame) × (length d.block ≡ 8) };
@@ -61,7 +61,7 @@ impl Model for Decoder {
 impl Decoder {
     /// A decoder that searches. This asks for memory, for what a CLTU carries.
     pub fn new(alloc: Global, mode: Mode) -> Result<Decoder, AllocError>
-        ensures { IfOk result (λ decoder. decoder ≡ record { mode = mode; state = Searching 0; held = [] }) }
+        ensures { IfOk result (λ decoder. decoder ≡ record { mode = mode; state = Searching 0; carried = [] }) }
     {
         let frame = Vec::with_capacity(alloc, MOST_OCTETS)?;
         Ok(Decoder {
@@ -78,7 +78,7 @@ impl Decoder {
     pub fn feed_octet(&mut self, octet: u8) -> Fed
         ensures mode { self.new.mode ≡ self.old.mode }
         ensures state { self.new.state ≡ (reception_step self.old.mode most_octets self.old.state octet).0 }
-        ensures given { (if result.ended then self.new.held ∷ [] else []) ≡ (reception_step self.old.mode most_octets self.old.state octet).1 }
+        ensures given { (if result.ended then self.new.carried ∷ [] else []) ≡ (reception_step self.old.mode most_octets self.old.state octet).1 }
         ensures fate { result.fate ≡ fate_of self.old.mode most_octets self.old.state octet }
     {
         if !self.decoding {
@@ -105,11 +105,11 @@ impl Decoder {
     #[inline(always)]
     pub fn feed_block(&mut self, block: [u8; 8]) -> Option<Fed>
         ensures mode { self.new.mode ≡ self.old.mode }
-        ensures begins { IfSome result (λ fed. self.old.state ≡ Decoding self.old.held []) }
+        ensures begins { IfSome result (λ fed. self.old.state ≡ Decoding self.old.carried []) }
         ensures state { IfSome result (λ fed. self.new.state ≡ state_after self.old.mode most_octets self.old.state block) }
-        ensures given { IfSome result (λ fed. (if fed.ended then self.new.held ∷ [] else []) ≡ frames_of self.old.mode most_octets self.old.state block) }
-        ensures fate { IfSome result (λ fed. fed.fate ≡ Some (fate_after self.old.mode most_octets self.old.held block)) }
-        ensures none { IfNone result ((self.old.state ≢ Decoding self.old.held []) × (self.new ≡ self.old)) }
+        ensures given { IfSome result (λ fed. (if fed.ended then self.new.carried ∷ [] else []) ≡ frames_of self.old.mode most_octets self.old.state block) }
+        ensures fate { IfSome result (λ fed. fed.fate ≡ Some (fate_after self.old.mode most_octets self.old.carried block)) }
+        ensures none { IfNone result ((self.old.state ≢ Decoding self.old.carried []) × (self.new ≡ self.old)) }
     {
         if !self.decoding || self.count != 0 {
             return None;
@@ -124,9 +124,9 @@ impl Decoder {
     pub fn feed_front<'a>(&mut self, piece: &'a [u8]) -> Option<(Fed, &'a [u8])>
         ensures mode { self.new.mode ≡ self.old.mode }
         ensures less { IfSome result (λ p. length p.1.now < length piece.now) }
-        ensures front { IfSome result (λ p. IsTaken most_octets self.old self.new piece.now p.1.now (if p.0.ended then self.new.held ∷ [] else [])) }
+        ensures front { IfSome result (λ p. IsTaken most_octets self.old self.new piece.now p.1.now (if p.0.ended then self.new.carried ∷ [] else [])) }
         ensures state { IfSome result (λ p. state_after self.old.mode most_octets self.new.state p.1.now ≡ state_after self.old.mode most_octets self.old.state piece.now) }
-        ensures given { IfSome result (λ p. (if p.0.ended then self.new.held ∷ [] else []) ++ frames_of self.old.mode most_octets self.new.state p.1.now
+        ensures given { IfSome result (λ p. (if p.0.ended then self.new.carried ∷ [] else []) ++ frames_of self.old.mode most_octets self.new.state p.1.now
             ≡ frames_of self.old.mode most_octets self.old.state piece.now) }
         ensures fates { IfSome result (λ p. (count : Option Fate → ℕ) → count None ≡ 0 → count p.0.fate + counted_in count self.old.mode most_octets self.new.state p.1.now
             ≡ counted_in count self.old.mode most_octets self.old.state piece.now) }
@@ -144,11 +144,11 @@ impl Decoder {
     // After the last octet of a code block.
     #[inline(always)]
     fn end_block(&mut self, block: [u8; 8]) -> Fed
-        requires { self.old.state ≡ Decoding self.old.held [] }
+        requires { self.old.state ≡ Decoding self.old.carried [] }
         ensures mode { self.new.mode ≡ self.old.mode }
-        ensures state { self.new.state ≡ (after_block most_octets self.old.held (decoded self.old.mode block)).0 }
-        ensures given { (if result.ended then self.new.held ∷ [] else []) ≡ (after_block most_octets self.old.held (decoded self.old.mode block)).1 }
-        ensures fate { result.fate ≡ Some (fate_after self.old.mode most_octets self.old.held block) }
+        ensures state { self.new.state ≡ (after_block most_octets self.old.carried (decoded self.old.mode block)).0 }
+        ensures given { (if result.ended then self.new.carried ∷ [] else []) ≡ (after_block most_octets self.old.carried (decoded self.old.mode block)).1 }
+        ensures fate { result.fate ≡ Some (fate_after self.old.mode most_octets self.old.carried block) }
     {
         let Judged { fate, information } = judge(block, self.mode);
         match information {
@@ -190,15 +190,15 @@ impl Decoder {
     }
 
     /// What the code blocks carried that were taken since the last start sequence: a candidate frame, if the last octet ended one.
-    pub fn held(&self) -> &[u8]
-        ensures { result.now ≡ self.now.held }
+    pub fn carried(&self) -> &[u8]
+        ensures { result.now ≡ self.now.carried }
     {
         &self.frame
     }
 
     /// Takes the next piece of the stream, of any length, and adds a copy of each candidate frame that ends in it.
     ///
-    /// At `Err` the octets up to the end of a candidate frame were taken. All before it were added, and [`held`](Decoder::held) lends
+    /// At `Err` the octets up to the end of a candidate frame were taken. All before it were added, and [`carried`](Decoder::carried) lends
     /// it.
     pub fn feed(
         &mut self,
@@ -226,12 +226,12 @@ impl Decoder {
         ensures unchanged { OnErr result (map (λ frame. frame.items) frames.new.items ≡ map (λ frame. frame.items) frames.old.items) }
         ensures ended { OnErr result (ended ≡ true) }
         ensures frames { OnOk result (map (λ frame. frame.items) frames.new.items
-            ≡ map (λ frame. frame.items) frames.old.items ++ (if ended then self.now.held ∷ [] else [])) }
+            ≡ map (λ frame. frame.items) frames.old.items ++ (if ended then self.now.carried ∷ [] else [])) }
     {
         if !ended {
             return Ok(());
         }
-        let frame = Vec::from_slice(alloc, self.held())?;
+        let frame = Vec::from_slice(alloc, self.carried())?;
         frames.push(frame)?;
         Ok(())
     }

@@ -1,5 +1,5 @@
 pub mod Names
-pub mod Told
+pub mod Reported
 pub mod Counted
 pub mod Alone
 pub mod Places

@@ -12,8 +12,8 @@ pub use Rattle.std.specs.List.{AllZip, sum_by}
 pub use Rattle.tc_channel.specs.declared.event.Event.{Event}
 pub use Rattle.tc_desk.specs.Call.{looked, made}
 pub use Rattle.tc_desk.specs.Closing.{CanClose, IsBalanced, IsCause, IsClosed}
-pub use Rattle.tc_desk.specs.Log.{AtHand, AtLock, Moment, Own, accounts_of, told_at}
-pub use Rattle.tc_desk.specs.Together.{AreClosed, AreMoments, AreOurs, AreOut, AreSame, CanCloseEach, CannotCloseOne, HasCause, IsClosingRefusal, IsFresh, IsOut, column, heads_of, issued_of, keepers_of, locks_of, nobody, settings_of_desks, told_one, told_row, told_rows}
+pub use Rattle.tc_desk.specs.Log.{AtHand, AtLock, Moment, Own, accounts_of, reported_at}
+pub use Rattle.tc_desk.specs.Together.{AreClosed, AreMoments, AreOurs, AreOut, AreSame, CanCloseEach, CannotCloseOne, HasCause, IsClosingRefusal, IsFresh, IsOut, column, heads_of, issued_of, owners_of, locks_of, nobody, settings_of_desks, reported_one, reported_row, reported_rows}
 pub use Rattle.tc_desk.specs.contracts.resident.ResidentBadge.{the_row}
 pub use denote.Param.Send.{IsSend, IsSync, part_keyless}
 pub use denote.RattleType.{RattleType}

@@ -9,7 +9,7 @@ use Rattle.tc_desk.specs.Log.{Own, AtLock, accounts_of}
 abbrev pub IsBalanced : List Own → List Event → Type 0
 IsBalanced makers journal = (total_made makers ≡ length journal) × (length journal < 2 ^ 64 - 1)
 
--- they can close a desk whose keeper has issued so many operators: all of these are among them, or they have made as many events as the
+-- they can close a desk whose owner has issued so many operators: all of these are among them, or they have made as many events as the
 -- journal has; and what they have made is less than a count of 64 bits shows
 abbrev pub CanClose : ℕ → List Own → List Event → Type 0
 CanClose issued makers journal = (total_made makers < 2 ^ 64 - 1) × ((issued ≤ length makers) ⊎ (total_made makers ≡ length journal))
@@ -20,8 +20,8 @@ IsCause issued makers = (length makers < issued) ⊎ (2 ^ 64 - 1 ≤ total_made 
 
 -- The journal of the closed channel is a merge of what these operators made, with as many events as they have made, and what each of
 -- them had seen is a beginning of it, with the settings of the desk and its board.
-pub record IsClosed (keeper : AtLock) (operators : List AtLock) (closed : History) : Type 0 where
-  pub settings : closed.settings ≡ keeper.own.seen.head.settings
+pub record IsClosed (owner : AtLock) (operators : List AtLock) (closed : History) : Type 0 where
+  pub settings : closed.settings ≡ owner.own.seen.head.settings
   pub balanced : IsBalanced (accounts_of operators) closed.journal
   pub merge : IsMergeOf closed.journal (accounts_of operators)
-  pub seen : AreBehind (accounts_of operators) (record { head = keeper.own.seen.head; entries = closed.journal })
+  pub seen : AreBehind (accounts_of operators) (record { head = owner.own.seen.head; entries = closed.journal })

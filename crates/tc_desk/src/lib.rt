@@ -1,29 +1,29 @@
 //! The desk of a channel, behind a lock that remembers.
 //!
-//! Several threads share a [`LockedDesk`], each with a [`DeskOperator`] of its own, which the desk's [`DeskKeeper`] makes, and does an
+//! Several threads share a [`LockedDesk`], each with a [`DeskOperator`] of its own, which the desk's [`DeskOwner`] makes, and does an
 //! [`Operation`] by it. Contracts see which lock that is, and what each operator has seen of the channel's journal and made of it: so each
 //! call is answered by this very channel's journal, and [`close_together`] gives out channels whose journals are merges of what their
 //! operators made. Each call takes the lock once, and waits while another has it.
 #![tactic(auto)]
 
-mod held;
-mod kept;
+mod guard;
 mod laws;
 mod locked;
 mod operation;
-mod post;
+mod owned_desk;
 mod resident;
+mod slot;
 mod together;
 
-pub use kept::{DeskHead, KeptDesk};
 pub use laws::{
     a_release_finds_a_data_field, each_event_stands_at_its_place,
     one_alone_is_answered_after_its_own_events, the_only_maker_made_the_whole_journal,
     the_only_operator_made_the_whole_journal,
 };
-pub use locked::{DeskKeeper, DeskOperator, LockedDesk};
+pub use locked::{DeskOperator, DeskOwner, LockedDesk};
 pub use operation::{
     Framing, Operation, Question, Release, Taking, UnitTaking, WatchedFraming, Watching,
 };
-pub use post::Post;
-pub use together::{Crew, LeftOpen, Refusal, close_together, take_out_together};
+pub use owned_desk::OwnedDesk;
+pub use slot::{DeskHead, DeskSlot};
+pub use together::{LeftOpen, OperatorList, Refusal, close_together, take_out_together};

@@ -8,9 +8,9 @@ ghost use Rattle.logged_lock.specs.Rule as rule;
 ghost use Rattle.tc_desk.specs.Log.{Moment, IsResting, desk_log, at_lock, view_in, count_of, issued_count, with_one_issued};
 ghost use Rattle.tc_desk.specs.Call.{HasMet, HasSeenNoMore, IsMoment, IsAsked, IsCall, IsMeeting, IsMetCall};
 
-use crate::kept::{DeskHead, KeptDesk};
 use crate::operation::{Makes, Occasion, Operation, Question, run_met};
 use crate::resident::ResidentBadge;
+use crate::slot::{DeskHead, DeskSlot};
 use atomic_table::Badge;
 use crossbeam_utils::CachePadded;
 use logged_lock::{LockSeat, LoggedLock, View};
@@ -21,9 +21,9 @@ use std::sync::Wait;
 use tc_channel::{Event, Journal, Settings, SettingsFault};
 use tc_status::{DeskOf, Watcher};
 
-pub(crate) type DeskLock<J> = LoggedLock<KeptDesk<J>, DeskHead, Event>;
+pub(crate) type DeskLock<J> = LoggedLock<DeskSlot<J>, DeskHead, Event>;
 
-pub(crate) type DeskSeat<J> = LockSeat<KeptDesk<J>, DeskHead, Event>;
+pub(crate) type DeskSeat<J> = LockSeat<DeskSlot<J>, DeskHead, Event>;
 
 pub(crate) type DeskBadge = Badge<View<DeskHead, Event>>;
 
@@ -65,13 +65,13 @@ impl Model for DeskOperator {
 /// Who makes operators for a lock, and takes the channel out of it. It counts the operators, and makes no events. Threads may share it:
 /// a `&` to it offers nothing.
 #[derive(Drop)]
-pub struct DeskKeeper {
+pub struct DeskOwner {
     badge: ResidentBadge<View<DeskHead, Event>>,
     // of 128 bits, so that no list is as long as the largest number
     issued: u128,
 }
 
-impl Model for DeskKeeper {
+impl Model for DeskOwner {
     ghost use Rattle.std.specs.Prelude.{◌≡◌, []};
     ghost use Rattle.tc_desk.specs.Log.{AtLock, at_lock, view_in, issued_count, IsResting};
 
@@ -79,7 +79,7 @@ impl Model for DeskKeeper {
 
     ghost view = { λ k. at_lock k.badge.badge.table_id k.badge.badge.views };
 
-    ghost invariant = { λ k. IsResting k.badge.badge.views × ((view_in k.badge.badge.views).told ≡ []) × (k.badge.badge.id ≡ 0)
+    ghost invariant = { λ k. IsResting k.badge.badge.views × ((view_in k.badge.badge.views).reported ≡ []) × (k.badge.badge.id ≡ 0)
         × ((view_in k.badge.badge.views).own.made ≡ []) × (k.issued ≡ issued_count (view_in k.badge.badge.views).own) };
 }
 
@@ -131,18 +131,18 @@ fn operate_met_by<P: Occasion, J: Journal, O: Operation<J>, R: Wait>(
     ensures maker { (view_in badge.new.views).maker ≡ true }
     ensures call { IsMetCall (O.event operation.now) (O.answers operation.now) (O.refuses operation.now) watcher.old (at_lock badge.old.table_id badge.old.views) result watcher.new (at_lock badge.new.table_id badge.new.views) }
 {
-    let mut held: DeskSeat<J> = mem::replace(badge, Badge::blank()).into_seat();
-    lock.lock(rt, &mut held);
-    let kept = held.slot_mut(lock.table(), 0);
+    let mut guard: DeskSeat<J> = mem::replace(badge, Badge::blank()).into_seat();
+    lock.lock(rt, &mut guard);
+    let kept = guard.slot_mut(lock.table(), 0);
     let desk: &mut Option<DeskOf<J>> = &mut kept.desk;
     let Some(desk) = desk else { unreachable!() };
     let answer = run_met(desk, watcher, operation);
     if answer.is_ok() {
-        lock.unlock_with::<Makes<P>>(&mut held);
+        lock.unlock_with::<Makes<P>>(&mut guard);
     } else {
-        lock.unlock(&mut held);
+        lock.unlock(&mut guard);
     }
-    *badge = held.into_badge();
+    *badge = guard.into_badge();
     answer
 }
 
@@ -194,22 +194,22 @@ fn raise(count: &mut CachePadded<u64>)
 }
 
 // A new seat, from the first one.
-fn issue_from<J: Journal>(lock: &DeskLock<J>, keeper: DeskBadge) -> (DeskBadge, DeskBadge)
-    requires own { keeper.table_id ≡ lock.now.id }
-    requires first { keeper.id ≡ 0 }
-    requires resting { IsResting keeper.views }
-    ensures keeper { (result.0.table_id ≡ keeper.table_id) × (result.0.id ≡ keeper.id) }
-    ensures issued { result.0.views ≡ rule.issued_one (view_in keeper.views) ∷ [] }
-    ensures own { result.1.table_id ≡ keeper.table_id }
-    ensures new { result.1.views ≡ rule.newcomer (view_in keeper.views).own.seen ∷ [] }
+fn issue_from<J: Journal>(lock: &DeskLock<J>, owner: DeskBadge) -> (DeskBadge, DeskBadge)
+    requires own { owner.table_id ≡ lock.now.id }
+    requires first { owner.id ≡ 0 }
+    requires resting { IsResting owner.views }
+    ensures owner { (result.0.table_id ≡ owner.table_id) × (result.0.id ≡ owner.id) }
+    ensures issued { result.0.views ≡ rule.issued_one (view_in owner.views) ∷ [] }
+    ensures own { result.1.table_id ≡ owner.table_id }
+    ensures new { result.1.views ≡ rule.newcomer (view_in owner.views).own.seen ∷ [] }
 {
-    let mut first: DeskSeat<J> = keeper.into_seat();
+    let mut first: DeskSeat<J> = owner.into_seat();
     let other = lock.issue(&mut first);
     (first.into_badge(), other.into_badge())
 }
 
-impl DeskKeeper {
-    /// A new operator, which has made nothing, and has seen what the keeper has seen.
+impl DeskOwner {
+    /// A new operator, which has made nothing, and has seen what the owner has seen.
     pub fn operator<J: Journal>(&mut self, desk: &LockedDesk<J>) -> DeskOperator
         requires ours { self.old.lock ≡ desk.now.id }
         ensures issued { self.new ≡ with_one_issued self.old }
@@ -218,37 +218,37 @@ impl DeskKeeper {
         ensures new { result.own.made ≡ [] }
         ensures none { result.own.issued ≡ 0 }
     {
-        let keeper = mem::replace(&mut self.badge, ResidentBadge::new(Badge::blank()));
-        let (keeper, badge) = issue_from(&desk.lock, keeper.into_badge());
-        self.badge = ResidentBadge::new(keeper);
+        let owner = mem::replace(&mut self.badge, ResidentBadge::new(Badge::blank()));
+        let (owner, badge) = issue_from(&desk.lock, owner.into_badge());
+        self.badge = ResidentBadge::new(owner);
         self.issued = self.issued.saturating_add(1);
         let count = CachePadded::new(0);
         DeskOperator { badge, count }
     }
 
-    // A keeper of this first seat, to which nothing was told, and from which so many were issued.
-    pub(crate) fn of(badge: DeskBadge, issued: u128) -> DeskKeeper
+    // An owner of this first seat, to which nothing was told, and from which so many were issued.
+    pub(crate) fn of(badge: DeskBadge, issued: u128) -> DeskOwner
         requires first { badge.id ≡ 0 }
         requires resting { IsResting badge.views }
-        requires told { (view_in badge.views).told ≡ [] }
+        requires reported { (view_in badge.views).reported ≡ [] }
         requires made { (view_in badge.views).own.made ≡ [] }
         requires issued { issued ≡ issued_count (view_in badge.views).own }
         ensures { result ≡ at_lock badge.table_id badge.views }
     {
         let badge = ResidentBadge::new(badge);
-        DeskKeeper { badge, issued }
+        DeskOwner { badge, issued }
     }
 
     // The first seat, and how many were issued from it.
     pub(crate) fn into_parts(self) -> (DeskBadge, u128)
         ensures first { result.0.id ≡ 0 }
         ensures resting { IsResting result.0.views }
-        ensures told { (view_in result.0.views).told ≡ [] }
+        ensures reported { (view_in result.0.views).reported ≡ [] }
         ensures made { (view_in result.0.views).own.made ≡ [] }
         ensures own { at_lock result.0.table_id result.0.views ≡ self }
         ensures issued { result.1 ≡ issued_count self.own }
     {
-        let DeskKeeper { badge, issued } = self;
+        let DeskOwner { badge, issued } = self;
         (badge.into_badge(), issued)
     }
 }
@@ -327,12 +327,12 @@ impl DeskOperator {
 }
 
 impl<J: Journal> LockedDesk<J> {
-    /// A desk with a new channel behind a lock that is free, and its keeper. It takes the memory of the desk, and of the lock.
+    /// A desk with a new channel behind a lock that is free, and its owner. It takes the memory of the desk, and of the lock.
     pub fn new(
         alloc: Global,
         settings: Settings,
-    ) -> Result<(LockedDesk<J>, DeskKeeper), SettingsFault>
-        ensures keeper { IfOk result (λ made. made.1.lock ≡ made.0.id) }
+    ) -> Result<(LockedDesk<J>, DeskOwner), SettingsFault>
+        ensures owner { IfOk result (λ made. made.1.lock ≡ made.0.id) }
         ensures head { IfOk result (λ made. made.1.own.seen.head ≡ made.0.head) }
         ensures settings { IfOk result (λ made. made.1.own.seen.head.settings ≡ settings) }
         ensures journal { IfOk result (λ made. made.1.own.seen.entries ≡ []) }
@@ -342,11 +342,11 @@ impl<J: Journal> LockedDesk<J> {
     {
         let desk = DeskOf::new(alloc, settings)?;
         let head = DeskHead::of(&desk);
-        let kept = KeptDesk::new(Some(desk));
+        let kept = DeskSlot::new(Some(desk));
         let Ok((lock, first)) = DeskLock::new(alloc, kept, &head) else {
             return Err(SettingsFault::NoMemory);
         };
-        Ok((LockedDesk { lock }, DeskKeeper::of(first.into_badge(), 0)))
+        Ok((LockedDesk { lock }, DeskOwner::of(first.into_badge(), 0)))
     }
 
     /// The desk's answer to the question at a moment under the lock, for who has no operator. Of that moment no more is known

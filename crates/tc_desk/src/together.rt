@@ -3,16 +3,16 @@
 ghost use Rattle.std.specs.Prelude.{◌≡◌, ◌≢◌, ◌<◌, ◌≤◌, ◌+◌, ◌-◌, ◌^◌, ◌++◌, [], All, true, min, length, map, reverse, IfOk, IfErr, MatchBool, vec_len, vec_capacity};
 ghost use Rattle.logged_lock.specs.Log.{total_made};
 ghost use Rattle.tc_desk.specs.Log.{accounts_of};
-ghost use Rattle.tc_desk.specs.Together.{AreOurs, AreClosed, AreMoments, AreOut, AreSame, CanCloseEach, CannotCloseOne, HasCause, IsFresh, IsClosingRefusal, column, keepers_of, locks_of, settings_of_desks, told_row, told_rows};
+ghost use Rattle.tc_desk.specs.Together.{AreOurs, AreClosed, AreMoments, AreOut, AreSame, CanCloseEach, CannotCloseOne, HasCause, IsFresh, IsClosingRefusal, column, owners_of, locks_of, settings_of_desks, reported_row, reported_rows};
 
-use crate::held::HeldDesk;
+use crate::guard::DeskGuard;
 use crate::locked::DeskOperator;
-use crate::post::Post;
+use crate::owned_desk::OwnedDesk;
 use std::alloc::{AllocError, Global};
 use tc_channel::{ChannelWith, Journal};
 
 /// Who has an operator at each of a list of desks.
-pub trait Crew: Drop {
+pub trait OperatorList: Drop {
     ghost use Rattle.std.specs.Prelude.{◌≡◌, List};
     ghost use Rattle.tc_desk.specs.Log.{AtLock};
 
@@ -28,7 +28,7 @@ pub trait Crew: Drop {
         ensures { result.items ≡ at_desks self };
 }
 
-impl Crew for Vec<DeskOperator> {
+impl OperatorList for Vec<DeskOperator> {
     ghost at_desks = { λ v. v.items };
 
     fn operators(&self) -> &[DeskOperator] {
@@ -46,8 +46,8 @@ pub enum Refusal {
     /// Out of memory.
     NoMemory,
     /// A lock isn't free. No call of this crate ends with a lock taken, so whoever owns the desks doesn't come to see it.
-    Held,
-    /// At one of the desks the operators haven't made as many events as the channel's journal has, and aren't all that its keeper issued; or
+    InUse,
+    /// At one of the desks the operators haven't made as many events as the channel's journal has, and aren't all that its owner issued; or
     /// they have made 2^64 - 1 or more.
     Unbalanced,
 }
@@ -55,16 +55,16 @@ pub enum Refusal {
 /// Desks that weren't closed: they are given back with the operators, and work can go on.
 #[derive(Drop)]
 pub struct LeftOpen<J: Journal, C: Drop> {
-    pub posts: Vec<Post<J>>,
-    pub crews: Vec<C>,
+    pub owned_desks: Vec<OwnedDesk<J>>,
+    pub operator_lists: Vec<C>,
     pub refusal: Refusal,
 }
 
-// Empty lists with room for so many channels, and for so many desks that are held.
+// Empty lists with room for so many channels, and for so many guards.
 fn rooms<J: Journal>(
     alloc: Global,
     count: usize,
-) -> Result<(Vec<ChannelWith<J>>, Vec<HeldDesk<J>>), AllocError>
+) -> Result<(Vec<ChannelWith<J>>, Vec<DeskGuard<J>>), AllocError>
     ensures empty { IfOk result (λ both. (both.0.items ≡ []) × (both.1.items ≡ [])) }
     ensures room { IfOk result (λ both. (count ≤ vec_capacity both.0) × (count ≤ vec_capacity both.1)) }
 {
@@ -74,117 +74,117 @@ fn rooms<J: Journal>(
 }
 
 // Takes the lock of this desk if it is free.
-fn hold<J: Journal>(post: Post<J>) -> Result<HeldDesk<J>, Post<J>>
-    ensures keeper { IfOk result (λ held. held.keeper ≡ post) }
+fn hold<J: Journal>(owned_desk: OwnedDesk<J>) -> Result<DeskGuard<J>, OwnedDesk<J>>
+    ensures owner { IfOk result (λ guard. guard.owner ≡ owned_desk) }
     ensures fresh { IfOk result IsFresh }
-    ensures refused { IfErr result (λ left. left ≡ post) }
+    ensures refused { IfErr result (λ left. left ≡ owned_desk) }
 {
-    let Post { desk, keeper } = post;
-    match HeldDesk::hold(desk, keeper) {
-        Ok(held) => Ok(held),
-        Err((desk, keeper)) => Err(Post { desk, keeper }),
+    let OwnedDesk { desk, owner } = owned_desk;
+    match DeskGuard::hold(desk, owner) {
+        Ok(guard) => Ok(guard),
+        Err((desk, owner)) => Err(OwnedDesk { desk, owner }),
     }
 }
 
 // Gives it back.
-fn let_go<J: Journal>(held: HeldDesk<J>) -> Post<J>
-    requires { IsFresh held }
-    ensures lock { result.lock ≡ held.keeper.lock }
-    ensures head { result.own.seen.head ≡ held.keeper.own.seen.head }
-    ensures issued { result.own.issued ≡ held.keeper.own.issued }
+fn let_go<J: Journal>(guard: DeskGuard<J>) -> OwnedDesk<J>
+    requires { IsFresh guard }
+    ensures lock { result.lock ≡ guard.owner.lock }
+    ensures head { result.own.seen.head ≡ guard.owner.own.seen.head }
+    ensures issued { result.own.issued ≡ guard.owner.own.issued }
 {
-    let (desk, keeper) = held.let_go();
-    Post { desk, keeper }
+    let (desk, owner) = guard.let_go();
+    OwnedDesk { desk, owner }
 }
 
-// Takes the locks, beginning with the last desk, as long as they are free. What is held comes in that order.
-fn hold_all<J: Journal>(posts: &mut Vec<Post<J>>, held: &mut Vec<HeldDesk<J>>) -> bool
-    requires empty { held.old.items ≡ [] }
-    requires room { vec_len posts.old ≤ vec_capacity held.old }
-    ensures all { posts.new.items ++ reverse (keepers_of held.new.items) ≡ posts.old.items }
-    ensures done { result ≡ true → posts.new.items ≡ [] }
-    ensures fresh { All IsFresh held.new.items }
-    ensures room { vec_len posts.new + vec_len held.new ≤ vec_capacity posts.new }
+// Takes the locks, beginning with the last desk, as long as they are free. The guards come in that order.
+fn hold_all<J: Journal>(owned_desks: &mut Vec<OwnedDesk<J>>, guard: &mut Vec<DeskGuard<J>>) -> bool
+    requires empty { guard.old.items ≡ [] }
+    requires room { vec_len owned_desks.old ≤ vec_capacity guard.old }
+    ensures all { owned_desks.new.items ++ reverse (owners_of guard.new.items) ≡ owned_desks.old.items }
+    ensures done { result ≡ true → owned_desks.new.items ≡ [] }
+    ensures fresh { All IsFresh guard.new.items }
+    ensures room { vec_len owned_desks.new + vec_len guard.new ≤ vec_capacity owned_desks.new }
 {
-    while let Some(post) = posts.pop() {
-        let desk = match hold(post) {
+    while let Some(owned_desk) = owned_desks.pop() {
+        let desk = match hold(owned_desk) {
             Ok(desk) => desk,
-            Err(post) => {
-                posts.push_reserved(post);
+            Err(owned_desk) => {
+                owned_desks.push_reserved(owned_desk);
                 return false;
             }
         };
-        held.push_reserved(desk);
+        guard.push_reserved(desk);
     }
     true
 }
 
 // Gives the locks back, beginning with the one that was taken last.
-fn let_all_go<J: Journal>(posts: &mut Vec<Post<J>>, mut held: Vec<HeldDesk<J>>)
-    requires fresh { All IsFresh held.items }
-    requires room { vec_len posts.old + vec_len held ≤ vec_capacity posts.old }
-    ensures { AreSame (posts.old.items ++ reverse (keepers_of held.items)) posts.new.items }
+fn let_all_go<J: Journal>(owned_desks: &mut Vec<OwnedDesk<J>>, mut guard: Vec<DeskGuard<J>>)
+    requires fresh { All IsFresh guard.items }
+    requires room { vec_len owned_desks.old + vec_len guard ≤ vec_capacity owned_desks.old }
+    ensures { AreSame (owned_desks.old.items ++ reverse (owners_of guard.items)) owned_desks.new.items }
 {
-    while let Some(desk) = held.pop() {
-        posts.push_reserved(let_go(desk));
+    while let Some(desk) = guard.pop() {
+        owned_desks.push_reserved(let_go(desk));
     }
 }
 
 // How many events the operators at the desk of this place have made in all; where they are more than 2^64 - 1, that number.
-fn count_at<C: Crew>(crews: &[C], place: usize) -> u64
-    requires { All (λ crew. place < length (C.at_desks crew)) crews.now }
-    ensures { result ≡ min (total_made (accounts_of (column place (map C.at_desks crews.now)))) (2 ^ 64 - 1) }
+fn count_at<C: OperatorList>(operator_lists: &[C], place: usize) -> u64
+    requires { All (λ operator_list. place < length (C.at_desks operator_list)) operator_lists.now }
+    ensures { result ≡ min (total_made (accounts_of (column place (map C.at_desks operator_lists.now)))) (2 ^ 64 - 1) }
 {
     let mut total = 0u64;
-    for crew in crews {
-        total = total.saturating_add(crew.operators()[place].count());
+    for operator_list in operator_lists {
+        total = total.saturating_add(operator_list.operators()[place].count());
     }
     total
 }
 
 // Whether the operators at each of these desks can close it.
-fn can_close_each<J: Journal, C: Crew>(held: &[HeldDesk<J>], crews: &[C]) -> bool
-    requires { AreOurs (keepers_of held.now) (map C.at_desks crews.now) }
-    ensures { MatchBool result (CanCloseEach held.now (map C.at_desks crews.now)) (CannotCloseOne held.now (map C.at_desks crews.now)) }
+fn can_close_each<J: Journal, C: OperatorList>(guard: &[DeskGuard<J>], operator_lists: &[C]) -> bool
+    requires { AreOurs (owners_of guard.now) (map C.at_desks operator_lists.now) }
+    ensures { MatchBool result (CanCloseEach guard.now (map C.at_desks operator_lists.now)) (CannotCloseOne guard.now (map C.at_desks operator_lists.now)) }
 {
-    for (place, desk) in held.iter().enumerate() {
-        if !desk.can_close(crews.len(), count_at(crews, place)) {
+    for (place, desk) in guard.iter().enumerate() {
+        if !desk.can_close(operator_lists.len(), count_at(operator_lists, place)) {
             return false;
         }
     }
     true
 }
 
-// Lets the keeper of each desk know what the operator there has seen and made.
-fn tell_row<J: Journal>(held: &mut [HeldDesk<J>], mut operators: Vec<DeskOperator>)
-    requires { locks_of operators.items ≡ locks_of (keepers_of held.old) }
-    ensures { held.new ≡ told_row held.old operators.items }
+// Lets the owner of each desk know what the operator there has seen and made.
+fn report_row<J: Journal>(guard: &mut [DeskGuard<J>], mut operators: Vec<DeskOperator>)
+    requires { locks_of operators.items ≡ locks_of (owners_of guard.old) }
+    ensures { guard.new ≡ reported_row guard.old operators.items }
 {
     while let Some(operator) = operators.pop() {
-        held[operators.len()].tell(operator);
+        guard[operators.len()].tell(operator);
     }
 }
 
-// The same of all crews, in their order.
-fn tell_rows<J: Journal, C: Crew>(held: &mut [HeldDesk<J>], crews: Vec<C>)
-    requires { AreOurs (keepers_of held.old) (map C.at_desks crews.items) }
-    ensures { held.new ≡ told_rows held.old (map C.at_desks crews.items) }
+// The same of all lists of operators, in their order.
+fn report_rows<J: Journal, C: OperatorList>(guard: &mut [DeskGuard<J>], operator_lists: Vec<C>)
+    requires { AreOurs (owners_of guard.old) (map C.at_desks operator_lists.items) }
+    ensures { guard.new ≡ reported_rows guard.old (map C.at_desks operator_lists.items) }
 {
-    for crew in crews {
-        tell_row(held, crew.into_operators());
+    for operator_list in operator_lists {
+        report_row(guard, operator_list.into_operators());
     }
 }
 
 // Takes the channels out, into a list with room for them.
 fn take_all_out<J: Journal>(
-    held: Vec<HeldDesk<J>>,
+    guard: Vec<DeskGuard<J>>,
     mut room: Vec<ChannelWith<J>>,
 ) -> Vec<ChannelWith<J>>
     requires empty { room.items ≡ [] }
-    requires room { vec_len held ≤ vec_capacity room }
-    ensures { AreOut held.items result.items }
+    requires room { vec_len guard ≤ vec_capacity room }
+    ensures { AreOut guard.items result.items }
 {
-    for desk in held {
+    for desk in guard {
         room.push_reserved(desk.take_out());
     }
     room
@@ -192,47 +192,50 @@ fn take_all_out<J: Journal>(
 
 // Takes all locks, in the order of the desks; or none, and gives all back.
 fn take_locks<J: Journal>(
-    mut posts: Vec<Post<J>>,
-    mut held: Vec<HeldDesk<J>>,
-) -> Result<(Vec<Post<J>>, Vec<HeldDesk<J>>), Vec<Post<J>>>
-    requires empty { held.items ≡ [] }
-    requires room { vec_len posts ≤ vec_capacity held }
-    ensures held { IfOk result (λ both. AreMoments posts.items both.1.items) }
+    mut owned_desks: Vec<OwnedDesk<J>>,
+    mut guard: Vec<DeskGuard<J>>,
+) -> Result<(Vec<OwnedDesk<J>>, Vec<DeskGuard<J>>), Vec<OwnedDesk<J>>>
+    requires empty { guard.items ≡ [] }
+    requires room { vec_len owned_desks ≤ vec_capacity guard }
+    ensures guard { IfOk result (λ both. AreMoments owned_desks.items both.1.items) }
     ensures empty { IfOk result (λ both. both.0.items ≡ []) }
     ensures room { IfOk result (λ both. vec_len both.1 ≤ vec_capacity both.0) }
-    ensures kept { IfErr result (λ left. AreSame posts.items left.items) }
+    ensures kept { IfErr result (λ left. AreSame owned_desks.items left.items) }
 {
-    if !hold_all(&mut posts, &mut held) {
-        let_all_go(&mut posts, held);
-        return Err(posts);
+    if !hold_all(&mut owned_desks, &mut guard) {
+        let_all_go(&mut owned_desks, guard);
+        return Err(owned_desks);
     }
-    held.reverse();
-    Ok((posts, held))
+    guard.reverse();
+    Ok((owned_desks, guard))
 }
 
 // Gives all locks back, which came in the order of the desks.
-fn give_back<J: Journal>(mut posts: Vec<Post<J>>, mut held: Vec<HeldDesk<J>>) -> Vec<Post<J>>
-    requires fresh { All IsFresh held.items }
-    requires empty { posts.items ≡ [] }
-    requires room { vec_len held ≤ vec_capacity posts }
-    ensures { AreSame (keepers_of held.items) result.items }
+fn give_back<J: Journal>(
+    mut owned_desks: Vec<OwnedDesk<J>>,
+    mut guard: Vec<DeskGuard<J>>,
+) -> Vec<OwnedDesk<J>>
+    requires fresh { All IsFresh guard.items }
+    requires empty { owned_desks.items ≡ [] }
+    requires room { vec_len guard ≤ vec_capacity owned_desks }
+    ensures { AreSame (owners_of guard.items) result.items }
 {
-    held.reverse();
-    let_all_go(&mut posts, held);
-    posts
+    guard.reverse();
+    let_all_go(&mut owned_desks, guard);
+    owned_desks
 }
 
 // What is given back of desks that were not closed.
 fn left_open<J: Journal, C: Drop>(
-    posts: Vec<Post<J>>,
-    crews: Vec<C>,
+    owned_desks: Vec<OwnedDesk<J>>,
+    operator_lists: Vec<C>,
     refusal: Refusal,
 ) -> LeftOpen<J, C>
-    ensures { (result.posts ≡ posts) × (result.crews ≡ crews) × (result.refusal ≡ refusal) }
+    ensures { (result.owned_desks ≡ owned_desks) × (result.operator_lists ≡ operator_lists) × (result.refusal ≡ refusal) }
 {
     LeftOpen {
-        posts,
-        crews,
+        owned_desks,
+        operator_lists,
         refusal,
     }
 }
@@ -240,47 +243,51 @@ fn left_open<J: Journal, C: Drop>(
 /// Takes the channels out of their locks, in the order of the desks, where all events of each journal were made by the
 /// operators of that desk: so it is where they are all that were issued. Two lists are allocated, before any lock is
 /// taken; all locks are taken, and all counts compared, before any desk is taken apart.
-pub fn close_together<J: Journal, C: Crew>(
+pub fn close_together<J: Journal, C: OperatorList>(
     alloc: Global,
-    posts: Vec<Post<J>>,
-    crews: Vec<C>,
+    owned_desks: Vec<OwnedDesk<J>>,
+    operator_lists: Vec<C>,
 ) -> Result<Vec<ChannelWith<J>>, LeftOpen<J, C>>
-    requires ours { AreOurs posts.items (map C.at_desks crews.items) }
-    ensures closed { IfOk result (λ channels. AreClosed posts.items (map C.at_desks crews.items) channels.items) }
-    ensures kept { IfErr result (λ left. AreSame posts.items left.posts.items × (left.crews.items ≡ crews.items)) }
-    ensures refusal { IfErr result (λ left. IsClosingRefusal posts.items (map C.at_desks crews.items) left.refusal) }
-    ensures cause { IfErr result (λ left. left.refusal ≡ Refusal.Unbalanced → HasCause posts.items (map C.at_desks crews.items)) }
+    requires ours { AreOurs owned_desks.items (map C.at_desks operator_lists.items) }
+    ensures closed { IfOk result (λ channels. AreClosed owned_desks.items (map C.at_desks operator_lists.items) channels.items) }
+    ensures kept { IfErr result (λ left. AreSame owned_desks.items left.owned_desks.items × (left.operator_lists.items ≡ operator_lists.items)) }
+    ensures refusal { IfErr result (λ left. IsClosingRefusal owned_desks.items (map C.at_desks operator_lists.items) left.refusal) }
+    ensures cause { IfErr result (λ left. left.refusal ≡ Refusal.Unbalanced → HasCause owned_desks.items (map C.at_desks operator_lists.items)) }
 {
-    let Ok((room, hands)) = rooms(alloc, posts.len()) else {
-        return Err(left_open(posts, crews, Refusal::NoMemory));
+    let Ok((room, hands)) = rooms(alloc, owned_desks.len()) else {
+        return Err(left_open(owned_desks, operator_lists, Refusal::NoMemory));
     };
-    let (posts, mut held) = match take_locks(posts, hands) {
+    let (owned_desks, mut guard) = match take_locks(owned_desks, hands) {
         Ok(both) => both,
-        Err(posts) => return Err(left_open(posts, crews, Refusal::Held)),
+        Err(owned_desks) => return Err(left_open(owned_desks, operator_lists, Refusal::InUse)),
     };
-    let can_close = can_close_each(&held, &crews);
+    let can_close = can_close_each(&guard, &operator_lists);
     if !can_close {
-        return Err(left_open(give_back(posts, held), crews, Refusal::Unbalanced));
+        return Err(left_open(
+            give_back(owned_desks, guard),
+            operator_lists,
+            Refusal::Unbalanced,
+        ));
     }
-    tell_rows(&mut held, crews);
-    Ok(take_all_out(held, room))
+    report_rows(&mut guard, operator_lists);
+    Ok(take_all_out(guard, room))
 }
 
 /// Takes the channels out of their locks, in the order of the desks, whoever made their events: nothing is said of
-/// operators. Two lists are allocated, before any lock is taken. The refusal is `NoMemory` or `Held`, and gives all back.
+/// operators. Two lists are allocated, before any lock is taken. The refusal is `NoMemory` or `InUse`, and gives all back.
 pub fn take_out_together<J: Journal>(
     alloc: Global,
-    posts: Vec<Post<J>>,
-) -> Result<Vec<ChannelWith<J>>, (Vec<Post<J>>, Refusal)>
-    ensures channels { IfOk result (λ channels. map (λ c. c.settings) channels.items ≡ settings_of_desks posts.items) }
-    ensures kept { IfErr result (λ left. AreSame posts.items left.0.items) }
+    owned_desks: Vec<OwnedDesk<J>>,
+) -> Result<Vec<ChannelWith<J>>, (Vec<OwnedDesk<J>>, Refusal)>
+    ensures channels { IfOk result (λ channels. map (λ c. c.settings) channels.items ≡ settings_of_desks owned_desks.items) }
+    ensures kept { IfErr result (λ left. AreSame owned_desks.items left.0.items) }
     ensures refusal { IfErr result (λ left. left.1 ≢ Refusal.Unbalanced) }
 {
-    let Ok((room, hands)) = rooms(alloc, posts.len()) else {
-        return Err((posts, Refusal::NoMemory));
+    let Ok((room, hands)) = rooms(alloc, owned_desks.len()) else {
+        return Err((owned_desks, Refusal::NoMemory));
     };
-    match take_locks(posts, hands) {
+    match take_locks(owned_desks, hands) {
         Ok(both) => Ok(take_all_out(both.1, room)),
-        Err(posts) => Err((posts, Refusal::Held)),
+        Err(owned_desks) => Err((owned_desks, Refusal::InUse)),
     }
 }

@@ -1,13 +1,14 @@
 -- Each unit can be carried: its segments, octet by octet.
-use Rattle.tc_channel.proofs.Names.{◌≡◌, ℕ, zero, suc, ◌+◌, ◌*◌, ◌%◌, ◌<◌, ◌≤◌, Bool, true, false, eqb, ◌&&◌, List, [], ◌∷◌, ◌++◌, length, map, get_or, refl, sym, ap, ◌∙◌, inl, inr, arith, eq-eqb, eqb_tells, nat_tests, AllByRecursion, Service, Ad, Bd, Passed, Part, same_service, stream}
+use Rattle.tc_channel.proofs.Names.{◌≡◌, ℕ, zero, suc, ◌+◌, ◌*◌, ◌%◌, ◌<◌, ◌≤◌, Bool, true, false, eqb, ◌&&◌, List, [], ◌∷◌, ◌++◌, length, map, get_or, refl, sym, ap, ◌∙◌, inl, inr, arith, eq-eqb, eqb_tells, nat_tests, AllByRecursion, Service, Ad, Bd, Passed, Part, same_service}
 use Rattle.std.proofs.Common.{◌/◌}
 use Rattle.tc_channel.proofs.Lists.{all-append}
+use Rattle.tc_channel.proofs.Streams.{same_map}
 use Rattle.tc_packet.specs.declared.segment.Segment.{Segment}
 use Rattle.tc_packet.specs.declared.segment.Part.TheVariants.{First, Continuing, Last, Unsegmented}
 use Rattle.tc_packet.specs.Segment.{header_of, body_of}
 use Rattle.tc_write.specs.Parts.{segments_needed, part_at, piece_at}
 use Rattle.tc_write.specs.Segments.{AreSegments}
-use Rattle.tc_ends.specs.Ends.{CarrySent, CarryUnits, IsSendable, is_same_stream, sent_on}
+use Rattle.tc_ends.specs.Ends.{CarrySent, CarryUnits, IsSendable, is_same_stream, map_in, sent_on, stream_in}
 
 abbrev flags : Part → ℕ
 flags Continuing = 0
@@ -57,63 +58,62 @@ are-segments m size unit small =
           (ap header_of at ∙ header-with (part_at k count) m (piece_at size unit k) small, ap body_of at);
     }
 
-abbrev pub AreOn : ℕ → List (List ℕ) → Type 0
-AreOn m fields = AllByRecursion (λ f. (header_of f).map ≡ m) fields
+abbrev pub AreOn : Bool → ℕ → List (List ℕ) → Type 0
+AreOn b m fields = AllByRecursion (λ f. map_in b f ≡ m) fields
 
-from-on : (m size : ℕ) (unit : List ℕ) (count k n : ℕ) → m < 64 → AreOn m (fields_from m size unit count k n)
+from-on : (m size : ℕ) (unit : List ℕ) (count k n : ℕ) → m < 64 → AreOn true m (fields_from m size unit count k n)
 from-on m size unit count k zero small = tt
 from-on m size unit count k (suc n) small = (ap (λ (h : Segment). h.map) (header-with (part_at k count) m (piece_at size unit k) small), from-on m size unit count (suc k) n small)
 
-abbrev pub all_segments : ℕ → ℕ → List (List ℕ) → List (List ℕ)
-all_segments m size [] = []
-all_segments m size (unit ∷ units) = segments m size unit ++ all_segments m size units
+-- data fields that carry units, with segment headers or without
+abbrev pub all_fields : Bool → ℕ → ℕ → List (List ℕ) → List (List ℕ)
+all_fields false m size units = units
+all_fields true m size [] = []
+all_fields true m size (unit ∷ units) = segments m size unit ++ all_fields true m size units
 
-pub all-on : (m size : ℕ) (units : List (List ℕ)) → m < 64 → AreOn m (all_segments m size units)
-all-on m size [] small = tt
-all-on m size (unit ∷ units) small =
+pub all-on : (b : Bool) (m size : ℕ) (units : List (List ℕ)) → m < 64 → (b ≡ false → m ≡ 0) → AreOn b m (all_fields b m size units)
+all-on false m size [] small one = tt
+all-on false m size (unit ∷ units) small one = (sym (one refl), all-on false m size units small one)
+all-on true m size [] small one = tt
+all-on true m size (unit ∷ units) small one =
     let count = segments_needed size (length unit) in
-    all-append (λ (f : List ℕ). (header_of f).map ≡ m) (segments m size unit) (all_segments m size units) (from-on m size unit count 0 count small) (all-on m size units small)
+    all-append (λ (f : List ℕ). map_in true f ≡ m) (segments m size unit) (all_fields true m size units) (from-on m size unit count 0 count small) (all-on true m size units small one)
 
-pub carry-all : (m size : ℕ) (units : List (List ℕ)) → m < 64 → 1 ≤ size → CarryUnits m units (all_segments m size units)
-carry-all m size [] small some = refl
-carry-all m size (unit ∷ units) small some = (size, segments m size unit, all_segments m size units, some, refl, are-segments m size unit small, carry-all m size units small some)
+pub carry-all : (b : Bool) (m size : ℕ) (units : List (List ℕ)) → m < 64 → 1 ≤ size → CarryUnits b m units (all_fields b m size units)
+carry-all false m size units small some = refl
+carry-all true m size [] small some = refl
+carry-all true m size (unit ∷ units) small some = (size, segments m size unit, all_fields true m size units, some, refl, are-segments m size unit small, carry-all true m size units small some)
+
+pub no-units : (b : Bool) (m : ℕ) (fields : List (List ℕ)) → fields ≡ [] → CarryUnits b m [] fields
+no-units true m fields none = none
+no-units false m fields none = none
 
 abbrev by_service : Service → List (List ℕ) → List Passed
 by_service service fields = map {B = Passed} (λ field. record { service = service; field = field }) fields
 
-same-own : (service : Service) (t : Bool) → (same_service service service && t) ≡ t
-same-own Ad t = refl
-same-own Bd t = refl
-
 -- the stream of fields that are all of one: themselves, or none
-stream-own : (service other : Service) (m id : ℕ) (fields : List (List ℕ)) → AreOn m fields → is_same_stream other id service m ≡ true → stream other id (by_service service fields) ≡ fields
-stream-own service other m id [] on same = refl
-stream-own service other m id (f ∷ fs) on same = rw (on.0, same) (ap (λ (x : List (List ℕ)). f ∷ x) (stream-own service other m id fs on.1 same))
+stream-own : (b : Bool) (service other : Service) (m id : ℕ) (fields : List (List ℕ)) → AreOn b m fields → is_same_stream other id service m ≡ true → stream_in b other id (by_service service fields) ≡ fields
+stream-own b service other m id [] on same = refl
+stream-own b service other m id (f ∷ fs) on same = rw (on.0, same) (ap (λ (x : List (List ℕ)). f ∷ x) (stream-own b service other m id fs on.1 same))
 
-stream-none : (service other : Service) (m id : ℕ) (fields : List (List ℕ)) → AreOn m fields → is_same_stream other id service m ≡ false → stream other id (by_service service fields) ≡ []
-stream-none service other m id [] on apart = refl
-stream-none service other m id (f ∷ fs) on apart = rw (on.0, apart) (stream-none service other m id fs on.1 apart)
+stream-none : (b : Bool) (service other : Service) (m id : ℕ) (fields : List (List ℕ)) → AreOn b m fields → is_same_stream other id service m ≡ false → stream_in b other id (by_service service fields) ≡ []
+stream-none b service other m id [] on apart = refl
+stream-none b service other m id (f ∷ fs) on apart = rw (on.0, apart) (stream-none b service other m id fs on.1 apart)
+
+swapped : (m id : ℕ) → eqb id m ≡ eqb m id
+swapped m id = elim (eqb_tells id m) [ inl e ↦ e.0 ∙ sym (eq-eqb m id (sym e.1)) | inr e ↦ grind (arith, nat_tests) ]
 
 -- to be the same stream goes both ways
 turned : (service other : Service) (m id : ℕ) → is_same_stream service m other id ≡ is_same_stream other id service m
 turned Ad Bd m id = refl
 turned Bd Ad m id = refl
-turned Ad Ad m id = swapped m id where
-  swapped : (m id : ℕ) → eqb id m ≡ eqb m id
-  swapped m id = elim (eqb_tells id m) [ inl e ↦ e.0 ∙ sym (eq-eqb m id (sym e.1)) | inr e ↦ grind (arith, nat_tests) ]
-turned Bd Bd m id = swapped m id where
-  swapped : (m id : ℕ) → eqb id m ≡ eqb m id
-  swapped m id = elim (eqb_tells id m) [ inl e ↦ e.0 ∙ sym (eq-eqb m id (sym e.1)) | inr e ↦ grind (arith, nat_tests) ]
-
-same-map : (service other : Service) (m id : ℕ) → is_same_stream service m other id ≡ true → id ≡ m
-same-map Ad Ad m id h = elim (eqb_tells id m) [ inl e ↦ e.1 | inr e ↦ let x = e.0 in absurd cc ]
-same-map Bd Bd m id h = elim (eqb_tells id m) [ inl e ↦ e.1 | inr e ↦ let x = e.0 in absurd cc ]
-same-map _ _ m id h = absurd cc
+turned Ad Ad m id = swapped m id
+turned Bd Bd m id = swapped m id
 
 -- any units that can be sent can be carried on any stream, in segments of any size
-pub can-carry : (limits : ℕ → ℕ) (service : Service) (m size : ℕ) (units : List (List ℕ)) → m < 64 → 1 ≤ size → AllByRecursion (IsSendable (limits m)) units
-    → (passed : List Passed) × CarrySent limits (sent_on service m units) passed
-can-carry limits service m size units small some can = (
+pub can-carry : (limits : ℕ → ℕ) (b : Bool) (service : Service) (m size : ℕ) (units : List (List ℕ)) → m < 64 → (b ≡ false → m ≡ 0) → 1 ≤ size → AllByRecursion (IsSendable limits b m) units
+    → (passed : List Passed) × CarrySent limits b (sent_on service m units) passed
+can-carry limits b service m size units small one some can = (
   by_service service fields,
   record {
     carry = λ other id. carry other id (is_same_stream service m other id) refl;
@@ -122,14 +122,14 @@ can-carry limits service m size units small some can = (
 )
   where
     fields : List (List ℕ)
-    fields = all_segments m size units
+    fields = all_fields b m size units
 
-    carry : (other : Service) (id : ℕ) (t : Bool) → is_same_stream service m other id ≡ t → CarryUnits id (sent_on service m units other id) (stream other id (by_service service fields))
+    carry : (other : Service) (id : ℕ) (t : Bool) → is_same_stream service m other id ≡ t → CarryUnits b id (sent_on service m units other id) (stream_in b other id (by_service service fields))
     carry other id true h =
-        let same : id ≡ m = same-map service other m id h in
-        rw (h, stream-own service other m id fields (all-on m size units small) (sym (turned service other m id) ∙ h), same) (carry-all m size units small some)
-    carry other id false h = rw h (stream-none service other m id fields (all-on m size units small) (sym (turned service other m id) ∙ h))
+        let same : id ≡ m = same_map service other id m h in
+        rw (h, stream-own b service other m id fields (all-on b m size units small one) (sym (turned service other m id) ∙ h), same) (carry-all b m size units small some)
+    carry other id false h = rw h (no-units b id (stream_in b other id (by_service service fields)) (stream-none b service other m id fields (all-on b m size units small one) (sym (turned service other m id) ∙ h)))
 
-    sendable : (other : Service) (id : ℕ) (t : Bool) → is_same_stream service m other id ≡ t → AllByRecursion (IsSendable (limits id)) (sent_on service m units other id)
-    sendable other id true h = rw (h, same-map service other m id h) can
+    sendable : (other : Service) (id : ℕ) (t : Bool) → is_same_stream service m other id ≡ t → AllByRecursion (IsSendable limits b id) (sent_on service m units other id)
+    sendable other id true h = rw (h, same_map service other id m h) can
     sendable other id false h = rw h tt

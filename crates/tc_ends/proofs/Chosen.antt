@@ -5,7 +5,7 @@ use Rattle.tc_channel.specs.Account.{unit_on}
 use Rattle.tc_channel.specs.Through.{all_made, unit_made, units_ended, units_made, is_chosen_by}
 use Rattle.tc_ends.specs.Ends.{CarrySent, Sent, is_chosen_map}
 use Rattle.tc_ends.proofs.Segmented.{Makes}
-use Rattle.tc_ends.proofs.Streams.{units-carried}
+use Rattle.tc_ends.proofs.Streams.{headed-carried}
 use Rattle.tc_ends.proofs.Made.{made-append, no-parts, same-self}
 
 -- a filter that looks at no item
@@ -64,11 +64,11 @@ units-on limits s service map_id chosen (p ∷ ps) before others =
         last false = refl
 
 pub units-arrive : Makes → (limits : ℕ → ℕ) (s : Settings) (service : Service) (map_id : ℕ) (sent : Sent) (before passed : List Passed) → s.segmented ≡ true → is_chosen_map s map_id ≡ true
-    → CarrySent limits sent passed → ((other : Service) → same_service service other ≡ false → sent other map_id ≡ [])
+    → CarrySent limits true sent passed → ((other : Service) → same_service service other ≡ false → sent other map_id ≡ [])
     → units_made limits s map_id (before ++ passed) ≡ units_made limits s map_id before ++ sent service map_id
 units-arrive make limits s service map_id sent before passed headed chosen carry none =
     made-append (units_ended limits s map_id) [] before passed
     ∙ ap (λ (x : List (List ℕ)). units_made limits s map_id before ++ x) (units-on limits s service map_id chosen passed before (λ other apart. on other ∙ none other apart) ∙ on service)
   where
     on : (other : Service) → all_made (unit_on limits s other map_id) before passed ≡ sent other map_id
-    on other = units-carried make limits s other map_id (sent other map_id) before passed headed (carry.sendable other map_id) (carry.carry other map_id)
+    on other = headed-carried make limits s other map_id (sent other map_id) before passed headed (carry.sendable other map_id) (carry.carry other map_id)

@@ -1,13 +1,12 @@
 -- What data fields make for an application, and of the units of a chosen MAP.
-use Rattle.tc_channel.proofs.Names.{◌≡◌, ℕ, Bool, cond, true, false, eqb, map, map_of, map-append, ◌&&◌, List, [], ◌∷◌, ◌++◌, filter, Option, Some, None, refl, sym, ap, subst, ◌∙◌, append_assoc, arith, append-nil, filter-append, Service, Bd, Ad, Passed, is_of, same_service, as_list, is_for, packets_offered, packets_of}
+use Rattle.tc_channel.proofs.Names.{◌≡◌, ℕ, Bool, cond, true, false, eqb, map, map-append, ◌&&◌, List, [], ◌∷◌, ◌++◌, filter, Option, Some, None, refl, sym, ap, subst, ◌∙◌, append_assoc, arith, append-nil, filter-append, Service, Bd, Ad, Passed, same_service, as_list, is_for, packets_offered, packets_of}
 use Rattle.std.proofs.lemmas.Grind.{flat_map-append}
 use Rattle.std.specs.List.{flat_map}
-use Rattle.tc_packet.specs.Segment.{header_of}
 use Rattle.tc_channel.specs.declared.settings.Settings.{Settings}
-use Rattle.tc_channel.specs.Account.{unit_on}
+use Rattle.tc_channel.specs.Settings.{HasMapsByHeaders}
 use Rattle.tc_channel.specs.Through.{all_made, unit_made, packets_ended, packets_made, is_chosen_by}
 use Rattle.tc_channel.proofs.Streams.{same_map}
-use Rattle.tc_ends.specs.Ends.{AreAllPackets, AreMerged, CarrySent, OnStream, PacketsSent, all_joined, is_chosen_map, is_from, is_same_stream, joined_on, packet_on, packets_for, packets_sent_on, packets_to, unless_chosen}
+use Rattle.tc_ends.specs.Ends.{AreAllPackets, AreMerged, CarrySent, OnStream, PacketsSent, all_joined, is_chosen_map, is_from, is_in, is_same_stream, joined_on, map_in, packet_on, packets_for, packets_sent_on, packets_to, stream_unit, unless_chosen}
 use Rattle.tc_ends.proofs.Segmented.{Makes}
 use Rattle.tc_ends.proofs.Cut.{cut-of-joined}
 use Rattle.tc_ends.proofs.Streams.{units-carried}
@@ -58,23 +57,32 @@ tag-dropped service map_id own id (x ∷ xs) apart = rw apart (tag-dropped servi
 -- what data fields make for an application, with the streams that it came on
 abbrev came : (ℕ → ℕ) → Settings → ℕ → List Passed → List Passed → List OnStream
 came limits s apid before [] = []
-came limits s apid before (p ∷ ps) = tagged p.service (map_of p.field) (packets_ended limits s apid before p) ++ came limits s apid (before ++ p ∷ []) ps
+came limits s apid before (p ∷ ps) = tagged p.service (map_in s.segmented p.field) (packets_ended limits s apid before p) ++ came limits s apid (before ++ p ∷ []) ps
 
 came-all : (limits : ℕ → ℕ) (s : Settings) (apid : ℕ) (before ps : List Passed) → map packet_on (came limits s apid before ps) ≡ all_made (packets_ended limits s apid) before ps
 came-all limits s apid before [] = refl
 came-all limits s apid before (p ∷ ps) =
     let now = packets_ended limits s apid before p in
     let later = came limits s apid (before ++ p ∷ []) ps in
-    map-append packet_on (tagged p.service (map_of p.field) now) later
-    ∙ ap (λ (x : List (List ℕ)). x ++ map packet_on later) (tag-off p.service (map_of p.field) now)
+    map-append packet_on (tagged p.service (map_in s.segmented p.field) now) later
+    ∙ ap (λ (x : List (List ℕ)). x ++ map packet_on later) (tag-off p.service (map_in s.segmented p.field) now)
     ∙ ap (λ (x : List (List ℕ)). now ++ x) (came-all limits s apid (before ++ p ∷ []) ps)
 
-came-each : (limits : ℕ → ℕ) (s : Settings) (apid : ℕ) (service : Service) (map_id : ℕ) (chosen : Bool) → is_chosen_map s map_id ≡ chosen → (before ps : List Passed)
-    → map packet_on (filter (is_from service map_id) (came limits s apid before ps)) ≡ cond chosen [] (packets_for apid (all_made (unit_on limits s service map_id) before ps))
-came-each limits s apid service map_id true is before [] = refl
-came-each limits s apid service map_id false is before [] = refl
-came-each limits s apid service map_id chosen is before (p ∷ ps) =
-    parts ∙ by (is_of service map_id p) refl chosen is (came-each limits s apid service map_id chosen is (before ++ p ∷ []) ps)
+-- the MAP of a data field is chosen where that of its stream is
+chosen-by : (s : Settings) (field : List ℕ) (map_id : ℕ) (c : Bool) → HasMapsByHeaders s → map_in s.segmented field ≡ map_id → is_chosen_map s map_id ≡ c → is_chosen_by s field ≡ c
+chosen-by s field map_id c free is h = by s.segmented refl is where
+  by : (t : Bool) → s.segmented ≡ t → map_in t field ≡ map_id → is_chosen_by s field ≡ c
+  by true headed is = rw is h
+  by false plain is =
+      let neither : (is_chosen_by s field ≡ false) × (is_chosen_map s map_id ≡ false) = rw (free plain) (refl, refl) in
+      neither.0 ∙ sym neither.1 ∙ h
+
+came-each : (limits : ℕ → ℕ) (s : Settings) (apid : ℕ) (service : Service) (map_id : ℕ) (chosen : Bool) → HasMapsByHeaders s → is_chosen_map s map_id ≡ chosen → (before ps : List Passed)
+    → map packet_on (filter (is_from service map_id) (came limits s apid before ps)) ≡ cond chosen [] (packets_for apid (all_made (stream_unit limits s service map_id) before ps))
+came-each limits s apid service map_id true free is before [] = refl
+came-each limits s apid service map_id false free is before [] = refl
+came-each limits s apid service map_id chosen free is before (p ∷ ps) =
+    parts ∙ by (is_in s.segmented service map_id p) refl chosen is (came-each limits s apid service map_id chosen free is (before ++ p ∷ []) ps)
   where
     now : List (List ℕ)
     now = packets_ended limits s apid before p
@@ -83,45 +91,44 @@ came-each limits s apid service map_id chosen is before (p ∷ ps) =
     later = came limits s apid (before ++ p ∷ []) ps
 
     units : List (List ℕ)
-    units = all_made (unit_on limits s service map_id) (before ++ p ∷ []) ps
+    units = all_made (stream_unit limits s service map_id) (before ++ p ∷ []) ps
 
     made : Option (List ℕ)
     made = unit_made limits s before p
 
     own : List OnStream
-    own = tagged p.service (map_of p.field) now
+    own = tagged p.service (map_in s.segmented p.field) now
 
     parts : map packet_on (filter (is_from service map_id) (own ++ later)) ≡ map packet_on (filter (is_from service map_id) own) ++ map packet_on (filter (is_from service map_id) later)
     parts = ap (map packet_on) (filter-append (is_from service map_id) own later) ∙ map-append packet_on (filter (is_from service map_id) own) (filter (is_from service map_id) later)
 
-    by : (t : Bool) → is_of service map_id p ≡ t → (c : Bool) → is_chosen_map s map_id ≡ c → map packet_on (filter (is_from service map_id) later) ≡ cond c [] (packets_for apid units)
-        → map packet_on (filter (is_from service map_id) own) ++ map packet_on (filter (is_from service map_id) later) ≡ cond c [] (packets_for apid (all_made (unit_on limits s service map_id) before (p ∷ ps)))
+    by : (t : Bool) → is_in s.segmented service map_id p ≡ t → (c : Bool) → is_chosen_map s map_id ≡ c → map packet_on (filter (is_from service map_id) later) ≡ cond c [] (packets_for apid units)
+        → map packet_on (filter (is_from service map_id) own) ++ map packet_on (filter (is_from service map_id) later) ≡ cond c [] (packets_for apid (all_made (stream_unit limits s service map_id) before (p ∷ ps)))
     by true same c h ih =
-        let map_is : (header_of p.field).map ≡ map_id = same_map service p.service (header_of p.field).map map_id same in
-        let chosen_is : is_chosen_by s p.field ≡ c = rw map_is h in
+        let chosen_is = chosen-by s p.field map_id c free (same_map service p.service (map_in s.segmented p.field) map_id same) h in
         let first : map packet_on (filter (is_from service map_id) own) ≡ filter (is_for apid) (packets_offered made c) =
-        ap (map packet_on) (tag-kept service map_id p.service (map_of p.field) now same) ∙ tag-off p.service (map_of p.field) now ∙ ap (λ (x : Bool). filter (is_for apid) (packets_offered made x)) chosen_is in
-        let unit_is : unit_on limits s service map_id before p ≡ as_list made = rw same refl in
+        ap (map packet_on) (tag-kept service map_id p.service (map_in s.segmented p.field) now same) ∙ tag-off p.service (map_in s.segmented p.field) now ∙ ap (λ (x : Bool). filter (is_for apid) (packets_offered made x)) chosen_is in
+        let unit_is : stream_unit limits s service map_id before p ≡ as_list made = rw same refl in
         ap (λ (x : List (List ℕ)). x ++ map packet_on (filter (is_from service map_id) later)) first ∙ ap (λ (x : List (List ℕ)). filter (is_for apid) (packets_offered made c) ++ x) ih ∙ last c unit_is
       where
-        last : (c : Bool) → unit_on limits s service map_id before p ≡ as_list made
-            → filter (is_for apid) (packets_offered made c) ++ cond c [] (packets_for apid units) ≡ cond c [] (packets_for apid (all_made (unit_on limits s service map_id) before (p ∷ ps)))
+        last : (c : Bool) → stream_unit limits s service map_id before p ≡ as_list made
+            → filter (is_for apid) (packets_offered made c) ++ cond c [] (packets_for apid units) ≡ cond c [] (packets_for apid (all_made (stream_unit limits s service map_id) before (p ∷ ps)))
         last true unit_is = append-nil (filter (is_for apid) (packets_offered made true)) ∙ of-chosen apid made
         last false unit_is =
             ap (λ (x : List (List ℕ)). x ++ packets_for apid units) (of-one apid made) ∙ sym (for-append apid (as_list made) units) ∙ ap (λ (x : List (List ℕ)). packets_for apid (x ++ units)) (sym unit_is)
     by false apart c h ih =
-        let none : map packet_on (filter (is_from service map_id) own) ≡ [] = ap (map packet_on) (tag-dropped service map_id p.service (map_of p.field) now apart) in
-        let unit_is : unit_on limits s service map_id before p ≡ [] = rw apart refl in
+        let none : map packet_on (filter (is_from service map_id) own) ≡ [] = ap (map packet_on) (tag-dropped service map_id p.service (map_in s.segmented p.field) now apart) in
+        let unit_is : stream_unit limits s service map_id before p ≡ [] = rw apart refl in
         ap (λ (x : List (List ℕ)). x ++ map packet_on (filter (is_from service map_id) later)) none ∙ ih ∙ ap (λ (x : List (List ℕ)). cond c [] (packets_for apid (x ++ units))) (sym unit_is)
 
 -- what data fields make for an application came on streams
-pub made-merged : (limits : ℕ → ℕ) (s : Settings) (apid : ℕ) (before ps : List Passed) (on : Service → ℕ → List (List ℕ))
-    → ((service : Service) (map_id : ℕ) → unless_chosen s map_id (packets_for apid (all_made (unit_on limits s service map_id) before ps)) ≡ on service map_id)
+pub made-merged : (limits : ℕ → ℕ) (s : Settings) (apid : ℕ) (before ps : List Passed) (on : Service → ℕ → List (List ℕ)) → HasMapsByHeaders s
+    → ((service : Service) (map_id : ℕ) → unless_chosen s map_id (packets_for apid (all_made (stream_unit limits s service map_id) before ps)) ≡ on service map_id)
     → AreMerged (all_made (packets_ended limits s apid) before ps) on
-made-merged limits s apid before ps on is = record {
+made-merged limits s apid before ps on free is = record {
   came = came limits s apid before ps;
   all = came-all limits s apid before ps;
-  each = λ service map_id. came-each limits s apid service map_id (is_chosen_map s map_id) refl before ps ∙ is service map_id;
+  each = λ service map_id. came-each limits s apid service map_id (is_chosen_map s map_id) free refl before ps ∙ is service map_id;
 }
 
 -- where no packet came on another stream, all came on one
@@ -159,13 +166,13 @@ cut-all apid units each = ap (filter (is_for apid)) (flat units each) where
   flat [] each = refl
   flat (packets ∷ units) each = rw ((cut-of-joined packets each.0).0, flat units each.1) refl
 
-pub packets-arrive : Makes → (limits : ℕ → ℕ) (s : Settings) (apid : ℕ) (sent : PacketsSent) (before passed : List Passed) → s.segmented ≡ true
-    → ((service : Service) (map_id : ℕ) → AreAllPackets (sent service map_id)) → CarrySent limits (joined_on sent) passed
+pub packets-arrive : Makes → (limits : ℕ → ℕ) (s : Settings) (apid : ℕ) (sent : PacketsSent) (before passed : List Passed) → HasMapsByHeaders s
+    → ((service : Service) (map_id : ℕ) → AreAllPackets (sent service map_id)) → CarrySent limits s.segmented (joined_on sent) passed
     → (merged : List (List ℕ)) × AreMerged merged (packets_sent_on s apid sent) × (packets_made limits s apid (before ++ passed) ≡ packets_made limits s apid before ++ merged)
-packets-arrive make limits s apid sent before passed headed packets carry =
-    (all_made (packets_ended limits s apid) before passed, made-merged limits s apid before passed (packets_sent_on s apid sent) (λ service map_id. ap (unless_chosen s map_id) (on service map_id)), made-append (packets_ended limits s apid) [] before passed)
+packets-arrive make limits s apid sent before passed free packets carry =
+    (all_made (packets_ended limits s apid) before passed, made-merged limits s apid before passed (packets_sent_on s apid sent) free (λ service map_id. ap (unless_chosen s map_id) (on service map_id)), made-append (packets_ended limits s apid) [] before passed)
   where
-    on : (service : Service) (map_id : ℕ) → packets_for apid (all_made (unit_on limits s service map_id) before passed) ≡ packets_to apid (sent service map_id)
+    on : (service : Service) (map_id : ℕ) → packets_for apid (all_made (stream_unit limits s service map_id) before passed) ≡ packets_to apid (sent service map_id)
     on service map_id =
-        ap (packets_for apid) (units-carried make limits s service map_id (all_joined (sent service map_id)) before passed headed (carry.sendable service map_id) (carry.carry service map_id))
+        ap (packets_for apid) (units-carried make limits s service map_id (all_joined (sent service map_id)) before passed (carry.sendable service map_id) (carry.carry service map_id))
         ∙ cut-all apid (sent service map_id) (packets service map_id)

@@ -46,30 +46,30 @@ released-few l session n k only =
     omega arith
 
 pub packets-of-loop : Makes → (l : Loop) (session : List Action) (header : Header) (units : List UnitSent) (frames : List (List ℕ)) (apid : ℕ) (q : Queue) → IsLoop l session
-    → AllByRecursion (CanBeSent l.limits) units → AreNumbered header units frames → AreFrom l.frames frames → SendsOnly (length frames) session
-    → l.settings.segmented ≡ true → queue_of apid (receiver l session).queues ≡ Some q → AreGivenOf l.limits l.settings apid l.before (journal l session) (length frames) (units_on units)
-packets-of-loop make l session header units frames apid q k can numbered are only headed has =
-    let sends = numbered-sends l.limits header units frames (sent l) can numbered (fields-of l.frames frames are) in
-    given-of-sent make l.limits l.settings (journal l session) l.before _ l.first (sent l) apid (length frames) (units_on units) q k.lawful k.era (comes l session k) headed sends
+    → AllByRecursion (CanBeSent l.limits l.settings.segmented) units → AreNumbered l.settings.segmented header units frames → AreFrom l.frames frames → SendsOnly (length frames) session
+    → queue_of apid (receiver l session).queues ≡ Some q → AreGivenOf l.limits l.settings apid l.before (journal l session) (length frames) (units_on units)
+packets-of-loop make l session header units frames apid q k can numbered are only has =
+    let sends = numbered-sends l.limits l.settings.segmented header units frames (sent l) can numbered (fields-of l.frames frames are) in
+    given-of-sent make l.limits l.settings (journal l session) l.before _ l.first (sent l) apid (length frames) (units_on units) q k.lawful k.era (comes l session k) k.allowed.by_headers sends
     (released-few l session (length frames) k only) has
 
 pub packets-of-start : Makes → (s : Start) (header : Header) (units : List UnitSent) (frames : List (List ℕ)) (apid : ℕ) (q : Queue) → IsStart s
-    → AllByRecursion (CanBeSent s.loop.limits) units → AreNumbered header units frames → AreFrom (era s).frames frames → SendsOnly (length frames) (era_session s)
-    → s.loop.settings.segmented ≡ true → queue_of apid (receiver s.loop s.session).queues ≡ Some q
+    → AllByRecursion (CanBeSent s.loop.limits s.loop.settings.segmented) units → AreNumbered s.loop.settings.segmented header units frames → AreFrom (era s).frames frames → SendsOnly (length frames) (era_session s)
+    → queue_of apid (receiver s.loop s.session).queues ≡ Some q
     → AreGivenOf s.loop.limits s.loop.settings apid (era s).before (journal s.loop s.session) (length frames) (units_on units)
-packets-of-start make s header units frames apid q k can numbered are only headed has =
+packets-of-start make s header units frames apid q k can numbered are only has =
     let same = journal-whole s k in
     subst (λ es. AreGivenOf s.loop.limits s.loop.settings apid (era s).before es (length frames) (units_on units)) same
-    (packets-of-loop make (era s) (era_session s) header units frames apid q (is-loop s k) can numbered are only headed
+    (packets-of-loop make (era s) (era_session s) header units frames apid q (is-loop s k) can numbered are only
     (subst (λ es. queue_of apid (run_within s.loop.limits s.loop.settings es).queues ≡ Some q) (sym same) has))
 
 -- the same over CLTUs: the receiver's journal is that of the session
 pub packets-in-cltus : Makes → (s : Start) (header : Header) (units : List UnitSent) (frames : List (List ℕ)) (apid : ℕ) (q : Queue) (mode : Mode) (field : Bool) (state : Reception) (coming : List Coming) (came : List Event)
-    → IsStart s → AllByRecursion (CanBeSent s.loop.limits) units → AreNumbered header units frames → AreFrom (era s).frames frames → SendsOnly (length frames) (era_session s)
+    → IsStart s → AllByRecursion (CanBeSent s.loop.limits s.loop.settings.segmented) units → AreNumbered s.loop.settings.segmented header units frames → AreFrom (era s).frames frames → SendsOnly (length frames) (era_session s)
     → AltersNothing mode field s.loop.frames state s.session coming → AreEventsOf mode field state coming came
-    → s.loop.settings.segmented ≡ true → queue_of apid (run_within s.loop.limits s.loop.settings (s.loop.before ++ came)).queues ≡ Some q
+    → queue_of apid (run_within s.loop.limits s.loop.settings (s.loop.before ++ came)).queues ≡ Some q
     → AreGivenOf s.loop.limits s.loop.settings apid (era s).before (s.loop.before ++ came) (length frames) (units_on units)
-packets-in-cltus make s header units frames apid q mode field state coming came k can numbered are only so events headed has =
+packets-in-cltus make s header units frames apid q mode field state coming came k can numbered are only so events has =
     let same : journal s.loop s.session ≡ s.loop.before ++ came = ap (λ (x : List Event). s.loop.before ++ x) (sym (events-came mode field s.loop state s.session coming came so events)) in
     subst (λ es. AreGivenOf s.loop.limits s.loop.settings apid (era s).before es (length frames) (units_on units)) same
-    (packets-of-start make s header units frames apid q k can numbered are only headed (subst (λ es. queue_of apid (run_within s.loop.limits s.loop.settings es).queues ≡ Some q) (sym same) has))
+    (packets-of-start make s header units frames apid q k can numbered are only (subst (λ es. queue_of apid (run_within s.loop.limits s.loop.settings es).queues ≡ Some q) (sym same) has))

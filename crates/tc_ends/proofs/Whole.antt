@@ -1,17 +1,18 @@
 -- From the packets of a sender to what takes give.
-use Rattle.tc_channel.proofs.Names.{◌≡◌, ℕ, zero, suc, ◌+◌, ◌-◌, ◌≤◌, append_assoc, Bool, cond, true, false, eqb, List, [], ◌∷◌, ◌++◌, length, map, filter, drop, Some, refl, sym, ap, subst, ◌∙◌, inl, inr, arith, append-nil, filter-append, map-append, Service, Ad, Bd, Passed, map_of, is_of, stream, first_state_within, queue_of, Queue, run_within, IsLawfulWithin, packets_given}
+use Rattle.tc_channel.proofs.Names.{◌≡◌, ℕ, zero, suc, ◌+◌, ◌-◌, ◌≤◌, append_assoc, Bool, cond, true, false, eqb, List, [], ◌∷◌, ◌++◌, length, map, filter, drop, Some, refl, sym, ap, subst, ◌∙◌, inl, inr, arith, append-nil, filter-append, map-append, Service, Ad, Bd, Passed, stream, first_state_within, queue_of, Queue, run_within, IsLawfulWithin, packets_given}
 use Rattle.std.specs.List.{AllByRecursion}
 use Rattle.tc_packet.specs.Reassembly.{same_service}
 use Rattle.tc_channel.specs.declared.event.Event.{Event}
 use Rattle.tc_channel.specs.declared.settings.Settings.{Settings}
 use Rattle.tc_channel.specs.Account.{unit_on}
+use Rattle.tc_channel.specs.Settings.{HasMapsByHeaders}
 use Rattle.tc_channel.specs.Era.{IsEraWithin, ComesFromWithin}
 use Rattle.tc_channel.specs.Given.{fields_passed, units_given}
 use Rattle.tc_channel.specs.Through.{IsPartOf, all_made, packets_ended, packets_made, released_since, sent_from, units_ended, units_made}
 use Rattle.tc_channel.proofs.Through.{packets-given-of-made, passed-as-sent, units-given-of-made}
-use Rattle.tc_ends.specs.Ends.{AreGivenOf, CarryUnits, IsSendable, SendsPackets, all_joined, behind_ad, is_chosen_map, on_map, packets_for, packets_in_era, passed_before, passed_in, unless_chosen, until_ad}
+use Rattle.tc_ends.specs.Ends.{AreGivenOf, CarryUnits, IsSendable, SendsPackets, all_joined, behind_ad, is_chosen_map, is_in, map_in, on_map, packets_for, packets_in_era, passed_before, passed_in, stream_in, stream_unit, unless_chosen, until_ad}
 use Rattle.tc_ends.proofs.Segmented.{Makes}
-use Rattle.tc_ends.proofs.Streams.{units-carried}
+use Rattle.tc_ends.proofs.Streams.{headed-carried, stream_unit_by, units-carried}
 use Rattle.tc_ends.proofs.Chosen.{units-on}
 use Rattle.tc_ends.proofs.Made.{cut-all, made-append, made-merged}
 
@@ -32,14 +33,15 @@ sent-more sent j (suc a) b =
 abbrev by_ad : List (List ℕ) → List Passed
 by_ad fields = map {B = Passed} (λ field. record { service = Ad; field = field }) fields
 
-stream-append : (service : Service) (m : ℕ) (xs ys : List Passed) → stream service m (xs ++ ys) ≡ stream service m xs ++ stream service m ys
-stream-append service m xs ys =
-    ap (map (λ (p : Passed). p.field)) (filter-append (is_of service m) xs ys) ∙ map-append (λ (p : Passed). p.field) (filter (is_of service m) xs) (filter (is_of service m) ys)
+stream-append : (b : Bool) (service : Service) (m : ℕ) (xs ys : List Passed) → stream_in b service m (xs ++ ys) ≡ stream_in b service m xs ++ stream_in b service m ys
+stream-append b service m xs ys =
+    ap (map (λ (p : Passed). p.field)) (filter-append (is_in b service m) xs ys) ∙ map-append (λ (p : Passed). p.field) (filter (is_in b service m) xs) (filter (is_in b service m) ys)
 
-stream-of-ad : (m : ℕ) (ps : List Passed) → stream Ad m ps ≡ on_map m (fields_passed Ad ps)
-stream-of-ad m [] = refl
-stream-of-ad m (p ∷ ps) = by p.service refl (eqb (map_of p.field) m) refl (stream-of-ad m ps) where
-  by : (sv : Service) → p.service ≡ sv → (t : Bool) → eqb (map_of p.field) m ≡ t → stream Ad m ps ≡ on_map m (fields_passed Ad ps) → stream Ad m (p ∷ ps) ≡ on_map m (fields_passed Ad (p ∷ ps))
+stream-of-ad : (b : Bool) (m : ℕ) (ps : List Passed) → stream_in b Ad m ps ≡ on_map b m (fields_passed Ad ps)
+stream-of-ad b m [] = refl
+stream-of-ad b m (p ∷ ps) = by p.service refl (eqb (map_in b p.field) m) refl (stream-of-ad b m ps) where
+  by : (sv : Service) → p.service ≡ sv → (t : Bool) → eqb (map_in b p.field) m ≡ t → stream_in b Ad m ps ≡ on_map b m (fields_passed Ad ps)
+      → stream_in b Ad m (p ∷ ps) ≡ on_map b m (fields_passed Ad (p ∷ ps))
   by Ad e true h ih = rw (e, h) (ap (λ (x : List (List ℕ)). p.field ∷ x) ih)
   by Ad e false h ih = rw (e, h) ih
   by Bd e t h ih = rw e ih
@@ -48,9 +50,9 @@ ad-back : (fields : List (List ℕ)) → fields_passed Ad (by_ad fields) ≡ fie
 ad-back [] = refl
 ad-back (f ∷ fs) = ap (λ (x : List (List ℕ)). f ∷ x) (ad-back fs)
 
-none-by-bd : (limits : ℕ → ℕ) (s : Settings) (m : ℕ) (fields : List (List ℕ)) (before : List Passed) → all_made (unit_on limits s Bd m) before (by_ad fields) ≡ []
-none-by-bd limits s m [] before = refl
-none-by-bd limits s m (f ∷ fs) before = none-by-bd limits s m fs (before ++ record { service = Ad; field = f } ∷ [])
+none-by-bd : (b : Bool) (limits : ℕ → ℕ) (s : Settings) (m : ℕ) (fields : List (List ℕ)) (before : List Passed) → all_made (stream_unit_by b limits s Bd m) before (by_ad fields) ≡ []
+none-by-bd b limits s m [] before = refl
+none-by-bd b limits s m (f ∷ fs) before = none-by-bd b limits s m fs (before ++ record { service = Ad; field = f } ∷ [])
 
 -- what was passed on is what was before the era and what is since
 until-behind : (n : ℕ) (ps : List Passed) → until_ad n ps ++ behind_ad n ps ≡ ps
@@ -76,17 +78,18 @@ ad-fields limits s journal before later x sent lawful era comes =
     behind-fields (length (run_within limits s before).accepted) (run_within limits s journal).passed ∙ passed-as-sent limits s journal before later x sent lawful era comes
 
 -- the stream of what was passed on and of what is still to come
-stream-sent : (sent : ℕ → List ℕ) (r n : ℕ) (passed : List Passed) → fields_passed Ad passed ≡ sent_from sent 0 r → r ≤ n → (id : ℕ) → stream Ad id (passed ++ by_ad (sent_from sent r (n - r))) ≡ on_map id (sent_from sent 0 n)
-stream-sent sent r n passed fields less id =
+stream-sent : (b : Bool) (sent : ℕ → List ℕ) (r n : ℕ) (passed : List Passed) → fields_passed Ad passed ≡ sent_from sent 0 r → r ≤ n → (id : ℕ)
+    → stream_in b Ad id (passed ++ by_ad (sent_from sent r (n - r))) ≡ on_map b id (sent_from sent 0 n)
+stream-sent b sent r n passed fields less id =
     let later = by_ad (sent_from sent r (n - r)) in
-    let back = stream-of-ad id later ∙ ap (on_map id) (ad-back (sent_from sent r (n - r))) in
-    let front = stream-of-ad id passed ∙ ap (on_map id) fields in
+    let back = stream-of-ad b id later ∙ ap (on_map b id) (ad-back (sent_from sent r (n - r))) in
+    let front = stream-of-ad b id passed ∙ ap (on_map b id) fields in
     let sum : r + (n - r) ≡ n = omega arith in
     let start : 0 + r ≡ r = omega arith in
     let more = subst (λ (j : ℕ). sent_from sent 0 r ++ sent_from sent j (n - r) ≡ sent_from sent 0 (r + (n - r))) start (sent-more sent 0 r (n - r)) in
-    stream-append Ad id passed later ∙ ap (λ (x : List (List ℕ)). x ++ stream Ad id later) front ∙ ap (λ (x : List (List ℕ)). on_map id (sent_from sent 0 r) ++ x) back
-    ∙ sym (filter-append (λ (field : List ℕ). eqb (map_of field) id) (sent_from sent 0 r) (sent_from sent r (n - r)))
-    ∙ ap (on_map id) (more ∙ ap (sent_from sent 0) sum)
+    stream-append b Ad id passed later ∙ ap (λ (x : List (List ℕ)). x ++ stream_in b Ad id later) front ∙ ap (λ (x : List (List ℕ)). on_map b id (sent_from sent 0 r) ++ x) back
+    ∙ sym (filter-append (λ (field : List ℕ). eqb (map_in b field) id) (sent_from sent 0 r) (sent_from sent r (n - r)))
+    ∙ ap (on_map b id) (more ∙ ap (sent_from sent 0) sum)
 
 -- what is made is what was made before the era and what its fields make
 made-parts : (ended : List Passed → Passed → List (List ℕ)) (limits : ℕ → ℕ) (s : Settings) (before journal : List Event)
@@ -96,11 +99,11 @@ made-parts ended limits s before journal =
     ∙ made-append ended [] (passed_before limits s before journal) (passed_in limits s before journal)
 
 pub given-of-sent : Makes → (limits : ℕ → ℕ) (s : Settings) (journal before later : List Event) (x : ℕ) (sent : ℕ → List ℕ) (apid n : ℕ) (units : ℕ → List (List (List ℕ))) (q : Queue)
-    → IsLawfulWithin limits s journal → IsEraWithin limits s journal before later x → ComesFromWithin limits s before later x sent → s.segmented ≡ true → SendsPackets limits sent n units
+    → IsLawfulWithin limits s journal → IsEraWithin limits s journal before later x → ComesFromWithin limits s before later x sent → HasMapsByHeaders s → SendsPackets limits s.segmented sent n units
     → released_since limits s before journal ≤ n → queue_of apid (run_within limits s journal).queues ≡ Some q → AreGivenOf limits s apid before journal n units
-given-of-sent make limits s journal before later x sent apid n units q lawful era comes headed sends less has = record {
+given-of-sent make limits s journal before later x sent apid n units q lawful era comes free sends less has = record {
   merged = ended old (new ++ rest);
-  merge = made-merged limits s apid old (new ++ rest) (packets_in_era limits s apid before journal units) on;
+  merge = made-merged limits s apid old (new ++ rest) (packets_in_era limits s apid before journal units) free on;
   given = subst (IsPartOf given) is (part-more given made (ended (old ++ new) rest) (packets-given-of-made limits s journal apid q has));
   whole = λ same.
       let here : r ≡ n = same in
@@ -139,21 +142,21 @@ given-of-sent make limits s journal before later x sent apid n units q lawful er
     is = ap (λ (x : List (List ℕ)). x ++ ended (old ++ new) rest) parts ∙ append_assoc older (ended old new) (ended (old ++ new) rest)
         ∙ ap (λ (x : List (List ℕ)). older ++ x) (sym (made-append (packets_ended limits s apid) old new rest))
 
-    on : (service : Service) (id : ℕ) → unless_chosen s id (packets_for apid (all_made (unit_on limits s service id) old (new ++ rest))) ≡ packets_in_era limits s apid before journal units service id
+    on : (service : Service) (id : ℕ) → unless_chosen s id (packets_for apid (all_made (stream_unit limits s service id) old (new ++ rest))) ≡ packets_in_era limits s apid before journal units service id
     on Ad id =
-        let stream_is = stream-sent sent r n new (ad-fields limits s journal before later x sent lawful era comes) less id in
+        let stream_is = stream-sent s.segmented sent r n new (ad-fields limits s journal before later x sent lawful era comes) less id in
         ap (unless_chosen s id)
-        (ap (packets_for apid) (units-carried make limits s Ad id (all_joined (units id)) old (new ++ rest) headed (sends.sendable id) (subst (CarryUnits id (all_joined (units id))) (sym stream_is) (sends.carry id)))
+        (ap (packets_for apid) (units-carried make limits s Ad id (all_joined (units id)) old (new ++ rest) (sends.sendable id) (subst (CarryUnits s.segmented id (all_joined (units id))) (sym stream_is) (sends.carry id)))
         ∙ cut-all apid (units id) (sends.packets id))
     on Bd id =
-        let bd = all_made (unit_on limits s Bd id) old new in
+        let bd = all_made (stream_unit limits s Bd id) old new in
         ap (λ (x : List (List ℕ)). unless_chosen s id (packets_for apid x))
-        (made-append (unit_on limits s Bd id) old new rest ∙ ap (λ (x : List (List ℕ)). bd ++ x) (none-by-bd limits s id (sent_from sent r (n - r)) (old ++ new)) ∙ append-nil bd)
+        (made-append (stream_unit limits s Bd id) old new rest ∙ ap (λ (x : List (List ℕ)). bd ++ x) (none-by-bd s.segmented limits s id (sent_from sent r (n - r)) (old ++ new)) ∙ append-nil bd)
 
 -- the same of the units of a chosen MAP
 pub units-of-sent : Makes → (limits : ℕ → ℕ) (s : Settings) (journal before later : List Event) (x : ℕ) (sent : ℕ → List ℕ) (n : ℕ) (units : List (List ℕ)) (map_id : ℕ) (q : Queue)
     → IsLawfulWithin limits s journal → IsEraWithin limits s journal before later x → ComesFromWithin limits s before later x sent
-    → s.segmented ≡ true → is_chosen_map s map_id ≡ true → CarryUnits map_id units (on_map map_id (sent_from sent 0 n)) → AllByRecursion (IsSendable (limits map_id)) units
+    → s.segmented ≡ true → is_chosen_map s map_id ≡ true → CarryUnits true map_id units (on_map true map_id (sent_from sent 0 n)) → AllByRecursion (IsSendable limits true map_id) units
     → all_made (unit_on limits s Bd map_id) (passed_before limits s before journal) (passed_in limits s before journal) ≡ []
     → released_since limits s before journal ≤ n → queue_of map_id (run_within limits s journal).units ≡ Some q
     → IsPartOf (units_given s map_id (first_state_within limits s) journal) (units_made limits s map_id (passed_before limits s before journal) ++ units)
@@ -180,16 +183,16 @@ units-of-sent make limits s journal before later x sent n units map_id q lawful 
 
     by_bypass : (other : Service) → same_service Ad other ≡ false → all_made (unit_on limits s other map_id) old (new ++ rest) ≡ []
     by_bypass Bd apart = made-append (unit_on limits s Bd map_id) old new rest
-        ∙ ap (λ (x : List (List ℕ)). all_made (unit_on limits s Bd map_id) old new ++ x) (none-by-bd limits s map_id (sent_from sent r (n - r)) (old ++ new))
+        ∙ ap (λ (x : List (List ℕ)). all_made (unit_on limits s Bd map_id) old new ++ x) (none-by-bd true limits s map_id (sent_from sent r (n - r)) (old ++ new))
         ∙ append-nil (all_made (unit_on limits s Bd map_id) old new) ∙ none_bd
     by_bypass Ad apart = absurd cc
 
-    stream_is : stream Ad map_id (new ++ rest) ≡ on_map map_id (sent_from sent 0 n)
-    stream_is = stream-sent sent r n new (ad-fields limits s journal before later x sent lawful era comes) less map_id
+    stream_is : stream Ad map_id (new ++ rest) ≡ on_map true map_id (sent_from sent 0 n)
+    stream_is = stream-sent true sent r n new (ad-fields limits s journal before later x sent lawful era comes) less map_id
 
     parts : all_made (units_ended limits s map_id) old new ++ all_made (units_ended limits s map_id) (old ++ new) rest ≡ units
     parts = sym (made-append (units_ended limits s map_id) old new rest) ∙ units-on limits s Ad map_id chosen (new ++ rest) old by_bypass
-        ∙ units-carried make limits s Ad map_id units old (new ++ rest) headed can (subst (CarryUnits map_id units) (sym stream_is) carry)
+        ∙ headed-carried make limits s Ad map_id units old (new ++ rest) headed can (subst (CarryUnits true map_id units) (sym stream_is) carry)
 
     is : made ++ all_made (units_ended limits s map_id) (old ++ new) rest ≡ units_made limits s map_id old ++ units
     is = ap (λ (x : List (List ℕ)). x ++ all_made (units_ended limits s map_id) (old ++ new) rest) (made-parts (units_ended limits s map_id) limits s before journal)

@@ -1,4 +1,4 @@
--- A session worked out by hand, to be read with the definitions: that of `told_by_9` of tc_loop, whose frames come in CLTUs.
+-- A session worked out by hand, to be read with the definitions: that of `learnt_by_9` of tc_loop, whose frames come in CLTUs.
 use Rattle.std.specs.Prelude.{ℕ, false, List, [], ◌∷◌, ◌++◌}
 use Rattle.tc_link.specs.declared.frame.Header.{Header}
 use Rattle.tc_cltu.specs.Cltu.{start_sequence, tail_sequence}

@@ -8,6 +8,7 @@ ghost use Rattle.tc_packet.specs.Reassembly.{Passed, same_service};
 ghost use Rattle.tc_packet.specs.declared.Service.{Service};
 ghost use Rattle.tc_channel.specs.Through.{IsPartOf, all_made, packets_made, released_since, sent_from, units_made};
 ghost use Rattle.tc_channel.specs.declared.settings.Settings.{Settings};
+ghost use Rattle.tc_channel.specs.Settings.{HasMapsByHeaders};
 ghost use Rattle.tc_link.specs.Frame.{IsWhole, header_of};
 ghost use Rattle.tc_cltu.specs.Reception.{Reception, Searching};
 ghost use Rattle.tc_cltu.specs.declared.block.Mode.{Mode};
@@ -23,7 +24,7 @@ ghost use Rattle.tc_channel.specs.Run.{IsLawfulWithin, field_of, run_within};
 ghost use Rattle.tc_loop.specs.Loop.{Loop, Action, IsLoop, events, journal, receiver, sent};
 ghost use Rattle.tc_loop.specs.Start.{Start, IsStart, era, era_session};
 ghost use Rattle.tc_ends.specs.Arrivals.{AltersNothing, AreCarried, AreEventsAt, AreEventsOf, Coming, IsNearCltu, Octets, enclosed, state_behind};
-ghost use Rattle.tc_ends.specs.Ends.{AreAllPackets, AreFrom, AreGivenOf, AreMerged, AreNumbered, AreWritten, CanBeSent, CarrySent, CarryUnits, EndAtLast, IsPlainSendable, IsSendable, PacketsSent, SendsOnly, SendsPackets, Sent, UnitSent, all_joined, fields_in_order, is_chosen_map, is_same_stream, joined_on, on_map, only_on, packets_sent_on, packets_to, passed_before, passed_in, sent_on, units_on};
+ghost use Rattle.tc_ends.specs.Ends.{AreAllPackets, AreFrom, AreGivenOf, AreMerged, AreNumbered, AreWritten, CanBeSent, CarrySent, CarryUnits, EndAtLast, IsSendable, PacketsSent, SendsOnly, SendsPackets, Sent, UnitSent, all_joined, fields_in_order, is_chosen_map, is_same_stream, joined_on, on_map, only_on, packets_sent_on, packets_to, passed_before, passed_in, sent_on, units_on};
 ghost use Rattle.tc_loop.specs.Examples as start;
 ghost use Rattle.tc_ends.specs.Examples as example;
 
@@ -42,11 +43,12 @@ pub fn joined_packets_are_cut_into_them()
     ensures { (packets : List (List ℕ)) → AllByRecursion IsPacket packets → (packets_of (joined packets) ≡ packets) × (rest_of (joined packets) ≡ []) }
 {}
 
-/// The packets for an application that a sender sends, in units, each of them in segments, are just the packets that the data fields make for it:
+/// The packets for an application that a sender sends, in units, each of them in segments, or whole on a channel without segment headers, are just
+/// the packets that the data fields make for it:
 /// those of each stream in their order, whatever data fields came before, and however the streams are merged.
 pub fn packets_that_are_sent_are_made()
-    ensures { (limits : ℕ → ℕ) (s : Settings) (apid : ℕ) (sent : PacketsSent) (before passed : List Passed) → s.segmented ≡ true
-        → ((service : Service) (map_id : ℕ) → AreAllPackets (sent service map_id)) → CarrySent limits (joined_on sent) passed
+    ensures { (limits : ℕ → ℕ) (s : Settings) (apid : ℕ) (sent : PacketsSent) (before passed : List Passed) → HasMapsByHeaders s
+        → ((service : Service) (map_id : ℕ) → AreAllPackets (sent service map_id)) → CarrySent limits s.segmented (joined_on sent) passed
         → (merged : List (List ℕ)) × AreMerged merged (packets_sent_on s apid sent) × (packets_made limits s apid (before ++ passed) ≡ packets_made limits s apid before ++ merged) }
 {
     the_segments_of_a_unit_make_the_unit();
@@ -61,7 +63,7 @@ pub fn packets_of_one_stream_are_its_own()
 /// The units that a sender sends on a chosen MAP are just the units that the data fields make of it, in their order.
 pub fn units_that_are_sent_are_made()
     ensures { (limits : ℕ → ℕ) (s : Settings) (service : Service) (map_id : ℕ) (sent : Sent) (before passed : List Passed)
-        → s.segmented ≡ true → is_chosen_map s map_id ≡ true → CarrySent limits sent passed
+        → s.segmented ≡ true → is_chosen_map s map_id ≡ true → CarrySent limits true sent passed
         → ((other : Service) → same_service service other ≡ false → sent other map_id ≡ [])
         → units_made limits s map_id (before ++ passed) ≡ units_made limits s map_id before ++ sent service map_id }
 {
@@ -72,7 +74,7 @@ pub fn units_that_are_sent_are_made()
 pub fn packets_that_are_sent_plainly_are_made()
     ensures { (limits : ℕ → ℕ) (s : Settings) (apid : ℕ) (units : List (List (List ℕ))) (before passed : List Passed)
         → s.segmented ≡ false → s.maps ≡ [] → AreAllPackets units → fields_in_order passed ≡ all_joined units
-        → AllByRecursion (IsPlainSendable limits) (fields_in_order passed)
+        → AllByRecursion (IsSendable limits false 0) (fields_in_order passed)
         → packets_made limits s apid (before ++ passed) ≡ packets_made limits s apid before ++ packets_to apid units }
 {}
 
@@ -82,29 +84,30 @@ pub fn written_frames_carry_the_segments()
         → AreSegments map_id size unit (map field_of frames) }
 {}
 
-/// From a sender's packets to what takes give. The first n data fields of a sender carry units of packets, MAP by MAP, in segments. Then all packets
+/// From a sender's packets to what takes give. The first n data fields of a sender carry units of packets, MAP by MAP, in segments; on a channel without
+/// segment headers each of them is a unit, and all are one stream, that of MAP 0. Then all packets
 /// of an application that takes ever gave are, in their order, those of the data fields from before the era, which are none where the era is the
 /// whole journal (`start`), and then a merge of those that were sent on each MAP and that Type-BD brought; of all of these some may be left out, as
 /// where a queue was full (`given`).
 pub fn packets_that_are_sent_are_given()
     ensures start { (limits : ℕ → ℕ) (s : Settings) (journal : List Event) → passed_before limits s [] journal ≡ [] }
     ensures given { (limits : ℕ → ℕ) (s : Settings) (journal before later : List Event) (x : ℕ) (sent : ℕ → List ℕ) (apid n : ℕ) (units : ℕ → List (List (List ℕ))) (q : Queue)
-        → IsLawfulWithin limits s journal → IsEraWithin limits s journal before later x → ComesFromWithin limits s before later x sent → s.segmented ≡ true → SendsPackets limits sent n units
+        → IsLawfulWithin limits s journal → IsEraWithin limits s journal before later x → ComesFromWithin limits s before later x sent → HasMapsByHeaders s → SendsPackets limits s.segmented sent n units
         → released_since limits s before journal ≤ n → queue_of apid (run_within limits s journal).queues ≡ Some q → AreGivenOf limits s apid before journal n units }
 {
     the_segments_of_a_unit_make_the_unit();
 }
 
-/// The premises can be met: all units that can be sent can be carried on any stream, in segments of any size.
+/// The premises can be met: all units that can be sent can be carried on any stream, in segments of any size, or whole on MAP 0.
 pub fn all_units_can_be_carried()
-    ensures { (limits : ℕ → ℕ) (service : Service) (map_id size : ℕ) (units : List (List ℕ)) → map_id < 64 → 1 ≤ size
-        → AllByRecursion (IsSendable (limits map_id)) units → (passed : List Passed) × CarrySent limits (sent_on service map_id units) passed }
+    ensures { (limits : ℕ → ℕ) (segmented : Bool) (service : Service) (map_id size : ℕ) (units : List (List ℕ)) → map_id < 64 → (segmented ≡ false → map_id ≡ 0) → 1 ≤ size
+        → AllByRecursion (IsSendable limits segmented map_id) units → (passed : List Passed) × CarrySent limits segmented (sent_on service map_id units) passed }
 {}
 
 /// The same with a loop: links that lose, repeat and delay, and a sender that keeps its window and reads CLCWs. Nothing is presumed of when frames
 /// come.
 pub fn packets_of_a_loop_are_given()
-    ensures { (l : Loop) (session : List Action) (apid n : ℕ) (units : ℕ → List (List (List ℕ))) (q : Queue) → IsLoop l session → l.settings.segmented ≡ true → SendsPackets l.limits (sent l) n units
+    ensures { (l : Loop) (session : List Action) (apid n : ℕ) (units : ℕ → List (List (List ℕ))) (q : Queue) → IsLoop l session → SendsPackets l.limits l.settings.segmented (sent l) n units
         → released_since l.limits l.settings l.before (journal l session) ≤ n → queue_of apid (receiver l session).queues ≡ Some q
         → AreGivenOf l.limits l.settings apid l.before (journal l session) n units }
 {
@@ -113,15 +116,15 @@ pub fn packets_of_a_loop_are_given()
 
 /// And a sender can number data fields that carry any units of packets on a MAP.
 pub fn all_packets_can_be_sent()
-    ensures { (limits : ℕ → ℕ) (map_id size : ℕ) (units : List (List (List ℕ))) → map_id < 64 → 1 ≤ size → AreAllPackets units
-        → AllByRecursion (IsSendable (limits map_id)) (all_joined units) → (sent : ℕ → List ℕ) × (n : ℕ) × SendsPackets limits sent n (only_on map_id units) }
+    ensures { (limits : ℕ → ℕ) (segmented : Bool) (map_id size : ℕ) (units : List (List (List ℕ))) → map_id < 64 → (segmented ≡ false → map_id ≡ 0) → 1 ≤ size → AreAllPackets units
+        → AllByRecursion (IsSendable limits segmented map_id) (all_joined units) → (sent : ℕ → List ℕ) × (n : ℕ) × SendsPackets limits segmented sent n (only_on map_id units) }
 {}
 
 /// The units of a chosen MAP that takes gave are units that were sent on it, in their order, of which some may be left out.
 pub fn units_that_are_sent_are_given()
     ensures { (limits : ℕ → ℕ) (s : Settings) (journal before later : List Event) (x : ℕ) (sent : ℕ → List ℕ) (n : ℕ) (units : List (List ℕ)) (map_id : ℕ) (q : Queue)
         → IsLawfulWithin limits s journal → IsEraWithin limits s journal before later x → ComesFromWithin limits s before later x sent
-        → s.segmented ≡ true → is_chosen_map s map_id ≡ true → CarryUnits map_id units (on_map map_id (sent_from sent 0 n)) → AllByRecursion (IsSendable (limits map_id)) units
+        → s.segmented ≡ true → is_chosen_map s map_id ≡ true → CarryUnits true map_id units (on_map true map_id (sent_from sent 0 n)) → AllByRecursion (IsSendable limits true map_id) units
         → all_made (unit_on limits s Service.Bd map_id) (passed_before limits s before journal) (passed_in limits s before journal) ≡ []
         → released_since limits s before journal ≤ n → queue_of map_id (run_within limits s journal).units ≡ Some q
         → IsPartOf (units_given s map_id (first_state_within limits s) journal) (units_made limits s map_id (passed_before limits s before journal) ++ units) }
@@ -132,9 +135,9 @@ pub fn units_that_are_sent_are_given()
 /// A sender that writes its units one after the other, on whatever MAPs, and counts N(S) on over all of them, sends its packets MAP by MAP
 /// (`sends`); and the frame at each place has the N(S) of its place, which a loop asks for (`numbers`).
 pub fn numbered_frames_send_packets()
-    ensures sends { (limits : ℕ → ℕ) (header : Header) (units : List UnitSent) (frames : List (List ℕ)) (sent : ℕ → List ℕ) → AllByRecursion (CanBeSent limits) units → AreNumbered header units frames
-        → sent_from sent 0 (length frames) ≡ map field_of frames → SendsPackets limits sent (length frames) (units_on units) }
-    ensures numbers { (header : Header) (units : List UnitSent) (frames : List (List ℕ)) → header.bypass ≡ false → AreNumbered header units frames
+    ensures sends { (limits : ℕ → ℕ) (segmented : Bool) (header : Header) (units : List UnitSent) (frames : List (List ℕ)) (sent : ℕ → List ℕ) → AllByRecursion (CanBeSent limits segmented) units → AreNumbered segmented header units frames
+        → sent_from sent 0 (length frames) ≡ map field_of frames → SendsPackets limits segmented sent (length frames) (units_on units) }
+    ensures numbers { (segmented : Bool) (header : Header) (units : List UnitSent) (frames : List (List ℕ)) → header.bypass ≡ false → AreNumbered segmented header units frames
         → (k : ℕ) → k < length frames → (header_of (slice_index_or frames k [])).ns ≡ (header.ns + k) % 256 }
 {}
 
@@ -143,8 +146,8 @@ pub fn numbered_frames_send_packets()
 /// that Set V(R) was obeyed. Then takes gave what [`packets_that_are_sent_are_given`] says.
 pub fn packets_from_a_start_are_given()
     ensures { (s : Start) (header : Header) (units : List UnitSent) (frames : List (List ℕ)) (apid : ℕ) (q : Queue) → IsStart s
-        → AllByRecursion (CanBeSent s.loop.limits) units → AreNumbered header units frames → AreFrom (era s).frames frames → SendsOnly (length frames) (era_session s)
-        → s.loop.settings.segmented ≡ true → queue_of apid (receiver s.loop s.session).queues ≡ Some q
+        → AllByRecursion (CanBeSent s.loop.limits s.loop.settings.segmented) units → AreNumbered s.loop.settings.segmented header units frames → AreFrom (era s).frames frames → SendsOnly (length frames) (era_session s)
+        → queue_of apid (receiver s.loop s.session).queues ≡ Some q
         → AreGivenOf s.loop.limits s.loop.settings apid (era s).before (journal s.loop s.session) (length frames) (units_on units) }
 {
     the_segments_of_a_unit_make_the_unit();
@@ -167,9 +170,9 @@ pub fn a_cltu_with_few_wrong_bits_brings_its_frame()
 /// arrives ([`a_cltu_with_few_wrong_bits_brings_its_frame`]). Then takes gave what [`packets_that_are_sent_are_given`] says.
 pub fn packets_in_cltus_are_given()
     ensures { (s : Start) (header : Header) (units : List UnitSent) (frames : List (List ℕ)) (apid : ℕ) (q : Queue) (mode : Mode) (field : Bool) (state : Reception) (coming : List Coming) (came : List Event)
-        → IsStart s → AllByRecursion (CanBeSent s.loop.limits) units → AreNumbered header units frames → AreFrom (era s).frames frames → SendsOnly (length frames) (era_session s)
+        → IsStart s → AllByRecursion (CanBeSent s.loop.limits s.loop.settings.segmented) units → AreNumbered s.loop.settings.segmented header units frames → AreFrom (era s).frames frames → SendsOnly (length frames) (era_session s)
         → AltersNothing mode field s.loop.frames state s.session coming → AreEventsOf mode field state coming came
-        → s.loop.settings.segmented ≡ true → queue_of apid (run_within s.loop.limits s.loop.settings (s.loop.before ++ came)).queues ≡ Some q
+        → queue_of apid (run_within s.loop.limits s.loop.settings (s.loop.before ++ came)).queues ≡ Some q
         → AreGivenOf s.loop.limits s.loop.settings apid (era s).before (s.loop.before ++ came) (length frames) (units_on units) }
 {
     the_segments_of_a_unit_make_the_unit();
@@ -185,18 +188,18 @@ pub fn cltus_with_few_wrong_bits_bring_a_session()
 {}
 
 /// One session, worked out by hand, meets each premise of [`packets_in_cltus_are_given`], and so of [`packets_from_a_start_are_given`]: that of
-/// `told_by_9` of tc_loop, in CLTUs with wrong bits in three code blocks. What takes gave is the packet that was sent.
+/// `learnt_by_9` of tc_loop, in CLTUs with wrong bits in three code blocks. What takes gave is the packet that was sent.
 pub fn all_premises_are_met_at_once()
-    ensures begins { IsStart start.told_by_9 }
-    ensures can_be_sent { AllByRecursion (CanBeSent start.told_by_9.loop.limits) example.one_unit }
-    ensures numbered { AreNumbered example.first_header example.one_unit (example.first_frame ∷ []) }
-    ensures frames_sent { AreFrom (era start.told_by_9).frames (example.first_frame ∷ []) }
-    ensures only { SendsOnly 1 (era_session start.told_by_9) }
-    ensures carried { AreCarried Correct false start.told_by_9.loop.frames start.told_by_9.session example.in_cltus }
-    ensures unaltered { AltersNothing Correct false start.told_by_9.loop.frames (Searching 0) start.told_by_9.session example.in_cltus }
-    ensures brought { AreEventsOf Correct false (Searching 0) example.in_cltus (events start.told_by_9.loop start.told_by_9.session) }
-    ensures headers { start.told_by_9.loop.settings.segmented ≡ true }
-    ensures queue { (q : Queue) × (queue_of 5 (receiver start.told_by_9.loop start.told_by_9.session).queues ≡ Some q) }
+    ensures begins { IsStart start.learnt_by_9 }
+    ensures can_be_sent { AllByRecursion (CanBeSent start.learnt_by_9.loop.limits true) example.one_unit }
+    ensures numbered { AreNumbered true example.first_header example.one_unit (example.first_frame ∷ []) }
+    ensures frames_sent { AreFrom (era start.learnt_by_9).frames (example.first_frame ∷ []) }
+    ensures only { SendsOnly 1 (era_session start.learnt_by_9) }
+    ensures carried { AreCarried Correct false start.learnt_by_9.loop.frames start.learnt_by_9.session example.in_cltus }
+    ensures unaltered { AltersNothing Correct false start.learnt_by_9.loop.frames (Searching 0) start.learnt_by_9.session example.in_cltus }
+    ensures brought { AreEventsOf Correct false (Searching 0) example.in_cltus (events start.learnt_by_9.loop start.learnt_by_9.session) }
+    ensures headers { start.learnt_by_9.loop.settings.segmented ≡ true }
+    ensures queue { (q : Queue) × (queue_of 5 (receiver start.learnt_by_9.loop start.learnt_by_9.session).queues ≡ Some q) }
     ensures asked { packets_to 5 (units_on example.one_unit 0) ≡ example.packet ∷ [] }
-    ensures given { packets_given start.told_by_9.loop.settings 5 (first_state_within start.told_by_9.loop.limits start.told_by_9.loop.settings) (events start.told_by_9.loop start.told_by_9.session) ≡ example.packet ∷ [] }
+    ensures given { packets_given start.learnt_by_9.loop.settings 5 (first_state_within start.learnt_by_9.loop.limits start.learnt_by_9.loop.settings) (events start.learnt_by_9.loop start.learnt_by_9.session) ≡ example.packet ∷ [] }
 {}

@@ -233,9 +233,9 @@ bits-same (o ∷ os) (p ∷ ps) each_one each_other lengths e =
 bits-same _ _ each_one each_other lengths e = absurd (omega arith)
 
 -- ---- the laws
-pub burst-told : (one other : List ℕ) (i : ℕ) → SameOctets one other → SameBits one other (λ k. (k < i) ⊎ (i + 16 ≤ k)) → Passes one → Passes other → one ≡ other
+pub burst-detected : (one other : List ℕ) (i : ℕ) → SameOctets one other → SameBits one other (λ k. (k < i) ⊎ (i + 16 ≤ k)) → Passes one → Passes other → one ≡ other
 unfolding AreBits Alike
-burst-told one other i is alike passes_one passes_other =
+burst-detected one other i is alike passes_one passes_other =
     bits-same one other is.each_one is.each_other is.length
     (burst i (bits_of one) (bits_of other) (bits-length one other is.length) (bits-bits one) (bits-bits other) 65535 (omega arith) alike (passes_one ∙ sym passes_other))
 
@@ -246,10 +246,10 @@ two-ordered one other i j less near is alike passes_one passes_other =
     (two i (j - i - 1) (omega arith) (bits_of one) (bits_of other) (bits-length one other is.length) (bits-bits one) (bits-bits other) 65535 (omega arith)
     (λ k first second. alike k (first, λ z. second (omega arith))) (passes_one ∙ sym passes_other))
 
-pub two-told : (one other : List ℕ) (i j : ℕ) → j < i + 32767 → i < j + 32767 → SameOctets one other → SameBits one other (λ k. (k ≢ i) × (k ≢ j)) → Passes one → Passes other → one ≡ other
-two-told one other i j near near_too is alike passes_one passes_other =
+pub two-detected : (one other : List ℕ) (i j : ℕ) → j < i + 32767 → i < j + 32767 → SameOctets one other → SameBits one other (λ k. (k ≢ i) × (k ≢ j)) → Passes one → Passes other → one ≡ other
+two-detected one other i j near near_too is alike passes_one passes_other =
     elim (cases_order i j) [
-      | inl e ↦ burst-told one other i is (λ k where_k. alike k
+      | inl e ↦ burst-detected one other i is (λ k where_k. alike k
           ((λ z. elim where_k [ inl before ↦ omega arith | inr after ↦ omega arith ]), (λ z. elim where_k [ inl before ↦ omega arith | inr after ↦ omega arith ]))) passes_one passes_other
       | inr ne ↦ elim ne [
         | inl less ↦ two-ordered one other i j less near is alike passes_one passes_other

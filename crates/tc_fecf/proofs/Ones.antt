@@ -103,8 +103,8 @@ all-places (b ∷ bs) (c ∷ cs) lengths bits_b bits_c =
     let x = total b bs in let y = total c cs in omega arith
 all-places _ _ lengths bits_b bits_c = absurd (omega arith)
 
-pub odd-told : (one other : List ℕ) → SameOctets one other → differences (bits_of one) (bits_of other) % 2 ≡ 1 → Passes one → Passes other → ⊥
-odd-told one other is odd passes_one passes_other =
+pub odd-detected : (one other : List ℕ) → SameOctets one other → differences (bits_of one) (bits_of other) % 2 ≡ 1 → Passes one → Passes other → ⊥
+odd-detected one other is odd passes_one passes_other =
     let ones = even-ones one passes_one in let others = even-ones other passes_other in
     let places = all-places (bits_of one) (bits_of other) (bits-length one other is.length) (bits-bits one) (bits-bits other) in
     omega arith

@@ -97,10 +97,10 @@ three (suc i) m n near (b ∷ bs) (c ∷ cs) lengths bits_b bits_c r r_fits alik
     cc
 three i m n near _ _ lengths bits_b bits_c r r_fits alike e = absurd (omega arith)
 
-pub three-told : (one other : List ℕ) (i j k : ℕ) → i < j → j < k → k < i + 32767 → SameOctets one other → SameBits one other (λ p. (p ≢ i) × (p ≢ j) × (p ≢ k))
+pub three-detected : (one other : List ℕ) (i j k : ℕ) → i < j → j < k → k < i + 32767 → SameOctets one other → SameBits one other (λ p. (p ≢ i) × (p ≢ j) × (p ≢ k))
     → Passes one → Passes other → one ≡ other
 unfolding AreBits Alike
-three-told one other i j k first second near is alike passes_one passes_other =
+three-detected one other i j k first second near is alike passes_one passes_other =
     bits-same one other is.each_one is.each_other is.length
     (three i (j - i - 1) (k - j - 1) (omega arith) (bits_of one) (bits_of other) (bits-length one other is.length) (bits-bits one) (bits-bits other) 65535 (omega arith)
     (λ p a b c. alike p (a, (λ z. b (omega arith)), (λ z. c (omega arith)))) (passes_one ∙ sym passes_other))

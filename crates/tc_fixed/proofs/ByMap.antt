@@ -12,7 +12,7 @@ use Rattle.tc_packet.specs.Reassembly.{place_of}
 use Rattle.tc_channel.specs.declared.settings.Settings.{Settings}
 use Rattle.tc_channel.specs.Memory.{largest_item}
 use Rattle.tc_packet.specs.Store.{Store, limit_at}
-use Rattle.tc_channel.specs.Workings.{AreSmall, HaveLimits}
+use Rattle.tc_channel.specs.ChannelCore.{AreSmall, HaveLimits}
 use Rattle.tc_fixed.specs.Limits.{AreLimits, AreLimitedMapsApart, HaveOctets, item_size, largest_in, largest_limit, limit_in, limit_of}
 use Rattle.tc_fixed.specs.declared.limits.Limits.{Limits}
 use Rattle.tc_fixed.specs.declared.limits.MapLimit.{MapLimit}

@@ -1,8 +1,8 @@
--- What a channel in rooms holds: the workings of its journal's run within its limits, which its settings can have.
+-- What a channel in rooms holds: the core of its journal's run within its limits, which its settings can have.
 use Rattle.std.specs.Prelude.{List}
 use Rattle.tc_channel.specs.declared.settings.Settings.{Settings}
 use Rattle.tc_channel.specs.declared.event.Event.{Event}
-use Rattle.tc_channel.specs.Workings.{Parts, HoldsInRooms}
+use Rattle.tc_channel.specs.ChannelCore.{Parts, HoldsInRooms}
 use Rattle.tc_fixed.specs.Limits.{AreLimits, limit_of}
 use Rattle.tc_fixed.specs.declared.limits.Limits.{Limits}
 

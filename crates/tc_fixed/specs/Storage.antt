@@ -2,7 +2,7 @@
 use Rattle.std.specs.Prelude.{ℕ, zero, suc, ◌+◌, ◌*◌, length, if◌then◌else◌}
 use Rattle.tc_packet.specs.Reassembly.{stream_count}
 use Rattle.tc_channel.specs.declared.settings.Settings.{Settings}
-use Rattle.tc_channel.specs.Memory.{room_words, run_words, queue_words, buffer_memory, tables_memory, packets_held, units_held}
+use Rattle.tc_channel.specs.Memory.{room_words, run_words, queue_words, buffer_memory, tables_memory, packets_stored, units_stored}
 use Rattle.tc_fixed.specs.Limits.{item_size, limit_of, none}
 use Rattle.tc_fixed.specs.declared.limits.Limits.{Limits}
 
@@ -17,7 +17,7 @@ runs_storage s limits = if s.segmented then stream_count * run_words + 2 * limit
 
 -- each queue, and a room of so many octets for each packet and each unit
 abbrev pub queues_in_rooms : Settings → ℕ → ℕ
-queues_in_rooms s item = (length s.queues + length s.maps) * queue_words + (packets_held s + units_held s) * (room_words + item)
+queues_in_rooms s item = (length s.queues + length s.maps) * queue_words + (packets_stored s + units_stored s) * (room_words + item)
 
 abbrev pub queues_storage : Settings → Limits → ℕ
 queues_storage s limits = queues_in_rooms s (item_size limits s.segmented)

@@ -16,9 +16,9 @@ IsOver room None = ⊥
 IsOver room (Some item) = room < length item
 
 -- an item of so many octets lies at the front of others
-abbrev pub IsLaid : Option (List ℕ) → ℕ → List ℕ → List ℕ → Type 0
-IsLaid None count old new = ⊥
-IsLaid (Some item) count old new = (count ≡ length item) × (new ≡ item ++ drop count old)
+abbrev pub IsCopiedIn : Option (List ℕ) → ℕ → List ℕ → List ℕ → Type 0
+IsCopiedIn None count old new = ⊥
+IsCopiedIn (Some item) count old new = (count ≡ length item) × (new ≡ item ++ drop count old)
 
 -- the fault of a unit queue that the fault of a packet queue is, where both are taken from alike
 abbrev pub unit_fault_of : NothingTaken → NoUnitTaken

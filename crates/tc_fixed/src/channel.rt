@@ -6,13 +6,13 @@ ghost use Rattle.tc_channel.specs.Settings.{IsAllowed, IsRefusal};
 ghost use Rattle.tc_channel.specs.Run.{run_within, IsLawfulWithin};
 ghost use Rattle.tc_channel.specs.Reply.{IsBypassData, frame_reply_within, release_reply_within, take_reply_within, unit_reply_within, waiting_packets_within, waiting_units_within, buffered_fields_within, clcw_within};
 ghost use Rattle.tc_channel.specs.Era.{CountsUpInItsEraWithin};
-ghost use Rattle.tc_channel.specs.Workings.{HaveLimits};
+ghost use Rattle.tc_channel.specs.ChannelCore.{HaveLimits};
 ghost use Rattle.tc_channel.specs.Steps.{frame_steps_within, looks_for, release_steps_within, take_steps};
 ghost use Rattle.tc_packet.specs.Reassembly.{run_at};
 ghost use Rattle.tc_packet.specs.Store.{open_runs};
 ghost use Rattle.tc_fixed.specs.History.{with_limited_event};
 ghost use Rattle.tc_fixed.specs.Limits.{AreLimits, LimitsMapsByHeaders, HaveOctets, IsOthers, IsRefusalWithLimits, limit_of, none};
-ghost use Rattle.tc_fixed.specs.Taking.{IsOver, IsLaid, nothing_in};
+ghost use Rattle.tc_fixed.specs.Taking.{IsOver, IsCopiedIn, nothing_in};
 
 use crate::faults::{NoUnitTaken, NothingReleased, NothingTaken};
 use crate::limits::{Limits, LimitsFault};
@@ -22,16 +22,16 @@ use std::alloc::{AllocError, Global};
 use std::marker::Model;
 use std::snapshot::Snapshot;
 use tc_channel::{
-    Count, Delivery, FrameReply, LentEvent, Settings, SettingsFault, Unkept, Workings,
+    ChannelCore, Delivery, FrameReply, LentEvent, Settings, SettingsFault, Tick, Unrecorded,
 };
 use tc_link::{Frame, Link, Report, clcw_word};
 use tc_rooms::{FixedRoom, Runs};
 
-// A count that isn't kept. No other module can name it, so what the calls of a channel run counts all that it looks at.
+// Steps that nobody counts. No other module can name it, so what the calls of a channel run counts all that it looks at.
 #[derive(Drop)]
-struct Uncounted;
+struct NoSteps;
 
-impl Count for Uncounted {
+impl Tick for NoSteps {
     ghost use Rattle.std.specs.Prelude.{false};
 
     ghost taken = { λ _. 0 };
@@ -49,12 +49,12 @@ impl Count for Uncounted {
 pub struct FixedChannelWith<N: Noted> {
     settings: Settings,
     limits: Limits,
-    workings: Workings<FixedRoom>,
+    channel_core: ChannelCore<FixedRoom>,
     journal: N,
 }
 
-/// Such a channel in flight: its journal is read by clauses alone, and takes no memory.
-pub type FixedChannel = FixedChannelWith<Unkept>;
+/// Such a counting channel: its journal is read by clauses alone, and takes no memory.
+pub type FixedChannel = FixedChannelWith<Unrecorded>;
 
 impl<N: Noted> Model for FixedChannelWith<N> {
     ghost use Rattle.tc_fixed.specs.Channel.{HoldsWithLimits};
@@ -64,7 +64,7 @@ impl<N: Noted> Model for FixedChannelWith<N> {
 
     ghost view = { λ c. record { settings = c.settings; limits = c.limits; journal = N.noted c.journal } };
 
-    ghost invariant = { λ c. HoldsWithLimits c.limits c.settings (N.noted c.journal) c.workings };
+    ghost invariant = { λ c. HoldsWithLimits c.limits c.settings (N.noted c.journal) c.channel_core };
 }
 
 impl<N: Noted> FixedChannelWith<N> {
@@ -111,12 +111,12 @@ impl<N: Noted> FixedChannelWith<N> {
         ensures reply { result ≡ frame_reply_within (limit_of self.old.limits) self.old.settings self.old.journal frame.now }
         ensures done { self.new ≡ with_limited_event self.old (Event.Frame frame.now) }
     {
-        self.frame_counted(frame, &mut Uncounted)
+        self.frame_with_steps(frame, &mut NoSteps)
     }
 
-    /// As [`frame`](FixedChannelWith::frame), which runs it with a count that isn't kept. A step is a packet that is cut from the unit
+    /// As [`frame`](FixedChannelWith::frame), which counts no steps. A step is a packet that is cut from the unit
     /// that the frame ends, or a queue that is looked at; a frame that isn't of Type-BD takes none.
-    pub fn frame_counted<C: Count>(&mut self, frame: &Frame, steps: &mut C) -> FrameReply
+    pub fn frame_with_steps<C: Tick>(&mut self, frame: &Frame, steps: &mut C) -> FrameReply
         ensures allowed { IsAllowed self.old.settings }
         ensures lawful { IsLawfulWithin (limit_of self.old.limits) self.old.settings self.old.journal }
         ensures reply { result ≡ frame_reply_within (limit_of self.old.limits) self.old.settings self.old.journal frame.now }
@@ -124,7 +124,7 @@ impl<N: Noted> FixedChannelWith<N> {
         ensures cost { C.taken steps.new ≤ C.taken steps.old + frame_steps_within (limit_of self.old.limits) self.old.settings self.old.journal frame.now }
         ensures quiet { (IsBypassData frame.now → ⊥) → C.taken steps.new ≡ C.taken steps.old }
     {
-        let reply = self.workings.frame(frame, steps).unwrap();
+        let reply = self.channel_core.frame(frame, steps).unwrap();
         self.journal.note(&LentEvent::Frame(frame.octets()));
         reply
     }
@@ -139,12 +139,15 @@ impl<N: Noted> FixedChannelWith<N> {
         ensures done { OnOk result (self.new ≡ with_limited_event self.old Event.Release) }
         ensures refused { OnErr result (self.new ≡ self.old) }
     {
-        self.release_counted(&mut Uncounted)
+        self.release_with_steps(&mut NoSteps)
     }
 
-    /// As [`release`](FixedChannelWith::release), which runs it with a count that isn't kept. Steps are those of
-    /// [`frame_counted`](FixedChannelWith::frame_counted).
-    pub fn release_counted<C: Count>(&mut self, steps: &mut C) -> Result<Delivery, NothingReleased>
+    /// As [`release`](FixedChannelWith::release), which counts no steps. Steps are those of
+    /// [`frame_with_steps`](FixedChannelWith::frame_with_steps).
+    pub fn release_with_steps<C: Tick>(
+        &mut self,
+        steps: &mut C,
+    ) -> Result<Delivery, NothingReleased>
         ensures allowed { IsAllowed self.old.settings }
         ensures lawful { IsLawfulWithin (limit_of self.old.limits) self.old.settings self.old.journal }
         ensures empty { IsErrOf result NothingReleased.Empty ↔ (buffered_fields_within (limit_of self.old.limits) self.old.settings self.old.journal ≡ []) }
@@ -153,10 +156,10 @@ impl<N: Noted> FixedChannelWith<N> {
         ensures refused { OnErr result (self.new ≡ self.old) }
         ensures cost { C.taken steps.new ≤ C.taken steps.old + release_steps_within (limit_of self.old.limits) self.old.settings self.old.journal }
     {
-        if self.workings.buffered() == 0 {
+        if self.channel_core.buffered() == 0 {
             return Err(NothingReleased::Empty);
         }
-        let delivery = self.workings.release(steps).unwrap();
+        let delivery = self.channel_core.release(steps).unwrap();
         self.journal.note(&LentEvent::Release);
         Ok(delivery)
     }
@@ -168,15 +171,15 @@ impl<N: Noted> FixedChannelWith<N> {
         ensures no_queue { IsErrOf result NothingTaken.NoQueue ↔ (waiting_packets_within (limit_of self.old.limits) self.old.settings self.old.journal apid ≡ None) }
         ensures empty { IsErrOf result NothingTaken.Empty ↔ (waiting_packets_within (limit_of self.old.limits) self.old.settings self.old.journal apid ≡ Some []) }
         ensures no_room { IsErrOf result NothingTaken.NoRoom ↔ IsOver (length into.old) (take_reply_within (limit_of self.old.limits) self.old.settings self.old.journal apid) }
-        ensures reply { IfOk result (λ count. IsLaid (take_reply_within (limit_of self.old.limits) self.old.settings self.old.journal apid) count into.old into.new) }
+        ensures reply { IfOk result (λ count. IsCopiedIn (take_reply_within (limit_of self.old.limits) self.old.settings self.old.journal apid) count into.old into.new) }
         ensures done { OnOk result (self.new ≡ with_limited_event self.old (Event.Take apid)) }
         ensures refused { OnErr result ((self.new ≡ self.old) × (into.new ≡ into.old)) }
     {
-        self.take_counted(apid, into, &mut Uncounted)
+        self.take_with_steps(apid, into, &mut NoSteps)
     }
 
-    /// As [`take`](FixedChannelWith::take), which runs it with a count that isn't kept. A step is a queue that is looked at.
-    pub fn take_counted<C: Count>(
+    /// As [`take`](FixedChannelWith::take), which counts no steps. A step is a queue that is looked at.
+    pub fn take_with_steps<C: Tick>(
         &mut self,
         apid: u16,
         into: &mut [u8],
@@ -187,18 +190,18 @@ impl<N: Noted> FixedChannelWith<N> {
         ensures no_queue { IsErrOf result NothingTaken.NoQueue ↔ (waiting_packets_within (limit_of self.old.limits) self.old.settings self.old.journal apid ≡ None) }
         ensures empty { IsErrOf result NothingTaken.Empty ↔ (waiting_packets_within (limit_of self.old.limits) self.old.settings self.old.journal apid ≡ Some []) }
         ensures no_room { IsErrOf result NothingTaken.NoRoom ↔ IsOver (length into.old) (take_reply_within (limit_of self.old.limits) self.old.settings self.old.journal apid) }
-        ensures reply { IfOk result (λ count. IsLaid (take_reply_within (limit_of self.old.limits) self.old.settings self.old.journal apid) count into.old into.new) }
+        ensures reply { IfOk result (λ count. IsCopiedIn (take_reply_within (limit_of self.old.limits) self.old.settings self.old.journal apid) count into.old into.new) }
         ensures done { OnOk result (self.new ≡ with_limited_event self.old (Event.Take apid)) }
         ensures refused { OnErr result ((self.new ≡ self.old) × (into.new ≡ into.old)) }
         ensures cost { C.taken steps.new ≤ C.taken steps.old + take_steps apid (length self.old.settings.queues) }
     {
-        let Some(packet) = self.workings.oldest(apid, steps) else {
-            return Err(nothing_taken(self.workings.queued(apid, steps)));
+        let Some(packet) = self.channel_core.oldest(apid, steps) else {
+            return Err(nothing_taken(self.channel_core.queued(apid, steps)));
         };
         let Some(count) = copy_to_front(packet, into) else {
             return Err(NothingTaken::NoRoom);
         };
-        self.workings.drop_packet(apid, steps);
+        self.channel_core.drop_packet(apid, steps);
         self.journal.note(&LentEvent::Take(apid));
         Ok(count)
     }
@@ -210,15 +213,15 @@ impl<N: Noted> FixedChannelWith<N> {
         ensures no_map { IsErrOf result NoUnitTaken.NoMap ↔ (waiting_units_within (limit_of self.old.limits) self.old.settings self.old.journal map ≡ None) }
         ensures empty { IsErrOf result NoUnitTaken.Empty ↔ (waiting_units_within (limit_of self.old.limits) self.old.settings self.old.journal map ≡ Some []) }
         ensures no_room { IsErrOf result NoUnitTaken.NoRoom ↔ IsOver (length into.old) (unit_reply_within (limit_of self.old.limits) self.old.settings self.old.journal map) }
-        ensures reply { IfOk result (λ count. IsLaid (unit_reply_within (limit_of self.old.limits) self.old.settings self.old.journal map) count into.old into.new) }
+        ensures reply { IfOk result (λ count. IsCopiedIn (unit_reply_within (limit_of self.old.limits) self.old.settings self.old.journal map) count into.old into.new) }
         ensures done { OnOk result (self.new ≡ with_limited_event self.old (Event.TakeUnit map)) }
         ensures refused { OnErr result ((self.new ≡ self.old) × (into.new ≡ into.old)) }
     {
-        self.take_unit_counted(map, into, &mut Uncounted)
+        self.take_unit_with_steps(map, into, &mut NoSteps)
     }
 
-    /// As [`take_unit`](FixedChannelWith::take_unit), which runs it with a count that isn't kept. A step is a queue that is looked at.
-    pub fn take_unit_counted<C: Count>(
+    /// As [`take_unit`](FixedChannelWith::take_unit), which counts no steps. A step is a queue that is looked at.
+    pub fn take_unit_with_steps<C: Tick>(
         &mut self,
         map: u8,
         into: &mut [u8],
@@ -229,18 +232,18 @@ impl<N: Noted> FixedChannelWith<N> {
         ensures no_map { IsErrOf result NoUnitTaken.NoMap ↔ (waiting_units_within (limit_of self.old.limits) self.old.settings self.old.journal map ≡ None) }
         ensures empty { IsErrOf result NoUnitTaken.Empty ↔ (waiting_units_within (limit_of self.old.limits) self.old.settings self.old.journal map ≡ Some []) }
         ensures no_room { IsErrOf result NoUnitTaken.NoRoom ↔ IsOver (length into.old) (unit_reply_within (limit_of self.old.limits) self.old.settings self.old.journal map) }
-        ensures reply { IfOk result (λ count. IsLaid (unit_reply_within (limit_of self.old.limits) self.old.settings self.old.journal map) count into.old into.new) }
+        ensures reply { IfOk result (λ count. IsCopiedIn (unit_reply_within (limit_of self.old.limits) self.old.settings self.old.journal map) count into.old into.new) }
         ensures done { OnOk result (self.new ≡ with_limited_event self.old (Event.TakeUnit map)) }
         ensures refused { OnErr result ((self.new ≡ self.old) × (into.new ≡ into.old)) }
         ensures cost { C.taken steps.new ≤ C.taken steps.old + take_steps map (length self.old.settings.maps) }
     {
-        let Some(unit) = self.workings.oldest_unit(map, steps) else {
-            return Err(nothing_taken(self.workings.units(map, steps)).into());
+        let Some(unit) = self.channel_core.oldest_unit(map, steps) else {
+            return Err(nothing_taken(self.channel_core.units(map, steps)).into());
         };
         let Some(count) = copy_to_front(unit, into) else {
             return Err(NoUnitTaken::NoRoom);
         };
-        self.workings.drop_unit(map, steps);
+        self.channel_core.drop_unit(map, steps);
         self.journal.note(&LentEvent::TakeUnit(map));
         Ok(count)
     }
@@ -254,7 +257,7 @@ impl<N: Noted> FixedChannelWith<N> {
         ensures done { IsTrue result → self.new ≡ with_limited_event self.old (Event.Take apid) }
         ensures refused { result ≡ false → self.new ≡ self.old }
     {
-        if !self.workings.drop_packet(apid, &mut Uncounted) {
+        if !self.channel_core.drop_packet(apid, &mut NoSteps) {
             return false;
         }
         self.journal.note(&LentEvent::Take(apid));
@@ -270,7 +273,7 @@ impl<N: Noted> FixedChannelWith<N> {
         ensures done { IsTrue result → self.new ≡ with_limited_event self.old (Event.TakeUnit map) }
         ensures refused { result ≡ false → self.new ≡ self.old }
     {
-        if !self.workings.drop_unit(map, &mut Uncounted) {
+        if !self.channel_core.drop_unit(map, &mut NoSteps) {
             return false;
         }
         self.journal.note(&LentEvent::TakeUnit(map));
@@ -284,17 +287,17 @@ impl<N: Noted> FixedChannelWith<N> {
         ensures allowed { IsAllowed self.now.settings }
         ensures lawful { IsLawfulWithin (limit_of self.now.limits) self.now.settings self.now.journal }
     {
-        self.oldest_counted(apid, &mut Uncounted)
+        self.oldest_with_steps(apid, &mut NoSteps)
     }
 
-    /// As [`oldest`](FixedChannelWith::oldest), which runs it with a count that isn't kept. A step is a queue that is looked at.
-    pub fn oldest_counted<C: Count>(&self, apid: u16, steps: &mut C) -> Option<&[u8]>
+    /// As [`oldest`](FixedChannelWith::oldest), which counts no steps. A step is a queue that is looked at.
+    pub fn oldest_with_steps<C: Tick>(&self, apid: u16, steps: &mut C) -> Option<&[u8]>
         ensures packet { option_map (λ octets. octets.now) result ≡ take_reply_within (limit_of self.now.limits) self.now.settings self.now.journal apid }
         ensures allowed { IsAllowed self.now.settings }
         ensures lawful { IsLawfulWithin (limit_of self.now.limits) self.now.settings self.now.journal }
         ensures cost { C.taken steps.new ≤ C.taken steps.old + looks_for apid (length self.now.settings.queues) }
     {
-        self.workings.oldest(apid, steps)
+        self.channel_core.oldest(apid, steps)
     }
 
     /// The octets of the unit that [`take_unit`](FixedChannelWith::take_unit) with this MAP gives next, lent. None where the MAP
@@ -304,17 +307,17 @@ impl<N: Noted> FixedChannelWith<N> {
         ensures allowed { IsAllowed self.now.settings }
         ensures lawful { IsLawfulWithin (limit_of self.now.limits) self.now.settings self.now.journal }
     {
-        self.oldest_unit_counted(map, &mut Uncounted)
+        self.oldest_unit_with_steps(map, &mut NoSteps)
     }
 
-    /// As [`oldest_unit`](FixedChannelWith::oldest_unit), which runs it with a count that isn't kept. A step is a queue that is looked at.
-    pub fn oldest_unit_counted<C: Count>(&self, map: u8, steps: &mut C) -> Option<&[u8]>
+    /// As [`oldest_unit`](FixedChannelWith::oldest_unit), which counts no steps. A step is a queue that is looked at.
+    pub fn oldest_unit_with_steps<C: Tick>(&self, map: u8, steps: &mut C) -> Option<&[u8]>
         ensures unit { option_map (λ octets. octets.now) result ≡ unit_reply_within (limit_of self.now.limits) self.now.settings self.now.journal map }
         ensures allowed { IsAllowed self.now.settings }
         ensures lawful { IsLawfulWithin (limit_of self.now.limits) self.now.settings self.now.journal }
         ensures cost { C.taken steps.new ≤ C.taken steps.old + looks_for map (length self.now.settings.maps) }
     {
-        self.workings.oldest_unit(map, steps)
+        self.channel_core.oldest_unit(map, steps)
     }
 
     /// FARM-1's components.
@@ -325,7 +328,7 @@ impl<N: Noted> FixedChannelWith<N> {
         ensures lawful { IsLawfulWithin (limit_of self.now.limits) self.now.settings self.now.journal }
         ensures era { CountsUpInItsEraWithin (limit_of self.now.limits) self.now.settings self.now.journal }
     {
-        self.workings.report()
+        self.channel_core.report()
     }
 
     /// The communications link control word.
@@ -334,7 +337,7 @@ impl<N: Noted> FixedChannelWith<N> {
         ensures allowed { IsAllowed self.now.settings }
         ensures lawful { IsLawfulWithin (limit_of self.now.limits) self.now.settings self.now.journal }
     {
-        clcw_word(&self.workings.report(), self.settings.vcid, link)
+        clcw_word(&self.channel_core.report(), self.settings.vcid, link)
     }
 
     /// How many data fields wait in the buffer.
@@ -343,7 +346,7 @@ impl<N: Noted> FixedChannelWith<N> {
         ensures allowed { IsAllowed self.now.settings }
         ensures lawful { IsLawfulWithin (limit_of self.now.limits) self.now.settings self.now.journal }
     {
-        self.workings.buffered()
+        self.channel_core.buffered()
     }
 
     /// How many packets wait in the queue with this APID, if there is one.
@@ -352,7 +355,7 @@ impl<N: Noted> FixedChannelWith<N> {
         ensures allowed { IsAllowed self.now.settings }
         ensures lawful { IsLawfulWithin (limit_of self.now.limits) self.now.settings self.now.journal }
     {
-        self.workings.queued(apid, &mut Uncounted)
+        self.channel_core.queued(apid, &mut NoSteps)
     }
 
     /// How many units wait in the queue of this MAP, if it is chosen.
@@ -361,7 +364,7 @@ impl<N: Noted> FixedChannelWith<N> {
         ensures allowed { IsAllowed self.now.settings }
         ensures lawful { IsLawfulWithin (limit_of self.now.limits) self.now.settings self.now.journal }
     {
-        self.workings.units(map, &mut Uncounted)
+        self.channel_core.units(map, &mut NoSteps)
     }
 
     /// How many events there are in the journal; where they are more than 2^64 - 1, that number.
@@ -433,11 +436,11 @@ fn start<N: Noted>(
 {
     let runs = open_none(alloc, settings.segmented, &limits)?;
     let size = limits.item_size(settings.segmented);
-    let workings = Workings::new(alloc, &settings, runs, size, &mut Uncounted)?;
+    let channel_core = ChannelCore::new(alloc, &settings, runs, size, &mut NoSteps)?;
     Ok(FixedChannelWith {
         settings,
         limits,
-        workings,
+        channel_core,
         journal: N::start(alloc),
     })
 }

@@ -108,6 +108,6 @@ fn queue_octets(settings: LentSettings<'_>, item: u128) -> u128
     ensures within { result < 2 ^ 110 }
 {
     let queues = settings.queues.len() as u128 + settings.maps.len() as u128;
-    let items = settings.packets_held() + settings.units_held();
+    let items = settings.packets_stored() + settings.units_stored();
     queues * QUEUE_WORDS + items * (ROOM_WORDS + item)
 }

@@ -5,7 +5,7 @@ ghost use Rattle.tc_channel.specs.declared.event.Event.{Event};
 ghost use Rattle.tc_channel.specs.Journal.{event_of};
 
 use std::alloc::Global;
-use tc_channel::{EventsSeen, Journal, LentEvent, Unkept};
+use tc_channel::{EventsSeen, Journal, LentEvent, Unrecorded};
 
 /// A journal to which each event can be appended without memory. A channel of rooms is generic over it, so that its clauses hold
 /// of the events as they were noted, and of no others.
@@ -30,12 +30,12 @@ pub trait Noted: Drop {
         ensures count { result ≡ min (length (noted self.now)) (2 ^ 64 - 1) };
 }
 
-impl Noted for Unkept {
+impl Noted for Unrecorded {
     ghost noted = { λ u. u.seen.events };
 
-    fn start(alloc: Global) -> Unkept {
-        let unkept: Unkept = Journal::start(alloc);
-        unkept
+    fn start(alloc: Global) -> Unrecorded {
+        let unrecorded: Unrecorded = Journal::start(alloc);
+        unrecorded
     }
 
     fn note(&mut self, event: &LentEvent<'_>) {

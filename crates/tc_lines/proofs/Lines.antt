@@ -60,9 +60,9 @@ module _ {S : Type 0} (limit : ℕ) (Answers : S → List ℕ → S → List ℕ
       → IsReadAnswered Answers now read kept new text
       → (((read.ended ≡ true) ⊎ (line ≢ [])) × IsAnswered limit Answers now line new text)
       ⊎ ((read.ended ≡ false) × (line ≡ []) × (new ≡ now) × (text ≡ []))
-  line-answered now new read line kept text is long (inl (over, same, told)) =
+  line-answered now new read line kept text is long (inl (over, same, reported)) =
       let lt = ltb-true limit (length line) (sym long ∙ over) in
-      inl (inr (λ none. omega (arith, lt, ap length none)), inl (lt, same, told))
+      inl (inr (λ none. omega (arith, lt, ap length none)), inl (lt, same, reported))
   line-answered now new read line kept text is long (inr (inl (fits, some, answered))) =
       let le = ltb-false limit (length line) (sym long ∙ fits) in
       let whole = is ∙ take_all limit line le in
@@ -71,9 +71,9 @@ module _ {S : Type 0} (limit : ℕ) (Answers : S → List ℕ → S → List ℕ
       at : kept ≡ line → (read.ended ≡ true) ⊎ (kept ≢ []) → (read.ended ≡ true) ⊎ (line ≢ [])
       at whole (inl ended) = inl ended
       at whole (inr some) = inr (λ none. some (whole ∙ none))
-  line-answered now new read line kept text is long (inr (inr (fits, ended, none, same, told))) =
+  line-answered now new read line kept text is long (inr (inr (fits, ended, none, same, reported))) =
       let le = ltb-false limit (length line) (sym long ∙ fits) in
-      inr (ended, sym (is ∙ take_all limit line le) ∙ none, same, told)
+      inr (ended, sym (is ∙ take_all limit line le) ∙ none, same, reported)
 
   pub line-more : (old now new : S) (known left after_it : Option (List ℕ)) (kept shown : List ℕ) (read : LineRead) (a b c : Option (List ℕ))
       → IsSoFar old known now left a b → IsLineRead limit left after_it kept read → read.ended ≡ true
@@ -98,7 +98,7 @@ module _ {S : Type 0} (limit : ℕ) (Answers : S → List ℕ → S → List ℕ
             ∙ sym (append_assoc lines (next.line ∷ []) (lines_of y)),
         (text ++ more, answered-more old now new lines next.line text more answered is, Appends-trans a b c text more written appended),
       )
-      at (inr (not, none, same, told)) found = absurd (both_ways read.ended not ended)
+      at (inr (not, none, same, reported)) found = absurd (both_ways read.ended not ended)
 
   -- the last line
   pub lines-end : (old now new : S) (known left after_it : Option (List ℕ)) (kept shown : List ℕ) (read : LineRead) (a b c : Option (List ℕ))
@@ -131,12 +131,12 @@ module _ {S : Type 0} (limit : ℕ) (Answers : S → List ℕ → S → List ℕ
             (answered-more old now new lines next.line text more answered is),
         Appends-trans a b c text more written appended,
       )
-      at (inr (not, none, same, told)) rest_is = (
+      at (inr (not, none, same, reported)) rest_is = (
         text ++ more,
         subst (λ ls. AreAnswered limit Answers old ls new (text ++ more))
             (sym (parts ∙ ap (λ l. lines ++ lines_of l) (rest_is ∙ none) ∙ append-nil lines))
             (subst (λ s. AreAnswered limit Answers old lines s (text ++ more)) (sym same)
-            (subst (AreAnswered limit Answers old lines now) (sym (append-nil text) ∙ ap (λ l. text ++ l) (sym told)) answered)),
+            (subst (AreAnswered limit Answers old lines now) (sym (append-nil text) ∙ ap (λ l. text ++ l) (sym reported)) answered)),
         Appends-trans a b c text more written appended,
       )
 

@@ -15,6 +15,7 @@ use Rattle.tc_live.specs.Check.{CarriesMore, FailsCandidate, IsCandidatePassed}
 use Rattle.tc_live.specs.Receiver.{Receiving, IsCandidateDone, IsPassedDone, IsBadCandidate}
 use Rattle.tc_live.specs.declared.answer.LiveAnswer.{LiveAnswer}
 use Rattle.tc_live.specs.declared.check.FrameCheck.{FrameCheck}
+use Rattle.tc_live.specs.declared.ends.FrameEnds.{FrameEnds}
 
 no-fill : (r : Bool) (rest : List ℕ) → r ≡ is_fill rest → IsTrue (not r) → is_fill rest ≡ false
 no-fill true rest e t = absurd (true≢false (sym t))
@@ -31,19 +32,19 @@ carried r octets frame rest found e = (
 )
 
 -- a candidate that carries no more is done as the line that passed
-pub passed-done : (old new : Receiving) (check : FrameCheck) (scid : ℕ) (stage : Stage Racked) (octets shown : List ℕ) (r : Bool) (o : Option Line) (passed : Line) (answer : LiveAnswer)
-    → ◌≡◌ {A = Receiving} (record { check = check; scid = scid; stage = stage }) old → shown ≡ octets → IsTrue r ↔ CarriesMore shown → r ≡ false
+pub passed-done : (old new : Receiving) (check : FrameCheck) (ends : FrameEnds) (scid : ℕ) (stage : Stage Racked) (octets shown : List ℕ) (r : Bool) (o : Option Line) (passed : Line) (answer : LiveAnswer)
+    → ◌≡◌ {A = Receiving} (record { check = check; ends = ends; scid = scid; stage = stage }) old → shown ≡ octets → IsTrue r ↔ CarriesMore shown → r ≡ false
     → MatchOption o (FailsCandidate check octets) (IsCandidatePassed check octets) → o ≡ Some passed → IsPassedDone old passed new answer → IsCandidateDone old octets new answer
-passed-done old new check scid stage octets shown r o passed answer view same carries less passes is done =
+passed-done old new check ends scid stage octets shown r o passed answer view same carries less passes is done =
     let passing : IsCandidatePassed check octets passed = subst (λ (x : Option Line). MatchOption x (FailsCandidate check octets) (IsCandidatePassed check octets)) is passes in
     let own : IsCandidatePassed old.check octets passed = subst (λ (x : FrameCheck). IsCandidatePassed x octets passed) (ap (λ (x : Receiving). x.check) view) passing in
     inr (λ more. true≢false (sym (carries.1 (subst CarriesMore (sym same) more)) ∙ less), inl (passed, own, done))
 
-pub passed-bad : (old : Receiving) (check : FrameCheck) (scid : ℕ) (stage : Stage Racked) (octets : List ℕ) (o : Option Line) (passed : Line) (reason : Reason) (NoMemory : Type 0)
-    → ◌≡◌ {A = Receiving} (record { check = check; scid = scid; stage = stage }) old
+pub passed-bad : (old : Receiving) (check : FrameCheck) (ends : FrameEnds) (scid : ℕ) (stage : Stage Racked) (octets : List ℕ) (o : Option Line) (passed : Line) (reason : Reason) (NoMemory : Type 0)
+    → ◌≡◌ {A = Receiving} (record { check = check; ends = ends; scid = scid; stage = stage }) old
     → MatchOption o (FailsCandidate check octets) (IsCandidatePassed check octets) → o ≡ Some passed
     → NoMemory ⊎ IsBad (phase_of old.stage) (instruction_of passed) reason → NoMemory ⊎ IsBadCandidate old octets reason
-passed-bad old check scid stage octets o passed reason NoMemory view passes is (inl none) = inl none
-passed-bad old check scid stage octets o passed reason NoMemory view passes is (inr bad) =
+passed-bad old check ends scid stage octets o passed reason NoMemory view passes is (inl none) = inl none
+passed-bad old check ends scid stage octets o passed reason NoMemory view passes is (inr bad) =
     let passing : IsCandidatePassed check octets passed = subst (λ (x : Option Line). MatchOption x (FailsCandidate check octets) (IsCandidatePassed check octets)) is passes in
     inr (passed, subst (λ (x : FrameCheck). IsCandidatePassed x octets passed) (ap (λ (x : Receiving). x.check) view) passing, bad)

@@ -7,33 +7,34 @@ use Rattle.tc_rack.specs.declared.stage.Stage.TheVariants.{Operating}
 use Rattle.tc_rack.specs.Delivery.{AreAnswersWritten, IsDeliveryEnded}
 use Rattle.tc_rack.specs.Operation.{IsAnswerOf, IsClcwAnswer}
 use Rattle.tc_rack.specs.Rack.{Racked}
-use Rattle.tc_live.specs.Receiver.{Receiving, IsDeliveryBegun, IsDeliveryDone, IsCollectionBegun, collection_told, begun}
+use Rattle.tc_live.specs.Receiver.{Receiving, IsDeliveryBegun, IsDeliveryDone, IsCollectionBegun, collection_reported, begun}
 use Rattle.tc_rack.specs.Progress.{rack_for}
 use Rattle.tc_live.specs.declared.answer.LiveAnswer.{LiveAnswer}
-use Rattle.tc_live.specs.declared.answer.LiveAnswer.TheVariants as told
+use Rattle.tc_live.specs.declared.answer.LiveAnswer.TheVariants as reported
 use Rattle.tc_live.specs.declared.check.FrameCheck.{FrameCheck}
+use Rattle.tc_live.specs.declared.ends.FrameEnds.{FrameEnds}
 
-pub release-told : (old now : Receiving) (check : FrameCheck) (scid : ℕ) (stage : Stage Racked) (rack after : Racked) (vcid : ℕ) (a : Answer)
-    → now ≡ begun old → ◌≡◌ {A = Receiving} (record { check = check; scid = scid; stage = stage }) now → stage ≡ Operating rack → IsAnswerOf (operations.Release vcid) rack a after
-    → IsDeliveryBegun old vcid (record { check = check; scid = scid; stage = Operating after }) (told.Delivery vcid a)
-release-told old now check scid stage rack after vcid a is_begun view is answered =
+pub release-reported : (old now : Receiving) (check : FrameCheck) (ends : FrameEnds) (scid : ℕ) (stage : Stage Racked) (rack after : Racked) (vcid : ℕ) (a : Answer)
+    → now ≡ begun old → ◌≡◌ {A = Receiving} (record { check = check; ends = ends; scid = scid; stage = stage }) now → stage ≡ Operating rack → IsAnswerOf (operations.Release vcid) rack a after
+    → IsDeliveryBegun old vcid (record { check = check; ends = ends; scid = scid; stage = Operating after }) (reported.Delivery vcid a)
+release-reported old now check ends scid stage rack after vcid a is_begun view is answered =
     let same : rack ≡ rack_for old.scid old.stage = ap (rack_for old.scid) (sym is ∙ ap (λ (x : Receiving). x.stage) (view ∙ is_begun)) in
     (a, after, subst (λ r. IsAnswerOf (operations.Release vcid) r a after) same answered, refl, ap (λ (x : Receiving). record x { stage = Operating after }) (view ∙ is_begun))
 
-pub collection-told : (old now : Receiving) (check : FrameCheck) (scid : ℕ) (stage : Stage Racked) (rack after : Racked) (vcid : ℕ) (a : Answer) (answer : LiveAnswer)
-    → now ≡ begun old → ◌≡◌ {A = Receiving} (record { check = check; scid = scid; stage = stage }) now → stage ≡ Operating rack → IsAnswerOf (operations.Clcw vcid) rack a after
-    → answer ≡ collection_told vcid a → IsCollectionBegun old vcid (record { check = check; scid = scid; stage = Operating after }) answer
-collection-told old now check scid stage rack after vcid a answer is_begun view is answered told_so =
+pub collection-reported : (old now : Receiving) (check : FrameCheck) (ends : FrameEnds) (scid : ℕ) (stage : Stage Racked) (rack after : Racked) (vcid : ℕ) (a : Answer) (answer : LiveAnswer)
+    → now ≡ begun old → ◌≡◌ {A = Receiving} (record { check = check; ends = ends; scid = scid; stage = stage }) now → stage ≡ Operating rack → IsAnswerOf (operations.Clcw vcid) rack a after
+    → answer ≡ collection_reported vcid a → IsCollectionBegun old vcid (record { check = check; ends = ends; scid = scid; stage = Operating after }) answer
+collection-reported old now check ends scid stage rack after vcid a answer is_begun view is answered reported_so =
     let same : rack ≡ rack_for old.scid old.stage = ap (rack_for old.scid) (sym is ∙ ap (λ (x : Receiving). x.stage) (view ∙ is_begun)) in (
       a,
       subst (λ r. IsClcwAnswer vcid r a) same answered.0,
-      told_so,
+      reported_so,
       ap (λ (x : Receiving). record x { stage = Operating after }) (view ∙ is_begun) ∙ ap (λ (r : Racked). record old { stage = Operating r }) (answered.1 ∙ same),
     )
 
-pub handed-on : (old : Receiving) (check : FrameCheck) (scid : ℕ) (stage : Stage Racked) (rack after : Racked) (vcid : ℕ) (a b : Option (List ℕ))
-    → ◌≡◌ {A = Receiving} (record { check = check; scid = scid; stage = stage }) old → stage ≡ Operating rack → AreAnswersWritten a b (λ answers. IsDeliveryEnded vcid rack answers after)
-    → AreAnswersWritten a b (IsDeliveryDone old vcid (record { check = check; scid = scid; stage = Operating after }))
-handed-on old check scid stage rack after vcid a b view is (answers, ended, written) =
+pub handed-on : (old : Receiving) (check : FrameCheck) (ends : FrameEnds) (scid : ℕ) (stage : Stage Racked) (rack after : Racked) (vcid : ℕ) (a b : Option (List ℕ))
+    → ◌≡◌ {A = Receiving} (record { check = check; ends = ends; scid = scid; stage = stage }) old → stage ≡ Operating rack → AreAnswersWritten a b (λ answers. IsDeliveryEnded vcid rack answers after)
+    → AreAnswersWritten a b (IsDeliveryDone old vcid (record { check = check; ends = ends; scid = scid; stage = Operating after }))
+handed-on old check ends scid stage rack after vcid a b view is (answers, ended, written) =
     let same : rack ≡ rack_for old.scid old.stage = ap (rack_for old.scid) (sym is ∙ ap (λ (x : Receiving). x.stage) view) in
     (answers, (after, subst (λ r. IsDeliveryEnded vcid r answers after) same ended, ap (λ (x : Receiving). record x { stage = Operating after }) view), written)

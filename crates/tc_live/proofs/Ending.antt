@@ -3,26 +3,27 @@ use Rattle.std.proofs.Common.{◌≡◌, ◌⊎◌, ℕ, Bool, false, List, Opti
 use Rattle.std.proofs.lemmas.Bool.{both_ways}
 use Rattle.std.proofs.lemmas.List.Sorted.{All-permutation}
 use Rattle.std.proofs.KnownBytes.{Appends-trans, Appends-kept}
-use Rattle.std.specs.Prelude.{◌↔◌, All, IsPermutation, IsTrue, OnOk, IfErr}
+use Rattle.std.specs.Prelude.{◌↔◌, All, IsPermutation, IsTrue, OnOk, IfOk, IfErr}
 use Rattle.std.specs.Io.KnownBytes.{Keeps}
 use Rattle.tc_lines.specs.Answering as lines
 use Rattle.tc_lines.specs.declared.answering.ServingFault.{ServingFault as AnsweringFault}
 use Rattle.tc_lines.specs.declared.answering.ServingFault.TheVariants as answering
-use Rattle.tc_channel.specs.Journal.{History, IsNumberTold}
+use Rattle.tc_channel.specs.Journal.{History, IsNumberReported}
 use Rattle.tc_rack.specs.Rack.{histories}
 use Rattle.tc_live.specs.Receiver.{Receiving, rack_at}
-use Rattle.tc_live.specs.Serving.{IsClosingFault, IsReceptionCutShort, IsLineSaid, IsReportWritten, IsUntold, IsReceptionWritten, fault_at_lines, line_limit}
+use Rattle.tc_live.specs.Serving.{IsClosingFault, IsReceptionCutShort, IsLineSaid, IsReportWritten, IsNumberUnreported, IsReceptionWritten, fault_at_lines, line_limit}
+use Rattle.tc_live.specs.declared.ends.FrameEnds.{FrameEnds}
 use Rattle.tc_live.specs.declared.serving.ServingFault.{ServingFault}
 use Rattle.tc_live.specs.declared.serving.ServingFault.TheVariants.{Write}
 
 -- the report follows the answers
-pub all-written : {T : Type 0} (closed : Result T ServingFault) (receiver last : Receiving) (known a b c : Option (List ℕ))
+pub all-written : (closed : Result FrameEnds ServingFault) (receiver last : Receiving) (known a b c : Option (List ℕ))
     → IfSome known (λ octets. lines.AreAllWritten line_limit IsLineSaid receiver octets last a b) → OnOk closed (IsReportWritten last b c)
-    → OnOk closed (IfSome known (λ octets. IsReceptionWritten receiver octets a c))
-all-written (Err fault) receiver last known a b c answered report = tt
-all-written (Ok done) receiver last None a b c answered report = tt
-all-written (Ok done) receiver last (Some octets) a b c (answers, is, before) (channels, all, rising, more) =
-    (last, answers, channels, is, all, rising, Appends-trans a b c answers _ before more)
+    → IfOk closed (λ ends. ends ≡ last.ends) → IfOk closed (λ ends. IfSome known (λ octets. IsReceptionWritten receiver octets a c ends))
+all-written (Err fault) receiver last known a b c answered report same = tt
+all-written (Ok ends) receiver last None a b c answered report same = tt
+all-written (Ok ends) receiver last (Some octets) a b c (answers, is, before) (channels, all, rising, more) same =
+    (last, answers, channels, is, same, all, rising, Appends-trans a b c answers _ before more)
 
 -- there is no report, or not the whole of it
 pub not-reported : {T : Type 0} (closed : Result T ServingFault) (receiver last : Receiving) (known a b c : Option (List ℕ))
@@ -48,7 +49,7 @@ lines-cut answering.Write receiver last (Some octets) a b cut = tt
 lines-cut answering.NoMemory receiver last (Some octets) a b cut = inl cut.1
 
 -- the channels of a receiver, in another order, aren't all told
-pub is-untold : (receiver : Receiving) (told : Bool) (shown before after : List History) → IsTrue told ↔ All IsNumberTold shown → told ≡ false
-    → shown ≡ after → IsPermutation before after → before ≡ histories (rack_at receiver) → IsUntold receiver
-is-untold receiver told shown before after just not same shuffled is all =
-    both_ways told not (just.1 (subst (All IsNumberTold) (sym same) (All-permutation IsNumberTold before after shuffled (subst (All IsNumberTold) (sym is) all))))
+pub is-number-unreported : (receiver : Receiving) (reported : Bool) (shown before after : List History) → IsTrue reported ↔ All IsNumberReported shown → reported ≡ false
+    → shown ≡ after → IsPermutation before after → before ≡ histories (rack_at receiver) → IsNumberUnreported receiver
+is-number-unreported receiver reported shown before after just not same shuffled is all =
+    both_ways reported not (just.1 (subst (All IsNumberReported) (sym same) (All-permutation IsNumberReported before after shuffled (subst (All IsNumberReported) (sym is) all))))

@@ -3,19 +3,19 @@ use Rattle.std.proofs.Common.{ℕ, true, false, List, ◌++◌, Option, Some, No
 use Rattle.std.proofs.KnownBytes.{Appends-trans}
 use Rattle.std.specs.Io.KnownBytes.{Appends}
 use Rattle.tc_lines.specs.Answering.{Writes}
-use Rattle.tc_rack.specs.Delivery.{AreAnswersWritten, told_lines}
+use Rattle.tc_rack.specs.Delivery.{AreAnswersWritten, reported_lines}
 use Rattle.tc_text.specs.declared.live.LiveLine.{LiveLine}
 use Rattle.tc_text.specs.declared.live.LiveLine.TheVariants.{Script, Link as LinkOf, Report, Deliver, Collect, Candidate}
 use Rattle.tc_rack.specs.declared.answer.Answer.TheVariants.{Frame, Release, Take, Unit as UnitOf, Clcw, Refused}
 use Rattle.tc_live.specs.Printed.{live_text}
 use Rattle.tc_live.specs.Receiver.{Receiving, IsLiveLineAnswered, IsLineDone, IsReady}
-use Rattle.tc_live.specs.Serving.{IsFollowedBy, IsLineSaid, IsTold}
+use Rattle.tc_live.specs.Serving.{IsFollowedBy, IsLineSaid, IsReported}
 use Rattle.tc_live.specs.declared.answer.LiveAnswer.{LiveAnswer}
 
 -- a delivery that was begun can be ended, and no other answer needs anything
 line-ready : (old new : Receiving) (said : LiveLine) (answer : LiveAnswer) → IsLineDone old said new answer → IsReady answer new
-line-ready old new (Script line) answer (inl (passed, passes, ((None, answered, is, same), done))) = rw is tt
-line-ready old new (Script line) answer (inl (passed, passes, ((Some a, answered, is, same), done))) = rw is tt
+line-ready old new (Script line) answer (inl (passed, passes, (between, ((None, answered, is, same), done), noted))) = rw is tt
+line-ready old new (Script line) answer (inl (passed, passes, (between, ((Some a, answered, is, same), done), noted))) = rw is tt
 line-ready old new (Script line) answer (inr (fails, is, same)) = rw is tt
 line-ready old new (LinkOf vcid link) answer ((true, rack, set, is, becomes), operates) = rw is tt
 line-ready old new (LinkOf vcid link) answer ((false, rack, set, is, becomes), operates) = rw is tt
@@ -37,10 +37,10 @@ pub ready : (old new : Receiving) (octets : List ℕ) (answer : LiveAnswer) → 
 ready old new octets answer (said, is, done) = line-ready old new said answer done
 
 -- what follows is written behind the answer
-pub followed : (answer : LiveAnswer) (old new : Receiving) (a b c : Option (List ℕ)) → Appends a b (live_text answer) → AreAnswersWritten b c (IsFollowedBy answer old new) → Writes a c (IsTold answer old new)
-followed answer old new a b c first (answers, follow, rest) = (live_text answer ++ told_lines answers, (answers, follow, refl), Appends-trans a b c _ _ first rest)
+pub followed : (answer : LiveAnswer) (old new : Receiving) (a b c : Option (List ℕ)) → Appends a b (live_text answer) → AreAnswersWritten b c (IsFollowedBy answer old new) → Writes a c (IsReported answer old new)
+followed answer old new a b c first (answers, follow, rest) = (live_text answer ++ reported_lines answers, (answers, follow, refl), Appends-trans a b c _ _ first rest)
 
 -- an answer and what follows it are those of the line
 pub said : (old between new : Receiving) (octets : List ℕ) (answer : LiveAnswer) (a b : Option (List ℕ)) → IsLiveLineAnswered old octets between answer
-    → Writes a b (IsTold answer between new) → Writes a b (IsLineSaid old octets new)
+    → Writes a b (IsReported answer between new) → Writes a b (IsLineSaid old octets new)
 said old between new octets answer a b answered (text, is, written) = (text, inl (answer, between, answered, is), written)

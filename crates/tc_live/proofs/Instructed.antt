@@ -4,17 +4,18 @@ use Rattle.tc_setup.specs.declared.instruction.Instruction.{Instruction}
 use Rattle.tc_rack.specs.Performing.{IsInstructionAnswered}
 use Rattle.tc_rack.specs.Progress.{Progress, IsPerformed}
 use Rattle.tc_rack.specs.declared.answer.Answer.{Answer}
-use Rattle.tc_live.specs.Receiver.{Receiving, IsInstructed, script_told}
+use Rattle.tc_live.specs.Receiver.{Receiving, IsInstructed, script_reported}
 use Rattle.tc_live.specs.declared.answer.LiveAnswer.{LiveAnswer}
 use Rattle.tc_live.specs.declared.check.FrameCheck.{FrameCheck}
+use Rattle.tc_live.specs.declared.ends.FrameEnds.{FrameEnds}
 
-pub instructed : (old : Receiving) (check : FrameCheck) (scid from : ℕ) (stage new : Progress) (instruction : Instruction) (a : Option Answer) (answer : LiveAnswer)
-    → ◌≡◌ {A = Receiving} (record { check = check; scid = scid; stage = stage }) old → from ≡ old.scid
-    → IsInstructionAnswered (IsPerformed from) stage instruction new a → answer ≡ script_told a
-    → IsInstructed old instruction (record { check = check; scid = scid; stage = new }) answer
-instructed old check scid from stage new instruction a answer view same answered told = (
+pub instructed : (old : Receiving) (check : FrameCheck) (ends : FrameEnds) (scid from : ℕ) (stage new : Progress) (instruction : Instruction) (a : Option Answer) (answer : LiveAnswer)
+    → ◌≡◌ {A = Receiving} (record { check = check; ends = ends; scid = scid; stage = stage }) old → from ≡ old.scid
+    → IsInstructionAnswered (IsPerformed from) stage instruction new a → answer ≡ script_reported a
+    → IsInstructed old instruction (record { check = check; ends = ends; scid = scid; stage = new }) answer
+instructed old check ends scid from stage new instruction a answer view same answered reported = (
   a,
   subst (λ (x : ℕ × Progress). IsInstructionAnswered (IsPerformed x.0) x.1 instruction new a) (λ i. (same i, (view i).stage)) answered,
-  told,
+  reported,
   ap (λ (r : Receiving). record r { stage = new }) view,
 )

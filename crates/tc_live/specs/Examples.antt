@@ -5,6 +5,7 @@ use Rattle.tc_channel.specs.declared.settings.Settings.{Settings}
 use Rattle.tc_rack.specs.declared.stage.Stage.TheVariants.{Operating}
 use Rattle.tc_live.specs.Receiver.{Receiving}
 use Rattle.tc_live.specs.declared.check.FrameCheck.TheVariants.{Nothing}
+use Rattle.tc_live.specs.declared.ends.FrameEnds.TheVariants.{NoFrame}
 
 -- channel 1 without segment headers, with a window of 10, a buffer for one data field and V(R) 0
 abbrev pub plain_channel : Settings
@@ -12,4 +13,4 @@ plain_channel = record { vcid = 1; width = 10; buffer = 1; first = 0; segmented 
 
 -- the receiver with that channel, which nothing was brought to, and these flags of its link
 abbrev pub receiver_with : Link → Receiving
-receiver_with link = record { check = Nothing; scid = 42; stage = Operating (record { scid = 42; channels = record { history = record { settings = plain_channel; journal = [] }; link = link } ∷ [] }) }
+receiver_with link = record { check = Nothing; ends = NoFrame; scid = 42; stage = Operating (record { scid = 42; channels = record { history = record { settings = plain_channel; journal = [] }; link = link } ∷ [] }) }

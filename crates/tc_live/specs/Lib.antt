@@ -1,4 +1,5 @@
 pub mod Check
+pub mod Ends
 pub mod Receiver
 pub mod Serving
 pub mod Printed

@@ -25,18 +25,22 @@ use Rattle.tc_rack.specs.declared.operation.Operation.TheVariants as operations
 use Rattle.tc_rack.specs.declared.answer.Answer.TheVariants.{Refused}
 use Rattle.tc_live.specs.Check.{IsPassed, FailsCheck, IsCandidatePassed, FailsCandidate, CarriesMore}
 use Rattle.tc_live.specs.declared.answer.LiveAnswer.{LiveAnswer}
-use Rattle.tc_live.specs.declared.answer.LiveAnswer.TheVariants as told
+use Rattle.tc_live.specs.declared.answer.LiveAnswer.TheVariants as reported
 use Rattle.tc_live.specs.declared.check.FrameCheck.{FrameCheck}
+use Rattle.tc_live.specs.declared.ends.FrameEnds.{FrameEnds}
+use Rattle.tc_live.specs.declared.ends.FrameEnds.TheVariants.{NoFrame}
+use Rattle.tc_live.specs.Ends.{ends_behind}
 
--- what octets must pass, the spacecraft's id, and the channels: set up so far, or in operation
+-- what octets must pass, how frames ended that nothing checked, the spacecraft's id, and the channels: set up so far, or in operation
 pub record Receiving : Type 0 where
   pub check : FrameCheck
+  pub ends : FrameEnds
   pub scid : ℕ
   pub stage : Stage Racked
 
 -- one for which nothing is set up
 abbrev pub new_receiver : FrameCheck → ℕ → Receiving
-new_receiver check scid = record { check = check; scid = scid; stage = SettingUp [] }
+new_receiver check scid = record { check = check; ends = NoFrame; scid = scid; stage = SettingUp [] }
 
 -- the channels that operations find
 abbrev pub rack_at : Receiving → Racked
@@ -51,71 +55,76 @@ abbrev pub begun : Receiving → Receiving
 begun receiver = with_rack (rack_at receiver) receiver
 
 -- an operation's answer is told, and nothing where there is none
-abbrev pub script_told : Option Answer → LiveAnswer
-script_told None = told.Nothing
-script_told (Some answer) = told.Operation answer
+abbrev pub script_reported : Option Answer → LiveAnswer
+script_reported None = reported.Nothing
+script_reported (Some answer) = reported.Operation answer
 
 -- what a line of a script is answered, by what it asks for, and that is told. All but the channels is as before
 abbrev pub IsInstructed : Receiving → Instruction → Receiving → LiveAnswer → Type 0
 IsInstructed old instruction new answer =
     (a : Option Answer) × IsInstructionAnswered (IsPerformed old.scid) old.stage instruction new.stage a
-    × (answer ≡ script_told a) × (new ≡ record old { stage = new.stage })
+    × (answer ≡ script_reported a) × (new ≡ record old { stage = new.stage })
 
 -- the receiver does what a line of a script says that passed
 abbrev pub IsPassedDone : Receiving → Line → Receiving → LiveAnswer → Type 0
 IsPassedDone old passed new answer =
     IsInstructed old (instruction_of passed) new answer × Does (phase_of old.stage) (instruction_of passed) (phase_of new.stage)
 
+-- a line that passes is done, and how its frame ended is noted
+abbrev pub IsNoted : Receiving → Line → Line → Receiving → LiveAnswer → Type 0
+IsNoted old line passed new answer =
+    (done : Receiving) × IsPassedDone old passed done answer × (new ≡ record done { ends = ends_behind old.check old.ends line })
+
 -- a line that passes is done; one that doesn't changes nothing
 abbrev pub IsScriptDone : Receiving → Line → Receiving → LiveAnswer → Type 0
 IsScriptDone old line new answer =
-    ((passed : Line) × IsPassed old.check line passed × IsPassedDone old passed new answer)
-    ⊎ (FailsCheck old.check line × (answer ≡ told.Unchecked) × (new ≡ old))
+    ((passed : Line) × IsPassed old.check line passed × IsNoted old line passed new answer)
+    ⊎ (FailsCheck old.check line × (answer ≡ reported.Unchecked) × (new ≡ old))
 
 -- a candidate that carries more than one frame and its fill changes nothing; else it is done where it passes
 abbrev pub IsCandidateDone : Receiving → List ℕ → Receiving → LiveAnswer → Type 0
 IsCandidateDone old octets new answer =
-    (CarriesMore octets × (answer ≡ told.More) × (new ≡ old))
+    (CarriesMore octets × (answer ≡ reported.More) × (new ≡ old))
     ⊎ ((¬ CarriesMore octets) × (((passed : Line) × IsCandidatePassed old.check octets passed × IsPassedDone old passed new answer)
-    ⊎ (FailsCandidate old.check octets × (answer ≡ told.Unchecked) × (new ≡ old))))
+    ⊎ (FailsCandidate old.check octets × (answer ≡ reported.Unchecked) × (new ≡ old))))
 
 -- what a refused line leaves: all as it was, or where memory was wanting the channels made for it
 abbrev pub IsReceiverLeft : Reason → Receiving → Receiving → Type 0
 IsReceiverLeft reason old new = (new ≡ old) ⊎ ((reason ≡ NoMemory) × (new ≡ begun old))
 
-abbrev pub link_told : Bool → ℕ → Link → LiveAnswer
-link_told true vcid link = told.Link vcid link
-link_told false vcid link = told.UnknownChannel
+abbrev pub link_reported : Bool → ℕ → Link → LiveAnswer
+link_reported true vcid link = reported.Link vcid link
+link_reported false vcid link = reported.UnknownChannel
 
 -- the flags of a channel's link are others from now on, if there is such a channel
 abbrev pub IsLinked : Receiving → ℕ → Link → Receiving → LiveAnswer → Type 0
 IsLinked old vcid link new answer =
     (known : Bool) × (rack : Racked) × IsLinkSet (rack_at old) vcid link known rack
-    × (answer ≡ link_told known vcid link) × (new ≡ with_rack rack old)
+    × (answer ≡ link_reported known vcid link) × (new ≡ with_rack rack old)
 
-abbrev pub report_told : ℕ → Option Holding → LiveAnswer
-report_told vcid None = told.UnknownChannel
-report_told vcid (Some holding) = told.Report vcid holding
+abbrev pub report_reported : ℕ → Option Holding → LiveAnswer
+report_reported vcid None = reported.UnknownChannel
+report_reported vcid (Some holding) = reported.Report vcid holding
 
 -- what a channel has come to is told, if there is such a channel
 abbrev pub IsReportDone : Receiving → ℕ → Receiving → LiveAnswer → Type 0
 IsReportDone old vcid new answer =
-    (found : Option Holding) × IsReported (rack_at old) vcid found × (answer ≡ report_told vcid found) × (new ≡ begun old)
+    (found : Option Holding) × IsReported (rack_at old) vcid found × (answer ≡ report_reported vcid found) × (new ≡ begun old)
 
 -- a delivery begins with a release, whose answer is told
 abbrev pub IsDeliveryBegun : Receiving → ℕ → Receiving → LiveAnswer → Type 0
 IsDeliveryBegun old vcid new answer =
     (a : Answer) × (rack : Racked) × IsAnswerOf (operations.Release vcid) (rack_at old) a rack
-    × (answer ≡ told.Delivery vcid a) × (new ≡ with_rack rack old)
+    × (answer ≡ reported.Delivery vcid a) × (new ≡ with_rack rack old)
 
 -- a collection begins where there is such a channel, which has a CLCW
-abbrev pub collection_told : ℕ → Answer → LiveAnswer
-collection_told vcid (Refused refusal) = told.UnknownChannel
-collection_told vcid _ = told.Collection vcid
+abbrev pub collection_reported : ℕ → Answer → LiveAnswer
+collection_reported vcid (Refused refusal) = reported.UnknownChannel
+collection_reported vcid _ = reported.Collection vcid
 
 abbrev pub IsCollectionBegun : Receiving → ℕ → Receiving → LiveAnswer → Type 0
 IsCollectionBegun old vcid new answer =
-    (a : Answer) × IsClcwAnswer vcid (rack_at old) a × (answer ≡ collection_told vcid a) × (new ≡ begun old)
+    (a : Answer) × IsClcwAnswer vcid (rack_at old) a × (answer ≡ collection_reported vcid a) × (new ≡ begun old)
 
 -- then all that waits in the channel is handed on, and these are the answers
 abbrev pub IsDeliveryDone : Receiving → ℕ → Receiving → List Answer → Type 0
@@ -154,6 +163,6 @@ IsBadLiveLine old octets reason =
 
 -- a delivery or a collection that was begun can be ended, since the channels are in operation
 abbrev pub IsReady : LiveAnswer → Receiving → Type 0
-IsReady (told.Delivery vcid a) receiver = phase_of receiver.stage ≡ InOperation
-IsReady (told.Collection vcid) receiver = phase_of receiver.stage ≡ InOperation
+IsReady (reported.Delivery vcid a) receiver = phase_of receiver.stage ≡ InOperation
+IsReady (reported.Collection vcid) receiver = phase_of receiver.stage ≡ InOperation
 IsReady _ receiver = Unit {0}

@@ -8,40 +8,41 @@ use Rattle.tc_text.specs.Word.{words}
 use Rattle.tc_text.specs.declared.fault.Reason.{Reason}
 use Rattle.tc_text.specs.declared.fault.Reason.TheVariants as reasons
 use Rattle.tc_rack.specs.declared.answer.Answer.{Answer}
-use Rattle.tc_rack.specs.Delivery.{told_lines}
+use Rattle.tc_rack.specs.Delivery.{reported_lines}
 use Rattle.tc_live.specs.declared.answer.LiveAnswer.{LiveAnswer}
-use Rattle.tc_live.specs.declared.answer.LiveAnswer.TheVariants as told
+use Rattle.tc_live.specs.declared.ends.FrameEnds.{FrameEnds}
+use Rattle.tc_live.specs.declared.answer.LiveAnswer.TheVariants as reported
 use Rattle.tc_live.specs.Printed.{live_text, bad_line_text}
 use Rattle.tc_live.specs.Receiver.{Receiving, rack_at, IsDeliveryDone, IsLiveLineAnswered, IsBadLiveLine, IsReceiverLeft}
-use Rattle.tc_channel.specs.Journal.{History, IsNumberTold}
+use Rattle.tc_channel.specs.Journal.{History, IsNumberReported}
 use Rattle.tc_rack.specs.Rack.{histories}
 use Rattle.tc_rack.specs.Report.{AreRising, report_text}
 use Rattle.tc_live.specs.declared.serving.ServingFault.{ServingFault}
 use Rattle.tc_live.specs.declared.serving.ServingFault.TheVariants.{Read, Write, NoMemory, Unbalanced}
 
 -- some channel has had more events than the final report can give
-abbrev pub IsUntold : Receiving → Type 0
-IsUntold receiver = ¬ All IsNumberTold (histories (rack_at receiver))
+abbrev pub IsNumberUnreported : Receiving → Type 0
+IsNumberUnreported receiver = ¬ All IsNumberReported (histories (rack_at receiver))
 
 -- why there is no final report, or not the whole of it
 abbrev pub IsClosingFault : Receiving → ServingFault → Type 0
-IsClosingFault receiver fault = (fault ≡ Write) ⊎ (fault ≡ NoMemory) ⊎ ((fault ≡ Unbalanced) × IsUntold receiver)
+IsClosingFault receiver fault = (fault ≡ Write) ⊎ (fault ≡ NoMemory) ⊎ ((fault ≡ Unbalanced) × IsNumberUnreported receiver)
 
 -- what follows the answer of a line: of a delivery or a collection the answers of what is handed on, of any other line nothing
 abbrev pub IsFollowedBy : LiveAnswer → Receiving → Receiving → List Answer → Type 0
-IsFollowedBy (told.Delivery vcid a) old new answers = IsDeliveryDone old vcid new answers
-IsFollowedBy (told.Collection vcid) old new answers = IsDeliveryDone old vcid new answers
+IsFollowedBy (reported.Delivery vcid a) old new answers = IsDeliveryDone old vcid new answers
+IsFollowedBy (reported.Collection vcid) old new answers = IsDeliveryDone old vcid new answers
 IsFollowedBy _ old new answers = (answers ≡ []) × (new ≡ old)
 
 -- an answer is told, and then what follows it
-abbrev pub IsTold : LiveAnswer → Receiving → Receiving → List ℕ → Type 0
-IsTold answer old new text =
-    (answers : List Answer) × IsFollowedBy answer old new answers × (text ≡ live_text answer ++ told_lines answers)
+abbrev pub IsReported : LiveAnswer → Receiving → Receiving → List ℕ → Type 0
+IsReported answer old new text =
+    (answers : List Answer) × IsFollowedBy answer old new answers × (text ≡ live_text answer ++ reported_lines answers)
 
 -- a line is done, and answered by the text of its answer and of what follows it
 abbrev pub IsAnswerSaid : Receiving → List ℕ → Receiving → List ℕ → Type 0
 IsAnswerSaid old octets new text =
-    (answer : LiveAnswer) × (between : Receiving) × IsLiveLineAnswered old octets between answer × IsTold answer between new text
+    (answer : LiveAnswer) × (between : Receiving) × IsLiveLineAnswered old octets between answer × IsReported answer between new text
 
 -- a line is refused, and answered by why and what to write instead
 abbrev pub IsReasonSaid : Receiving → List ℕ → Receiving → List ℕ → Type 0
@@ -63,23 +64,24 @@ IsReportWritten receiver before after =
 abbrev pub line_limit : ℕ
 line_limit = 8192
 
--- the answers of all lines of these octets were written, in their order, each once, and then the final report of the channels that they left
-abbrev pub IsReceptionWritten : Receiving → List ℕ → Option (List ℕ) → Option (List ℕ) → Type 0
-IsReceptionWritten receiver octets before after =
+-- the answers of all lines of these octets were written, in their order, each once, and then the final report of the channels that they left;
+-- and how frames ended is what the lines left noted
+abbrev pub IsReceptionWritten : Receiving → List ℕ → Option (List ℕ) → Option (List ℕ) → FrameEnds → Type 0
+IsReceptionWritten receiver octets before after ends =
     (last : Receiving) × (answers : List ℕ) × (channels : List History) × lines.AreAnswered line_limit IsLineSaid receiver (lines.lines_of octets) last answers
-    × IsPermutation (histories (rack_at last)) channels × AreRising channels × Appends before after (answers ++ report_text channels)
+    × (ends ≡ last.ends) × IsPermutation (histories (rack_at last)) channels × AreRising channels × Appends before after (answers ++ report_text channels)
 
 -- the answers of all lines were written, and no report
-abbrev pub IsUnreported : Receiving → List ℕ → Option (List ℕ) → Option (List ℕ) → Type 0
-IsUnreported receiver octets before after = (last : Receiving) × lines.AreAllWritten line_limit IsLineSaid receiver octets last before after
+abbrev pub IsReportMissing : Receiving → List ℕ → Option (List ℕ) → Option (List ℕ) → Type 0
+IsReportMissing receiver octets before after = (last : Receiving) × lines.AreAllWritten line_limit IsLineSaid receiver octets last before after
 
 -- what was written where it ended early: nothing of what failed to be written is known
 abbrev pub IsReceptionCutShort : Receiving → List ℕ → Option (List ℕ) → Option (List ℕ) → ServingFault → Type 0
 IsReceptionCutShort receiver octets before after Read = (last : Receiving) × lines.AreFirstWritten line_limit IsLineSaid receiver octets last before after
 IsReceptionCutShort receiver octets before after Write = Unit {0}
-IsReceptionCutShort receiver octets before after NoMemory = Keeps before after ⊎ IsUnreported receiver octets before after
+IsReceptionCutShort receiver octets before after NoMemory = Keeps before after ⊎ IsReportMissing receiver octets before after
 IsReceptionCutShort receiver octets before after Unbalanced =
-    (last : Receiving) × lines.AreAllWritten line_limit IsLineSaid receiver octets last before after × IsUntold last
+    (last : Receiving) × lines.AreAllWritten line_limit IsLineSaid receiver octets last before after × IsNumberUnreported last
 
 -- the same fault, met at the lines
 abbrev pub fault_at_lines : AnsweringFault → ServingFault

@@ -5,12 +5,13 @@ ghost use Rattle.std.specs.Io.KnownBytes.{Keeps};
 ghost use Rattle.tc_rack.specs.Delivery.{AreAnswersWritten};
 ghost use Rattle.tc_rack.specs.Report.{AreRising};
 ghost use Rattle.tc_rack.specs.Stage.{phase_of};
+ghost use Rattle.tc_live.specs.Ends.{ends_behind};
 ghost use Rattle.tc_live.specs.Receiver.{new_receiver, begun, rack_at, IsInstructed, IsScriptDone, IsPassedDone, IsCandidateDone, IsBadCandidate, IsLinked, IsReportDone, IsDeliveryBegun, IsCollectionBegun, IsDeliveryDone, IsLiveLineAnswered, IsBadLiveLine, IsBadScript, IsReceiverLeft};
 ghost use Rattle.tc_live.specs.Serving.{IsClosingFault, IsReportWritten};
 ghost use Rattle.tc_rack.specs.Rack.{histories};
 ghost use Rattle.tc_setup.specs.Instruction.{instruction_of};
 ghost use Rattle.tc_setup.specs.Phase.{Does, IsBad, IsBadOperation, Operates, Setup, Operation as InOperation};
-ghost use Rattle.tc_channel.specs.Journal.{IsNumberTold};
+ghost use Rattle.tc_channel.specs.Journal.{IsNumberReported};
 
 use crate::answer::LiveAnswer;
 use crate::check::{FrameCheck, carries_more};
@@ -20,15 +21,15 @@ use std::alloc::Global;
 use std::io;
 use std::io::Write;
 use std::marker::Model;
-use tc_channel::{FlightChannel, Octets};
+use tc_channel::{CountingChannel, Octets};
 use tc_link::Link;
-use tc_rack::{Operation, Rack, RackFounder, Stage, begin, perform, write_report};
+use tc_rack::{Operation, Rack, RackBackend, Stage, begin, perform, write_report};
 use tc_setup::{Configuration, Instruction};
 use tc_text::{Line, LiveLine, Reason, SpacecraftId, parse_live_line};
 
 /// The channels of a spacecraft, set up so far or in operation, and what octets must pass before they are brought to one.
 ///
-/// A contract sees each channel with its journal and the flags of its link, and all else but how frames ended.
+/// A contract sees each channel with its journal and the flags of its link, and all else.
 #[derive(Drop)]
 pub struct Receiver {
     check: FrameCheck,
@@ -42,7 +43,7 @@ impl Model for Receiver {
 
     ghost Value = { Receiving };
 
-    ghost view = { λ o. record { check = o.check; scid = o.scid; stage = o.stage } };
+    ghost view = { λ o. record { check = o.check; ends = o.ends; scid = o.scid; stage = o.stage } };
 }
 
 impl Receiver {
@@ -81,9 +82,13 @@ impl Receiver {
         ensures reason { IfErr result (λ reason. (reason ≡ Reason.NoMemory) ⊎ IsBadScript self.old line reason) }
         ensures refused { IfErr result (λ reason. IsReceiverLeft reason self.old self.new) }
     {
-        self.look_at(&line);
+        let ends = self.ends_behind(&line);
         match self.check.pass(alloc, line)? {
-            Some(passed) => self.perform_passed(alloc, passed),
+            Some(passed) => {
+                let answer = self.perform_passed(alloc, passed)?;
+                self.ends = ends;
+                Ok(answer)
+            }
             None => Ok(LiveAnswer::Unchecked),
         }
     }
@@ -103,20 +108,20 @@ impl Receiver {
         }
     }
 
-    // Notes how a frame ends that nothing checks.
-    fn look_at(&mut self, line: &Line)
-        ensures { self.new ≡ self.old }
+    // How frames have ended once a line is done.
+    fn ends_behind(&self, line: &Line) -> FrameEnds
+        ensures { result ≡ ends_behind self.now.check self.now.ends line.now }
     {
         match (self.check, line) {
-            (FrameCheck::Nothing, Line::Frame(octets)) => {
-                self.ends = self.ends.after(octets.as_slice());
-            }
-            _ => {}
+            (FrameCheck::Nothing, Line::Frame(octets)) => self.ends.after(octets.as_slice()),
+            _ => self.ends,
         }
     }
 
-    /// How the frames ended that were brought, where nothing checks that.
-    pub fn ends(&self) -> FrameEnds {
+    /// How the frames of the lines ended that were done, where nothing checks that.
+    pub fn ends(&self) -> FrameEnds
+        ensures { result ≡ self.now.ends }
+    {
         self.ends
     }
 
@@ -136,8 +141,8 @@ impl Receiver {
         ensures reason { IfErr result (λ reason. (reason ≡ Reason.NoMemory) ⊎ IsBad (phase_of self.old.stage) instruction reason) }
         ensures refused { IfErr result (λ reason. IsReceiverLeft reason self.old self.new) }
     {
-        let founder = self.founder();
-        let answer = perform(&founder, alloc, &mut self.stage, instruction)?;
+        let backend = self.backend();
+        let answer = perform(&backend, alloc, &mut self.stage, instruction)?;
         Ok(LiveAnswer::of_script(answer))
     }
 
@@ -226,15 +231,15 @@ impl Receiver {
         ensures reason { IfErr result (λ reason. (reason ≡ Reason.NoMemory) ⊎ IsBadOperation (phase_of self.old.stage) reason) }
         ensures refused { OnErr result (self.new ≡ self.old) }
     {
-        let founder = self.founder();
-        begin(&founder, alloc, &mut self.stage)
+        let backend = self.backend();
+        begin(&backend, alloc, &mut self.stage)
     }
 
     // Who makes its channels.
-    fn founder(&self) -> RackFounder
+    fn backend(&self) -> RackBackend
         ensures { result.scid ≡ self.now.scid }
     {
-        RackFounder { scid: self.scid }
+        RackBackend { scid: self.scid }
     }
 
     /// Ends the reception, and writes the final report of the channels, with both link flags 0. Where no
@@ -249,10 +254,10 @@ impl Receiver {
     }
 
     // The channels in rising order of their ids, as an operation would find them.
-    fn into_channels(self, alloc: Global) -> Result<Vec<FlightChannel>, ServingFault>
+    fn into_channels(self, alloc: Global) -> Result<Vec<CountingChannel>, ServingFault>
         ensures channels { IfOk result (λ channels. IsPermutation (histories (rack_at self)) channels.items) }
         ensures rising { IfOk result (λ channels. AreRising channels.items) }
-        ensures told { IfOk result (λ channels. All IsNumberTold channels.items) }
+        ensures reported { IfOk result (λ channels. All IsNumberReported channels.items) }
         ensures fault { IfErr result (IsClosingFault self) }
     {
         let rack = self.into_rack(alloc)?;
@@ -260,7 +265,7 @@ impl Receiver {
             .into_channels(alloc)
             .map_err(|_| ServingFault::NoMemory)?;
         channels.sort_unstable_by_key(|channel| channel.settings().vcid);
-        if are_told(&channels) {
+        if are_reported(&channels) {
             Ok(channels)
         } else {
             Err(ServingFault::Unbalanced)
@@ -287,8 +292,8 @@ impl Receiver {
 }
 
 // Whether each channel tells the number of its events as it is.
-fn are_told(channels: &[FlightChannel]) -> bool
-    ensures { IsTrue result ↔ All IsNumberTold channels.now }
+fn are_reported(channels: &[CountingChannel]) -> bool
+    ensures { IsTrue result ↔ All IsNumberReported channels.now }
 {
     channels.iter().all(|channel| channel.events() < u64::MAX)
 }

@@ -1,13 +1,13 @@
 //! Lines in, lines out.
 
 ghost use Rattle.std.specs.Io.KnownBytes.{Appends, Keeps};
-ghost use Rattle.std.specs.Prelude.{◌≡◌, ◌⊎◌, IfErr, IfSome, OnOk};
+ghost use Rattle.std.specs.Prelude.{◌≡◌, ◌⊎◌, IfErr, IfOk, IfSome, OnOk};
 ghost use Rattle.tc_lines.specs.Answering.{Writes};
 ghost use Rattle.tc_lines.specs.Word.{words};
 ghost use Rattle.tc_rack.specs.Delivery.{AreAnswersWritten};
 ghost use Rattle.tc_live.specs.Printed.{live_text, bad_line_text};
 ghost use Rattle.tc_live.specs.Receiver.{IsReady};
-ghost use Rattle.tc_live.specs.Serving.{IsClosingFault, IsReceptionCutShort, IsFollowedBy, IsLineSaid, IsReportWritten, IsTold, IsReceptionWritten, fault_at_lines};
+ghost use Rattle.tc_live.specs.Serving.{IsClosingFault, IsReceptionCutShort, IsFollowedBy, IsLineSaid, IsReportWritten, IsReported, IsReceptionWritten, fault_at_lines};
 
 use crate::answer::LiveAnswer;
 use crate::ends::FrameEnds;
@@ -80,7 +80,7 @@ pub fn answer_lines<R: BufRead, W: Write>(
     reader: &mut R,
     writer: &mut W,
 ) -> Result<FrameEnds, ServingFault>
-    ensures written { OnOk result (IfSome (R.remaining reader.old) (λ octets. IsReceptionWritten receiver octets (W.contents writer.old) (W.contents writer.new))) }
+    ensures written { IfOk result (λ ends. IfSome (R.remaining reader.old) (λ octets. IsReceptionWritten receiver octets (W.contents writer.old) (W.contents writer.new) ends)) }
     ensures cut_short { IfErr result (λ fault. IfSome (R.remaining reader.old) (λ octets. IsReceptionCutShort receiver octets (W.contents writer.old) (W.contents writer.new) fault)) }
 {
     let mut receiver = receiver;
@@ -108,7 +108,7 @@ fn answer_line<W: Write>(
 // Writes an answer, and what follows it.
 fn tell<W: Write>(receiver: &mut Receiver, answer: &LiveAnswer, writer: &mut W) -> io::Result<()>
     requires { IsReady answer.now receiver.old }
-    ensures { OnOk result (Writes (W.contents writer.old) (W.contents writer.new) (IsTold answer.now receiver.old receiver.new)) }
+    ensures { OnOk result (Writes (W.contents writer.old) (W.contents writer.new) (IsReported answer.now receiver.old receiver.new)) }
 {
     write_answer(answer, writer)?;
     follow(receiver, answer, writer)
@@ -146,6 +146,7 @@ fn close<W: Write>(
     receiver: Receiver,
     writer: &mut W,
 ) -> Result<FrameEnds, ServingFault>
+    ensures ends { IfOk result (λ ends. ends ≡ receiver.ends) }
     ensures written { OnOk result (IsReportWritten receiver (W.contents writer.old) (W.contents writer.new)) }
     ensures fault { IfErr result (IsClosingFault receiver) }
     ensures kept { IfErr result (λ fault. (fault ≡ ServingFault.Write) ⊎ Keeps (W.contents writer.old) (W.contents writer.new)) }

@@ -12,7 +12,7 @@ use Rattle.tc_loop.specs.Start.{Start, IsObeyed, NamesAnother, action_before, er
 use Rattle.tc_loop.proofs.Actions.{begun-append}
 use Rattle.tc_loop.proofs.Counted.{counts, known-so, reported-so}
 use Rattle.tc_loop.proofs.Window.{holds}
-use Rattle.tc_loop.proofs.Longer.{IsNext, get-last, get-take, journaled-quiet, known-at, longer}
+use Rattle.tc_loop.proofs.Longer.{IsNext, get-last, get-take, known-at, longer-quiet}
 
 begun-least : (n : ℕ) (xs : List Action) → n ≤ begun_from n xs
 begun-least n [] = omega arith
@@ -105,24 +105,16 @@ module _ (s : Start) (first window : ℕ) (frames : ℕ → List ℕ) (own : (i 
         let was = session_before s in
         let size = long in
         let more = was ++ Hear made ∷ [] in
-        let j = journaled-quiet o was (Hear made) k refl in
-        let can : IsNext o was (Hear made) = record {
-          sends = λ i e. absurd cc;
-          arrives = λ i r e. absurd cc;
-          hears = λ m e. let p : made ≡ m = cc in omega arith;
-          others = λ e q. absurd cc;
-          frames_in_order = λ t i j r q at e. absurd cc;
-          reports_in_order = λ t m n at e.
-              let p : made ≡ n = cc in
+        let can : IsNext o was (Hear made) = (
+          omega arith,
+          λ t m at.
               let from = map-get (action_before s) (take s.obeyed s.session) t (Hear m) at in
               let before : slice_get (take s.obeyed s.session) t ≡ Some (Hear m) = from.1 ∙ ap (λ (a : Action). Some a) (heard-before s m from.0 from.2) in
               let within = slice_get_within was t (Hear m) at in
               let behind = order.reports_in_order t s.believed m made (omega arith) (get-take s.session s.obeyed t (Hear m) before) here in
-              omega arith;
-          lawful = j.lawful;
-          none_sets = j.none_sets;
-        } in
-        let loop : IsLoop o more = longer o was (Hear made) k can in
+              omega arith,
+        ) in
+        let loop : IsLoop o more = longer-quiet o was (Hear made) k can refl in
         let h = (holds o more (λ t. accepted o (take t more)) (λ t. known o more t) (λ t. begun more t) loop.window (counts o more loop) asked).back (length was) made (omega arith) (get-last was (Hear made)) in
         let same_known : known o more asked ≡ known o was asked = known-at o was (Hear made ∷ []) asked k.possible (omega arith) in
         let same_accepted : accepted o (take made more) ≡ accepted o (take made was) = ap (accepted o) (take-append-le made was (Hear made ∷ []) (omega arith)) in
@@ -143,5 +135,5 @@ module _ (s : Start) (first window : ℕ) (frames : ℕ → List ℕ) (own : (i 
           let count = accepted o (take made (session_before s)) in
           let among = (known-so o (session_before s) made k).among in
           let more = begun-grows (session_before s) made s.obeyed low in
-          let told : (first + count) % 256 ≡ s.loop.first = sym (reported-so o (session_before s) made k) ∙ same-reported made low ∙ says in
-          another count (least before since low (apart s.believed s.obeyed)) (omega arith) told)
+          let learnt : (first + count) % 256 ≡ s.loop.first = sym (reported-so o (session_before s) made k) ∙ same-reported made low ∙ says in
+          another count (least before since low (apart s.believed s.obeyed)) (omega arith) learnt)

@@ -66,15 +66,12 @@ known-at l session more t k low =
     omega arith)
 
 -- the action can come next
-pub record IsNext (l : Loop) (session : List Action) (action : Action) : Type 0 where
-  pub sends : (i : ℕ) → action ≡ Send i → (known l session (length session) ≤ i) × (i < known l session (length session) + l.window)
-  pub arrives : (i s : ℕ) → action ≡ Arrive i s → slice_get session s ≡ Some (Send i)
-  pub hears : (m : ℕ) → action ≡ Hear m → m ≤ length session
-  pub others : (e : Event) → action ≡ Other e → IsOther e
-  pub frames_in_order : (t i j s r : ℕ) → slice_get session t ≡ Some (Arrive i s) → action ≡ Arrive j r → s ≤ r
-  pub reports_in_order : (t m n : ℕ) → slice_get session t ≡ Some (Hear m) → action ≡ Hear n → m ≤ n
-  pub lawful : IsLawfulWithin l.limits l.settings (journal l (session ++ action ∷ []))
-  pub none_sets : NoneSetsWithin l.limits l.settings l.before (events l (session ++ action ∷ []))
+abbrev pub IsNext : Loop → List Action → Action → Type 0
+IsNext l session (Send i) = (known l session (length session) ≤ i) × (i < known l session (length session) + l.window)
+IsNext l session (Arrive i s) = (slice_get session s ≡ Some (Send i)) × ((t j r : ℕ) → slice_get session t ≡ Some (Arrive j r) → r ≤ s)
+IsNext l session (Hear m) = (m ≤ length session) × ((t n : ℕ) → slice_get session t ≡ Some (Hear n) → n ≤ m)
+IsNext l session (Other e) = IsOther e
+IsNext l session Idle = Unit {0}
 
 in-order-next : (l : Loop) (session : List Action) (action : Action) → KeepOrder session → IsNext l session action → KeepOrder (session ++ action ∷ [])
 in-order-next l session action k n = record {
@@ -82,21 +79,21 @@ in-order-next l session action k n = record {
     | inl p ↦ let from = k.arrives t i s p.0 in (from.0, get-append session (action ∷ []) s (Send i) from.1)
     | inr p ↦
         let at = p.0 in
-        let from = n.arrives i s p.1 in
+        let from = (subst (IsNext l session) p.1 n).0 in
         let within = slice_get_within session s (Send i) from in
         (omega arith, get-append session (action ∷ []) s (Send i) from)
   ];
   hears = λ t m here. elim (get-end session action t (Hear m) here) [
     | inl p ↦ k.hears t m p.0
-    | inr p ↦ let at = p.0 in let low = n.hears m p.1 in omega arith
+    | inr p ↦ let at = p.0 in let low = (subst (IsNext l session) p.1 n).0 in omega arith
   ];
   frames_in_order = λ t u i j s r order here later. elim (get-end session action u (Arrive j r) later) [
     | inl p ↦ let low = p.1 in k.frames_in_order t u i j s r order (get-before session action t (Arrive i s) here (omega arith)) p.0
-    | inr p ↦ let at = p.0 in n.frames_in_order t i j s r (get-before session action t (Arrive i s) here (omega arith)) p.1
+    | inr p ↦ let at = p.0 in (subst (IsNext l session) p.1 n).1 t i s (get-before session action t (Arrive i s) here (omega arith))
   ];
   reports_in_order = λ t u m r order here later. elim (get-end session action u (Hear r) later) [
     | inl p ↦ let low = p.1 in k.reports_in_order t u m r order (get-before session action t (Hear m) here (omega arith)) p.0
-    | inr p ↦ let at = p.0 in n.reports_in_order t m r (get-before session action t (Hear m) here (omega arith)) p.1
+    | inr p ↦ let at = p.0 in (subst (IsNext l session) p.1 n).1 t m (get-before session action t (Hear m) here (omega arith))
   ];
 }
 
@@ -107,23 +104,13 @@ possible-next l session action k n = record {
     | inr p ↦
         let at = p.0 in
         let same : known l (session ++ action ∷ []) t ≡ known l session (length session) = known-at l session (action ∷ []) t k (omega arith) ∙ ap (known l session) at in
-        subst (λ a. (a ≤ i) × (i < a + l.window)) (sym same) (n.sends i p.1)
+        subst (λ a. (a ≤ i) × (i < a + l.window)) (sym same) (subst (IsNext l session) p.1 n)
   ];
   links = in-order-next l session action k.links n;
   others = λ t e here. elim (get-end session action t (Other e) here) [
     | inl p ↦ k.others t e p.0
-    | inr p ↦ n.others e p.1
+    | inr p ↦ subst (IsNext l session) p.1 n
   ];
-}
-
-pub longer : (l : Loop) (session : List Action) (action : Action) → IsLoop l session → IsNext l session action → IsLoop l (session ++ action ∷ [])
-longer l session action k n = record {
-  window = k.window;
-  numbered = k.numbered;
-  allowed = k.allowed;
-  lawful = n.lawful;
-  era = record { parts = refl; starts = k.era.starts; last = n.none_sets };
-  possible = possible-next l session action k.possible n;
 }
 
 none-push : (limits : ℕ → ℕ) (s : Settings) (before es : List Event) (e : Event) → NoneSetsWithin limits s before es → set_by s (run_within limits s (before ++ es)) e ≡ None → NoneSetsWithin limits s before (es ++ e ∷ [])
@@ -138,11 +125,11 @@ quiet-events : (l : Loop) (session : List Action) (action : Action) → events l
 quiet-events l session action none = events-append l session (action ∷ []) ∙ ap (λ es. events l session ++ es) none ∙ append-nil (events l session)
 
 -- the journal of a session that is longer by an action that is no event, or by one that is
-pub record IsJournaled (l : Loop) (later : List Action) : Type 0 where
-  pub lawful : IsLawfulWithin l.limits l.settings (journal l later)
-  pub none_sets : NoneSetsWithin l.limits l.settings l.before (events l later)
+record IsJournaled (l : Loop) (later : List Action) : Type 0 where
+  lawful : IsLawfulWithin l.limits l.settings (journal l later)
+  none_sets : NoneSetsWithin l.limits l.settings l.before (events l later)
 
-pub journaled-quiet : (l : Loop) (session : List Action) (action : Action) → IsLoop l session → events l (action ∷ []) ≡ [] → IsJournaled l (session ++ action ∷ [])
+journaled-quiet : (l : Loop) (session : List Action) (action : Action) → IsLoop l session → events l (action ∷ []) ≡ [] → IsJournaled l (session ++ action ∷ [])
 journaled-quiet l session action k none =
     let same = quiet-events l session action none in
     record {
@@ -150,7 +137,7 @@ journaled-quiet l session action k none =
       none_sets = subst (λ es. NoneSetsWithin l.limits l.settings l.before es) (sym same) k.era.last;
     }
 
-pub journaled-event : (l : Loop) (session : List Action) (action : Action) (e : Event) → IsLoop l session → events l (action ∷ []) ≡ e ∷ [] → HasStep l.settings (receiver l session) e → set_by l.settings (receiver l session) e ≡ None → IsJournaled l (session ++ action ∷ [])
+journaled-event : (l : Loop) (session : List Action) (action : Action) (e : Event) → IsLoop l session → events l (action ∷ []) ≡ e ∷ [] → HasStep l.settings (receiver l session) e → set_by l.settings (receiver l session) e ≡ None → IsJournaled l (session ++ action ∷ [])
 journaled-event l session action e k one has none =
     let same : events l (session ++ action ∷ []) ≡ events l session ++ e ∷ [] = events-append l session (action ∷ []) ∙ ap (λ es. events l session ++ es) one in
     let whole : journal l (session ++ action ∷ []) ≡ journal l session ++ e ∷ [] = journal-append l session (action ∷ []) ∙ ap (λ es. journal l session ++ es) one in
@@ -158,3 +145,21 @@ journaled-event l session action e k one has none =
       lawful = subst (IsLawfulWithin l.limits l.settings) (sym whole) (lawful-push l.limits l.settings (journal l session) e k.lawful has);
       none_sets = subst (NoneSetsWithin l.limits l.settings l.before) (sym same) (none-push l.limits l.settings l.before (events l session) e k.era.last none);
     }
+
+longer : (l : Loop) (session : List Action) (action : Action) → IsLoop l session → IsNext l session action → IsJournaled l (session ++ action ∷ []) → IsLoop l (session ++ action ∷ [])
+longer l session action k n j = record {
+  window = k.window;
+  numbered = k.numbered;
+  allowed = k.allowed;
+  lawful = j.lawful;
+  era = record { parts = refl; starts = k.era.starts; last = j.none_sets };
+  possible = possible-next l session action k.possible n;
+}
+
+-- a loop goes on by what can come next
+pub longer-quiet : (l : Loop) (session : List Action) (action : Action) → IsLoop l session → IsNext l session action → events l (action ∷ []) ≡ [] → IsLoop l (session ++ action ∷ [])
+longer-quiet l session action k n none = longer l session action k n (journaled-quiet l session action k none)
+
+pub longer-event : (l : Loop) (session : List Action) (action : Action) (e : Event) → IsLoop l session → IsNext l session action → events l (action ∷ []) ≡ e ∷ [] → HasStep l.settings (receiver l session) e
+    → set_by l.settings (receiver l session) e ≡ None → IsLoop l (session ++ action ∷ [])
+longer-event l session action e k n one has none = longer l session action k n (journaled-event l session action e k one has none)

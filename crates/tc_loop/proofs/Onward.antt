@@ -15,15 +15,15 @@ use Rattle.tc_channel.specs.declared.settings.Settings.{Settings}
 use Rattle.tc_channel.specs.declared.event.Event.TheVariants.{Frame, Release}
 use Rattle.tc_channel.specs.ChannelState.{ChannelState, Accepted, buffer, has_room}
 use Rattle.tc_channel.specs.Run.{step, row_of, field_of, after_frame, after_release}
-unfoldable use Rattle.tc_channel.specs.Run.{run_within, passed_on}
+unfoldable use Rattle.tc_channel.specs.Run.{passed_on}
 use Rattle.tc_channel.specs.Era.{set_at}
 use Rattle.tc_channel.specs.Laws.{IsSound}
 use Rattle.tc_channel.proofs.Sound.{state-sound}
-use Rattle.tc_loop.specs.Loop.{Loop, Action, Send, Arrive, Hear, Other, events, accepted, receiver, known, heard, reported, IsLoop, IsOther, GoesOn, releases, round}
+use Rattle.tc_loop.specs.Loop.{Loop, Action, Send, Arrive, Hear, Other, events, accepted, receiver, known, heard, reported, IsLoop, GoesOn, releases, round}
 use Rattle.tc_loop.proofs.Window.{heard-right}
 use Rattle.tc_loop.proofs.Counted.{quiet-step, event-step, ever-same, ever-more, vr-at, known-so, known-step, reported-so}
 use Rattle.tc_loop.proofs.Open.{stays-open}
-use Rattle.tc_loop.proofs.Longer.{get-last, take-first, known-at, IsNext, longer, journaled-quiet, journaled-event}
+use Rattle.tc_loop.proofs.Longer.{get-last, take-first, known-at, IsNext, longer-event, longer-quiet}
 
 pub whole : (session : List Action) → take (length session) session ≡ session
 whole session = take_all (length session) session (omega arith)
@@ -50,20 +50,6 @@ release-accepted : (b : ChannelState) → (after_release b).accepted ≡ b.accep
 unfolding passed_on
 release-accepted b = refl
 
-released-next : (l : Loop) (session : List Action) → IsLoop l session → (receiver l session).released < length (receiver l session).accepted → IsNext l session (Other Release)
-released-next l session k waits =
-    let j = journaled-event l session (Other Release) Release k refl waits refl in
-    record {
-      sends = λ i e. absurd cc;
-      arrives = λ i s e. absurd cc;
-      hears = λ m e. absurd cc;
-      others = λ e q. let p : Release ≡ e = cc in subst IsOther p tt;
-      frames_in_order = λ t i j s r here e. absurd cc;
-      reports_in_order = λ t m n here e. absurd cc;
-      lawful = j.lawful;
-      none_sets = j.none_sets;
-    }
-
 -- all that waits is released
 record IsEmptied (l : Loop) (session : List Action) (n : ℕ) (later : List Action) : Type 0 where
   loop : IsLoop l later
@@ -77,7 +63,7 @@ emptied l (suc n) session k e =
     let b = receiver l session in
     let one = session ++ Other Release ∷ [] in
     let waits : b.released < length b.accepted = let p = buffer-length b in omega arith in
-    let loop : IsLoop l one = longer l session (Other Release) k (released-next l session k waits) in
+    let loop : IsLoop l one = longer-event l session (Other Release) Release k tt refl waits refl in
     let is : receiver l one ≡ after_release b = event-step l session (Other Release) Release refl in
     let left : length (buffer (receiver l one)) ≡ n = ap (λ (a : ChannelState). length (buffer a)) is ∙ release-buffer b n e in
     let count : accepted l one ≡ accepted l session = ever-same l session one (ap (λ (a : ChannelState). a.accepted) is ∙ release-accepted b) in
@@ -89,35 +75,26 @@ emptied l (suc n) session k e =
 -- the sender hears a CLCW that was made right now
 
 heard-next : (l : Loop) (session : List Action) → IsLoop l session → IsNext l session (Hear (length session))
-heard-next l session k =
-    let j = journaled-quiet l session (Hear (length session)) k refl in
-    record {
-      sends = λ i e. absurd cc;
-      arrives = λ i s e. absurd cc;
-      hears = λ m e. let p : length session ≡ m = cc in omega arith;
-      others = λ e q. absurd cc;
-      frames_in_order = λ t i j s r here e. absurd cc;
-      reports_in_order = λ t m n here e.
-          let p : length session ≡ n = cc in
-          let made = k.possible.links.hears t m here in
-          let low = slice_get_within session t (Hear m) here in
-          omega arith;
-      lawful = j.lawful;
-      none_sets = j.none_sets;
-    }
+heard-next l session k = (
+  omega arith,
+  λ t n here.
+      let made = k.possible.links.hears t n here in
+      let low = slice_get_within session t (Hear n) here in
+      omega arith,
+)
 
-record IsTold (l : Loop) (session later : List Action) : Type 0 where
+record IsLearnt (l : Loop) (session later : List Action) : Type 0 where
   loop : IsLoop l later
   same : receiver l later ≡ receiver l session
   count : accepted l later ≡ accepted l session
   long : length later ≡ suc (length session)
-  told : known l later (length later) ≡ accepted l session
+  learnt : known l later (length later) ≡ accepted l session
 
-told : (l : Loop) (session : List Action) → IsLoop l session → IsTold l session (session ++ Hear (length session) ∷ [])
-told l session k =
+learnt : (l : Loop) (session : List Action) → IsLoop l session → IsLearnt l session (session ++ Hear (length session) ∷ [])
+learnt l session k =
     let n = length session in
     let later = session ++ Hear n ∷ [] in
-    let loop : IsLoop l later = longer l session (Hear n) k (heard-next l session k) in
+    let loop : IsLoop l later = longer-quiet l session (Hear n) k (heard-next l session k) refl in
     let same : receiver l later ≡ receiver l session = quiet-step l session (Hear n) refl in
     let long = length-one session (Hear n) in
     let so = known-so l session n k in
@@ -130,23 +107,12 @@ told l session k =
     let nr : reported l later n ≡ (l.first + accepted l session) % 256 = reported-so l later n loop ∙ ap (λ xs. (l.first + accepted l xs) % 256) (take-first session (Hear n ∷ []) n refl) in
     let last : known l later (suc n) ≡ heard l.first l.window (known l later n) (reported l later n) = known-step l later n (Hear n) (get-last session (Hear n)) in
     let decoded : known l later (suc n) ≡ accepted l session = last ∙ ap (heard l.first l.window (known l later n)) nr ∙ ap (λ a. heard l.first l.window a ((l.first + accepted l session) % 256)) before ∙ heard-right l (known l session n) (accepted l session) k.window low high in
-    record { loop = loop; same = same; count = count-same l session later same; long = long; told = ap (known l later) long ∙ decoded }
+    record { loop = loop; same = same; count = count-same l session later same; long = long; learnt = ap (known l later) long ∙ decoded }
 
 -- the sender sends the next frame
 
-sent-next : (l : Loop) (session : List Action) → IsLoop l session → 1 ≤ l.window → known l session (length session) ≡ accepted l session → IsNext l session (Send (accepted l session))
-sent-next l session k some is =
-    let j = journaled-quiet l session (Send (accepted l session)) k refl in
-    record {
-      sends = λ i e. let p : accepted l session ≡ i = cc in (omega arith, omega arith);
-      arrives = λ i s e. absurd cc;
-      hears = λ m e. absurd cc;
-      others = λ e q. absurd cc;
-      frames_in_order = λ t i j s r here e. absurd cc;
-      reports_in_order = λ t m n here e. absurd cc;
-      lawful = j.lawful;
-      none_sets = j.none_sets;
-    }
+sent-next : (l : Loop) (session : List Action) → 1 ≤ l.window → known l session (length session) ≡ accepted l session → IsNext l session (Send (accepted l session))
+sent-next l session some is = (omega arith, omega arith)
 
 -- it arrives
 
@@ -195,25 +161,17 @@ arrived l session s k from last free empty =
     let state : b.report.state ≡ S1 = free-state l.settings b (state-sound l.limits l.settings (l.before ++ events l session)) free room in
     let number = k.numbered a in
     let row : row_of l.settings b octets ≡ E1 = expected-row l.settings.width b.report.vr h.ns h.bypass h.control (has_room l.settings b) (field_of octets) number.bypass number.control room (number.ns ∙ sym (vr-now l session k)) in
-    let j = journaled-event l session action (Frame octets) k refl (number.whole, enters (row_of l.settings b octets) b.report row state) (sets-none (row_of l.settings b octets) b.report.state row) in
-    let next : IsNext l session action = record {
-      sends = λ i e. absurd cc;
-      arrives = λ i r e. let p : a ≡ i = cc in let q : s ≡ r = cc in rw (← q, ← p) from;
-      hears = λ m e. absurd cc;
-      others = λ e q. absurd cc;
-      frames_in_order = λ t i j r u here e.
-          let q : s ≡ u = cc in
+    let next : IsNext l session action = (
+      from,
+      λ t i r here.
           let sent_at = k.possible.links.arrives t i r here in
           let before = sent_at.0 in
           let low = slice_get_within session t (Arrive i r) here in
-          omega arith;
-      reports_in_order = λ t m n here e. absurd cc;
-      lawful = j.lawful;
-      none_sets = j.none_sets;
-    } in
+          omega arith,
+    ) in
     let is : receiver l (session ++ action ∷ []) ≡ step l.settings b (Frame octets) = event-step l session action (Frame octets) refl in
     record {
-      loop = longer l session action k next;
+      loop = longer-event l session action (Frame octets) k next refl (number.whole, enters (row_of l.settings b octets) b.report row state) (sets-none (row_of l.settings b octets) b.report.state row);
       count = ever-more l session (session ++ action ∷ []) (record { ns = h.ns; field = drop 5 octets }) (ap (λ (c : ChannelState). c.accepted) is ∙ takes (row_of l.settings b octets) octets b row state);
       long = length-one session action;
     }
@@ -239,11 +197,11 @@ goes-on l session k some half free =
     let e = emptied l n session k refl in
     let long_one = e.long in
     let two = one ++ Hear (length one) ∷ [] in
-    let h = told l one e.loop in
+    let h = learnt l one e.loop in
     let long_two = h.long in
     let here : accepted l two ≡ a = h.count ∙ e.count in
     let three = two ++ Send (accepted l two) ∷ [] in
-    let loop_three : IsLoop l three = longer l two (Send (accepted l two)) h.loop (sent-next l two h.loop some (h.told ∙ sym h.count)) in
+    let loop_three : IsLoop l three = longer-quiet l two (Send (accepted l two)) h.loop (sent-next l two some (h.learnt ∙ sym h.count)) refl in
     let same_three : receiver l three ≡ receiver l two = quiet-step l two (Send (accepted l two)) refl in
     let count_three : accepted l three ≡ accepted l two = count-same l two three same_three in
     let long_three = length-one two (Send (accepted l two)) in
@@ -253,9 +211,9 @@ goes-on l session k some half free =
     let r = arrived l three (length two) loop_three from (sym long_three) (free-now l three loop_three half free) empty_three in
     let long_four = r.long in
     let five = four ++ Hear (length four) ∷ [] in
-    let t = told l four r.loop in
+    let t = learnt l four r.loop in
     let more : accepted l four ≡ a + 1 = let p = r.count in omega arith in
-    let all : GoesOn l session five = record { loop = t.loop; one_more = t.count ∙ more; told = t.told ∙ more } in
+    let all : GoesOn l session five = record { loop = t.loop; one_more = t.count ∙ more; learnt = t.learnt ∙ more } in
     let at_one : length one ≡ length session + n = e.long in
     let at_two : length two ≡ length session + n + 1 = omega arith in
     let at_four : length four ≡ length session + n + 3 = omega arith in

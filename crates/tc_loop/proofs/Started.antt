@@ -25,102 +25,42 @@ use Rattle.tc_channel.proofs.Eras.{flags-at_E1}
 use Rattle.tc_channel.proofs.Runs.{lawful-before}
 use Rattle.tc_channel.proofs.Small.{vr-below}
 use Rattle.tc_loop.specs.Loop.{Action, Send, Arrive, Hear, Other, Idle, events, heard, journal, known, known_from, receiver, reported, IsLoop, IsOther, IsSession}
-use Rattle.tc_loop.specs.Start.{Start, IsStart, era, known_since, era_session, era_action, era_actions}
+use Rattle.tc_loop.specs.Start.{Start, IsObeyed, IsStart, era, known_since, era_session, era_action, era_actions}
 use Rattle.tc_loop.proofs.Actions.{take-some, take-none}
 use Rattle.tc_loop.proofs.Longer.{get-take}
 use Rattle.tc_loop.proofs.Counted.{journal-append, quiet-step, event-step, clcw-tells}
-
--- what an action is in the era's loop, read backwards
-
-seen-send : (s : Start) (t i : ℕ) (a : Action) → era_action s t a ≡ Send i → a ≡ Send (s.directive + 1 + i)
-seen-send s t i (Send j) e = by (nat_lt s.directive j) refl e where
-  by : (b : Bool) → nat_lt s.directive j ≡ b → cond b (Send (j - (s.directive + 1))) Idle ≡ Send i → Send j ≡ Send (s.directive + 1 + i)
-  by true above e = let at : j - (s.directive + 1) ≡ i = cc in let is : j ≡ s.directive + 1 + i = grind (arith, nat_tests) in ap (λ n. Send n) is
-  by false above e = absurd cc
-seen-send s t i (Arrive j r) e = absurd (by (nat_le t s.again) (nat_lt s.directive j) e) where
-  by : (b c : Bool) → cond b Idle (cond c (Arrive (j - (s.directive + 1)) r) (Other (Frame (s.loop.frames j)))) ≢ Send i
-  by true c e = cc
-  by false true e = cc
-  by false false e = cc
-seen-send s t i (Hear m) e = absurd (by (nat_lt t s.believed) e) where
-  by : (b : Bool) → cond b Idle (Hear m) ≢ Send i
-  by true e = cc
-  by false e = cc
-seen-send s t i (Other f) e = absurd (by (nat_le t s.again) e) where
-  by : (b : Bool) → cond b Idle (Other f) ≢ Send i
-  by true e = cc
-  by false e = cc
-seen-send s t i Idle e = absurd cc
-
-seen-arrive : (s : Start) (t i r : ℕ) (a : Action) → era_action s t a ≡ Arrive i r → (s.again < t) × (a ≡ Arrive (s.directive + 1 + i) r)
-seen-arrive s t i r (Send j) e = absurd (by (nat_lt s.directive j) e) where
-  by : (b : Bool) → cond b (Send (j - (s.directive + 1))) Idle ≢ Arrive i r
-  by true e = cc
-  by false e = cc
-seen-arrive s t i r (Arrive j q) e = by (nat_le t s.again) (nat_lt s.directive j) refl refl e where
-  by : (b c : Bool) → nat_le t s.again ≡ b → nat_lt s.directive j ≡ c → cond b Idle (cond c (Arrive (j - (s.directive + 1)) q) (Other (Frame (s.loop.frames j)))) ≡ Arrive i r
-      → (s.again < t) × (Arrive j q ≡ Arrive (s.directive + 1 + i) r)
-  by true c late above e = absurd cc
-  by false true late above e =
-      let at : j - (s.directive + 1) ≡ i = cc in
-      let from : q ≡ r = cc in
-      let is : j ≡ s.directive + 1 + i = grind (arith, nat_tests) in
-      (grind (arith, nat_tests), rw (is, from) refl)
-  by false false late above e = absurd cc
-seen-arrive s t i r (Hear m) e = absurd (by (nat_lt t s.believed) e) where
-  by : (b : Bool) → cond b Idle (Hear m) ≢ Arrive i r
-  by true e = cc
-  by false e = cc
-seen-arrive s t i r (Other f) e = absurd (by (nat_le t s.again) e) where
-  by : (b : Bool) → cond b Idle (Other f) ≢ Arrive i r
-  by true e = cc
-  by false e = cc
-seen-arrive s t i r Idle e = absurd cc
-
-seen-hear : (s : Start) (t m : ℕ) (a : Action) → era_action s t a ≡ Hear m → (s.believed ≤ t) × (a ≡ Hear m)
-seen-hear s t m (Send j) e = absurd (by (nat_lt s.directive j) e) where
-  by : (b : Bool) → cond b (Send (j - (s.directive + 1))) Idle ≢ Hear m
-  by true e = cc
-  by false e = cc
-seen-hear s t m (Arrive j r) e = absurd (by (nat_le t s.again) (nat_lt s.directive j) e) where
-  by : (b c : Bool) → cond b Idle (cond c (Arrive (j - (s.directive + 1)) r) (Other (Frame (s.loop.frames j)))) ≢ Hear m
-  by true c e = cc
-  by false true e = cc
-  by false false e = cc
-seen-hear s t m (Hear n) e = by (nat_lt t s.believed) refl e where
-  by : (b : Bool) → nat_lt t s.believed ≡ b → cond b Idle (Hear n) ≡ Hear m → (s.believed ≤ t) × (Hear n ≡ Hear m)
-  by true late e = absurd cc
-  by false late e = (grind (arith, nat_tests), e)
-seen-hear s t m (Other f) e = absurd (by (nat_le t s.again) e) where
-  by : (b : Bool) → cond b Idle (Other f) ≢ Hear m
-  by true e = cc
-  by false e = cc
-seen-hear s t m Idle e = absurd cc
 
 -- another event of the receiver, or a frame of before
 abbrev IsAside : Start → Event → Action → Type 0
 IsAside s f a = (a ≡ Other f) ⊎ ((j : ℕ) × (r : ℕ) × (a ≡ Arrive j r) × (j ≤ s.directive) × (f ≡ Frame (s.loop.frames j)))
 
-seen-other : (s : Start) (t : ℕ) (f : Event) (a : Action) → era_action s t a ≡ Other f → (s.again < t) × IsAside s f a
-seen-other s t f (Send j) e = absurd (by (nat_lt s.directive j) e) where
-  by : (b : Bool) → cond b (Send (j - (s.directive + 1))) Idle ≢ Other f
-  by true e = cc
-  by false e = cc
-seen-other s t f (Arrive j r) e = by (nat_le t s.again) (nat_lt s.directive j) refl refl e where
-  by : (b c : Bool) → nat_le t s.again ≡ b → nat_lt s.directive j ≡ c → cond b Idle (cond c (Arrive (j - (s.directive + 1)) r) (Other (Frame (s.loop.frames j)))) ≡ Other f
-      → (s.again < t) × IsAside s f (Arrive j r)
-  by true c late above e = absurd cc
-  by false true late above e = absurd cc
-  by false false late above e = let is : Frame (s.loop.frames j) ≡ f = cc in (grind (arith, nat_tests), inr (j, r, refl, grind (arith, nat_tests), sym is))
-seen-other s t f (Hear m) e = absurd (by (nat_lt t s.believed) e) where
-  by : (b : Bool) → cond b Idle (Hear m) ≢ Other f
-  by true e = cc
-  by false e = cc
-seen-other s t f (Other g) e = by (nat_le t s.again) refl e where
-  by : (b : Bool) → nat_le t s.again ≡ b → cond b Idle (Other g) ≡ Other f → (s.again < t) × IsAside s f (Other g)
-  by true late e = absurd cc
-  by false late e = (grind (arith, nat_tests), inl e)
-seen-other s t f Idle e = absurd cc
+-- what an action is that is this one in the era's loop
+abbrev IsSeen : Start → ℕ → Action → Action → Type 0
+IsSeen s t a (Send i) = a ≡ Send (s.directive + 1 + i)
+IsSeen s t a (Arrive i r) = (s.again < t) × (a ≡ Arrive (s.directive + 1 + i) r)
+IsSeen s t a (Hear m) = (s.believed ≤ t) × (a ≡ Hear m)
+IsSeen s t a (Other f) = (s.again < t) × IsAside s f a
+IsSeen s t a Idle = Unit {0}
+
+seen : (s : Start) (t : ℕ) (a : Action) → IsSeen s t a (era_action s t a)
+seen s t (Send j) = by (nat_lt s.directive j) refl where
+  by : (b : Bool) → nat_lt s.directive j ≡ b → IsSeen s t (Send j) (cond b (Send (j - (s.directive + 1))) Idle)
+  by true above = let is : j ≡ s.directive + 1 + (j - (s.directive + 1)) = grind (arith, nat_tests) in ap (λ n. Send n) is
+  by false above = tt
+seen s t (Arrive j r) = by (nat_le t s.again) (nat_lt s.directive j) refl refl where
+  by : (b c : Bool) → nat_le t s.again ≡ b → nat_lt s.directive j ≡ c → IsSeen s t (Arrive j r) (cond b Idle (cond c (Arrive (j - (s.directive + 1)) r) (Other (Frame (s.loop.frames j)))))
+  by true c late above = tt
+  by false true late above = let is : j ≡ s.directive + 1 + (j - (s.directive + 1)) = grind (arith, nat_tests) in (grind (arith, nat_tests), ap (λ n. Arrive n r) is)
+  by false false late above = (grind (arith, nat_tests), inr (j, r, refl, grind (arith, nat_tests), refl))
+seen s t (Hear m) = by (nat_lt t s.believed) refl where
+  by : (b : Bool) → nat_lt t s.believed ≡ b → IsSeen s t (Hear m) (cond b Idle (Hear m))
+  by true late = tt
+  by false late = (grind (arith, nat_tests), refl)
+seen s t (Other f) = by (nat_le t s.again) refl where
+  by : (b : Bool) → nat_le t s.again ≡ b → IsSeen s t (Other f) (cond b Idle (Other f))
+  by true late = tt
+  by false late = (grind (arith, nat_tests), inl refl)
+seen s t Idle = tt
 
 seen-get : (s : Start) (xs : List Action) (n t : ℕ) (b : Action) → slice_get (era_actions s n xs) t ≡ Some b → (a : Action) × (slice_get xs t ≡ Some a) × (era_action s (n + t) a ≡ b)
 seen-get s [] n t b e = absurd cc
@@ -133,8 +73,8 @@ seen-put s (x ∷ xs) n zero a e = let q : x ≡ a = cc in rw q (ap (λ k. Some 
 seen-put s (x ∷ xs) n (suc t) a e = seen-put s xs (suc n) t a e ∙ ap (λ k. Some (era_action s k a)) (omega arith)
 
 -- the same from the first action on
-seen-is : (s : Start) (t : ℕ) (b : Action) → slice_get (era_session s) t ≡ Some b → (a : Action) × (slice_get s.session t ≡ Some a) × (era_action s t a ≡ b)
-seen-is s t b e = let r = seen-get s s.session 0 t b e in (r.0, r.1, subst (λ k. era_action s k r.0 ≡ b) (omega arith) r.2)
+seen-is : (s : Start) (t : ℕ) (b : Action) → slice_get (era_session s) t ≡ Some b → (a : Action) × (slice_get s.session t ≡ Some a) × IsSeen s t a b
+seen-is s t b e = let r = seen-get s s.session 0 t b e in (r.0, r.1, subst (IsSeen s t r.0) (subst (λ k. era_action s k r.0 ≡ b) (omega arith) r.2) (seen s t r.0))
 
 sent-put : (s : Start) (t i : ℕ) → slice_get s.session t ≡ Some (Send (s.directive + 1 + i)) → slice_get (era_session s) t ≡ Some (Send i)
 sent-put s t i e = seen-put s s.session 0 t (Send (s.directive + 1 + i)) e ∙ ap (λ (a : Action). Some a) (by (nat_lt s.directive (s.directive + 1 + i)) refl) where
@@ -312,12 +252,11 @@ module _ (s : Start) (k : IsStart s) where
         let asked = k.asks last.0 (k.links.arrives s.again s.directive last.0 last.1).1 in
         omega arith)
 
-  vr-first : (receiver s.loop (take (suc s.obeyed) s.session)).report.vr ≡ s.loop.first
-  vr-first =
-      let o = k.obeyed in
-      let b = receiver s.loop (take s.obeyed s.session) in
+  vr-obeyed : (t : ℕ) → IsObeyed s t → (receiver s.loop (take (suc t) s.session)).report.vr ≡ s.loop.first
+  vr-obeyed t o =
+      let b = receiver s.loop (take t s.session) in
       let octets = s.loop.frames s.directive in
-      let is = ap (receiver s.loop) (take-some s.session s.obeyed (Arrive s.directive o.0) o.1) ∙ event-step s.loop (take s.obeyed s.session) (Arrive s.directive o.0) (Frame octets) refl in
+      let is = ap (receiver s.loop) (take-some s.session t (Arrive s.directive o.0) o.1) ∙ event-step s.loop (take t s.session) (Arrive s.directive o.0) (Frame octets) refl in
       ap (λ (c : ChannelState). c.report.vr) is ∙ directive-vr s.loop.settings b octets s.loop.first k.directive (inl o.2)
 
   vr-next : (t : ℕ) → s.obeyed < t → t < s.again → (receiver s.loop (take t s.session)).report.vr ≡ s.loop.first → (receiver s.loop (take (suc t) s.session)).report.vr ≡ s.loop.first
@@ -342,16 +281,8 @@ module _ (s : Start) (k : IsStart s) where
         ap (λ (c : ChannelState). c.report.vr) (ap (receiver s.loop) (take-some s.session t (Other e) here) ∙ event-step s.loop (take t s.session) (Other e) e refl)
         ∙ other-vr s.loop.settings (receiver s.loop (take t s.session)) e is.0 is.1 ∙ vr
 
-  vr-last : (receiver s.loop (take (suc s.again) s.session)).report.vr ≡ s.loop.first
-  vr-last =
-      let o = k.again.1 in
-      let b = receiver s.loop (take s.again s.session) in
-      let octets = s.loop.frames s.directive in
-      let after = ap (receiver s.loop) (take-some s.session s.again (Arrive s.directive o.0) o.1) ∙ event-step s.loop (take s.again s.session) (Arrive s.directive o.0) (Frame octets) refl in
-      ap (λ (c : ChannelState). c.report.vr) after ∙ directive-vr s.loop.settings b octets s.loop.first k.directive (inl o.2)
-
   vr-by : (d : ℕ) → s.obeyed + d < s.again → (receiver s.loop (take (suc (s.obeyed + d)) s.session)).report.vr ≡ s.loop.first
-  vr-by zero low = subst (λ n. (receiver s.loop (take (suc n) s.session)).report.vr ≡ s.loop.first) (omega arith) vr-first
+  vr-by zero low = subst (λ n. (receiver s.loop (take (suc n) s.session)).report.vr ≡ s.loop.first) (omega arith) (vr-obeyed s.obeyed k.obeyed)
   vr-by (suc d) low =
       let e : suc (s.obeyed + d) ≡ s.obeyed + suc d = omega arith in
       subst (λ n. (receiver s.loop (take (suc n) s.session)).report.vr ≡ s.loop.first) e (vr-next (suc (s.obeyed + d)) (omega arith) (omega arith) (vr-by d (omega arith)))
@@ -395,28 +326,39 @@ module _ (s : Start) (k : IsStart s) where
     by (inr early) =
         let same = journal-early s m (omega arith) in
         let here = vr-at-start m (made-later t m since here) early in
-        let vr : (receiver (era s) (take m (era_session s))).report.vr ≡ s.loop.first = ap (λ es. (run_within s.loop.limits s.loop.settings es).report.vr) same ∙ vr-last in
+        let vr : (receiver (era s) (take m (era_session s))).report.vr ≡ s.loop.first = ap (λ es. (run_within s.loop.limits s.loop.settings es).report.vr) same ∙ vr-obeyed s.again k.again.1 in
         let small : s.loop.first < 256 = subst (λ n. n < 256) here (vr-below s.loop.limits s.loop.settings (journal s.loop (take m s.session)) k.allowed.first (lawful-at m)) in
         clcw-tells (era s) (take m (era_session s)) (s.loop.links m) (subst (λ n. n < 256) (sym vr) small) ∙ vr
         ∙ sym (clcw-tells s.loop (take m s.session) (s.loop.links m) (subst (λ n. n < 256) (sym here) small) ∙ here)
+
+  -- other actions teach it nothing
+  untaught : (x : Action) (xs : List Action) (n a : ℕ) → ((m : ℕ) → x ≡ Hear m → n < s.believed) → known_from (era s) (era_session s) a (era_action s n x ∷ xs) ≡ known_from (era s) (era_session s) a xs
+  untaught (Send j) xs n a early = by (nat_lt s.directive j) where
+    by : (b : Bool) → known_from (era s) (era_session s) a (cond b (Send (j - (s.directive + 1))) Idle ∷ xs) ≡ known_from (era s) (era_session s) a xs
+    by true = refl
+    by false = refl
+  untaught (Arrive j r) xs n a early = by (nat_le n s.again) (nat_lt s.directive j) where
+    by : (b c : Bool) → known_from (era s) (era_session s) a (cond b Idle (cond c (Arrive (j - (s.directive + 1)) r) (Other (Frame (s.loop.frames j)))) ∷ xs) ≡ known_from (era s) (era_session s) a xs
+    by true c = refl
+    by false true = refl
+    by false false = refl
+  untaught (Hear m) xs n a early = by (nat_lt n s.believed) refl where
+    by : (b : Bool) → nat_lt n s.believed ≡ b → known_from (era s) (era_session s) a (cond b Idle (Hear m) ∷ xs) ≡ known_from (era s) (era_session s) a xs
+    by true before = refl
+    by false late = absurd (let low = early m refl in grind (arith, nat_tests))
+  untaught (Other e) xs n a early = by (nat_le n s.again) where
+    by : (b : Bool) → known_from (era s) (era_session s) a (cond b Idle (Other e) ∷ xs) ≡ known_from (era s) (era_session s) a xs
+    by true = refl
+    by false = refl
+  untaught Idle xs n a early = refl
 
   -- from the moment on at which it believes, the sender learns what it would in the era's loop
   late-known : (xs : List Action) (n a : ℕ) → s.believed ≤ n → ((u m : ℕ) → slice_get xs u ≡ Some (Hear m) → slice_get s.session (n + u) ≡ Some (Hear m))
       → known_from (era s) (era_session s) a (era_actions s n xs) ≡ known_from s.loop s.session a xs
   late-known [] n a since at = refl
-  late-known (Send j ∷ xs) n a since at = by (nat_lt s.directive j) ∙ late-known xs (suc n) a (omega arith) (next s.session xs (Send j) n at) where
-    by : (b : Bool) → known_from (era s) (era_session s) a (cond b (Send (j - (s.directive + 1))) Idle ∷ era_actions s (suc n) xs) ≡ known_from (era s) (era_session s) a (era_actions s (suc n) xs)
-    by true = refl
-    by false = refl
-  late-known (Arrive j r ∷ xs) n a since at = by (nat_le n s.again) (nat_lt s.directive j) ∙ late-known xs (suc n) a (omega arith) (next s.session xs (Arrive j r) n at) where
-    by : (b c : Bool) → known_from (era s) (era_session s) a (cond b Idle (cond c (Arrive (j - (s.directive + 1)) r) (Other (Frame (s.loop.frames j)))) ∷ era_actions s (suc n) xs) ≡ known_from (era s) (era_session s) a (era_actions s (suc n) xs)
-    by true c = refl
-    by false true = refl
-    by false false = refl
-  late-known (Other e ∷ xs) n a since at = by (nat_le n s.again) ∙ late-known xs (suc n) a (omega arith) (next s.session xs (Other e) n at) where
-    by : (b : Bool) → known_from (era s) (era_session s) a (cond b Idle (Other e) ∷ era_actions s (suc n) xs) ≡ known_from (era s) (era_session s) a (era_actions s (suc n) xs)
-    by true = refl
-    by false = refl
+  late-known (Send j ∷ xs) n a since at = untaught (Send j) (era_actions s (suc n) xs) n a (λ m e. absurd cc) ∙ late-known xs (suc n) a (omega arith) (next s.session xs (Send j) n at)
+  late-known (Arrive j r ∷ xs) n a since at = untaught (Arrive j r) (era_actions s (suc n) xs) n a (λ m e. absurd cc) ∙ late-known xs (suc n) a (omega arith) (next s.session xs (Arrive j r) n at)
+  late-known (Other f ∷ xs) n a since at = untaught (Other f) (era_actions s (suc n) xs) n a (λ m e. absurd cc) ∙ late-known xs (suc n) a (omega arith) (next s.session xs (Other f) n at)
   late-known (Idle ∷ xs) n a since at = late-known xs (suc n) a (omega arith) (next s.session xs Idle n at)
   late-known (Hear m ∷ xs) n a since at = by (nat_lt n s.believed) refl (λ b. late-known xs (suc n) b (omega arith) (next s.session xs (Hear m) n at)) where
     here : slice_get s.session n ≡ Some (Hear m)
@@ -429,33 +371,12 @@ module _ (s : Start) (k : IsStart s) where
         ap (λ nr. known_from (era s) (era_session s) (heard s.loop.first s.loop.window a nr) (era_actions s (suc n) xs)) (same-report n m since here)
         ∙ on (heard s.loop.first s.loop.window a (reported s.loop s.session m))
 
-  -- before it an action teaches it nothing
-  learnt : (x : Action) (xs : List Action) (n : ℕ) → n < s.believed → known_from (era s) (era_session s) 0 (era_action s n x ∷ xs) ≡ known_from (era s) (era_session s) 0 xs
-  learnt (Send j) xs n early = by (nat_lt s.directive j) where
-    by : (b : Bool) → known_from (era s) (era_session s) 0 (cond b (Send (j - (s.directive + 1))) Idle ∷ xs) ≡ known_from (era s) (era_session s) 0 xs
-    by true = refl
-    by false = refl
-  learnt (Arrive j r) xs n early = by (nat_le n s.again) (nat_lt s.directive j) where
-    by : (b c : Bool) → known_from (era s) (era_session s) 0 (cond b Idle (cond c (Arrive (j - (s.directive + 1)) r) (Other (Frame (s.loop.frames j)))) ∷ xs) ≡ known_from (era s) (era_session s) 0 xs
-    by true c = refl
-    by false true = refl
-    by false false = refl
-  learnt (Hear m) xs n early = by (nat_lt n s.believed) refl where
-    by : (b : Bool) → nat_lt n s.believed ≡ b → known_from (era s) (era_session s) 0 (cond b Idle (Hear m) ∷ xs) ≡ known_from (era s) (era_session s) 0 xs
-    by true before = refl
-    by false late = absurd (grind (arith, nat_tests))
-  learnt (Other e) xs n early = by (nat_le n s.again) where
-    by : (b : Bool) → known_from (era s) (era_session s) 0 (cond b Idle (Other e) ∷ xs) ≡ known_from (era s) (era_session s) 0 xs
-    by true = refl
-    by false = refl
-  learnt Idle xs n early = refl
-
-  -- so it knows nothing then: d actions are left until it believes
+  -- before it learns nothing: d actions are left until it believes
   early-known : (d : ℕ) (xs : List Action) (n : ℕ) → n + d ≡ s.believed → ((u m : ℕ) → slice_get xs u ≡ Some (Hear m) → slice_get s.session (n + u) ≡ Some (Hear m))
       → known_from (era s) (era_session s) 0 (era_actions s n xs) ≡ known_from s.loop s.session 0 (drop d xs)
   early-known zero xs n e at = late-known xs n 0 (omega arith) at
   early-known (suc d) [] n e at = refl
-  early-known (suc d) (x ∷ xs) n e at = learnt x (era_actions s (suc n) xs) n (omega arith) ∙ early-known d xs (suc n) (omega arith) (next s.session xs x n at)
+  early-known (suc d) (x ∷ xs) n e at = untaught x (era_actions s (suc n) xs) n 0 (λ m h. omega arith) ∙ early-known d xs (suc n) (omega arith) (next s.session xs x n at)
 
   pub known-in-era : (t : ℕ) → known (era s) (era_session s) t ≡ known_since s t
   known-in-era t =
@@ -466,7 +387,7 @@ module _ (s : Start) (k : IsStart s) where
   possible = record {
     sends = λ t i here.
         let from = seen-is s t (Send i) here in
-        let kept = k.sends t i (from.1 ∙ ap (λ (a : Action). Some a) (seen-send s t i from.0 from.2)) in
+        let kept = k.sends t i (from.1 ∙ ap (λ (a : Action). Some a) from.2) in
         subst (λ a. (a ≤ i) × (i < a + s.loop.window)) (sym (known-in-era t)) (kept.1, kept.2);
     links = record {
       arrives = λ t i r here.
@@ -479,18 +400,17 @@ module _ (s : Start) (k : IsStart s) where
     };
     others = λ t e here.
         let from = seen-is s t (Other e) here in
-        let is = seen-other s t e from.0 from.2 in
-        aside t e from.0 is.0 from.1 is.1;
+        aside t e from.0 from.2.0 from.1 from.2.1;
   } where
     arrival : (t i r : ℕ) → slice_get (era_session s) t ≡ Some (Arrive i r) → slice_get s.session t ≡ Some (Arrive (s.directive + 1 + i) r)
     arrival t i r here =
         let from = seen-is s t (Arrive i r) here in
-        from.1 ∙ ap (λ (a : Action). Some a) (seen-arrive s t i r from.0 from.2).1
+        from.1 ∙ ap (λ (a : Action). Some a) from.2.1
 
     hearing : (t m : ℕ) → slice_get (era_session s) t ≡ Some (Hear m) → slice_get s.session t ≡ Some (Hear m)
     hearing t m here =
         let from = seen-is s t (Hear m) here in
-        from.1 ∙ ap (λ (a : Action). Some a) (seen-hear s t m from.0 from.2).1
+        from.1 ∙ ap (λ (a : Action). Some a) from.2.1
 
     aside : (t : ℕ) (e : Event) (a : Action) → s.again < t → slice_get s.session t ≡ Some a → IsAside s e a → IsOther e
     aside t e a late at (inl own) = (k.others t e (at ∙ ap (λ (b : Action). Some b) own)).0

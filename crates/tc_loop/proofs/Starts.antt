@@ -1,4 +1,4 @@
--- The starts that were worked out by hand: the trap, and one that meets each premise.
+-- The starts that were worked out by hand: one meets each premise.
 use Rattle.std.proofs.Common.{◌≡◌, ◌≢◌, ℕ, zero, suc, ◌+◌, ◌%◌, ◌<◌, ◌≤◌, Bool, true, false, List, [], ◌∷◌, drop, take, Some, None, refl, subst, ◌⊎◌, inl, inr, arith}
 use Rattle.std.specs.Prelude.{All, AllPairs, nat_lt, slice_get, ◌&&◌}
 use Rattle.std.proofs.lemmas.Bool.Decides.{nat_tests}
@@ -15,33 +15,11 @@ unfoldable use Rattle.tc_channel.specs.Run.{run_within, passed_on, IsLawfulWithi
 unfoldable use Rattle.tc_channel.specs.Reply.{clcw_within}
 unfoldable use Rattle.tc_link.specs.Window.{some_of_first}
 use Rattle.tc_channel.specs.declared.event.Event.TheVariants.{Frame, Release, Take}
-use Rattle.tc_loop.specs.Loop.{Action, Send, Arrive, Hear, Other, Idle, accepted, begun, events, journal, known, receiver, reported, smallest, IsLoop, IsNumbered, IsOther, KeepOrder}
-use Rattle.tc_loop.specs.Start.{IsStart, NamesAnother, era, era_before, era_session, known_since, session_before}
-use Rattle.tc_loop.specs.Examples.{around, told_by_9, trap}
+use Rattle.tc_loop.specs.Loop.{Action, Send, Arrive, Hear, Other, Idle, begun, events, journal, known, receiver, smallest, IsLoop, IsNumbered, IsOther, KeepOrder}
+use Rattle.tc_loop.specs.Start.{IsStart, NamesAnother, era, era_before, known_since, session_before}
+use Rattle.tc_loop.specs.Examples.{around, learnt_by_9, trap}
 use Rattle.tc_loop.proofs.Begun.{octets}
 use Rattle.tc_loop.proofs.Moments.{so-at}
-
-pub trap-says : reported trap.loop trap.session 0 ≡ 0
-unfolding run_within some_of_first clcw_within
-trap-says = refl
-
-pub trap-known : known_since trap 7 ≡ 1
-unfolding run_within some_of_first clcw_within
-trap-known = refl
-
-pub trap-accepted : accepted (era trap) (era_session trap) ≡ 0
-unfolding run_within some_of_first
-trap-accepted = refl
-
-pub told-known : known_since told_by_9 11 ≡ 1
-unfolding run_within some_of_first clcw_within
-told-known = refl
-
-pub told-accepted : accepted (era told_by_9) (era_session told_by_9) ≡ 1
-unfolding run_within some_of_first passed_on no_limits
-told-accepted = refl
-
--- the second one meets each premise
 
 -- numbers that are octets
 abbrev pub small : List ℕ → Bool
@@ -74,9 +52,9 @@ whole-2 i = record { each = each; least = omega arith; most = omega arith; versi
   each = octets-append (0x00 ∷ 0x2a ∷ 0x04 ∷ 0x0c ∷ []) ((9 + i) % 256 ∷ back) (octets-by (0x00 ∷ 0x2a ∷ 0x04 ∷ 0x0c ∷ []) refl)
       (octets-cons ((9 + i) % 256) back (omega arith) (octets-by back refl))
 
-numbered : (i : ℕ) → IsNumbered (era told_by_9) i
+numbered : (i : ℕ) → IsNumbered (era learnt_by_9) i
 numbered i =
-    let at : suc (suc i) ≡ told_by_9.directive + 1 + i = omega arith in
+    let at : suc (suc i) ≡ learnt_by_9.directive + 1 + i = omega arith in
     record {
       whole = subst (λ n. IsWhole (around 9 n)) at (whole-2 i);
       bypass = subst (λ n. (header_of (around 9 n)).bypass ≡ false) at refl;
@@ -84,7 +62,7 @@ numbered i =
       ns = subst (λ n. (header_of (around 9 n)).ns ≡ (9 + i) % 256) at refl;
     }
 
-lawful : IsLawfulWithin told_by_9.loop.limits told_by_9.loop.settings (journal told_by_9.loop told_by_9.session)
+lawful : IsLawfulWithin learnt_by_9.loop.limits learnt_by_9.loop.settings (journal learnt_by_9.loop learnt_by_9.session)
 unfolding IsLawfulWithin some_of_first passed_on no_limits
 lawful =
     let packet : List ℕ = 0x10 ∷ 0x05 ∷ 0xc0 ∷ 0x00 ∷ 0x00 ∷ 0x00 ∷ 0xaa ∷ [] in
@@ -124,28 +102,28 @@ abbrev IsAt : ℕ → Action → Type 0
 IsAt t (Send j) = ((t ≡ 0) × (j ≡ 0)) ⊎ (((t ≡ 2) × (j ≡ 1)) ⊎ ((t ≡ 7) × (j ≡ 2)))
 IsAt t (Arrive j s) = ((t ≡ 1) × (j ≡ 0) × (s ≡ 0)) ⊎ (((t ≡ 4) × (j ≡ 1) × (s ≡ 2)) ⊎ (((t ≡ 8) × (j ≡ 1) × (s ≡ 2)) ⊎ ((t ≡ 9) × (j ≡ 2) × (s ≡ 7))))
 IsAt t (Hear m) = ((t ≡ 3) × (m ≡ 0)) ⊎ (((t ≡ 5) × (m ≡ 2)) ⊎ (((t ≡ 6) × (m ≡ 5)) ⊎ ((t ≡ 10) × (m ≡ 10))))
-IsAt t (Other e) = IsOther e × ((state : ChannelState) → set_by told_by_9.loop.settings state e ≡ None)
+IsAt t (Other e) = IsOther e × ((state : ChannelState) → set_by learnt_by_9.loop.settings state e ≡ None)
 IsAt t Idle = ⊥
 
-at : (t : ℕ) (a : Action) → slice_get told_by_9.session t ≡ Some a → IsAt t a
-at t a e = so-at IsAt told_by_9.session t a
+at : (t : ℕ) (a : Action) → slice_get learnt_by_9.session t ≡ Some a → IsAt t a
+at t a e = so-at IsAt learnt_by_9.session t a
     (inl (refl, refl), (inl (refl, refl, refl), (inr (inl (refl, refl)), (inl (refl, refl), (inr (inl (refl, refl, refl)), (inr (inl (refl, refl)), (inr (inr (inl (refl, refl))), (inr (inr (refl, refl)), (inr (inr (inl (refl, refl, refl))), (inr (inr (inr (refl, refl, refl))), (inr (inr (inr (refl, refl))), ((tt, λ state. refl), ((tt, λ state. refl), ((tt, λ state. refl), tt))))))))))))))
     e
 
-in-order : KeepOrder told_by_9.session
+in-order : KeepOrder learnt_by_9.session
 in-order = record {
   arrives = λ t i s e. arrived t i s (at t (Arrive i s) e);
   hears = λ t m e. let p = at t (Hear m) e in grind arith;
   frames_in_order = λ t u i j s r order e f. let p = at t (Arrive i s) e in let q = at u (Arrive j r) f in grind arith;
   reports_in_order = λ t u m n order e f. let p = at t (Hear m) e in let q = at u (Hear n) f in grind arith;
 } where
-  arrived : (t i s : ℕ) → IsAt t (Arrive i s) → (s < t) × (slice_get told_by_9.session s ≡ Some (Send i))
+  arrived : (t i s : ℕ) → IsAt t (Arrive i s) → (s < t) × (slice_get learnt_by_9.session s ≡ Some (Send i))
   arrived t i s (inl p) = rw (p.0, p.1, p.2) (omega arith, refl)
   arrived t i s (inr (inl p)) = rw (p.0, p.1, p.2) (omega arith, refl)
   arrived t i s (inr (inr (inl p))) = rw (p.0, p.1, p.2) (omega arith, refl)
   arrived t i s (inr (inr (inr p))) = rw (p.0, p.1, p.2) (omega arith, refl)
 
-last : NoneSetsWithin told_by_9.loop.limits told_by_9.loop.settings (journal told_by_9.loop (take 9 told_by_9.session)) (events told_by_9.loop (drop 9 told_by_9.session))
+last : NoneSetsWithin learnt_by_9.loop.limits learnt_by_9.loop.settings (journal learnt_by_9.loop (take 9 learnt_by_9.session)) (events learnt_by_9.loop (drop 9 learnt_by_9.session))
 unfolding run_within some_of_first passed_on no_limits
 last zero e h = let q : Frame (around 9 2) ≡ e = cc in rw (← q) refl
 last (suc zero) e h = let q : Release ≡ e = cc in rw (← q) refl
@@ -153,13 +131,13 @@ last (suc (suc zero)) e h = let q : Release ≡ e = cc in rw (← q) refl
 last (suc (suc (suc zero))) e h = let q : Take 5 ≡ e = cc in rw (← q) refl
 last (suc (suc (suc (suc i)))) e h = absurd cc
 
-sends : (t i : ℕ) → IsAt t (Send (1 + 1 + i)) → (6 < t) × (known_since told_by_9 t ≤ i) × (i < known_since told_by_9 t + 5)
+sends : (t i : ℕ) → IsAt t (Send (1 + 1 + i)) → (6 < t) × (known_since learnt_by_9 t ≤ i) × (i < known_since learnt_by_9 t + 5)
 unfolding run_within some_of_first clcw_within
 sends t i (inl p) = let q = p.1 in absurd (omega arith)
 sends t i (inr (inl p)) = let q = p.1 in absurd (omega arith)
 sends t i (inr (inr p)) = let q = p.1 in let none : i ≡ 0 = omega arith in rw (p.0, none) (omega arith, omega arith, omega arith)
 
-pub each-premise : IsStart told_by_9
+pub each-premise : IsStart learnt_by_9
 unfolding run_within some_of_first clcw_within
 each-premise = record {
   window = omega arith;
@@ -173,9 +151,9 @@ each-premise = record {
   believes = (5, refl, omega arith);
   stops = λ t u j e low f. let p = at t (Send j) e in let q = at u (Send 1) f in grind arith;
   asks = λ t e. let p = at t (Send 1) e in grind arith;
-  sends = λ t i e. sends t i (at t (Send (told_by_9.directive + 1 + i)) e);
+  sends = λ t i e. sends t i (at t (Send (learnt_by_9.directive + 1 + i)) e);
   links = in-order;
-  others = λ t e h. let p = at t (Other e) h in (p.0, p.1 (receiver told_by_9.loop (take t told_by_9.session)));
+  others = λ t e h. let p = at t (Other e) h in (p.0, p.1 (receiver learnt_by_9.loop (take t learnt_by_9.session)));
 }
 
 -- the time before was a loop, of which no CLCW can say 9
@@ -187,10 +165,10 @@ IsBefore t (Hear m) = (t ≡ 3) × (m ≡ 0)
 IsBefore t (Other e) = ⊥
 IsBefore t Idle = Unit {0}
 
-at-before : (t : ℕ) (a : Action) → slice_get (session_before told_by_9) t ≡ Some a → IsBefore t a
-at-before t a e = so-at IsBefore (session_before told_by_9) t a ((refl, refl), ((refl, refl, refl), (tt, ((refl, refl), tt)))) e
+at-before : (t : ℕ) (a : Action) → slice_get (session_before learnt_by_9) t ≡ Some a → IsBefore t a
+at-before t a e = so-at IsBefore (session_before learnt_by_9) t a ((refl, refl), ((refl, refl, refl), (tt, ((refl, refl), tt)))) e
 
-before-in-order : KeepOrder (session_before told_by_9)
+before-in-order : KeepOrder (session_before learnt_by_9)
 before-in-order = record {
   arrives = λ t i s e. let p = at-before t (Arrive i s) e in rw (p.0, p.1, p.2) (omega arith, refl);
   hears = λ t m e. let p = at-before t (Hear m) e in grind arith;
@@ -198,22 +176,22 @@ before-in-order = record {
   reports_in_order = λ t u m n order e f. let p = at-before t (Hear m) e in let q = at-before u (Hear n) f in grind arith;
 }
 
-before-numbered : (i : ℕ) → IsNumbered (era_before told_by_9 0 5 (smallest 0)) i
+before-numbered : (i : ℕ) → IsNumbered (era_before learnt_by_9 0 5 (smallest 0)) i
 before-numbered i = record { whole = record { each = octets 0 i; least = omega arith; most = omega arith; version = refl; spare = refl; named = refl }; bypass = refl; control = refl; ns = refl }
 
-before-sends : (t i : ℕ) → IsBefore t (Send i) → (known (era_before told_by_9 0 5 (smallest 0)) (session_before told_by_9) t ≤ i) × (i < known (era_before told_by_9 0 5 (smallest 0)) (session_before told_by_9) t + 5)
+before-sends : (t i : ℕ) → IsBefore t (Send i) → (known (era_before learnt_by_9 0 5 (smallest 0)) (session_before learnt_by_9) t ≤ i) × (i < known (era_before learnt_by_9 0 5 (smallest 0)) (session_before learnt_by_9) t + 5)
 before-sends t i p = rw (p.0, p.1) (omega arith, omega arith)
 
-before-lawful : IsLawfulWithin told_by_9.loop.limits told_by_9.loop.settings (Frame (smallest 0 0) ∷ [])
+before-lawful : IsLawfulWithin learnt_by_9.loop.limits learnt_by_9.loop.settings (Frame (smallest 0 0) ∷ [])
 unfolding IsLawfulWithin some_of_first
 before-lawful = ((whole-0, refl), tt)
 
-before-last : NoneSetsWithin told_by_9.loop.limits told_by_9.loop.settings [] (Frame (smallest 0 0) ∷ [])
+before-last : NoneSetsWithin learnt_by_9.loop.limits learnt_by_9.loop.settings [] (Frame (smallest 0 0) ∷ [])
 unfolding run_within some_of_first
 before-last zero e h = let q : Frame (smallest 0 0) ≡ e = cc in rw (← q) refl
 before-last (suc i) e h = absurd cc
 
-pub before-loop : IsLoop (era_before told_by_9 0 5 (smallest 0)) (session_before told_by_9)
+pub before-loop : IsLoop (era_before learnt_by_9 0 5 (smallest 0)) (session_before learnt_by_9)
 before-loop = record {
   window = omega arith;
   numbered = before-numbered;
@@ -227,8 +205,8 @@ before-loop = record {
   };
 }
 
-pub another : NamesAnother told_by_9 0 5 (smallest 0) 2
-another a low high e = let one : begun (session_before told_by_9) 4 ≡ 1 = refl in absurd (omega arith)
+pub another : NamesAnother learnt_by_9 0 5 (smallest 0) 2
+another a low high e = let one : begun (session_before learnt_by_9) 4 ≡ 1 = refl in absurd (omega arith)
 
 pub trap-not-another : NamesAnother trap 0 5 (smallest 0) 2 → ⊥
 trap-not-another another = another 0 (omega arith) (omega arith) refl

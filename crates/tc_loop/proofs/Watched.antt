@@ -63,8 +63,8 @@ hears-so window first known report room least most fits =
       by (off from to is) = rw is (λ yes. absurd cc, λ within. absurd (omega arith))
 
 -- what is heard is what N(R) says, or nothing
-heard-told : (window first known report : ℕ) → report < 256 → above first known report ≤ window → (first + heard first window known report) % 256 ≡ report
-heard-told window first known report fits within = by (nat_le (above first known report) window) refl where
+heard-learnt : (window first known report : ℕ) → report < 256 → above first known report ≤ window → (first + heard first window known report) % 256 ≡ report
+heard-learnt window first known report fits within = by (nat_le (above first known report) window) refl where
   by : (test : Bool) → nat_le (above first known report) window ≡ test → (first + cond test (known + above first known report) known) % 256 ≡ report
   by true e = omega arith
   by false e = absurd (grind (arith, nat_tests))
@@ -89,5 +89,5 @@ known-so window first known report room least most fits = by (is_here_or_behind 
   order a b = grind arith
 
   by : (test : Bool) → is_here_or_behind (event_at window report ((first + known) % 256) room) ≡ test → (first + heard first window known report) % 256 ≡ cond test report ((first + known) % 256)
-  by true e = heard-told window first known report fits (heard-so.0 e)
+  by true e = heard-learnt window first known report fits (heard-so.0 e)
   by false e = ap (λ n. (first + n) % 256) (heard-untold window first known report (beyond e (order (above first known report) window)))

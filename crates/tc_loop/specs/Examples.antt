@@ -59,8 +59,8 @@ trap = record {
 
 -- the same with a Set V(R) to 9: no CLCW of before says 9. It is obeyed twice, the second time when the sender believes so already; then frame 0
 -- of the era is accepted, the sender hears of it, the data fields of frame 0 of before and of this one are released, and the packet is taken
-abbrev pub told_by_9 : Start
-told_by_9 = record {
+abbrev pub learnt_by_9 : Start
+learnt_by_9 = record {
   loop = around_set_to 9;
   directive = 1;
   session = Send 0 ∷ Arrive 0 0 ∷ Send 1 ∷ Hear 0 ∷ Arrive 1 2 ∷ Hear 2 ∷ Hear 5 ∷ Send 2 ∷ Arrive 1 2 ∷ Arrive 2 7 ∷ Hear 10 ∷ Other Release ∷ Other Release ∷ Other (Take 5) ∷ [];

@@ -93,11 +93,11 @@ pub fn starts_come_to_this()
     ensures trap_known { known_since example.trap 7 ≡ 1 }
     ensures trap_names_one_of_before { NamesAnother example.trap 0 5 (smallest 0) 2 → ⊥ }
     ensures trap_accepted { accepted (era example.trap) (era_session example.trap) ≡ 0 }
-    ensures met { IsStart example.told_by_9 }
-    ensures before_met { IsLoop (era_before example.told_by_9 0 5 (smallest 0)) (session_before example.told_by_9) }
-    ensures another_met { NamesAnother example.told_by_9 0 5 (smallest 0) 2 }
-    ensures met_known { known_since example.told_by_9 11 ≡ 1 }
-    ensures met_accepted { accepted (era example.told_by_9) (era_session example.told_by_9) ≡ 1 }
+    ensures met { IsStart example.learnt_by_9 }
+    ensures before_met { IsLoop (era_before example.learnt_by_9 0 5 (smallest 0)) (session_before example.learnt_by_9) }
+    ensures another_met { NamesAnother example.learnt_by_9 0 5 (smallest 0) 2 }
+    ensures met_known { known_since example.learnt_by_9 11 ≡ 1 }
+    ensures met_accepted { accepted (era example.learnt_by_9) (era_session example.learnt_by_9) ≡ 1 }
 {}
 
 /// A session worked out by hand: V(R) is 255 at first, frame 0 is lost once and comes twice then, and frame 1 comes too early.

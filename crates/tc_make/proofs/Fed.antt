@@ -14,9 +14,6 @@ abbrev pub IsSoFar : Mode → List ℕ → List ℕ → Reception → Reception 
 IsSoFar mode rest os first state a b =
     (given : List (List ℕ)) × Appends a b (candidates_text given) × (given ++ frames_of mode 1029 state rest ≡ frames_of mode 1029 first os)
 
-pub none-fed : (mode : Mode) (os : List ℕ) (first : Reception) (a : Option (List ℕ)) → IsSoFar mode os os first first a a
-none-fed mode os first a = ([], Appends-nil a, refl)
-
 pub some-fed : (mode was : Mode) (rest now os : List ℕ) (first state next : Reception) (more : List (List ℕ)) (a b c : Option (List ℕ)) → mode ≡ was
     → more ++ frames_of mode 1029 next now ≡ frames_of mode 1029 state rest → IsSoFar was rest os first state a b → Appends b c (candidates_text more)
     → IsSoFar was now os first next a c

@@ -16,7 +16,7 @@ use Rattle.tc_fecf.specs.FrameWithField.{taking_fault_of}
 use Rattle.tc_fecf.specs.declared.frames.FieldFault.{FieldFault}
 use Rattle.tc_fecf.specs.declared.frames.FieldFault.TheVariants as fields
 use Rattle.tc_make.specs.Answer.{OrNoMemory, Unless, IsSentAt, IsStopAt, AreSent, IsPartSaid, IsFramesSaid, IsPartingOf, IsUnitSaid, IsEndedSaid, IsExplained, AreFramesSaid, frames_text, parts_of, field_fault_text}
-use Rattle.tc_make.specs.Printed.{bad_text, named_text, some_text, refused_text, frame_fault_text, rest_text, unit_packets_text, packet_text, held_text, holds_text, whole_text}
+use Rattle.tc_make.specs.Printed.{bad_text, named_text, some_text, refused_text, frame_fault_text, rest_text, unit_packets_text, packet_text, printed_text, holds_text, whole_text}
 use Rattle.tc_make.specs.declared.ending.Ending.{Ending}
 use Rattle.tc_make.specs.declared.ending.Ending.TheVariants.{ErrorControl}
 use Rattle.tc_make.specs.Parting.{parting_reason_of}
@@ -36,8 +36,8 @@ made-on a b o Is Then made none is (text, inr p, w) = (text, inr p, w)
 
 -- ---- the packets of a unit
 
-held-packet : (p : Packet) → HasFields p → held_text p ≡ packet_text p.octets.now
-held-packet p f =
+carried-packet : (p : Packet) → HasFields p → printed_text p ≡ packet_text p.octets.now
+carried-packet p f =
     let o = p.octets.now in
     let t = is_telecommand o in
     let a = apid_of o in
@@ -63,11 +63,11 @@ unit-end unit e f =
 -- one more packet was written
 pub packet-on : (a b c : Option (List ℕ)) (p : Packet) (unit rest after done : List ℕ) → HasFields p
     → packets_of rest ≡ p.octets.now ∷ packets_of after → rest_of rest ≡ rest_of after
-    → Appends a b done → done ++ unit_packets_text rest ≡ unit_packets_text unit → Appends b c (held_text p)
+    → Appends a b done → done ++ unit_packets_text rest ≡ unit_packets_text unit → Appends b c (printed_text p)
     → (more : List ℕ) × Appends a c more × (more ++ unit_packets_text after ≡ unit_packets_text unit)
 packet-on a b c p unit rest after done has e f was so_far now = (
   done ++ packet_text p.octets.now,
-  joined a b c done (packet_text p.octets.now) was (subst (Appends b c) (held-packet p has) now),
+  joined a b c done (packet_text p.octets.now) was (subst (Appends b c) (carried-packet p has) now),
   append_assoc done (packet_text p.octets.now) (unit_packets_text after)
       ∙ ap (λ t. done ++ t) (sym (unit-next rest p.octets.now after e f))
       ∙ so_far,
@@ -147,7 +147,7 @@ pub field-refused : (octets rest : List ℕ) (fault : FieldFault) (a b : Option 
     → Appends a b (field_fault_text fault) → Writes a b (OrNoMemory (IsEndedSaid ErrorControl octets rest))
 field-refused octets rest fault a b e w =
     elim (field-fault (taking_fault_of octets) fault e) [
-      | inl told ↦ (field_fault_text fault, inl (inr (fault, told, refl)), w)
+      | inl reported ↦ (field_fault_text fault, inl (inr (fault, reported, refl)), w)
       | inr none ↦ (field_fault_text fault, inr (ap field_fault_text none), w)
     ]
 

@@ -11,7 +11,7 @@ unfoldable pub no_decoders : List (Option Receiver)
 no_decoders = replicate 256 None
 
 abbrev pub new_decoder : Mode → Receiver
-new_decoder mode = record { mode = mode; state = Searching 0; held = [] }
+new_decoder mode = record { mode = mode; state = Searching 0; carried = [] }
 
 -- a stream got a new decoder
 abbrev pub with_new_decoder : List (Option Receiver) → ℕ → Mode → List (Option Receiver)

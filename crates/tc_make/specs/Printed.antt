@@ -178,8 +178,8 @@ abbrev pub whole_text : Bool → List ℕ → List ℕ
 whole_text secondary octets = codes " secondary " ++ flag_text secondary ++ codes " " ++ octets_text octets ++ codes "\n"
 
 -- the line of a packet that was read
-abbrev pub held_text : Packet → List ℕ
-held_text p = holds_text p.telecommand p.apid p.count p.flags ++ whole_text p.secondary p.octets.now
+abbrev pub printed_text : Packet → List ℕ
+printed_text p = holds_text p.telecommand p.apid p.count p.flags ++ whole_text p.secondary p.octets.now
 
 -- the line of a packet, by its octets
 abbrev pub packet_text : List ℕ → List ℕ

@@ -141,10 +141,10 @@ fn write_blocks<W: Write>(blocks: Blocks, writer: &mut W) -> io::Result<()>
 
 // Writes the candidate frame that the last octet ended.
 fn write_ended<W: Write>(decoder: &Decoder, ended: bool, writer: &mut W) -> io::Result<()>
-    ensures { OnOk result (Appends (W.contents writer.old) (W.contents writer.new) (candidates_text (if ended then decoder.now.held ∷ [] else []))) }
+    ensures { OnOk result (Appends (W.contents writer.old) (W.contents writer.new) (candidates_text (if ended then decoder.now.carried ∷ [] else []))) }
 {
     if ended {
-        return write_named("frame", decoder.held(), writer);
+        return write_named("frame", decoder.carried(), writer);
     }
     Ok(())
 }

@@ -5,7 +5,7 @@ ghost use Rattle.std.specs.Io.KnownBytes.{Appends};
 ghost use Rattle.tc_link.specs.Frame.{IsWhole};
 ghost use Rattle.tc_lines.specs.Answering.{Writes};
 ghost use Rattle.tc_make.specs.Answer.{OrNoMemory, IsWholeSaid, IsEndedSaid, IsExplained, AreFramesSaid, IsClcwSaid, field_fault_text};
-ghost use Rattle.tc_make.specs.Printed.{frame_fault_text, kind_text, fields_text, lengths_text, header_text, part_text, segment_text, type_text, holds_text, whole_text, held_text, unit_packets_text, body_text, carried_text, field_text, frame_text, more_text, rest_text, explanation_text, clcw_front_text, flags_text, numbers_text, clcw_text};
+ghost use Rattle.tc_make.specs.Printed.{frame_fault_text, kind_text, fields_text, lengths_text, header_text, part_text, segment_text, type_text, holds_text, whole_text, printed_text, unit_packets_text, body_text, carried_text, field_text, frame_text, more_text, rest_text, explanation_text, clcw_front_text, flags_text, numbers_text, clcw_text};
 
 use crate::ending::Ending;
 use crate::explaining::{Explanation, explain};
@@ -284,7 +284,7 @@ fn type_word(telecommand: bool) -> &'static str
 
 #[tactic(auto, using(crate::proofs::Written::joined))]
 fn write_packet<W: Write>(packet: &Packet<'_>, writer: &mut W) -> io::Result<()>
-    ensures { OnOk result (Appends (W.contents writer.old) (W.contents writer.new) (held_text packet.now)) }
+    ensures { OnOk result (Appends (W.contents writer.old) (W.contents writer.new) (printed_text packet.now)) }
 {
     write_holds(packet, writer)?;
     write_whole(packet.secondary, packet.octets, writer)

@@ -2,15 +2,15 @@
 use Rattle.std.proofs.Common.{◌≡◌, ◌≢◌, ℕ, zero, suc, ◌<◌, ◌≤◌, true, get_or, drop, subst, List, [], ◌∷◌, ◌++◌, length, map, Option, Some, None, refl, sym, ap, ◌∙◌, arith}
 use Rattle.std.specs.Prelude.{set, slice_get, option_map, if◌then◌else◌}
 use Rattle.std.proofs.lemmas.List.{length-map, map-set, get_or-map, get_or-set_same, get_or-set_other, set-get_or}
-use Rattle.tc_packet.proofs.Names.{Laid, Part, next_run}
+use Rattle.tc_packet.proofs.Names.{Contents, Part, next_run}
 use Rattle.tc_packet.specs.Segment.{header_of, body_of}
 use Rattle.tc_packet.specs.Reassembly.{at_most, run_at, run_left, open_run, unit_at, unit_ended, ended_by}
 use Rattle.tc_packet.specs.OpenRun.{OpenRun, open_in, closed}
-use Rattle.tc_packet.specs.Store.{open_runs, sizes_of, limit_at, told, behind, over_at, settled, ended_by_stream, unit_in, Store, LeaveWithin, IsAtMost, IsWritten, IsFollowed}
-use Rattle.tc_packet.specs.declared.runs.Told.{Told}
+use Rattle.tc_packet.specs.Store.{open_runs, sizes_of, limit_at, ended_kind, behind, over_at, committed, ended_by_stream, unit_in, Store, LeaveWithin, IsAtMost, IsWritten, IsFollowed}
+use Rattle.tc_packet.specs.declared.runs.EndedKind.{EndedKind}
 use Rattle.tc_packet.specs.declared.runs.Ended.{Ended}
 use Rattle.tc_packet.specs.declared.runs.Ended.TheVariants as ends
-use Rattle.tc_packet.specs.declared.runs.Told.TheVariants as tolds
+use Rattle.tc_packet.specs.declared.runs.EndedKind.TheVariants as ended_kinds
 use Rattle.tc_packet.proofs.AtMost.{at_most-within, next-at_most, ended-at_most}
 
 slice_get-set_same : {A : Type 0} (xs : List A) (i : ℕ) (x : A) → i < length xs → slice_get (set xs i x) i ≡ Some x
@@ -66,13 +66,13 @@ abbrev pub with_run : Store → ℕ → OpenRun → Store
 with_run store i next = record store { runs = set store.runs i next }
 
 -- what is told of the unit is what lies there
-told-there : (store : Store) (i : ℕ) (next : OpenRun) (t : Told) (field : List ℕ) → i < length store.runs → unit_in (ended_by_stream t i) (with_run store i next) field ≡ told t next (drop 1 field)
-told-there store i next tolds.Whole field inside = ap (option_map (λ (r : OpenRun). r.room.octets)) (slice_get-set_same store.runs i next inside)
-told-there store i next _ field inside = refl
+ended-there : (store : Store) (i : ℕ) (next : OpenRun) (t : EndedKind) (field : List ℕ) → i < length store.runs → unit_in (ended_by_stream t i) (with_run store i next) field ≡ ended_kind t next (drop 1 field)
+ended-there store i next ended_kinds.Whole field inside = ap (option_map (λ (r : OpenRun). r.room.octets)) (slice_get-set_same store.runs i next inside)
+ended-there store i next _ field inside = refl
 
 -- a run that is behind its segment has the same room
-behind-room : (t : Told) (next : OpenRun) → (behind t next).room ≡ next.room
-behind-room tolds.Nothing next = refl
+behind-room : (t : EndedKind) (next : OpenRun) → (behind t next).room ≡ next.room
+behind-room ended_kinds.Nothing next = refl
 behind-room _ next = refl
 
 over-written : (runs : List OpenRun) (i : ℕ) (next : OpenRun) → i < length runs → over_at i (set runs i next) ≡ set runs i (closed next)
@@ -91,10 +91,10 @@ none-over (r ∷ runs) zero outside = absurd (omega arith)
 none-over (r ∷ runs) (suc i) outside = ap (λ (xs : List OpenRun). r ∷ xs) (none-over runs i (omega arith))
 
 -- once the unit is delivered the run behind its segment is there
-settled-is : (store : Store) (i : ℕ) (next : OpenRun) (t : Told) → i < length store.runs → settled (ended_by_stream t i) i (with_run store i next) ≡ with_run store i (behind t next)
-settled-is store i next tolds.Nothing inside = refl
-settled-is store i next tolds.Body inside = ap (λ (xs : List OpenRun). record store { runs = xs }) (over-written store.runs i next inside)
-settled-is store i next tolds.Whole inside = ap (λ (xs : List OpenRun). record store { runs = xs }) (over-written store.runs i next inside)
+committed-is : (store : Store) (i : ℕ) (next : OpenRun) (t : EndedKind) → i < length store.runs → committed (ended_by_stream t i) i (with_run store i next) ≡ with_run store i (behind t next)
+committed-is store i next ended_kinds.Nothing inside = refl
+committed-is store i next ended_kinds.Body inside = ap (λ (xs : List OpenRun). record store { runs = xs }) (over-written store.runs i next inside)
+committed-is store i next ended_kinds.Whole inside = ap (λ (xs : List OpenRun). record store { runs = xs }) (over-written store.runs i next inside)
 
 -- a run that is over has the room of before
 over-sizes : (runs : List OpenRun) (i : ℕ) → sizes_of (over_at i runs) ≡ sizes_of runs
@@ -106,19 +106,19 @@ over-others (r ∷ runs) zero zero apart = absurd (apart refl)
 over-others (r ∷ runs) (suc i) (suc other) apart = over-others runs i other (λ e. apart (ap suc e))
 over-others _ _ _ apart = refl
 
-pub settled-limits : (store : Store) (e : Ended) (i place : ℕ) → limit_at (settled e i store) place ≡ limit_at store place
-settled-limits store ends.Nothing i place = refl
-settled-limits store (ends.Lying from) i place = ap (λ (x : List ℕ). if store.segmented then get_or x place 0 else store.plain_limit) (over-sizes store.runs i)
-settled-limits store (ends.Joined at) i place = ap (λ (x : List ℕ). if store.segmented then get_or x place 0 else store.plain_limit) (over-sizes store.runs i)
+pub committed-limits : (store : Store) (e : Ended) (i place : ℕ) → limit_at (committed e i store) place ≡ limit_at store place
+committed-limits store ends.Nothing i place = refl
+committed-limits store (ends.Lying from) i place = ap (λ (x : List ℕ). if store.segmented then get_or x place 0 else store.plain_limit) (over-sizes store.runs i)
+committed-limits store (ends.Joined at) i place = ap (λ (x : List ℕ). if store.segmented then get_or x place 0 else store.plain_limit) (over-sizes store.runs i)
 
-pub settled-others : (store : Store) (e : Ended) (i other : ℕ) → other ≢ i → run_at (open_runs (settled e i store)).runs other ≡ run_at (open_runs store).runs other
-settled-others store ends.Nothing i other apart = refl
-settled-others store (ends.Lying from) i other apart = over-others store.runs i other apart
-settled-others store (ends.Joined at) i other apart = over-others store.runs i other apart
+pub committed-others : (store : Store) (e : Ended) (i other : ℕ) → other ≢ i → run_at (open_runs (committed e i store)).runs other ≡ run_at (open_runs store).runs other
+committed-others store ends.Nothing i other apart = refl
+committed-others store (ends.Lying from) i other apart = over-others store.runs i other apart
+committed-others store (ends.Joined at) i other apart = over-others store.runs i other apart
 
-pub settled-segmented : (store : Store) (e : Ended) (i : ℕ) → (settled e i store).segmented ≡ store.segmented
-settled-segmented store ends.Nothing i = refl
-settled-segmented store _ i = refl
+pub committed-segmented : (store : Store) (e : Ended) (i : ℕ) → (committed e i store).segmented ≡ store.segmented
+committed-segmented store ends.Nothing i = refl
+committed-segmented store _ i = refl
 
 -- the place of a segment with this header, and what it did to the run there
 pub record IsPassed (store : Store) (i place : ℕ) (part : Part) (field body : List ℕ) : Type 0 where
@@ -128,7 +128,7 @@ pub record IsPassed (store : Store) (i place : ℕ) (part : Part) (field body : 
   pub part_is : part ≡ (header_of field).part
   pub body_is : body ≡ drop 1 field
 
-module _ {store : Store} {i place : ℕ} {part : Part} {field body : List ℕ} {later : List OpenRun} {t : Told} (p : IsPassed store i place part field body) (f : IsFollowed i part body store.runs later t) where
+module _ {store : Store} {i place : ℕ} {part : Part} {field body : List ℕ} {later : List OpenRun} {t : EndedKind} (p : IsPassed store i place part field body) (f : IsFollowed i part body store.runs later t) where
   size-is : get_or (sizes_of store.runs) place 0 ≡ f.run.room.size
   size-is = ap (λ (k : ℕ). get_or (sizes_of store.runs) k 0) (sym p.at) ∙ read-size store.runs i f.run p.inside f.run_is
 
@@ -141,24 +141,24 @@ module _ {store : Store} {i place : ℕ} {part : Part} {field body : List ℕ} {
       let left' : at_most (get_or (sizes_of store.runs) place 0) (open_run fields) ≡ run_at (map open_in store.runs) place = rw on at left in
       ap (λ (n : ℕ). at_most n (open_run fields)) (sym size-is) ∙ left' ∙ open-is
 
-  unit-is : unit_in (ended_by_stream t i) (record store { runs = later }) field ≡ told t f.next body
-  unit-is = ap (λ (xs : List OpenRun). unit_in (ended_by_stream t i) (record store { runs = xs }) field) f.new_is ∙ told-there store i f.next t field p.inside ∙ ap (told t f.next) (sym p.body_is)
+  unit-is : unit_in (ended_by_stream t i) (record store { runs = later }) field ≡ ended_kind t f.next body
+  unit-is = ap (λ (xs : List OpenRun). unit_in (ended_by_stream t i) (record store { runs = xs }) field) f.new_is ∙ ended-there store i f.next t field p.inside ∙ ap (ended_kind t f.next) (sym p.body_is)
 
   pub passed-unit : (fields : List (List ℕ)) → LeaveWithin fields store place → unit_in (ended_by_stream t i) (record store { runs = later }) field ≡ at_most (limit_at store place) (unit_ended store.segmented fields field)
   passed-unit fields left =
       let on = p.on in
       let back : at_most (get_or (sizes_of store.runs) place 0) (unit_at fields field) ≡ at_most (limit_at store place) (unit_ended store.segmented fields field) = rw on refl in
-      unit-is ∙ unit-pushed f.run.room.size (told t f.next body) (open_in f.run) fields field body part f.small p.part_is p.body_is f.unit_is (left-is fields left)
+      unit-is ∙ unit-pushed f.run.room.size (ended_kind t f.next body) (open_in f.run) fields field body part f.small p.part_is p.body_is f.unit_is (left-is fields left)
       ∙ ap (λ (n : ℕ). at_most n (unit_at fields field)) (sym size-is) ∙ back
 
-  pub passed-run : MovesOn → (fields : List (List ℕ)) → LeaveWithin fields store place → LeaveWithin (fields ++ field ∷ []) (settled (ended_by_stream t i) place (record store { runs = later })) place
+  pub passed-run : MovesOn → (fields : List (List ℕ)) → LeaveWithin fields store place → LeaveWithin (fields ++ field ∷ []) (committed (ended_by_stream t i) place (record store { runs = later })) place
   passed-run moves fields left =
       let on = p.on in
       let next : OpenRun = behind t f.next in
-      let same : next.room.size ≡ f.run.room.size = ap (λ (r : Laid). r.size) (behind-room t f.next) ∙ f.same_size in
+      let same : next.room.size ≡ f.run.room.size = ap (λ (r : Contents). r.size) (behind-room t f.next) ∙ f.same_size in
       let sizes = same-sizes store.runs i f.run next p.inside f.run_is same in
-      let is : with_run store i next ≡ settled (ended_by_stream t i) place (record store { runs = later }) =
-      sym (settled-is store i f.next t p.inside) ∙ ap (λ (xs : List OpenRun). settled (ended_by_stream t i) i (record store { runs = xs })) (sym f.new_is) ∙ ap (λ (k : ℕ). settled (ended_by_stream t i) k (record store { runs = later })) p.at in
+      let is : with_run store i next ≡ committed (ended_by_stream t i) place (record store { runs = later }) =
+      sym (committed-is store i f.next t p.inside) ∙ ap (λ (xs : List OpenRun). committed (ended_by_stream t i) i (record store { runs = xs })) (sym f.new_is) ∙ ap (λ (k : ℕ). committed (ended_by_stream t i) k (record store { runs = later })) p.at in
       let front : at_most (limit_at (with_run store i next) place) (run_left store.segmented (fields ++ field ∷ [])) ≡ at_most (get_or (sizes_of (set store.runs i next)) place 0) (open_run (fields ++ field ∷ [])) = rw on refl in
       subst (λ (x : Store). LeaveWithin (fields ++ field ∷ []) x place) is
       (front ∙ ap (λ (x : List ℕ). at_most (get_or x place 0) (open_run (fields ++ field ∷ []))) sizes
@@ -175,13 +175,13 @@ module _ {store : Store} {i place : ℕ} {part : Part} {field body : List ℕ} {
       (subst (IsAtMost f.run.room.size) (sym unit) (at_most-within f.run.room.size (ended_by part (open_in f.run) body)))
 
   -- where it ended a unit the runs are as they were
-  pub passed-held : (t ≡ tolds.Nothing → ⊥) → map open_in later ≡ map open_in store.runs
-  passed-held some =
+  pub passed-contents : (t ≡ ended_kinds.Nothing → ⊥) → map open_in later ≡ map open_in store.runs
+  passed-contents some =
       ap (map open_in) f.new_is ∙ map-set open_in store.runs i f.next
-      ∙ ap (λ (o : Option (List ℕ)). set (map open_in store.runs) i o) (f.held some ∙ sym (read-open store.runs i f.run p.inside f.run_is)) ∙ set-get_or (map open_in store.runs) i None
+      ∙ ap (λ (o : Option (List ℕ)). set (map open_in store.runs) i o) (f.contents some ∙ sym (read-open store.runs i f.run p.inside f.run_is)) ∙ set-get_or (map open_in store.runs) i None
 
-pub told-nothing : (t : Told) (i : ℕ) → (ended_by_stream t i ≡ ends.Nothing → ⊥) → t ≡ tolds.Nothing → ⊥
-told-nothing t i some is = some (ap (λ (x : Told). ended_by_stream x i) is)
+pub ended-nothing : (t : EndedKind) (i : ℕ) → (ended_by_stream t i ≡ ends.Nothing → ⊥) → t ≡ ended_kinds.Nothing → ⊥
+ended-nothing t i some is = some (ap (λ (x : EndedKind). ended_by_stream x i) is)
 
 -- a run that was written leaves the others
 pub written-others : (store : Store) (i place other : ℕ) (later : List OpenRun) → IsWritten i store.runs later → i ≡ place → (other ≡ place → ⊥) → run_at (map open_in later) other ≡ run_at (map open_in store.runs) other

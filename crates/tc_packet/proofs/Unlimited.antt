@@ -4,10 +4,10 @@ use Rattle.std.proofs.lemmas.Bool.{cases_eq, cases_lt}
 use Rattle.std.proofs.lemmas.List.{get_or_past}
 use Rattle.tc_packet.proofs.AtMost.{at_most-some}
 use Rattle.tc_packet.proofs.Names.{LeaveWithin, OpenRuns, Store, run_at, stream_place}
-use Rattle.tc_packet.proofs.Stores.{settled-limits, settled-others, settled-segmented}
+use Rattle.tc_packet.proofs.Stores.{committed-limits, committed-others, committed-segmented}
 use Rattle.tc_packet.proofs.Streams.{bounded-within, left-by, open-within, unit-within}
 use Rattle.tc_packet.specs.Reassembly.{AreOpenRuns, IsWithinLimit, Leave, at_most, run_left, unit_ended}
-use Rattle.tc_packet.specs.Store.{IsUnlimited, first_runs, limit_at, of_streams, open_runs, settled}
+use Rattle.tc_packet.specs.Store.{IsUnlimited, first_runs, limit_at, of_streams, open_runs, committed}
 use Rattle.tc_packet.specs.declared.runs.Ended.{Ended}
 use Rattle.tc_packet.specs.declared.service.Service.{Service}
 use Rattle.tc_packet.specs.declared.service.Service.TheVariants.{Ad, Bd}
@@ -99,13 +99,6 @@ unlimited-begun store none limits = record {
     | inr past ↦ beyond (open_runs store) place past
   ]
 
--- a store whose open runs are as before
-pub unlimited-same : (old new : Store) → ((place : ℕ) → limit_at new place ≡ limit_at old place) → open_runs new ≡ open_runs old → IsUnlimited old → IsUnlimited new
-unlimited-same old new limits same is = record {
-  limits = λ place inside. limits place ∙ is.limits place inside;
-  runs = subst (λ (x : OpenRuns). AreOpenRuns (of_streams x)) (sym same) is.runs;
-}
-
 -- one more field of the stream with this place moved its run on
 pub record HasMovedOn (old new : Store) (place : ℕ) (field : List ℕ) : Type 0 where
   pub segmented : new.segmented ≡ old.segmented
@@ -148,14 +141,14 @@ module _ {old new : Store} {place : ℕ} {field : List ℕ} (inside : place < 12
         };
       }
 
--- a field was taken, and what it ended is settled
+-- a field was taken, and what it ended is committed
 pub taken : {old new : Store} {place : ℕ} {field : List ℕ} (mid : Store) (ended : Ended) → mid.segmented ≡ old.segmented → ((at : ℕ) → limit_at mid at ≡ limit_at old at)
     → ((other : ℕ) → other ≢ place → run_at (open_runs mid).runs other ≡ run_at (open_runs old).runs other)
-    → ((fields : List (List ℕ)) → LeaveWithin fields old place → LeaveWithin (fields ++ field ∷ []) (settled ended place mid) place)
-    → new ≡ settled ended place mid → HasMovedOn old new place field
+    → ((fields : List (List ℕ)) → LeaveWithin fields old place → LeaveWithin (fields ++ field ∷ []) (committed ended place mid) place)
+    → new ≡ committed ended place mid → HasMovedOn old new place field
 taken {place = place} mid ended segmented limits others run is = rw is (record {
-  segmented = settled-segmented mid ended place ∙ segmented;
-  limits = λ at. settled-limits mid ended place at ∙ limits at;
-  others = λ other apart. settled-others mid ended place other apart ∙ others other apart;
+  segmented = committed-segmented mid ended place ∙ segmented;
+  limits = λ at. committed-limits mid ended place at ∙ limits at;
+  others = λ other apart. committed-others mid ended place other apart ∙ others other apart;
   run = run;
 })

@@ -2,9 +2,9 @@
 use Rattle.std.specs.Prelude.{ℕ, List}
 
 -- the octets that lie in a room, and how many there may be
-pub record Laid : Type 0 where
+pub record Contents : Type 0 where
   pub octets : List ℕ
   pub size : ℕ
 
-abbrev pub laid : List ℕ → ℕ → Laid
-laid octets size = record { octets = octets; size = size }
+abbrev pub contents_of : List ℕ → ℕ → Contents
+contents_of octets size = record { octets = octets; size = size }

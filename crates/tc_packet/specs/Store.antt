@@ -3,8 +3,8 @@ use Rattle.std.specs.Prelude.{◌≡◌, ◌≤◌, ℕ, Bool, true, false, List
 use Rattle.tc_packet.specs.Reassembly.{AreOpenRuns, OpenRuns, at_most, ended_by, largest_unit, stream_count, run_left, run_at}
 use Rattle.tc_packet.specs.declared.segment.Part.{Part}
 use Rattle.tc_packet.specs.Runs.{next_run}
-use Rattle.tc_packet.specs.declared.runs.Told.{Told}
-use Rattle.tc_packet.specs.declared.runs.Told.TheVariants as tolds
+use Rattle.tc_packet.specs.declared.runs.EndedKind.{EndedKind}
+use Rattle.tc_packet.specs.declared.runs.EndedKind.TheVariants as ended_kinds
 use Rattle.tc_packet.specs.declared.runs.Ended.{Ended}
 use Rattle.tc_packet.specs.declared.runs.Ended.TheVariants.{Nothing, Lying, Joined}
 use Rattle.tc_packet.specs.OpenRun.{OpenRun, open_in, closed}
@@ -52,22 +52,22 @@ abbrev pub LeaveWithin : List (List ℕ) → Store → ℕ → Type 0
 LeaveWithin fields store place = at_most (limit_at store place) (run_left store.segmented fields) ≡ run_at (open_runs store).runs place
 
 -- the unit that a segment with this body ended
-abbrev pub told : Told → OpenRun → List ℕ → Option (List ℕ)
-told tolds.Nothing run body = None
-told tolds.Body run body = Some body
-told tolds.Whole run body = Some run.room.octets
+abbrev pub ended_kind : EndedKind → OpenRun → List ℕ → Option (List ℕ)
+ended_kind ended_kinds.Nothing run body = None
+ended_kind ended_kinds.Body run body = Some body
+ended_kind ended_kinds.Whole run body = Some run.room.octets
 
 -- the run behind a segment that was told so: one that ended a unit is over once that is delivered
-abbrev pub behind : Told → OpenRun → OpenRun
-behind tolds.Nothing run = run
-behind tolds.Body run = closed run
-behind tolds.Whole run = closed run
+abbrev pub behind : EndedKind → OpenRun → OpenRun
+behind ended_kinds.Nothing run = run
+behind ended_kinds.Body run = closed run
+behind ended_kinds.Whole run = closed run
 
 -- where the unit lies that a segment of the stream with this place ended
-abbrev pub ended_by_stream : Told → ℕ → Ended
-ended_by_stream tolds.Nothing place = Nothing
-ended_by_stream tolds.Body place = Lying 1
-ended_by_stream tolds.Whole place = Joined place
+abbrev pub ended_by_stream : EndedKind → ℕ → Ended
+ended_by_stream ended_kinds.Nothing place = Nothing
+ended_by_stream ended_kinds.Body place = Lying 1
+ended_by_stream ended_kinds.Whole place = Joined place
 
 -- the unit that a field ended
 abbrev pub unit_in : Ended → Store → List ℕ → Option (List ℕ)
@@ -91,10 +91,10 @@ abbrev pub over : ℕ → Store → Store
 over place store = record store { runs = over_at place store.runs }
 
 -- the store once the unit is delivered that a field of this stream ended, if it ended one
-abbrev pub settled : Ended → ℕ → Store → Store
-settled Nothing place store = store
-settled (Lying from) place store = over place store
-settled (Joined at) place store = over place store
+abbrev pub committed : Ended → ℕ → Store → Store
+committed Nothing place store = store
+committed (Lying from) place store = over place store
+committed (Joined at) place store = over place store
 
 -- one run was written, and its room is as large as before
 pub record IsWritten (place : ℕ) (old new : List OpenRun) : Type 0 where
@@ -103,16 +103,16 @@ pub record IsWritten (place : ℕ) (old new : List OpenRun) : Type 0 where
   pub sizes : sizes_of new ≡ sizes_of old
 
 -- the run at this place followed a segment with this body, and it is told where the unit lies that it ended
-pub record IsFollowed (place : ℕ) (part : Part) (body : List ℕ) (old new : List OpenRun) (t : Told) : Type 0 where
+pub record IsFollowed (place : ℕ) (part : Part) (body : List ℕ) (old new : List OpenRun) (t : EndedKind) : Type 0 where
   pub run : OpenRun
   pub next : OpenRun
   pub run_is : run ≡ get_or old place run
   pub new_is : new ≡ set old place next
   pub small : run.room.size ≤ largest_unit
   pub same_size : next.room.size ≡ run.room.size
-  pub unit_is : told t next body ≡ at_most run.room.size (ended_by part (open_in run) body)
+  pub unit_is : ended_kind t next body ≡ at_most run.room.size (ended_by part (open_in run) body)
   pub next_is : open_in (behind t next) ≡ at_most run.room.size (next_run part (open_in run) body)
-  pub held : (t ≡ tolds.Nothing → ⊥) → open_in next ≡ open_in run
+  pub contents : (t ≡ ended_kinds.Nothing → ⊥) → open_in next ≡ open_in run
 
 -- no unit is over the limit
 abbrev pub IsAtMost : ℕ → Option (List ℕ) → Type 0

@@ -2,7 +2,7 @@
 //!
 //! A [`Room`] is a place for octets, up to a size: a block of that size ([`FixedRoom`]), or a block that grows ([`GrowingRoom`]).
 //! [`Runs`] have a room for the open run of each stream, and say where the unit lies that a data field ends ([`Ended`]): it needn't be
-//! copied to be given out. A unit is laid behind what counts. Once it is delivered its run is over ([`Runs::settle`]); where memory
+//! copied to be given out. A unit is staged behind what counts. Once it is delivered its run is over ([`Runs::commit`]); where memory
 //! runs out before, the runs are as they were. A [`Reassembler`] is such runs in rooms that grow, and gives a copy of each unit.
 //!
 //! The rooms of the streams are a boxed slice, and so is the block of a [`FixedRoom`]: types that have no call that grows them. So with

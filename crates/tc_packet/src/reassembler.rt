@@ -66,9 +66,9 @@ impl Reassembler {
         ensures limit { AreOpenRuns self.new }
         ensures refused { OnErr result (self.new ≡ self.old) }
     {
-        let ended = self.runs.lay(service, field)?;
+        let ended = self.runs.stage(service, field)?;
         let unit = self.runs.copied(self.alloc, ended, field)?;
-        self.runs.settle(service, read_segment(field[0]).map, ended);
+        self.runs.commit(service, read_segment(field[0]).map, ended);
         Ok(unit)
     }
 }

@@ -1,7 +1,7 @@
 //! Octets in a block of one size, and octets in a block that grows.
 
 ghost use Rattle.std.specs.Prelude.{◌≡◌, ◌≤◌, ◌+◌, ◌++◌, Bool, false, [], length, take, IfOk, IsOk, OnOk, OnErr};
-ghost use Rattle.tc_packet.specs.Room.{Laid, laid};
+ghost use Rattle.tc_packet.specs.Room.{Contents, contents_of};
 
 use std::alloc::{AllocError, Global};
 use std::boxed::BoxedSlice;
@@ -12,14 +12,14 @@ use std::mem::replace;
 /// they are one code for rooms that are made at the start ([`FixedRoom`]) and for rooms that grow ([`GrowingRoom`]).
 pub trait Room: Drop {
     // the octets that lie here, and how many there may be
-    ghost held: { Self → Laid };
+    ghost contents: { Self → Contents };
 
     // whether octets take memory where they are put here; where they take none, none are refused
     ghost grows: { Bool };
 
     /// Room for so many octets, none of them in use.
     fn with_size(alloc: Global, size: usize) -> Result<Self, AllocError>
-        ensures { IfOk result (λ r. held r ≡ laid [] size) };
+        ensures { IfOk result (λ r. contents r ≡ contents_of [] size) };
 
     /// Whether memory may be asked for where octets are put here.
     fn may_ask() -> bool
@@ -27,34 +27,34 @@ pub trait Room: Drop {
 
     /// How many octets may be in use.
     fn size(&self) -> usize
-        ensures size { result ≡ (held self.now).size };
+        ensures size { result ≡ (contents self.now).size };
 
     /// Copies octets here, in place of those in use.
     fn fill(&mut self, octets: &[u8]) -> Result<(), AllocError>
-        requires { length octets.now ≤ (held self.old).size }
-        ensures filled { OnOk result (held self.new ≡ laid octets.now (held self.old).size) }
-        ensures refused { OnErr result (held self.new ≡ held self.old) }
+        requires { length octets.now ≤ (contents self.old).size }
+        ensures filled { OnOk result (contents self.new ≡ contents_of octets.now (contents self.old).size) }
+        ensures refused { OnErr result (contents self.new ≡ contents self.old) }
         ensures answered { grows ≡ false → IsOk result };
 
     /// Copies octets behind those in use.
     fn append(&mut self, octets: &[u8]) -> Result<(), AllocError>
-        requires { length (held self.old).octets + length octets.now ≤ (held self.old).size }
-        ensures appended { OnOk result (held self.new ≡ laid ((held self.old).octets ++ octets.now) (held self.old).size) }
-        ensures refused { OnErr result (held self.new ≡ held self.old) }
+        requires { length (contents self.old).octets + length octets.now ≤ (contents self.old).size }
+        ensures appended { OnOk result (contents self.new ≡ contents_of ((contents self.old).octets ++ octets.now) (contents self.old).size) }
+        ensures refused { OnErr result (contents self.new ≡ contents self.old) }
         ensures answered { grows ≡ false → IsOk result };
 
     /// Leaves the first octets alone in use.
     fn cut(&mut self, count: usize)
-        ensures cut { held self.new ≡ laid (take count (held self.old).octets) (held self.old).size };
+        ensures cut { contents self.new ≡ contents_of (take count (contents self.old).octets) (contents self.old).size };
 
-    /// No octets are in use, and a block that grew is let go.
+    /// No octets are in use, and a block that grew is given back.
     fn clear(&mut self)
-        ensures cleared { held self.new ≡ laid [] (held self.old).size };
+        ensures cleared { contents self.new ≡ contents_of [] (contents self.old).size };
 
     /// The octets in use, lent.
     fn as_slice(&self) -> &[u8]
-        ensures octets { result.now ≡ (held self.now).octets }
-        ensures within { length result.now ≤ (held self.now).size };
+        ensures octets { result.now ≡ (contents self.now).octets }
+        ensures within { length result.now ≤ (contents self.now).size };
 }
 
 /// A block of octets, of which the first ones are in use. The block has no call that grows it: only `with_size` allocates.
@@ -67,11 +67,11 @@ pub struct FixedRoom {
 impl Model for FixedRoom {
     ghost use Rattle.std.specs.Prelude.{◌≤◌, take, length};
     ghost use Rattle.std.specs.Box.{boxed_slice_items};
-    ghost use Rattle.tc_packet.specs.Room.{Laid, laid};
+    ghost use Rattle.tc_packet.specs.Room.{Contents, contents_of};
 
-    ghost Value = { Laid };
+    ghost Value = { Contents };
 
-    ghost view = { λ r. laid (take r.len (boxed_slice_items r.block)) (length (boxed_slice_items r.block)) };
+    ghost view = { λ r. contents_of (take r.len (boxed_slice_items r.block)) (length (boxed_slice_items r.block)) };
 
     ghost invariant = { λ r. r.len ≤ length (boxed_slice_items r.block) };
 }
@@ -86,7 +86,7 @@ fn write_at(block: &mut [u8], from: usize, octets: &[u8])
 }
 
 impl Room for FixedRoom {
-    ghost held = { λ r. r };
+    ghost contents = { λ r. r };
 
     ghost grows = { false };
 
@@ -144,11 +144,11 @@ pub struct GrowingRoom {
 
 impl Model for GrowingRoom {
     ghost use Rattle.std.specs.Prelude.{◌≤◌, length};
-    ghost use Rattle.tc_packet.specs.Room.{Laid, laid};
+    ghost use Rattle.tc_packet.specs.Room.{Contents, contents_of};
 
-    ghost Value = { Laid };
+    ghost Value = { Contents };
 
-    ghost view = { λ r. laid r.block.items r.size };
+    ghost view = { λ r. contents_of r.block.items r.size };
 
     ghost invariant = { λ r. length r.block.items ≤ r.size };
 }
@@ -156,7 +156,7 @@ impl Model for GrowingRoom {
 impl Room for GrowingRoom {
     ghost use Rattle.std.specs.Prelude.{true};
 
-    ghost held = { λ r. r };
+    ghost contents = { λ r. r };
 
     ghost grows = { true };
 
@@ -207,7 +207,7 @@ impl GrowingRoom {
     /// Takes the octets in use out, in the block that has them: none is copied, and no memory is asked for. No octets are in use then.
     pub fn take_block(&mut self) -> Vec<u8>
         ensures octets { result.items ≡ self.old.octets }
-        ensures cleared { self.new ≡ laid [] self.old.size }
+        ensures cleared { self.new ≡ contents_of [] self.old.size }
     {
         replace(&mut self.block, Vec::new(self.alloc))
     }

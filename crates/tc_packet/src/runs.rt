@@ -6,10 +6,10 @@ ghost use Rattle.std.specs.List.{AllByRecursion};
 ghost use Rattle.tc_packet.specs.declared.service.Service.{Service};
 ghost use Rattle.tc_packet.specs.Reassembly.{at_most, bounded, ended_by, place_of, run_at, stream_place, unit_ended, largest_unit, extended};
 ghost use Rattle.tc_packet.specs.Runs.{next_run, octets_in};
-ghost use Rattle.tc_packet.specs.Room.{laid};
+ghost use Rattle.tc_packet.specs.Room.{contents_of};
 ghost use Rattle.tc_packet.specs.OpenRun.{open_in};
-ghost use Rattle.tc_packet.specs.Store.{behind, open_runs, limit_at, over_at, settled, LeaveWithin, told, unit_in, sizes_of, ended_by_stream, IsFollowed, IsWritten, Store, IsThere, IsAtMost};
-ghost use Rattle.tc_packet.specs.declared.runs.Told.TheVariants as Told;
+ghost use Rattle.tc_packet.specs.Store.{behind, open_runs, limit_at, over_at, committed, LeaveWithin, ended_kind, unit_in, sizes_of, ended_by_stream, IsFollowed, IsWritten, Store, IsThere, IsAtMost};
+ghost use Rattle.tc_packet.specs.declared.runs.EndedKind.TheVariants as EndedKind;
 ghost use Rattle.tc_packet.specs.declared.runs.Ended.TheVariants as Ended;
 
 use crate::laws::one_more_field_moves_its_run_on;
@@ -20,7 +20,7 @@ use std::alloc::{AllocError, Global};
 use std::boxed::BoxedSlice;
 use std::marker::Model;
 
-/// The run of a stream: the first octets in its room, while it is open. A last segment lays its octets behind them, so that the unit
+/// The run of a stream: the first octets in its room, while it is open. A last segment stages its octets behind them, so that the unit
 /// is one slice, and the run stays until that is delivered.
 #[derive(Drop)]
 pub struct Run<R: Room> {
@@ -34,14 +34,14 @@ impl<R: Room> Model for Run<R> {
 
     ghost Value = { OpenRun };
 
-    ghost view = { λ r. record { is_open = r.is_open; count = r.count; room = R.held r.room } };
+    ghost view = { λ r. record { is_open = r.is_open; count = r.count; room = R.contents r.room } };
 
-    ghost invariant = { λ r. IsRun (record { is_open = r.is_open; count = r.count; room = R.held r.room }) };
+    ghost invariant = { λ r. IsRun (record { is_open = r.is_open; count = r.count; room = R.contents r.room }) };
 }
 
 /// Where the unit lies that a segment ended: nowhere, in its body, or in the room of the run.
 #[derive(Clone, Copy)]
-pub(crate) enum Told {
+pub(crate) enum EndedKind {
     Nothing,
     Body,
     Whole,
@@ -81,7 +81,7 @@ impl<R: Room> Run<R> {
     // No run is open, and there is room for so many octets.
     fn with_size(alloc: Global, size: usize) -> Result<Run<R>, AllocError>
         requires { size ≤ LARGEST_UNIT }
-        ensures { IfOk result (λ r. r ≡ record { is_open = false; count = 0; room = laid [] size }) }
+        ensures { IfOk result (λ r. r ≡ record { is_open = false; count = 0; room = contents_of [] size }) }
     {
         let room: R = Room::with_size(alloc, size)?;
         Ok(Run {
@@ -91,9 +91,9 @@ impl<R: Room> Run<R> {
         })
     }
 
-    // Lays a body behind the open run, and says whether it did: not where no run is open, nor beyond its room.
+    // Stages a body behind the open run, and says whether it did: not where no run is open, nor beyond its room.
     fn extend(&mut self, body: &[u8]) -> Result<bool, AllocError>
-        ensures laid { IfOk result (λ done. done ≡ true → (self.old.is_open ≡ true) × (at_most self.old.room.size (extended (open_in self.old) body.now) ≡ Some self.new.room.octets)) }
+        ensures contents_of { IfOk result (λ done. done ≡ true → (self.old.is_open ≡ true) × (at_most self.old.room.size (extended (open_in self.old) body.now) ≡ Some self.new.room.octets)) }
         ensures none { IfOk result (λ done. done ≡ false → at_most self.old.room.size (extended (open_in self.old) body.now) ≡ None) }
         ensures same { open_in self.new ≡ open_in self.old }
         ensures open { self.new.is_open ≡ self.old.is_open }
@@ -145,10 +145,10 @@ impl<R: Room> Run<R> {
 
     // A segment with this body moves the run on, where it ends no unit. Where it ends one, it says where that lies, and the run stays
     // until it is closed.
-    fn follow(&mut self, part: Part, body: &[u8]) -> Result<Told, AllocError>
-        ensures unit { IfOk result (λ t. told t self.new body.now ≡ at_most self.old.room.size (ended_by part (open_in self.old) body.now)) }
+    fn follow(&mut self, part: Part, body: &[u8]) -> Result<EndedKind, AllocError>
+        ensures unit { IfOk result (λ t. ended_kind t self.new body.now ≡ at_most self.old.room.size (ended_by part (open_in self.old) body.now)) }
         ensures run { IfOk result (λ t. open_in (behind t self.new) ≡ at_most self.old.room.size (next_run part (open_in self.old) body.now)) }
-        ensures held { IfOk result (λ t. (t ≡ Told.Nothing → ⊥) → open_in self.new ≡ open_in self.old) }
+        ensures contents { IfOk result (λ t. (t ≡ EndedKind.Nothing → ⊥) → open_in self.new ≡ open_in self.old) }
         ensures refused { OnErr result (open_in self.new ≡ open_in self.old) }
         ensures size { self.new.room.size ≡ self.old.room.size }
         ensures small { self.old.room.size ≤ largest_unit }
@@ -157,25 +157,25 @@ impl<R: Room> Run<R> {
         match part {
             Part::First => {
                 self.begin(body)?;
-                Ok(Told::Nothing)
+                Ok(EndedKind::Nothing)
             }
             Part::Continuing => {
                 self.go_on(body)?;
-                Ok(Told::Nothing)
+                Ok(EndedKind::Nothing)
             }
             Part::Last => {
                 if self.extend(body)? {
-                    return Ok(Told::Whole);
+                    return Ok(EndedKind::Whole);
                 }
                 self.is_open = false;
-                Ok(Told::Nothing)
+                Ok(EndedKind::Nothing)
             }
             Part::Unsegmented => {
                 if body.len() <= self.room.size() {
-                    return Ok(Told::Body);
+                    return Ok(EndedKind::Body);
                 }
                 self.is_open = false;
-                Ok(Told::Nothing)
+                Ok(EndedKind::Nothing)
             }
         }
     }
@@ -207,25 +207,25 @@ impl Run<GrowingRoom> {
             count: self.count,
             room: self.room.copied(body.len())?,
         };
-        let told = copy.follow(part, body)?;
+        let ended_kind = copy.follow(part, body)?;
         let Run { mut room, .. } = copy;
-        match told {
-            Told::Nothing => return Ok(None),
-            Told::Body => room.fill(body)?,
-            Told::Whole => {}
+        match ended_kind {
+            EndedKind::Nothing => return Ok(None),
+            EndedKind::Body => room.fill(body)?,
+            EndedKind::Whole => {}
         }
         Ok(Some(room.take_block()))
     }
 }
 
 // Where the unit lies that a segment of the stream with this place ended.
-fn ended_at(told: Told, place: usize) -> Ended
-    ensures { result ≡ ended_by_stream told place }
+fn ended_at(ended_kind: EndedKind, place: usize) -> Ended
+    ensures { result ≡ ended_by_stream ended_kind place }
 {
-    match told {
-        Told::Nothing => Ended::Nothing,
-        Told::Body => Ended::Lying(1),
-        Told::Whole => Ended::Joined(place),
+    match ended_kind {
+        EndedKind::Nothing => Ended::Nothing,
+        EndedKind::Body => Ended::Lying(1),
+        EndedKind::Whole => Ended::Joined(place),
     }
 }
 
@@ -235,7 +235,7 @@ fn follow_at<R: Room>(
     at: usize,
     part: Part,
     body: &[u8],
-) -> Result<Told, AllocError>
+) -> Result<EndedKind, AllocError>
     requires { at < length (boxed_slice_items runs.old) }
     ensures followed { IfOk result (IsFollowed at part body.now (boxed_slice_items runs.old) (boxed_slice_items runs.new)) }
     ensures written { IsWritten at (boxed_slice_items runs.old) (boxed_slice_items runs.new) }
@@ -338,17 +338,17 @@ impl<R: Room> Runs<R> {
     }
 
     /// Takes the next field of its stream, and says where the unit lies that it ends. A run or a unit of more octets than the limit
-    /// of its stream is dropped. A run that ends stays until [`settle`](Runs::settle), so that where memory runs out behind
+    /// of its stream is dropped. A run that ends stays until [`commit`](Runs::commit), so that where memory runs out behind
     /// this call the runs are as they were. What is said of the fields before holds of any fields that have left the stream's run as it is.
     #[inline(always)]
-    pub fn lay(&mut self, service: Service, field: &[u8]) -> Result<Ended, AllocError>
+    pub fn stage(&mut self, service: Service, field: &[u8]) -> Result<Ended, AllocError>
         requires { 0 < length field.now }
         ensures unit { (fields : List (List ℕ)) → LeaveWithin fields self.old (stream_place service field.now)
             → IfOk result (λ ended. unit_in ended self.new field.now
             ≡ at_most (limit_at self.old (stream_place service field.now)) (unit_ended self.old.segmented fields field.now)) }
         ensures run { (fields : List (List ℕ)) → LeaveWithin fields self.old (stream_place service field.now)
-            → IfOk result (λ ended. LeaveWithin (fields ++ field.now ∷ []) (settled ended (stream_place service field.now) self.new) (stream_place service field.now)) }
-        ensures held { IfOk result (λ ended. (ended ≡ Ended.Nothing → ⊥) → open_runs self.new ≡ open_runs self.old) }
+            → IfOk result (λ ended. LeaveWithin (fields ++ field.now ∷ []) (committed ended (stream_place service field.now) self.new) (stream_place service field.now)) }
+        ensures contents { IfOk result (λ ended. (ended ≡ Ended.Nothing → ⊥) → open_runs self.new ≡ open_runs self.old) }
         ensures refused { OnErr result (open_runs self.new ≡ open_runs self.old) }
         ensures others { (other : ℕ) → (other ≡ stream_place service field.now → ⊥)
             → run_at (open_runs self.new).runs other ≡ run_at (open_runs self.old).runs other }
@@ -367,15 +367,15 @@ impl<R: Room> Runs<R> {
         one_more_field_moves_its_run_on();
         let segment = read_segment(field[0]);
         let at = place(service, segment.map);
-        let told = follow_at(&mut self.runs, at, segment.part, &field[1..])?;
-        Ok(ended_at(told, at))
+        let ended_kind = follow_at(&mut self.runs, at, segment.part, &field[1..])?;
+        Ok(ended_at(ended_kind, at))
     }
 
     /// What a field of this stream ended is delivered: its run is over, if it ended a unit.
     #[inline(always)]
-    pub fn settle(&mut self, service: Service, map: u8, ended: Ended)
+    pub fn commit(&mut self, service: Service, map: u8, ended: Ended)
         requires { map < 64 }
-        ensures { self.new ≡ settled ended (place_of service map) self.old }
+        ensures { self.new ≡ committed ended (place_of service map) self.old }
     {
         match ended {
             Ended::Nothing => {}
@@ -384,7 +384,7 @@ impl<R: Room> Runs<R> {
         }
     }
 
-    /// The octets in the room of the stream with this place, lent: behind `lay` the unit that it said is joined there.
+    /// The octets in the room of the stream with this place, lent: behind `stage` the unit that it said is joined there.
     pub fn joined(&self, place: usize) -> &[u8]
         requires { place < length self.now.runs }
         ensures { Some result.now ≡ option_map (λ r. r.room.octets) (slice_get self.now.runs place) }

@@ -93,14 +93,14 @@ units-beside s journal taken map_id =
 
 -- one item less waits in the queue that it is taken from
 pub one-less : (queue : QueueId) (old : Linked) (answer : Answer) (new : Linked) → IsTakenFrom queue old answer new → length (waiting_in queue new) + 1 ≡ length (waiting_in queue old)
-one-less (Packets apid) old answer new (packet, is, told, becomes) =
+one-less (Packets apid) old answer new (packet, is, reported, becomes) =
     let s = old.history.settings in
     let journal = old.history.journal in
     subst (λ (x : Linked). length (waiting_in (Packets apid) x) + 1 ≡ length (waiting_in (Packets apid) old)) (sym becomes)
     (rw (packets-taken s journal apid apid, packets-now s journal apid)
     (gives-one apid (queue_of apid (run s journal).queues) packet (found-key apid (run s journal).queues)
     (subst (λ o. option_and_then (λ items. slice_get items 0) o ≡ Some packet) (packets-now s journal apid) is)))
-one-less (Units map_id) old answer new (unit, is, told, becomes) =
+one-less (Units map_id) old answer new (unit, is, reported, becomes) =
     let s = old.history.settings in
     let journal = old.history.journal in
     subst (λ (x : Linked). length (waiting_in (Units map_id) x) + 1 ≡ length (waiting_in (Units map_id) old)) (sym becomes)
@@ -110,16 +110,16 @@ one-less (Units map_id) old answer new (unit, is, told, becomes) =
 
 -- nothing comes into an empty queue by a take
 pub stays-empty : (queue other : QueueId) (old : Linked) (answer : Answer) (new : Linked) → IsTakenFrom queue old answer new → waiting_in other old ≡ [] → waiting_in other new ≡ []
-stays-empty (Packets taken) (Packets apid) old answer new (packet, is, told, becomes) empty =
+stays-empty (Packets taken) (Packets apid) old answer new (packet, is, reported, becomes) empty =
     let s = old.history.settings in
     let journal = old.history.journal in
     subst (λ (x : Linked). waiting_in (Packets apid) x ≡ []) (sym becomes)
     (ap none_or (packets-taken s journal taken apid) ∙ still-empty taken (queue_of apid (run s journal).queues) (sym (ap none_or (packets-now s journal apid)) ∙ empty))
-stays-empty (Units taken) (Packets apid) old answer new (unit, is, told, becomes) empty =
+stays-empty (Units taken) (Packets apid) old answer new (unit, is, reported, becomes) empty =
     subst (λ (x : Linked). waiting_in (Packets apid) x ≡ []) (sym becomes) (ap none_or (packets-beside old.history.settings old.history.journal taken apid) ∙ empty)
-stays-empty (Packets taken) (Units map_id) old answer new (packet, is, told, becomes) empty =
+stays-empty (Packets taken) (Units map_id) old answer new (packet, is, reported, becomes) empty =
     subst (λ (x : Linked). waiting_in (Units map_id) x ≡ []) (sym becomes) (ap none_or (units-beside old.history.settings old.history.journal taken map_id) ∙ empty)
-stays-empty (Units taken) (Units map_id) old answer new (unit, is, told, becomes) empty =
+stays-empty (Units taken) (Units map_id) old answer new (unit, is, reported, becomes) empty =
     let s = old.history.settings in
     let journal = old.history.journal in
     subst (λ (x : Linked). waiting_in (Units map_id) x ≡ []) (sym becomes)
@@ -129,13 +129,13 @@ stays-empty (Units taken) (Units map_id) old answer new (unit, is, told, becomes
 
 pub packet-given : (apid : ℕ) (old : Linked) (answer : Answer) (new : Linked) → waiting_in (Packets apid) old ≢ [] → IsTakeAnswered apid old answer new → IsPacketTaken apid old answer new
 packet-given apid old answer new some (inl taken) = taken
-packet-given apid old answer new some (inr (inl (none, told), same)) = absurd (some (ap none_or none))
-packet-given apid old answer new some (inr (inr (none, told), same)) = absurd (some (ap none_or none))
+packet-given apid old answer new some (inr (inl (none, reported), same)) = absurd (some (ap none_or none))
+packet-given apid old answer new some (inr (inr (none, reported), same)) = absurd (some (ap none_or none))
 
 pub unit-given : (map_id : ℕ) (old : Linked) (answer : Answer) (new : Linked) → waiting_in (Units map_id) old ≢ [] → IsUnitAnswered map_id old answer new → IsUnitTaken map_id old answer new
 unit-given map_id old answer new some (inl taken) = taken
-unit-given map_id old answer new some (inr (inl (none, told), same)) = absurd (some (ap none_or none))
-unit-given map_id old answer new some (inr (inr (none, told), same)) = absurd (some (ap none_or none))
+unit-given map_id old answer new some (inr (inl (none, reported), same)) = absurd (some (ap none_or none))
+unit-given map_id old answer new some (inr (inr (none, reported), same)) = absurd (some (ap none_or none))
 
 -- how much waits is counted
 pub counted : (found : Option (List (List ℕ))) (count : ℕ) → option_map length found ≡ Some count → count ≡ length (none_or found)

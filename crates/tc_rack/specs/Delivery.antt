@@ -9,7 +9,7 @@ use Rattle.tc_channel.specs.Reply.{waiting_packets, waiting_units}
 use Rattle.tc_rack.specs.declared.answer.Answer.{Answer}
 use Rattle.tc_rack.specs.declared.queue.QueueId.{QueueId}
 use Rattle.tc_rack.specs.declared.queue.QueueId.TheVariants.{Packets, Units}
-use Rattle.tc_rack.specs.Linked.{Linked, IsPacketTaken, IsUnitTaken, told_word}
+use Rattle.tc_rack.specs.Linked.{Linked, IsPacketTaken, IsUnitTaken, reported_word}
 use Rattle.tc_rack.specs.Printed.{answer_text}
 use Rattle.tc_rack.specs.Rack.{Racked, HasChannel, Changes}
 
@@ -58,7 +58,7 @@ AreEmpty queues channel = AllByRecursion (λ queue. waiting_in queue channel ≡
 abbrev pub IsHandedOn : Linked → List Answer → Linked → Type 0
 IsHandedOn old answers new =
     (taken : List Answer) × AreEmptied (queues_of old.history.settings) old taken new × AreEmpty (queues_of old.history.settings) new
-    × (answers ≡ taken ++ told_word new ∷ [])
+    × (answers ≡ taken ++ reported_word new ∷ [])
 
 -- the channel with this id hands on what waits in it; or there is no such channel, and nothing is told
 abbrev pub IsDeliveryEnded : ℕ → Racked → List Answer → Racked → Type 0
@@ -66,12 +66,12 @@ IsDeliveryEnded vcid old answers new =
     Changes old vcid (λ before after. IsHandedOn before answers after) new ⊎ (¬ HasChannel old.channels vcid × (answers ≡ []) × (new ≡ old))
 
 -- an answer, and answers, each with a line feed
-abbrev pub told_line : Answer → List ℕ
-told_line answer = answer_text answer ++ codes "\n"
+abbrev pub reported_line : Answer → List ℕ
+reported_line answer = answer_text answer ++ codes "\n"
 
-abbrev pub told_lines : List Answer → List ℕ
-told_lines answers = flat_map told_line answers
+abbrev pub reported_lines : List Answer → List ℕ
+reported_lines answers = flat_map reported_line answers
 
 -- answers that are such were written
 abbrev pub AreAnswersWritten : Option (List ℕ) → Option (List ℕ) → (List Answer → Type 0) → Type 0
-AreAnswersWritten before after Are = (answers : List Answer) × Are answers × Appends before after (told_lines answers)
+AreAnswersWritten before after Are = (answers : List Answer) × Are answers × Appends before after (reported_lines answers)

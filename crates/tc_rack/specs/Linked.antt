@@ -80,5 +80,5 @@ IsUnitAnswered map_id old answer new =
     IsUnitTaken map_id old answer new ⊎ (IsUnitRefused map_id old answer × (new ≡ old))
 
 -- the CLCW, with the flags of the link
-abbrev pub told_word : Linked → Answer
-told_word channel = answers.Clcw (vcid_of channel) (clcw channel.history.settings channel.history.journal channel.link)
+abbrev pub reported_word : Linked → Answer
+reported_word channel = answers.Clcw (vcid_of channel) (clcw channel.history.settings channel.history.journal channel.link)

@@ -7,7 +7,7 @@ use Rattle.tc_rack.specs.declared.answer.Answer.TheVariants.{Refused}
 use Rattle.tc_rack.specs.declared.answer.Refusal.TheVariants.{Unlocated, UnknownChannel}
 use Rattle.tc_rack.specs.declared.operation.Operation.{Operation}
 use Rattle.tc_rack.specs.declared.operation.Operation.TheVariants as operations
-use Rattle.tc_rack.specs.Linked.{Linked, IsFrameAnswered, IsReleaseAnswered, IsTakeAnswered, IsUnitAnswered, told_word}
+use Rattle.tc_rack.specs.Linked.{Linked, IsFrameAnswered, IsReleaseAnswered, IsTakeAnswered, IsUnitAnswered, reported_word}
 use Rattle.tc_rack.specs.Rack.{Racked, HasChannel, IsOf, Changes, IsRackLocateFault}
 
 -- there is no channel with this id, and the answer says so
@@ -33,7 +33,7 @@ IsFrameAnswer octets old answer new =
 
 -- the CLCW of the channel with this id; or there is no such channel
 abbrev pub IsClcwAnswer : ℕ → Racked → Answer → Type 0
-IsClcwAnswer vcid rack answer = IsOf rack vcid (λ channel. answer ≡ told_word channel) ⊎ IsUnknown rack vcid answer
+IsClcwAnswer vcid rack answer = IsOf rack vcid (λ channel. answer ≡ reported_word channel) ⊎ IsUnknown rack vcid answer
 
 -- what an operation is answered, and what it leaves
 abbrev pub IsAnswerOf : Operation → Racked → Answer → Racked → Type 0

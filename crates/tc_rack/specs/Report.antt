@@ -2,7 +2,7 @@
 use Rattle.std.specs.Prelude.{◌≡◌, ℕ, List, ◌++◌, Option, Some, None, All, codes, decimal, length}
 use Rattle.std.specs.List.{flat_map}
 use Rattle.std.specs.List.Sorted.{IsNonDecreasingBy}
-use Rattle.tc_channel.specs.Journal.{History, IsNumberTold}
+use Rattle.tc_channel.specs.Journal.{History, IsNumberReported}
 use Rattle.tc_channel.specs.Reply.{buffered_fields, clcw, waiting_packets, waiting_units}
 use Rattle.tc_channel.specs.Run.{IsLawful}
 use Rattle.tc_channel.specs.Settings.{IsAllowed}
@@ -57,6 +57,6 @@ report_text channels = flat_map channel_text channels
 -- fewer events than 2^64 - 1
 pub record IsReportOf (channels : List History) (text : List ℕ) : Type 0 where
   pub rising : AreRising channels
-  pub told : All IsNumberTold channels
+  pub reported : All IsNumberReported channels
   pub lawful : All IsLawfulHistory channels
   pub written : text ≡ report_text channels

@@ -2,7 +2,7 @@
 
 ghost use Rattle.std.specs.Prelude.{◌≡◌, ◌∷◌, [], OnOk};
 ghost use Rattle.std.specs.Io.KnownBytes.{Appends};
-ghost use Rattle.tc_rack.specs.Delivery.{AreAnswersWritten, AreTakenFrom, AreEmptied, IsHandedOn, packet_queues, unit_queues, told_line, waiting_in};
+ghost use Rattle.tc_rack.specs.Delivery.{AreAnswersWritten, AreTakenFrom, AreEmptied, IsHandedOn, packet_queues, unit_queues, reported_line, waiting_in};
 
 use crate::answer::Answer;
 use crate::linked::LinkedChannel;
@@ -13,7 +13,7 @@ use std::io::Write;
 /// Takes each packet of each queue, and then each unit of each chosen MAP, in the order of the settings, until nothing waits; writes
 /// the answer to each take, and then the CLCW. Each answer is written before the next is made.
 pub(crate) fn hand_on<W: Write>(channel: &mut LinkedChannel, writer: &mut W) -> io::Result<()>
-    ensures told { OnOk result (AreAnswersWritten (W.contents writer.old) (W.contents writer.new) (λ answers. IsHandedOn channel.old answers channel.new)) }
+    ensures reported { OnOk result (AreAnswersWritten (W.contents writer.old) (W.contents writer.new) (λ answers. IsHandedOn channel.old answers channel.new)) }
     ensures settings { channel.new.history.settings ≡ channel.old.history.settings }
 {
     empty_packet_queues(channel, writer)?;
@@ -23,7 +23,7 @@ pub(crate) fn hand_on<W: Write>(channel: &mut LinkedChannel, writer: &mut W) -> 
 }
 
 fn empty_packet_queues<W: Write>(channel: &mut LinkedChannel, writer: &mut W) -> io::Result<()>
-    ensures told { OnOk result (AreAnswersWritten (W.contents writer.old) (W.contents writer.new) (λ answers. AreEmptied (packet_queues channel.old.history.settings) channel.old answers channel.new)) }
+    ensures reported { OnOk result (AreAnswersWritten (W.contents writer.old) (W.contents writer.new) (λ answers. AreEmptied (packet_queues channel.old.history.settings) channel.old answers channel.new)) }
     ensures settings { channel.new.history.settings ≡ channel.old.history.settings }
 {
     let count = channel.settings().queues.len();
@@ -35,7 +35,7 @@ fn empty_packet_queues<W: Write>(channel: &mut LinkedChannel, writer: &mut W) ->
 }
 
 fn empty_unit_queues<W: Write>(channel: &mut LinkedChannel, writer: &mut W) -> io::Result<()>
-    ensures told { OnOk result (AreAnswersWritten (W.contents writer.old) (W.contents writer.new) (λ answers. AreEmptied (unit_queues channel.old.history.settings) channel.old answers channel.new)) }
+    ensures reported { OnOk result (AreAnswersWritten (W.contents writer.old) (W.contents writer.new) (λ answers. AreEmptied (unit_queues channel.old.history.settings) channel.old answers channel.new)) }
     ensures settings { channel.new.history.settings ≡ channel.old.history.settings }
 {
     let count = channel.settings().maps.len();
@@ -52,7 +52,7 @@ fn empty_queue<W: Write>(
     queue: QueueId,
     writer: &mut W,
 ) -> io::Result<()>
-    ensures told { OnOk result (AreAnswersWritten (W.contents writer.old) (W.contents writer.new) (λ answers. AreTakenFrom queue channel.old answers channel.new × (waiting_in queue channel.new ≡ []))) }
+    ensures reported { OnOk result (AreAnswersWritten (W.contents writer.old) (W.contents writer.new) (λ answers. AreTakenFrom queue channel.old answers channel.new × (waiting_in queue channel.new ≡ []))) }
     ensures settings { channel.new.history.settings ≡ channel.old.history.settings }
 {
     let count = channel.waiting(queue);
@@ -64,7 +64,7 @@ fn empty_queue<W: Write>(
 }
 
 fn tell<W: Write>(answer: &Answer, writer: &mut W) -> io::Result<()>
-    ensures { OnOk result (Appends (W.contents writer.old) (W.contents writer.new) (told_line answer.now)) }
+    ensures { OnOk result (Appends (W.contents writer.old) (W.contents writer.new) (reported_line answer.now)) }
 {
     writeln!(writer, "{answer}")
 }

@@ -17,7 +17,7 @@ mod stage;
 
 pub use answer::{Answer, Refusal};
 pub use operation::Operation;
-pub use performing::{Founder, RackFounder, begin, perform, start};
+pub use performing::{Backend, RackBackend, begin, perform, start};
 pub use rack::Rack;
 pub use report::write_report;
 pub use stage::Stage;

@@ -1,7 +1,7 @@
 //! A channel with the flags of its link, and what it is answered.
 
 ghost use Rattle.std.specs.Prelude.{◌≡◌, ◌≢◌, ◌⊎◌, ◌+◌, [], length, IfOk, OnErr};
-ghost use Rattle.tc_rack.specs.Linked.{new_linked, later, IsFrameAnswered, IsReleaseAnswered, IsTakeAnswered, IsUnitAnswered, told_word};
+ghost use Rattle.tc_rack.specs.Linked.{new_linked, later, IsFrameAnswered, IsReleaseAnswered, IsTakeAnswered, IsUnitAnswered, reported_word};
 ghost use Rattle.tc_rack.specs.Delivery.{IsTakenFrom, waiting_in};
 ghost use Rattle.tc_channel.specs.Holding.{holding_of};
 
@@ -10,7 +10,7 @@ use crate::queue::QueueId;
 use std::alloc::Global;
 use std::marker::Model;
 use tc_channel::{
-    FlightChannel, Holding, NoMemory, Octets, ReleaseFault, Settings, TakeFault, TakeUnitFault,
+    CountingChannel, Holding, NoMemory, Octets, ReleaseFault, Settings, TakeFault, TakeUnitFault,
     holding_in,
 };
 use tc_link::{Frame, Link};
@@ -24,7 +24,7 @@ pub(crate) const NO_FLAG: Link = Link {
 /// A channel with the flags of its link. A call that is refused leaves both as they were.
 #[derive(Drop)]
 pub(crate) struct LinkedChannel {
-    channel: FlightChannel,
+    channel: CountingChannel,
     link: Link,
 }
 
@@ -42,7 +42,7 @@ impl LinkedChannel {
     pub(crate) fn new(alloc: Global, settings: Settings) -> Result<LinkedChannel, NoMemory>
         ensures { IfOk result (λ channel. channel ≡ new_linked settings) }
     {
-        match FlightChannel::new(alloc, settings) {
+        match CountingChannel::new(alloc, settings) {
             Ok(channel) => Ok(LinkedChannel {
                 channel,
                 link: NO_FLAG,
@@ -152,7 +152,7 @@ impl LinkedChannel {
 
     /// Reports the CLCW, with the flags of the link.
     pub(crate) fn clcw(&self) -> Answer
-        ensures { result ≡ told_word self.now }
+        ensures { result ≡ reported_word self.now }
     {
         Answer::Clcw {
             vcid: self.vcid(),
@@ -175,7 +175,7 @@ impl LinkedChannel {
     }
 
     /// The channel, without the flags of its link.
-    pub(crate) fn into_channel(self) -> FlightChannel
+    pub(crate) fn into_channel(self) -> CountingChannel
         ensures { result ≡ self.history }
     {
         let LinkedChannel { channel, link: _ } = self;

@@ -14,7 +14,7 @@ use tc_setup::{Configuration, Instruction};
 use tc_text::Reason;
 
 /// Who makes what operates of what is set up, and does operations on it.
-pub trait Founder {
+pub trait Backend {
     ghost use Rattle.std.specs.Prelude.{List};
     ghost use Rattle.tc_channel.specs.declared.settings.Settings.{Settings};
     ghost use Rattle.tc_rack.specs.declared.answer.Answer.{Answer};
@@ -47,11 +47,11 @@ pub trait Founder {
 
 /// Who makes the channels of the spacecraft with this id, for one thread.
 #[derive(Clone, Copy, Debug)]
-pub struct RackFounder {
+pub struct RackBackend {
     pub scid: u16,
 }
 
-impl Founder for RackFounder {
+impl Backend for RackBackend {
     ghost use Rattle.std.specs.Prelude.{◌≡◌};
     ghost use Rattle.tc_rack.specs.Operation.{IsAnswerOf};
     ghost use Rattle.tc_rack.specs.Progress.{IsNewRack};
@@ -83,17 +83,17 @@ impl Founder for RackFounder {
 }
 
 /// Does what a line asks for; an operation has an answer. A line that is refused leaves all as it is, and where memory is wanting for an
-/// operation what its founder says; for the first operation, what operates may have been made.
-pub fn perform<F: Founder>(
-    founder: &F,
+/// operation what its backend says; for the first operation, what operates may have been made.
+pub fn perform<F: Backend>(
+    backend: &F,
     alloc: Global,
     stage: &mut Stage<F::Founded>,
     instruction: Instruction,
 ) -> Result<Option<Answer>, Reason>
     ensures done { OnOk result (Does (phase_of stage.old) instruction (phase_of stage.new)) }
-    ensures answer { IfOk result (IsInstructionAnswered (IsOperated (F.is_new founder.now) F.answers) stage.old instruction stage.new) }
+    ensures answer { IfOk result (IsInstructionAnswered (IsOperated (F.is_new backend.now) F.answers) stage.old instruction stage.new) }
     ensures reason { IfErr result (λ reason. (reason ≡ Reason.NoMemory) ⊎ IsBad (phase_of stage.old) instruction reason) }
-    ensures refused { IfErr result (λ reason. IsLeft (F.is_new founder.now) F.spares reason stage.old stage.new) }
+    ensures refused { IfErr result (λ reason. IsLeft (F.is_new backend.now) F.spares reason stage.old stage.new) }
 {
     match instruction {
         Instruction::Nothing => Ok(None),
@@ -105,65 +105,65 @@ pub fn perform<F: Founder>(
             stage.add_to_channel(alloc, vcid, addition)?;
             Ok(None)
         }
-        Instruction::Frame(octets) => operate(founder, alloc, stage, Operation::Frame(octets)),
-        Instruction::Release(vcid) => operate(founder, alloc, stage, Operation::Release(vcid)),
+        Instruction::Frame(octets) => operate(backend, alloc, stage, Operation::Frame(octets)),
+        Instruction::Release(vcid) => operate(backend, alloc, stage, Operation::Release(vcid)),
         Instruction::Take(vcid, apid) => operate(
-            founder,
+            backend,
             alloc,
             stage,
             Operation::Take(vcid, apid),
         ),
-        Instruction::Unit(vcid, map) => operate(founder, alloc, stage, Operation::Unit(vcid, map)),
-        Instruction::Clcw(vcid) => operate(founder, alloc, stage, Operation::Clcw(vcid)),
+        Instruction::Unit(vcid, map) => operate(backend, alloc, stage, Operation::Unit(vcid, map)),
+        Instruction::Clcw(vcid) => operate(backend, alloc, stage, Operation::Clcw(vcid)),
     }
 }
 
 // Does an operation on what operates, which is made where no operation came before.
-fn operate<F: Founder>(
-    founder: &F,
+fn operate<F: Backend>(
+    backend: &F,
     alloc: Global,
     stage: &mut Stage<F::Founded>,
     operation: Operation,
 ) -> Result<Option<Answer>, Reason>
     ensures done { OnOk result (Operates (phase_of stage.old) (phase_of stage.new)) }
-    ensures answer { IfOk result (λ answer. IsDoneSo (IsOperated (F.is_new founder.now) F.answers) operation stage.old answer stage.new) }
+    ensures answer { IfOk result (λ answer. IsDoneSo (IsOperated (F.is_new backend.now) F.answers) operation stage.old answer stage.new) }
     ensures reason { IfErr result (λ reason. (reason ≡ Reason.NoMemory) ⊎ IsBadOperation (phase_of stage.old) reason) }
-    ensures refused { IfErr result (λ reason. IsLeft (F.is_new founder.now) F.spares reason stage.old stage.new) }
+    ensures refused { IfErr result (λ reason. IsLeft (F.is_new backend.now) F.spares reason stage.old stage.new) }
 {
-    begin(founder, alloc, stage)?;
+    begin(backend, alloc, stage)?;
     match stage {
-        Stage::Operating(founded) => Ok(Some(founder.operate(founded, operation)?)),
+        Stage::Operating(founded) => Ok(Some(backend.operate(founded, operation)?)),
         Stage::SettingUp(_) => unreachable!(),
     }
 }
 
 /// Makes what operates, where no operation came before: by a copy of what was set up, which stays where memory is wanting.
 #[inline(always)]
-pub fn begin<F: Founder>(
-    founder: &F,
+pub fn begin<F: Backend>(
+    backend: &F,
     alloc: Global,
     stage: &mut Stage<F::Founded>,
 ) -> Result<(), Reason>
-    ensures found { OnOk result ((found : F.Founded) × IsFound (F.is_new founder.now) stage.old found × (stage.new ≡ Stage.Operating found)) }
+    ensures found { OnOk result ((found : F.Founded) × IsFound (F.is_new backend.now) stage.old found × (stage.new ≡ Stage.Operating found)) }
     ensures some { OnOk result (phase_of stage.old ≢ Setup []) }
     ensures reason { IfErr result (λ reason. (reason ≡ Reason.NoMemory) ⊎ IsBadOperation (phase_of stage.old) reason) }
     ensures refused { OnErr result (stage.new ≡ stage.old) }
 {
     match stage {
         Stage::Operating(_) => Ok(()),
-        Stage::SettingUp(_) => begin_anew(founder, alloc, stage),
+        Stage::SettingUp(_) => begin_anew(backend, alloc, stage),
     }
 }
 
 // The same, apart from what runs for each line.
 #[cold]
 #[inline(never)]
-fn begin_anew<F: Founder>(
-    founder: &F,
+fn begin_anew<F: Backend>(
+    backend: &F,
     alloc: Global,
     stage: &mut Stage<F::Founded>,
 ) -> Result<(), Reason>
-    ensures found { OnOk result ((found : F.Founded) × IsFound (F.is_new founder.now) stage.old found × (stage.new ≡ Stage.Operating found)) }
+    ensures found { OnOk result ((found : F.Founded) × IsFound (F.is_new backend.now) stage.old found × (stage.new ≡ Stage.Operating found)) }
     ensures some { OnOk result (phase_of stage.old ≢ Setup []) }
     ensures reason { IfErr result (λ reason. (reason ≡ Reason.NoMemory) ⊎ IsBadOperation (phase_of stage.old) reason) }
     ensures refused { OnErr result (stage.new ≡ stage.old) }
@@ -172,7 +172,7 @@ fn begin_anew<F: Founder>(
         Stage::Operating(_) => Ok(()),
         Stage::SettingUp(list) => {
             let copy = list.copy(alloc)?;
-            let founded = founder.found(alloc, copy)?;
+            let founded = backend.found(alloc, copy)?;
             *stage = Stage::Operating(founded);
             Ok(())
         }
@@ -180,17 +180,17 @@ fn begin_anew<F: Founder>(
 }
 
 /// What operates, made of what was set up where no operation came before.
-pub fn start<F: Founder>(
-    founder: &F,
+pub fn start<F: Backend>(
+    backend: &F,
     alloc: Global,
     stage: Stage<F::Founded>,
 ) -> Result<F::Founded, Reason>
-    ensures found { IfOk result (IsFound (F.is_new founder.now) stage) }
+    ensures found { IfOk result (IsFound (F.is_new backend.now) stage) }
     ensures some { OnOk result (phase_of stage ≢ Setup []) }
     ensures reason { IfErr result (λ reason. (reason ≡ Reason.NoMemory) ⊎ IsBadOperation (phase_of stage) reason) }
 {
     match stage {
         Stage::Operating(founded) => Ok(founded),
-        Stage::SettingUp(list) => founder.found(alloc, list),
+        Stage::SettingUp(list) => backend.found(alloc, list),
     }
 }

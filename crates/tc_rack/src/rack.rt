@@ -14,7 +14,7 @@ use std::alloc::Global;
 use std::io;
 use std::io::Write;
 use std::marker::Model;
-use tc_channel::{FlightChannel, Holding, NoMemory, Settings};
+use tc_channel::{CountingChannel, Holding, NoMemory, Settings};
 use tc_link::{Frame, Link, LocateFault, read_frame};
 use tc_setup::Configuration;
 
@@ -171,7 +171,7 @@ impl Rack {
     }
 
     /// The channels, moved, in the order in which they were set up. A list is allocated.
-    pub fn into_channels(self, alloc: Global) -> Result<Vec<FlightChannel>, NoMemory>
+    pub fn into_channels(self, alloc: Global) -> Result<Vec<CountingChannel>, NoMemory>
         ensures { IfOk result (λ channels. channels.items ≡ map (λ (channel : Linked). channel.history) self.channels) }
     {
         let Rack { scid: _, channels } = self;
@@ -198,7 +198,7 @@ fn make(alloc: Global, list: Vec<Settings>) -> Result<Vec<LinkedChannel>, NoMemo
 }
 
 // The channels without the flags of their links.
-fn bare(alloc: Global, channels: Vec<LinkedChannel>) -> Result<Vec<FlightChannel>, NoMemory>
+fn bare(alloc: Global, channels: Vec<LinkedChannel>) -> Result<Vec<CountingChannel>, NoMemory>
     ensures { IfOk result (λ bare. bare.items ≡ map (λ (channel : Linked). channel.history) channels.items) }
 {
     let mut bare = Vec::with_capacity(alloc, channels.len())?;

@@ -3,19 +3,19 @@
 ghost use Rattle.std.specs.Prelude.{All, OnOk};
 ghost use Rattle.std.specs.Io.KnownBytes.{Appends};
 ghost use Rattle.std.specs.List.{flat_map};
-ghost use Rattle.tc_channel.specs.Journal.{IsNumberTold};
+ghost use Rattle.tc_channel.specs.Journal.{IsNumberReported};
 ghost use Rattle.tc_rack.specs.Report.{AreRising, IsLawfulHistory, report_text, channel_text, final_line, queue_line, map_line};
 
 use crate::linked::NO_FLAG;
 use std::io;
 use std::io::Write;
-use tc_channel::{FlightChannel, MapSetting, QueueSetting};
+use tc_channel::{CountingChannel, MapSetting, QueueSetting};
 use tc_text::WordDigits;
 
 /// Writes the report of each channel.
-pub fn write_report<W: Write>(channels: &[FlightChannel], writer: &mut W) -> io::Result<()>
+pub fn write_report<W: Write>(channels: &[CountingChannel], writer: &mut W) -> io::Result<()>
     requires rising { AreRising channels.now }
-    requires told { All IsNumberTold channels.now }
+    requires reported { All IsNumberReported channels.now }
     ensures written { OnOk result (Appends (W.contents writer.old) (W.contents writer.new) (report_text channels.now)) }
     ensures lawful { OnOk result (All IsLawfulHistory channels.now) }
 {
@@ -27,8 +27,8 @@ pub fn write_report<W: Write>(channels: &[FlightChannel], writer: &mut W) -> io:
 
 // Writes what a channel has come to, then how many packets wait in each of its queues and how many units on each of its
 // chosen MAPs.
-fn write_channel<W: Write>(channel: &FlightChannel, writer: &mut W) -> io::Result<()>
-    requires { IsNumberTold channel.now }
+fn write_channel<W: Write>(channel: &CountingChannel, writer: &mut W) -> io::Result<()>
+    requires { IsNumberReported channel.now }
     ensures written { OnOk result (Appends (W.contents writer.old) (W.contents writer.new) (channel_text channel.now)) }
     ensures lawful { IsLawfulHistory channel.now }
 {
@@ -38,8 +38,8 @@ fn write_channel<W: Write>(channel: &FlightChannel, writer: &mut W) -> io::Resul
     write_maps(channel, settings.maps.as_slice(), writer)
 }
 
-fn write_final<W: Write>(channel: &FlightChannel, writer: &mut W) -> io::Result<()>
-    requires { IsNumberTold channel.now }
+fn write_final<W: Write>(channel: &CountingChannel, writer: &mut W) -> io::Result<()>
+    requires { IsNumberReported channel.now }
     ensures { OnOk result (Appends (W.contents writer.old) (W.contents writer.new) (final_line channel.now)) }
 {
     let vcid = channel.settings().vcid;
@@ -53,7 +53,7 @@ fn write_final<W: Write>(channel: &FlightChannel, writer: &mut W) -> io::Result<
 }
 
 fn write_queues<W: Write>(
-    channel: &FlightChannel,
+    channel: &CountingChannel,
     queues: &[QueueSetting],
     writer: &mut W,
 ) -> io::Result<()>
@@ -66,7 +66,7 @@ fn write_queues<W: Write>(
 }
 
 fn write_queue<W: Write>(
-    channel: &FlightChannel,
+    channel: &CountingChannel,
     queue: &QueueSetting,
     writer: &mut W,
 ) -> io::Result<()>
@@ -81,7 +81,7 @@ fn write_queue<W: Write>(
 }
 
 fn write_maps<W: Write>(
-    channel: &FlightChannel,
+    channel: &CountingChannel,
     maps: &[MapSetting],
     writer: &mut W,
 ) -> io::Result<()>
@@ -94,7 +94,7 @@ fn write_maps<W: Write>(
 }
 
 fn write_map<W: Write>(
-    channel: &FlightChannel,
+    channel: &CountingChannel,
     chosen: &MapSetting,
     writer: &mut W,
 ) -> io::Result<()>

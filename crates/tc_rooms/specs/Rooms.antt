@@ -2,48 +2,44 @@
 use Rattle.std.specs.Prelude.{◌≡◌, ◌≤◌, ◌<◌, ◌+◌, ◌^◌, ◌++◌, ◌∷◌, [], ℕ, Bool, true, false, List, length, map, take, drop}
 use Rattle.std.specs.List.{AllByRecursion}
 use Rattle.circular_buffer.specs.Buffer.{Buffer, buffer}
-use Rattle.tc_packet.specs.Room.{Laid}
+use Rattle.tc_packet.specs.Room.{Contents}
 
-abbrev pub octets_of : Laid → List ℕ
+abbrev pub octets_of : Contents → List ℕ
 octets_of room = room.octets
 
--- what lies in a room that grows, as its trait has it
-abbrev pub held_room : Laid → Laid
-held_room room = room
-
--- items that wait in rooms of one size, and items that are laid behind them and don't count yet
+-- items that wait in rooms of one size, and items that are staged behind them and don't count yet
 pub record Slotted : Type 0 where
   pub ring : Buffer (List ℕ)
-  pub laid : List (List ℕ)
+  pub staged : List (List ℕ)
   pub size : ℕ
 
 abbrev pub slotted : List (List ℕ) → ℕ → List (List ℕ) → ℕ → Slotted
-slotted items capacity behind size = record { ring = buffer items capacity; laid = behind; size = size }
+slotted items capacity behind size = record { ring = buffer items capacity; staged = behind; size = size }
 
-abbrev pub HaveSize : ℕ → List Laid → Type 0
-HaveSize size rooms = AllByRecursion (λ (r : Laid). r.size ≡ size) rooms
+abbrev pub HaveSize : ℕ → List Contents → Type 0
+HaveSize size rooms = AllByRecursion (λ (r : Contents). r.size ≡ size) rooms
 
 -- a ring with a room at each of its places
-pub record IsFull (capacity : ℕ) (rooms : List Laid) : Type 0 where
+pub record IsFull (capacity : ℕ) (rooms : List Contents) : Type 0 where
   pub full : length rooms ≡ capacity
   pub small : capacity < 2 ^ 63
 
--- so many rooms: the first ones are taken by items that wait, and the next by items that are laid behind them
-pub record AreSlots (places waiting count size : ℕ) (rooms : List Laid) : Type 0 where
+-- so many rooms: the first ones are taken by items that wait, and the next by items that are staged behind them
+pub record AreSlots (places waiting count size : ℕ) (rooms : List Contents) : Type 0 where
   pub full : length rooms ≡ places
   pub small : places < 2 ^ 63
   pub within : waiting + count ≤ places
   pub sizes : HaveSize size rooms
 
-abbrev pub seen : ℕ → ℕ → ℕ → ℕ → List Laid → Slotted
+abbrev pub seen : ℕ → ℕ → ℕ → ℕ → List Contents → Slotted
 seen places waiting count size rooms = slotted (map octets_of (take waiting rooms)) places (map octets_of (take count (drop waiting rooms))) size
 
--- an item is laid behind the others, or there is no place for it
-pub record IsLaidBehind (octets : List ℕ) (old new : Slotted) (place : Bool) : Type 0 where
-  pub done : place ≡ true → (new ≡ slotted old.ring.items old.ring.capacity (old.laid ++ octets ∷ []) old.size) × (length old.ring.items + length old.laid < old.ring.capacity)
-  pub full : place ≡ false → (new ≡ old) × (old.ring.capacity ≤ length old.ring.items + length old.laid)
+-- an item is staged behind the others, or there is no place for it
+pub record IsStagedBehind (octets : List ℕ) (old new : Slotted) (place : Bool) : Type 0 where
+  pub done : place ≡ true → (new ≡ slotted old.ring.items old.ring.capacity (old.staged ++ octets ∷ []) old.size) × (length old.ring.items + length old.staged < old.ring.capacity)
+  pub full : place ≡ false → (new ≡ old) × (old.ring.capacity ≤ length old.ring.items + length old.staged)
 
--- where nothing is laid: an item is put behind those that wait, or there is no place for it
+-- where nothing is staged: an item is put behind those that wait, or there is no place for it
 pub record IsPut (octets : List ℕ) (old new : Slotted) (place : Bool) : Type 0 where
   pub done : place ≡ true → (new ≡ slotted (old.ring.items ++ octets ∷ []) old.ring.capacity [] old.size) × (length old.ring.items < old.ring.capacity)
   pub full : place ≡ false → (new ≡ old) × (old.ring.capacity ≤ length old.ring.items)

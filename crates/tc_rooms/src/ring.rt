@@ -2,8 +2,8 @@
 
 ghost use Rattle.std.specs.Prelude.{◌≡◌, ◌≤◌, ◌<◌, ◌^◌, ◌++◌, ◌∷◌, [], length, map, drop, set, false, Some, IfOk, IsOk, OnOk, OnErr, slice_get};
 ghost use Rattle.circular_buffer.specs.Buffer.{buffer};
-ghost use Rattle.tc_packet.specs.Room.{laid};
-ghost use Rattle.tc_rooms.specs.Rooms.{held_room, HaveSize};
+ghost use Rattle.tc_packet.specs.Room.{contents_of};
+ghost use Rattle.tc_rooms.specs.Rooms.{HaveSize};
 
 use circular_buffer::HeapCircularBuffer;
 use std::alloc::{AllocError, Global};
@@ -19,14 +19,14 @@ pub struct Ring<R: Room> {
 
 impl<R: Room> Model for Ring<R> {
     ghost use Rattle.std.specs.Prelude.{List, map};
-    ghost use Rattle.tc_packet.specs.Room.{Laid};
+    ghost use Rattle.tc_packet.specs.Room.{Contents};
     ghost use Rattle.tc_rooms.specs.Rooms.{IsFull};
 
-    ghost Value = { List Laid };
+    ghost Value = { List Contents };
 
-    ghost view = { λ r. map R.held r.rooms.items };
+    ghost view = { λ r. map R.contents r.rooms.items };
 
-    ghost invariant = { λ r. IsFull r.rooms.capacity (map R.held r.rooms.items) };
+    ghost invariant = { λ r. IsFull r.rooms.capacity (map R.contents r.rooms.items) };
 }
 
 // Puts a room behind the others, where one is missing.
@@ -63,7 +63,7 @@ fn full_of_rooms<R: Room>(
     ensures capacity { IfOk result (λ b. b.capacity ≡ count) }
     ensures full { IfOk result (λ b. length b.items ≡ count) }
     ensures small { IfOk result (λ b. b.capacity < 2 ^ 63) }
-    ensures sizes { IfOk result (λ b. HaveSize size (map R.held b.items)) }
+    ensures sizes { IfOk result (λ b. HaveSize size (map R.contents b.items)) }
 {
     let mut rooms = HeapCircularBuffer::with_capacity(alloc, count)?;
     for _ in 0..count {
@@ -101,7 +101,7 @@ impl<R: Room> Ring<R> {
     #[inline(always)]
     pub(crate) fn first(&self) -> &R
         requires { 0 < length self.now }
-        ensures { Some (R.held result.now) ≡ slice_get self.now 0 }
+        ensures { Some (R.contents result.now) ≡ slice_get self.now 0 }
     {
         match self.rooms.front() {
             Some(room) => room,
@@ -120,7 +120,7 @@ impl<R: Room> Ring<R> {
         requires place { place < length self.old }
         requires sizes { HaveSize size self.old }
         requires fits { length octets.now ≤ size }
-        ensures filled { OnOk result (self.new ≡ set self.old place (laid octets.now size)) }
+        ensures filled { OnOk result (self.new ≡ set self.old place (contents_of octets.now size)) }
         ensures refused { OnErr result (self.new ≡ self.old) }
         ensures answered { R.grows ≡ false → IsOk result }
     {
@@ -134,7 +134,7 @@ impl<R: Room> Ring<R> {
     pub(crate) fn clear(&mut self, place: usize, size: usize)
         requires place { place < length self.old }
         requires sizes { HaveSize size self.old }
-        ensures { self.new ≡ set self.old place (laid [] size) }
+        ensures { self.new ≡ set self.old place (contents_of [] size) }
     {
         match self.rooms.get_mut(place) {
             Some(room) => room.clear(),
@@ -147,7 +147,7 @@ impl<R: Room> Ring<R> {
     pub(crate) fn turn(&mut self, size: usize)
         requires some { 0 < length self.old }
         requires sizes { HaveSize size self.old }
-        ensures { self.new ≡ drop 1 self.old ++ laid [] size ∷ [] }
+        ensures { self.new ≡ drop 1 self.old ++ contents_of [] size ∷ [] }
     {
         let mut room = take_first(&mut self.rooms);
         room.clear();
@@ -161,8 +161,8 @@ impl Ring<GrowingRoom> {
     pub(crate) fn turn_out(&mut self, size: usize) -> Vec<u8>
         requires some { 0 < length self.old }
         requires sizes { HaveSize size self.old }
-        ensures octets { Some (laid result.items size) ≡ slice_get self.old 0 }
-        ensures turned { self.new ≡ drop 1 self.old ++ laid [] size ∷ [] }
+        ensures octets { Some (contents_of result.items size) ≡ slice_get self.old 0 }
+        ensures turned { self.new ≡ drop 1 self.old ++ contents_of [] size ∷ [] }
     {
         let mut room = take_first(&mut self.rooms);
         let block = room.take_block();

@@ -1,22 +1,22 @@
-//! Items that wait, in rooms of one size, and items that are laid behind them and don't count yet.
+//! Items that wait, in rooms of one size, and items that are staged behind them and don't count yet.
 
 ghost use Rattle.std.specs.Prelude.{◌≡◌, ◌≤◌, ◌==◌, ◌++◌, [], length, drop, false, IfOk, IsOk, OnErr, IfSome, None, slice_get, option_map};
-ghost use Rattle.tc_rooms.specs.Rooms.{slotted, IsLaidBehind, IsPut};
+ghost use Rattle.tc_rooms.specs.Rooms.{slotted, IsStagedBehind, IsPut};
 
 use crate::ring::Ring;
 use std::alloc::{AllocError, Global};
 use std::marker::Model;
 use tc_packet::{GrowingRoom, Room};
 
-/// Items that wait, the oldest first, each in a room of its own, and items that a call has laid behind them. The rooms are a ring that
-/// is always full: those of the items that wait, then those of what is laid, then empty ones. A room whose item goes is cleared and
-/// goes to the back, unless nothing else is there. What is laid counts once all of a call is ([`settle`](Slots::settle)), or is let go ([`let_go`](Slots::let_go)).
+/// Items that wait, the oldest first, each in a room of its own, and items that a call has staged behind them. The rooms are a ring that
+/// is always full: those of the items that wait, then those of what is staged, then empty ones. A room whose item goes is cleared and
+/// goes to the back, unless nothing else is there. What is staged counts once all of a call is ([`commit`](Slots::commit)), or is rolled back ([`roll_back`](Slots::roll_back)).
 /// With rooms that are made at the start only `with_capacity` allocates.
 #[derive(Drop)]
 pub struct Slots<R: Room> {
     ring: Ring<R>,
     waiting: usize,
-    laid: usize,
+    staged: usize,
     size: usize,
 }
 
@@ -26,9 +26,9 @@ impl<R: Room> Model for Slots<R> {
 
     ghost Value = { Slotted };
 
-    ghost view = { λ s. seen (length s.ring) s.waiting s.laid s.size s.ring };
+    ghost view = { λ s. seen (length s.ring) s.waiting s.staged s.size s.ring };
 
-    ghost invariant = { λ s. AreSlots (length s.ring) s.waiting s.laid s.size s.ring };
+    ghost invariant = { λ s. AreSlots (length s.ring) s.waiting s.staged s.size s.ring };
 }
 
 impl<R: Room> Slots<R> {
@@ -44,7 +44,7 @@ impl<R: Room> Slots<R> {
         Ok(Slots {
             ring,
             waiting: 0,
-            laid: 0,
+            staged: 0,
             size,
         })
     }
@@ -89,14 +89,14 @@ impl<R: Room> Slots<R> {
         Some(self.ring.first().as_slice())
     }
 
-    /// Puts an item behind the others, where nothing is laid, and says whether there was a place. It counts at once.
+    /// Puts an item behind the others, where nothing is staged, and says whether there was a place. It counts at once.
     #[inline(always)]
     pub fn put(&mut self, octets: &[u8]) -> Result<bool, AllocError>
         requires fits { length octets.now ≤ self.old.size }
-        requires settled { self.old.laid ≡ [] }
+        requires committed { self.old.staged ≡ [] }
         ensures put { IfOk result (IsPut octets.now self.old self.new) }
         ensures refused { OnErr result (self.new ≡ self.old) }
-        ensures settled { self.new.laid ≡ [] }
+        ensures committed { self.new.staged ≡ [] }
         ensures size { self.new.size ≡ self.old.size }
         ensures answered { R.grows ≡ false → IsOk result }
     {
@@ -108,54 +108,54 @@ impl<R: Room> Slots<R> {
         Ok(true)
     }
 
-    /// Lays an item behind the others, where there is a place, and says whether there was.
+    /// Stages an item behind the others, where there is a place, and says whether there was.
     #[inline(always)]
-    pub fn lay(&mut self, octets: &[u8]) -> Result<bool, AllocError>
+    pub fn stage(&mut self, octets: &[u8]) -> Result<bool, AllocError>
         requires { length octets.now ≤ self.old.size }
-        ensures laid { IfOk result (IsLaidBehind octets.now self.old self.new) }
+        ensures staged { IfOk result (IsStagedBehind octets.now self.old self.new) }
         ensures refused { OnErr result (self.new ≡ self.old) }
         ensures ring { self.new.ring ≡ self.old.ring }
         ensures size { self.new.size ≡ self.old.size }
         ensures answered { R.grows ≡ false → IsOk result }
     {
-        let count = self.waiting + self.laid;
+        let count = self.waiting + self.staged;
         if count >= self.ring.len() {
             return Ok(false);
         }
         self.ring.fill(count, self.size, octets)?;
-        self.laid += 1;
+        self.staged += 1;
         Ok(true)
     }
 
-    /// What was laid counts.
+    /// What was staged counts.
     #[inline(always)]
-    pub fn settle(&mut self)
-        ensures { self.new ≡ slotted (self.old.ring.items ++ self.old.laid) self.old.ring.capacity [] self.old.size }
+    pub fn commit(&mut self)
+        ensures { self.new ≡ slotted (self.old.ring.items ++ self.old.staged) self.old.ring.capacity [] self.old.size }
     {
-        self.waiting += self.laid;
-        self.laid = 0;
+        self.waiting += self.staged;
+        self.staged = 0;
     }
 
-    /// What was laid is let go.
-    pub fn let_go(&mut self)
+    /// What was staged is rolled back.
+    pub fn roll_back(&mut self)
         ensures { self.new ≡ slotted self.old.ring.items self.old.ring.capacity [] self.old.size }
     {
-        while self.laid > 0 {
-            let last = self.waiting + (self.laid - 1);
+        while self.staged > 0 {
+            let last = self.waiting + (self.staged - 1);
             self.ring.clear(last, self.size);
-            self.laid -= 1;
+            self.staged -= 1;
         }
     }
 
     /// Drops the oldest item, if there is one.
     #[inline(always)]
     pub fn pop_front(&mut self)
-        ensures { self.new ≡ slotted (drop 1 self.old.ring.items) self.old.ring.capacity self.old.laid self.old.size }
+        ensures { self.new ≡ slotted (drop 1 self.old.ring.items) self.old.ring.capacity self.old.staged self.old.size }
     {
         if self.waiting == 0 {
             return;
         }
-        if self.waiting + self.laid == 1 {
+        if self.waiting + self.staged == 1 {
             self.ring.clear(0, self.size);
             self.waiting = 0;
             return;
@@ -169,7 +169,7 @@ impl Slots<GrowingRoom> {
     /// Takes the oldest item out, if there is one, in its own block: none of its octets is copied, and no memory is asked for.
     pub fn take_front(&mut self) -> Option<Vec<u8>>
         ensures item { option_map (λ block. block.items) result ≡ slice_get self.old.ring.items 0 }
-        ensures taken { self.new ≡ slotted (drop 1 self.old.ring.items) self.old.ring.capacity self.old.laid self.old.size }
+        ensures taken { self.new ≡ slotted (drop 1 self.old.ring.items) self.old.ring.capacity self.old.staged self.old.size }
         ensures refused { result ≡ None → self.new ≡ self.old }
     {
         if self.waiting == 0 {

@@ -1,8 +1,8 @@
--- The APIDs of a channel's queues: of no queue, of one queue more, and what an entry says; and those of all channels.
+-- The APIDs of a channel's queues: of no queue, and what an entry says; and those of all channels.
 use Rattle.std.proofs.Common.{◌≡◌, ℕ, zero, suc, ◌<◌, ◌≤◌, Bool, true, false, true≢false, ◌||◌, eqb, List, [], ◌∷◌, ◌++◌, length, get_or, set, replicate, refl, sym, ◌∙◌, ap, subst, arith}
 use Rattle.std.proofs.lemmas.Bool.{eqb-true, eq-eqb}
-use Rattle.std.proofs.lemmas.List.{get_or-set_same, get_or-set_other, length-replicate, length-set}
-use Rattle.std.proofs.lemmas.List.Folds.{Any-from_list_any, list_any-from_Any, list_any-append}
+use Rattle.std.proofs.lemmas.List.{length-replicate, length-set}
+use Rattle.std.proofs.lemmas.List.Folds.{Any-from_list_any, list_any-from_Any}
 use Rattle.std.specs.List.{AllZip, list_any}
 use Rattle.std.specs.Prelude.{Any}
 use Rattle.tc_channel.specs.declared.settings.QueueSetting.{QueueSetting}
@@ -18,47 +18,18 @@ all-alike (suc n) (suc k) = all-alike n k
 pub no-queue : (apids : List Bool) → apids ≡ replicate 2047 false → AreApidsOf [] apids
 no-queue apids is = record {
   size = ap (length {A = Bool}) is ∙ length-replicate {A = Bool} 2047 false;
-  told = λ apid small. ap (λ (t : List Bool). get_or t apid false) is ∙ all-alike 2047 apid;
+  reported = λ apid small. ap (λ (t : List Bool). get_or t apid false) is ∙ all-alike 2047 apid;
 }
-
-pub one-more-queue : (queues : List QueueSetting) (q : QueueSetting) (apids : List Bool) → q.apid ≤ 2046 → AreApidsOf queues apids → AreApidsOf (queues ++ q ∷ []) (set apids q.apid true)
-one-more-queue queues q apids fits a = record {
-  size = length-set apids q.apid true ∙ a.size;
-  told = λ apid small. sym (list_any-append (has apid) queues (q ∷ []) ∙ by apid small (eqb q.apid apid) refl);
-}
-  where
-    has : ℕ → QueueSetting → Bool
-    has apid x = eqb x.apid apid
-
-    or-true : (b : Bool) → (b || true) ≡ true
-    or-true true = refl
-    or-true false = refl
-
-    or-false : (b : Bool) → (b || false) ≡ b
-    or-false true = refl
-    or-false false = refl
-
-    by : (apid : ℕ) → apid ≤ 2046 → (b : Bool) → eqb q.apid apid ≡ b → (list_any (has apid) queues || list_any (has apid) (q ∷ [])) ≡ get_or (set apids q.apid true) apid false
-    by apid small true is =
-        let same = eqb-true q.apid apid is in
-        let one : list_any (has apid) (q ∷ []) ≡ true = rw is refl in
-        ap (λ b. list_any (has apid) queues || b) one ∙ or-true (list_any (has apid) queues)
-        ∙ sym (subst (λ k. get_or (set apids q.apid true) k false ≡ true) same (get_or-set_same apids q.apid true false (let s = a.size in omega (arith, s, fits))))
-    by apid small false is =
-        let none : list_any (has apid) (q ∷ []) ≡ false = rw is refl in
-        ap (λ b. list_any (has apid) queues || b) none ∙ or-false (list_any (has apid) queues)
-        ∙ sym (a.told apid small)
-        ∙ sym (get_or-set_other apids q.apid apid true false (λ same. true≢false (sym (eq-eqb q.apid apid (sym same)) ∙ is)))
 
 -- what an entry says
 pub there : (queues : List QueueSetting) (apids : List Bool) (apid : ℕ) → apid ≤ 2046 → AreApidsOf queues apids → get_or apids apid false ≡ true → Any (λ (q : QueueSetting). q.apid ≡ apid) queues
 there queues apids apid small a is =
-    let (i, d, lt, e, same) = Any-from_list_any (λ (q : QueueSetting). eqb q.apid apid) queues (sym (a.told apid small) ∙ is) in
+    let (i, d, lt, e, same) = Any-from_list_any (λ (q : QueueSetting). eqb q.apid apid) queues (sym (a.reported apid small) ∙ is) in
     (i, d, lt, e, eqb-true d.apid apid same)
 
 pub not-there : (queues : List QueueSetting) (apids : List Bool) (apid : ℕ) → apid ≤ 2046 → AreApidsOf queues apids → get_or apids apid false ≡ false → ¬ Any (λ (q : QueueSetting). q.apid ≡ apid) queues
 not-there queues apids apid small a is (i, d, lt, e, same) =
-    true≢false (sym (list_any-from_Any (λ (q : QueueSetting). eqb q.apid apid) queues (i, d, lt, e, eq-eqb d.apid apid same)) ∙ (sym (a.told apid small) ∙ is))
+    true≢false (sym (list_any-from_Any (λ (q : QueueSetting). eqb q.apid apid) queues (i, d, lt, e, eq-eqb d.apid apid same)) ∙ (sym (a.reported apid small) ∙ is))
 
 -- two lists of which each pair is related: one pair more, one pair in place of another, and the pair at a place
 module _ {X Y : Type 0} (R : X → Y → Type 0) where
@@ -96,8 +67,8 @@ module _ (list : List Settings) (tables : List (List Bool)) (each : AreApidsOfEa
   tables-as-channels = as-many of-one list tables each
 
   pub table-at : (place : ℕ) (s : Settings) (apids : List Bool) → place < length list → s ≡ get_or list place s → apids ≡ get_or tables place apids → AreApidsOf s.queues apids
-  table-at place s apids lt is told =
-      subst (λ (x : Settings). AreApidsOf x.queues apids) (sym is) (subst (AreApidsOf (get_or list place s).queues) (sym told) (pair-at of-one list tables place s apids each lt))
+  table-at place s apids lt is reported =
+      subst (λ (x : Settings). AreApidsOf x.queues apids) (sym is) (subst (AreApidsOf (get_or list place s).queues) (sym reported) (pair-at of-one list tables place s apids each lt))
 
   pub one-more-table : (s : Settings) (apids : List Bool) → AreApidsOf s.queues apids → AreApidsOfEach (list ++ s ∷ []) (tables ++ apids ∷ [])
   one-more-table s apids = push-pair of-one list tables s apids each

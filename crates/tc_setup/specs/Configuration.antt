@@ -41,7 +41,7 @@ AddsToChannel list vcid addition new =
 -- for each APID, whether a queue has it
 pub record AreApidsOf (queues : List QueueSetting) (apids : List Bool) : Type 0 where
   pub size : length apids ≡ 2047
-  pub told : (apid : ℕ) → apid ≤ 2046 → get_or apids apid false ≡ list_any (λ (q : QueueSetting). q.apid == apid) queues
+  pub reported : (apid : ℕ) → apid ≤ 2046 → get_or apids apid false ≡ list_any (λ (q : QueueSetting). q.apid == apid) queues
 
 -- the same for the queues of each channel
 abbrev pub AreApidsOfEach : List Settings → List (List Bool) → Type 0

@@ -45,9 +45,9 @@ id-of vcids desks place vcid there ids is at =
     let here : id there ≡ get_or vcids place 0 = ap id is ∙ (sym (get_or-map id desks place there 0 inside) ∙ ap (λ vs. get_or vs place 0) all) in
     (inside, here ∙ eqb-true (get_or vcids place 0) vcid found.1)
 
--- what is seen of a station with these posts
-abbrev pub at_posts : ℕ → List ℕ → ℕ → List AtLock → Roster
-at_posts scid vcids issued posts = record { scid = scid; vcids = vcids; issued = issued; locks = locks_of posts; heads = heads_of posts }
+-- what is seen of a station with these owned desks
+abbrev pub at_owned_desks : ℕ → List ℕ → ℕ → List AtLock → Roster
+at_owned_desks scid vcids issued owned_desks = record { scid = scid; vcids = vcids; issued = issued; locks = locks_of owned_desks; heads = heads_of owned_desks }
 
 -- the operator's desk at the place of a channel, where a call is made
 module _ {R F : Type 0} (e : Event) (ok : Moment → R → Type 0) (err : Moment → F → Type 0) (station : Roster) (o : AtStation) (vcids : List ℕ) (desks : List AtLock) (place vcid : ℕ) (there next : AtLock) (r : Result R F)
@@ -94,17 +94,17 @@ module _ {R F : Type 0} (e : Event) (ok : Moment → R → Type 0) (err : Moment
   }
 
 -- the operator's desk of a place and the station's have one lock
-pub same-lock : (station : Roster) (o : AtStation) (vcids posted : List ℕ) (scid issued : ℕ) (desks posts : List AtLock) (place vcid : ℕ) (there post : AtLock)
-    → at_station vcids desks ≡ o → vcids_of (settings_of_desks desks) ≡ vcids → IsOurs station o → at_posts scid posted issued posts ≡ station → vcids_of (settings_of_desks posts) ≡ posted → IsPlace station vcid place
-    → there ≡ get_or desks place there → post ≡ get_or posts place post → there.lock ≡ post.lock
-same-lock station o vcids posted scid issued desks posts place vcid there post view ids ours seen posted_ids place_is is post_is =
+pub same-lock : (station : Roster) (o : AtStation) (vcids owned : List ℕ) (scid issued : ℕ) (desks owned_desks : List AtLock) (place vcid : ℕ) (there owned_desk : AtLock)
+    → at_station vcids desks ≡ o → vcids_of (settings_of_desks desks) ≡ vcids → IsOurs station o → at_owned_desks scid owned issued owned_desks ≡ station → vcids_of (settings_of_desks owned_desks) ≡ owned → IsPlace station vcid place
+    → there ≡ get_or desks place there → owned_desk ≡ get_or owned_desks place owned_desk → there.lock ≡ owned_desk.lock
+same-lock station o vcids owned scid issued desks owned_desks place vcid there owned_desk view ids ours seen owned_desk_ids place_is is owned_desk_is =
     let lock : AtLock → TableId = λ d. d.lock in
     let at : position (λ v. v == vcid) vcids ≡ Some place = ap (λ vs. position (λ v. v == vcid) vs) (ap (λ (x : AtStation). x.vcids) view ∙ ours.0) ∙ place_is in
-    let at_post : position (λ v. v == vcid) posted ≡ Some place = ap (λ (x : Roster). position (λ v. v == vcid) x.vcids) seen ∙ place_is in
-    let mine = get_or-map lock desks place there post.lock (id-of vcids desks place vcid there ids is at).0 in
-    let theirs = get_or-map lock posts place post post.lock (id-of posted posts place vcid post posted_ids post_is at_post).0 in
-    let same : locks_of desks ≡ locks_of posts = ap (λ (x : AtStation). locks_of x.desks) view ∙ (ours.1 ∙ sym (ap (λ (x : Roster). x.locks) seen)) in
-    ap lock is ∙ (sym mine ∙ (ap (λ (l : List TableId). get_or l place post.lock) same ∙ (theirs ∙ ap lock (sym post_is))))
+    let at_owned_desk : position (λ v. v == vcid) owned ≡ Some place = ap (λ (x : Roster). position (λ v. v == vcid) x.vcids) seen ∙ place_is in
+    let mine = get_or-map lock desks place there owned_desk.lock (id-of vcids desks place vcid there ids is at).0 in
+    let theirs = get_or-map lock owned_desks place owned_desk owned_desk.lock (id-of owned owned_desks place vcid owned_desk owned_desk_ids owned_desk_is at_owned_desk).0 in
+    let same : locks_of desks ≡ locks_of owned_desks = ap (λ (x : AtStation). locks_of x.desks) view ∙ (ours.1 ∙ sym (ap (λ (x : Roster). x.locks) seen)) in
+    ap lock is ∙ (sym mine ∙ (ap (λ (l : List TableId). get_or l place owned_desk.lock) same ∙ (theirs ∙ ap lock (sym owned_desk_is))))
 
 -- the same call at the same moment, with another answer
 answered-so : {R F S G : Type 0} (place vcid : ℕ) (e : Event) (ok : Moment → R → Type 0) (err : Moment → F → Type 0) (ok2 : Moment → S → Type 0) (err2 : Moment → G → Type 0) (before after : AtStation) (r : Result R F) (r2 : Result S G)

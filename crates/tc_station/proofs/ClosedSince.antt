@@ -1,5 +1,5 @@
 -- A call at a desk is at its place of the journal that the station's close gives out.
-use Rattle.tc_station.proofs.Names.{◌≡◌, ◌<◌, ℕ, zero, suc, List, [], ◌∷◌, length, get_or, take, Ok, Some, refl, sym, ap, subst, ◌∙◌, arith, slice_get, get_or-set_same, length-append, length-set, take_at, get_or_from_slice_get, none-some, same_Some, slice_get-get_or, slice_get_within, Event, History, made, AtLock, Identity, Moment, Own, accounts_of, column, nobody, IsCallAt, IsMetAt, Roster, AtStation, crews_of, Watching, slice_index_or, slice_set, IsBeginning, clcw, Link, IsClosedSince, IsItsLast, IsWordRead, IsShownIn}
+use Rattle.tc_station.proofs.Names.{◌≡◌, ◌<◌, ℕ, zero, suc, List, [], ◌∷◌, length, get_or, take, Ok, Some, refl, sym, ap, subst, ◌∙◌, arith, slice_get, get_or-set_same, length-append, length-set, take_at, get_or_from_slice_get, none-some, same_Some, slice_get-get_or, slice_get_within, Event, History, made, AtLock, Identity, Moment, Own, accounts_of, column, nobody, IsCallAt, IsMetAt, Roster, AtStation, operator_lists_of, Watching, slice_index_or, slice_set, IsBeginning, clcw, Link, IsClosedSince, IsItsLast, IsWordRead, IsShownIn}
 use mathlib.Core.Option.{some}
 use lib.ListN.{get_elem?}
 use Rattle.logged_lock.proofs.Steps.{beginning-trans, prefix-trans}
@@ -10,12 +10,12 @@ set-there desks place d next at =
     let inside : place < length (slice_set desks place next) = omega (arith, slice_get_within desks place d at, length-set desks place next) in
     slice_get-get_or (slice_set desks place next) place next inside ∙ ap (λ (x : AtLock). Some x) (get_or-set_same desks place next next (slice_get_within desks place d at))
 
-pub post-there : (posts : List AtLock) (n : ℕ) → n < length posts → (post : AtLock) × (slice_get posts n ≡ Some post)
-post-there posts n lt = (get_or posts n nobody, slice_get-get_or posts n nobody lt)
+pub owned_desk-there : (owned_desks : List AtLock) (n : ℕ) → n < length owned_desks → (owned_desk : AtLock) × (slice_get owned_desks n ≡ Some owned_desk)
+owned_desk-there owned_desks n lt = (get_or owned_desks n nobody, slice_get-get_or owned_desks n nobody lt)
 
 -- the k-th operator's account at the desk of a place
 account-there : (ops : List AtStation) (place k : ℕ) (o : AtStation) (d : AtLock) → slice_get ops k ≡ Some o → slice_get o.desks place ≡ Some d
-    → get_elem? (accounts_of (column place (crews_of ops))) k ≡ some d.own
+    → get_elem? (accounts_of (column place (operator_lists_of ops))) k ≡ some d.own
 account-there [] place k o d at there = absurd (none-some o at)
 account-there (p ∷ ops) place zero o d at there =
     ap (λ (x : AtStation). some (slice_index_or x.desks place nobody).own) (same_Some p o at) ∙ ap (λ (x : AtLock). some x.own) (get_or_from_slice_get o.desks place d nobody there)
@@ -28,15 +28,15 @@ seen-in-closed station place o channel there at since =
     let all = since.together.2 in
     let inside = slice_get_within since.closed place channel since.out in
     let many = all.as_many in
-    let post = post-there since.together.0 place (omega (arith, inside, many)) in
-    let one = all.each place post.0 channel post.1 since.out in
-    let closed : Moment = record { head = post.0.own.seen.head; entries = channel.journal } in
+    let owned_desk = owned_desk-there since.together.0 place (omega (arith, inside, many)) in
+    let one = all.each place owned_desk.0 channel owned_desk.1 since.out in
+    let closed : Moment = record { head = owned_desk.0.own.seen.head; entries = channel.journal } in
     let on = since.on in
     let same : on.before ≡ there = same_Some on.before there (sym on.was ∙ at) in
     let account = account-there since.operators place since.number since.last on.after since.among on.is in
     let begun : IsBeginning on.after.own.seen closed = one.seen since.number on.after.own account in
     let longer = subst (λ (d : AtLock). IsBeginning d.own.seen on.after.own.seen) same on.longer in
-    (post.0.own.seen.head, sym one.settings, beginning-trans there.own.seen on.after.own.seen closed longer begun)
+    (owned_desk.0.own.seen.head, sym one.settings, beginning-trans there.own.seen on.after.own.seen closed longer begun)
 
 -- the law of the desk on which this rests
 abbrev pub Stands : Type 0

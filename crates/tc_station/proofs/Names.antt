@@ -14,7 +14,7 @@ pub use Rattle.std.specs.Global.{Vec}
 pub use Rattle.std.specs.List.{AllByRecursion, list_any, position_or_len}
 pub use Rattle.std.specs.Prelude.{AllPairs, Any, Contains, IsErrAnd, MatchOption, MatchResult, OnErr, OnOk, count_by, is_none, nat_lt, position, slice_get, slice_index, slice_index_or, slice_set, ◌&&◌, ◌==◌}
 pub use Rattle.tc_channel.specs.ChannelState.{no_limits}
-pub use Rattle.tc_channel.specs.Journal.{History, IsNumberTold}
+pub use Rattle.tc_channel.specs.Journal.{History, IsNumberReported}
 pub use Rattle.tc_channel.specs.Reply.{buffered_fields, clcw, frame_reply, release_reply, take_reply, unit_reply}
 pub use Rattle.tc_channel.specs.Settings.{IsAllowed}
 pub use Rattle.tc_channel.specs.declared.event.Event.{Event}
@@ -25,7 +25,7 @@ pub use Rattle.tc_desk.specs.Call.{HasMet, HasSeenNoMore, IsCall, IsMeeting, IsO
 pub use Rattle.tc_desk.specs.Log.{AtLock, Identity, Moment, Own, accounts_of, count_of, with_one_issued}
 pub use Rattle.tc_desk.specs.Together.{AreClosed, AreOurs, AreSame, HasCause, column, heads_of, issued_of, locks_of, nobody, settings_of_desks}
 pub use Rattle.tc_link.specs.declared.Link.{Link}
-pub use Rattle.tc_station.specs.Balance.{AreInBalance, AreInToldBalance, IsInBalance, counted_by_all}
+pub use Rattle.tc_station.specs.Balance.{AreInBalance, AreInReportedBalance, IsInBalance, counted_by_all}
 pub use Rattle.tc_station.specs.Call.{IsBringCall, IsCallAt, IsCallOn, IsCounted, IsMetAt, IsNotBrought, IsNotReleased, IsNotTaken, IsReplied, IsUnitNotTaken}
 pub use Rattle.tc_station.specs.Faults.{release_refused, take_refused, take_unit_refused}
 pub use Rattle.tc_station.specs.Location.{IsLocateFault, IsLocated}
@@ -34,7 +34,7 @@ pub use Rattle.tc_station.specs.Roster.{HaveIssued, IsDeskOf, IsPlace, Roster, s
 pub use Rattle.tc_station.specs.StationSettings.{HaveDistinctVcids, vcids_of}
 pub use Rattle.tc_station.specs.Tally.{AtStation, HasMadeNothing, IsOurs, KnowsDesks, KnowsTheSame, Tally, arrival, at_station, counts_of, fresh, issued_more, newcomer_at_desks, raised, raised_at, tallied, tallies, tally}
 pub use Rattle.tc_station.specs.Through.{HasGoneOn, IsAnsweredAmong, IsClosedSince, IsGivenOut, IsItsLast, IsShownIn, IsWordRead}
-pub use Rattle.tc_station.specs.Together.{AreClosedTogether, IsCauseAtStation, crews_of}
+pub use Rattle.tc_station.specs.Together.{AreClosedTogether, IsCauseAtStation, operator_lists_of}
 pub use Rattle.tc_station.specs.Tried.{AreMade, CanBeMade, CannotBeMade, HasMadeTheSame, IsJobMade, IsListMade, IsTriedAt, IsTriedOn}
 pub use Rattle.tc_station.specs.Work.{AreDone, AreWorked, IsDone, IsRaised, IsShift, IsTallyOf, IsTried, IsWorked, NoCountFalls, Shift, brings_to, is_frame_for, is_other, lowest, raised_by}
 pub use Rattle.tc_station.specs.declared.work.Job.{Job}

@@ -15,11 +15,11 @@ given-out : (station : Roster) (place : ℕ) (before after : AtStation) (there n
     → (channel : History) × (slice_get closed place ≡ Some channel) × IsClosedSince station place after channel
 given-out station place before after there next operators closed number ours was others among together =
     let here : place < length before.desks = slice_get_within before.desks place there was in
-    let posts = together.0 in
+    let owned_desks = together.0 in
     let many = together.2.as_many in
     let mine = length-map before.desks (λ (o : AtLock). o.lock) in
-    let theirs = length-map posts (λ (o : AtLock). o.lock) in
-    let same : length (locks_of before.desks) ≡ length (locks_of posts) = ap (length {A = TableId}) (ours.1 ∙ sym together.1.0) in
+    let theirs = length-map owned_desks (λ (o : AtLock). o.lock) in
+    let same : length (locks_of before.desks) ≡ length (locks_of owned_desks) = ap (length {A = TableId}) (ours.1 ∙ sym together.1.0) in
     let inside : place < length closed = omega (arith, here, many, mine, theirs, same) in
     let channel : History = get_or closed place no_history in
     let out : slice_get closed place ≡ Some channel = slice_get-get_or closed place no_history inside in

@@ -1,7 +1,7 @@
 -- The balance between the journals of channels and the operators' counts.
 use Rattle.std.specs.Prelude.{◌≡◌, ℕ, List, length, slice_index, slice_get, Some}
 use Rattle.std.specs.List.{sum_by}
-use Rattle.tc_channel.specs.Journal.{History, IsNumberTold}
+use Rattle.tc_channel.specs.Journal.{History, IsNumberReported}
 use Rattle.tc_station.specs.Tally.{AtStation}
 
 -- how many operations on the channel at a place all operators together have counted
@@ -18,6 +18,6 @@ AreInBalance vcids operators channels =
     (place : ℕ) (channel : History) → slice_get channels place ≡ Some channel → IsInBalance vcids operators place channel
 
 -- they are in balance, and the number of each one's events is told as it is
-abbrev pub AreInToldBalance : List ℕ → List AtStation → List History → Type 0
-AreInToldBalance vcids operators channels =
-    (place : ℕ) (channel : History) → slice_get channels place ≡ Some channel → IsInBalance vcids operators place channel × IsNumberTold channel
+abbrev pub AreInReportedBalance : List ℕ → List AtStation → List History → Type 0
+AreInReportedBalance vcids operators channels =
+    (place : ℕ) (channel : History) → slice_get channels place ≡ Some channel → IsInBalance vcids operators place channel × IsNumberReported channel

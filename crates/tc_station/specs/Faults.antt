@@ -9,7 +9,7 @@ use Rattle.tc_channel.specs.declared.reply.TakeUnitFault.{TakeUnitFault}
 use Rattle.tc_channel.specs.declared.reply.TakeUnitFault.TheVariants as take_unit
 use Rattle.tc_station.specs.Roster.{Roster}
 use Rattle.tc_station.specs.Tally.{AtStation}
-use Rattle.tc_station.specs.Balance.{AreInBalance, AreInToldBalance}
+use Rattle.tc_station.specs.Balance.{AreInBalance, AreInReportedBalance}
 use Rattle.tc_station.specs.Moments.{AtSomeMomentOf}
 use Rattle.tc_station.specs.declared.faults.ReleaseRefused.{ReleaseRefused}
 use Rattle.tc_station.specs.declared.faults.ReleaseRefused.TheVariants as release_refusals
@@ -21,8 +21,8 @@ use Rattle.tc_station.specs.declared.faults.WatcherFault.{WatcherFault}
 use Rattle.tc_station.specs.declared.faults.WatcherFault.TheVariants as watcher_faults
 use Rattle.tc_station.specs.declared.faults.CloseFault.{CloseFault}
 use Rattle.tc_station.specs.declared.faults.CloseFault.TheVariants.{Missing, NoMemory, Unbalanced}
-use Rattle.tc_station.specs.declared.faults.FlightCloseFault.{FlightCloseFault}
-use Rattle.tc_station.specs.declared.faults.FlightCloseFault.TheVariants as flight
+use Rattle.tc_station.specs.declared.faults.CountingCloseFault.{CountingCloseFault}
+use Rattle.tc_station.specs.declared.faults.CountingCloseFault.TheVariants as counting
 
 -- what the station answers where its channel refuses
 abbrev pub release_refused : ReleaseFault → ReleaseRefused
@@ -67,9 +67,9 @@ IsCloseFault station operators (NoMemory s os) = (station.issued ≤ length oper
 IsCloseFault station operators (Unbalanced channels os) =
     (station.issued ≤ length operators) × (os.items ≡ operators) × (length channels.items ≡ length station.vcids) × ¬ AreInBalance station.vcids operators channels.items
 
--- the same of a station in flight, whose channels tell the numbers of their events
-abbrev pub IsFlightCloseFault : Roster → List AtStation → FlightCloseFault → Type 0
-IsFlightCloseFault station operators (flight.Missing s os) = (length operators < station.issued) × (s ≡ station) × (os.items ≡ operators)
-IsFlightCloseFault station operators (flight.NoMemory s os) = (station.issued ≤ length operators) × (s ≡ station) × (os.items ≡ operators)
-IsFlightCloseFault station operators (flight.Unbalanced channels os) =
-    (station.issued ≤ length operators) × (os.items ≡ operators) × (length channels.items ≡ length station.vcids) × ¬ AreInToldBalance station.vcids operators channels.items
+-- the same of a counting station, whose channels tell the numbers of their events
+abbrev pub IsCountingCloseFault : Roster → List AtStation → CountingCloseFault → Type 0
+IsCountingCloseFault station operators (counting.Missing s os) = (length operators < station.issued) × (s ≡ station) × (os.items ≡ operators)
+IsCountingCloseFault station operators (counting.NoMemory s os) = (station.issued ≤ length operators) × (s ≡ station) × (os.items ≡ operators)
+IsCountingCloseFault station operators (counting.Unbalanced channels os) =
+    (station.issued ≤ length operators) × (os.items ≡ operators) × (length channels.items ≡ length station.vcids) × ¬ AreInReportedBalance station.vcids operators channels.items

@@ -25,10 +25,10 @@ IsPlace station vcid place = position (λ v. v == vcid) station.vcids ≡ Some p
 abbrev pub IsDeskOf : Roster → ℕ → Identity → Type 0
 IsDeskOf station vcid head = (place : ℕ) × IsPlace station vcid place × (slice_get station.heads place ≡ Some head)
 
--- each of these posts has issued so many operators
+-- each of these owned desks has issued so many operators
 abbrev pub HaveIssued : ℕ → List AtLock → Type 0
-HaveIssued n posts = All (λ (i : ℕ). i ≡ n) (issued_of posts)
+HaveIssued n owned_desks = All (λ (i : ℕ). i ≡ n) (issued_of owned_desks)
 
--- what the keepers of its desks have seen and issued
-abbrev pub ArePostsOf : Roster → List AtLock → Type 0
-ArePostsOf station posts = (locks_of posts ≡ station.locks) × (heads_of posts ≡ station.heads) × HaveIssued station.issued posts
+-- what the owners of its desks have seen and issued
+abbrev pub AreOwnedDesksOf : Roster → List AtLock → Type 0
+AreOwnedDesksOf station owned_desks = (locks_of owned_desks ≡ station.locks) × (heads_of owned_desks ≡ station.heads) × HaveIssued station.issued owned_desks

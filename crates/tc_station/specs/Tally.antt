@@ -28,17 +28,17 @@ counts_of desks = map (λ (d : AtLock). count_of d.own) desks
 abbrev pub at_station : List ℕ → List AtLock → AtStation
 at_station vcids desks = record { vcids = vcids; counts = counts_of desks; desks = desks }
 
--- who has made nothing at a desk, and has seen what its keeper has
+-- who has made nothing at a desk, and has seen what its owner has
 abbrev pub arrival : AtLock → AtLock
-arrival post = record { lock = post.lock; own = record { seen = post.own.seen; made = []; issued = 0 } }
+arrival owned_desk = record { lock = owned_desk.lock; own = record { seen = owned_desk.own.seen; made = []; issued = 0 } }
 
 -- the same at each of these desks
 abbrev pub newcomer_at_desks : List ℕ → List AtLock → AtStation
-newcomer_at_desks vcids posts = at_station vcids (map arrival posts)
+newcomer_at_desks vcids owned_desks = at_station vcids (map arrival owned_desks)
 
--- so many operators more were issued from each of these posts
+-- so many operators more were issued from each of these owned desks
 abbrev pub issued_more : ℕ → List AtLock → List AtLock
-issued_more n posts = map (λ (p : AtLock). record { lock = p.lock; own = record { seen = p.own.seen; made = p.own.made; issued = p.own.issued + n } }) posts
+issued_more n owned_desks = map (λ (p : AtLock). record { lock = p.lock; own = record { seen = p.own.seen; made = p.own.made; issued = p.own.issued + n } }) owned_desks
 
 -- it works at the desks of this station
 abbrev pub IsOurs : Roster → AtStation → Type 0

@@ -5,22 +5,22 @@ use Rattle.tc_channel.specs.Journal.{History}
 use Rattle.tc_desk.specs.Log.{AtLock, accounts_of}
 use Rattle.tc_desk.specs.Together.{AreClosed, IsClosingRefusal, column}
 use Rattle.tc_desk.specs.declared.together.Refusal.{Refusal}
-use Rattle.tc_station.specs.Roster.{Roster, ArePostsOf}
+use Rattle.tc_station.specs.Roster.{Roster, AreOwnedDesksOf}
 use Rattle.tc_station.specs.Tally.{AtStation}
 
-abbrev pub crews_of : List AtStation → List (List AtLock)
-crews_of operators = map (λ (o : AtStation). o.desks) operators
+abbrev pub operator_lists_of : List AtStation → List (List AtLock)
+operator_lists_of operators = map (λ (o : AtStation). o.desks) operators
 
 -- The journal of each channel is a merge of what these operators made at its desk, what each of them had seen is a beginning of it,
 -- and its settings are those of the desk.
 abbrev pub AreClosedTogether : Roster → List AtStation → List History → Type 0
-AreClosedTogether station operators closed = (posts : List AtLock) × ArePostsOf station posts × AreClosed posts (crews_of operators) closed
+AreClosedTogether station operators closed = (owned_desks : List AtLock) × AreOwnedDesksOf station owned_desks × AreClosed owned_desks (operator_lists_of operators) closed
 
 -- where counts are the reason, there were moments of the desks, all at once, at which one of them wasn't balanced
 abbrev pub IsNotClosedTogether : Roster → List AtStation → Refusal → Type 0
-IsNotClosedTogether station operators refusal = (posts : List AtLock) × ArePostsOf station posts × IsClosingRefusal posts (crews_of operators) refusal
+IsNotClosedTogether station operators refusal = (owned_desks : List AtLock) × AreOwnedDesksOf station owned_desks × IsClosingRefusal owned_desks (operator_lists_of operators) refusal
 
 -- the cause of an imbalance: not all operators that the station issued are among them, or they have made too many events of a channel
 -- for a count
 abbrev pub IsCauseAtStation : Roster → List AtStation → Type 0
-IsCauseAtStation station operators = (length operators < station.issued) ⊎ ((place : ℕ) × (2 ^ 64 - 1 ≤ total_made (accounts_of (column place (crews_of operators)))))
+IsCauseAtStation station operators = (length operators < station.issued) ⊎ ((place : ℕ) × (2 ^ 64 - 1 ≤ total_made (accounts_of (column place (operator_lists_of operators)))))

@@ -71,7 +71,7 @@ lowest [] = None
 lowest (s ∷ ss) = lower s.refused (lowest ss)
 
 -- each list has an operator of the station
-pub record AreManned (station : Roster) (lists : List WorkList) (operators : List AtStation) : Type 0 where
+pub record AreStaffed (station : Roster) (lists : List WorkList) (operators : List AtStation) : Type 0 where
   pub as_many : length operators ≡ length lists
   pub ours : All (IsOurs station) operators
 

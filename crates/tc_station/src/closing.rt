@@ -1,11 +1,11 @@
 //! Whether the journals of a closed station, or the numbers of their events, are in balance with the operators' counts.
 
 ghost use Rattle.std.specs.Prelude.{◌≡◌, ◌<◌, ◌↔◌, length, IsTrue, All};
-ghost use Rattle.tc_station.specs.Balance.{counted_by_all, IsInBalance, AreInBalance, AreInToldBalance};
-ghost use Rattle.tc_channel.specs.Journal.{IsNumberTold};
+ghost use Rattle.tc_station.specs.Balance.{counted_by_all, IsInBalance, AreInBalance, AreInReportedBalance};
+ghost use Rattle.tc_channel.specs.Journal.{IsNumberReported};
 
 use crate::operator::Operator;
-use tc_channel::{Channel, FlightChannel};
+use tc_channel::{Channel, CountingChannel};
 
 // What all operators have counted of the channel at a place.
 fn count_of_all(operators: &[Operator], place: usize) -> u128
@@ -43,15 +43,15 @@ pub(crate) fn are_in_balance(vcids: &[u8], operators: &[Operator], channels: &[C
 }
 
 // The same of a channel that tells the number of its events, which the largest number of 64 bits is not.
-fn is_in_told_balance(
+fn is_in_reported_balance(
     vcids: &[u8],
     operators: &[Operator],
     place: usize,
-    channel: &FlightChannel,
+    channel: &CountingChannel,
 ) -> bool
     requires inside { place < length vcids.now }
     requires ours { All (λ o. o.vcids ≡ vcids.now) operators.now }
-    ensures { IsTrue result ↔ IsInBalance vcids.now operators.now place channel.now × IsNumberTold channel.now }
+    ensures { IsTrue result ↔ IsInBalance vcids.now operators.now place channel.now × IsNumberReported channel.now }
 {
     let events = channel.events();
     events < u64::MAX
@@ -60,17 +60,17 @@ fn is_in_told_balance(
 }
 
 /// Whether each channel tells the number of its events, and all are in balance.
-pub(crate) fn are_in_told_balance(
+pub(crate) fn are_in_reported_balance(
     vcids: &[u8],
     operators: &[Operator],
-    channels: &[FlightChannel],
+    channels: &[CountingChannel],
 ) -> bool
     requires as_many { length channels.now ≡ length vcids.now }
     requires ours { All (λ o. o.vcids ≡ vcids.now) operators.now }
-    ensures { IsTrue result ↔ AreInToldBalance vcids.now operators.now channels.now }
+    ensures { IsTrue result ↔ AreInReportedBalance vcids.now operators.now channels.now }
 {
     for (place, channel) in channels.iter().enumerate() {
-        if !is_in_told_balance(vcids, operators, place, channel) {
+        if !is_in_reported_balance(vcids, operators, place, channel) {
             return false;
         }
     }

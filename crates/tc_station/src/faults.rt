@@ -1,10 +1,10 @@
 //! Why the calls of a station refuse. The faults of a call stand in the order in which they are tried.
 
 use crate::operator::Operator;
-use crate::station::{FlightStation, Station};
+use crate::station::{CountingStation, Station};
 use std::fmt;
 use std::fmt::{Debug, Formatter};
-use tc_channel::{Channel, FlightChannel, ReleaseFault, SettingsFault, TakeFault, TakeUnitFault};
+use tc_channel::{Channel, CountingChannel, ReleaseFault, SettingsFault, TakeFault, TakeUnitFault};
 use tc_link::LocateFault;
 use thiserror::Error;
 
@@ -121,26 +121,26 @@ impl Debug for CloseFault {
     }
 }
 
-/// Why a station in flight was not closed in balance, with what is handed back.
+/// Why a counting station was not closed in balance, with what is handed back.
 #[derive(Drop, Error)]
-pub enum FlightCloseFault {
+pub enum CountingCloseFault {
     /// There are fewer operators than the station issued.
     #[error("an operator is missing")]
-    Missing(FlightStation, Vec<Operator>),
+    Missing(CountingStation, Vec<Operator>),
     #[error("no memory")]
-    NoMemory(FlightStation, Vec<Operator>),
+    NoMemory(CountingStation, Vec<Operator>),
     /// The channels are out of their locks, and one of them has another virtual channel id than its place, or another
     /// number of events than the operators counted of it, or 2^64 - 1 events or more.
     #[error("the operators' counts and the numbers of events differ")]
-    Unbalanced(Vec<FlightChannel>, Vec<Operator>),
+    Unbalanced(Vec<CountingChannel>, Vec<Operator>),
 }
 
-impl Debug for FlightCloseFault {
+impl Debug for CountingCloseFault {
     fn fmt<W: fmt::Write>(&self, f: &mut Formatter<W>) -> fmt::Result {
         f.write_str(match self {
-            FlightCloseFault::Missing(_, _) => "Missing",
-            FlightCloseFault::NoMemory(_, _) => "NoMemory",
-            FlightCloseFault::Unbalanced(_, _) => "Unbalanced",
+            CountingCloseFault::Missing(_, _) => "Missing",
+            CountingCloseFault::NoMemory(_, _) => "NoMemory",
+            CountingCloseFault::Unbalanced(_, _) => "Unbalanced",
         })
     }
 }

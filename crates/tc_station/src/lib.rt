@@ -9,7 +9,7 @@
 //! there, and [`StationOf::close_together`] gives out channels whose journals are merges of what their operators made. A call of
 //! the [`Station`] without an operator promises less: what it answers is what FARM-1 and the queues answer at some lawful journal
 //! with this channel's settings. [`Station::close`] ties the journals to the operators' counts, whosever they are.
-//! A [`FlightStation`] does the same with journals that take no memory, and its close goes by the numbers of their events.
+//! A [`CountingStation`] does the same with journals that take no memory, and its close goes by the numbers of their events.
 #![tactic(auto)]
 
 mod closing;
@@ -22,13 +22,13 @@ mod vcids;
 mod work;
 
 pub use faults::{
-    BringFault, CloseFault, FlightCloseFault, OperatorsFault, ReleaseRefused, StationFault,
+    BringFault, CloseFault, CountingCloseFault, OperatorsFault, ReleaseRefused, StationFault,
     TakeRefused, TakeUnitRefused, WatcherFault, WorkFault,
 };
 pub use operator::Operator;
-pub use station::{Brought, FlightStation, Located, Station, StationOf, StillOpen};
+pub use station::{Brought, CountingStation, Located, Station, StationOf, StillOpen};
 pub use tc_desk::Refusal;
 pub use tc_link::LocateFault;
-pub use tc_status::{Desk, DeskOf, FlightDesk};
+pub use tc_status::{CountingDesk, Desk, DeskOf};
 pub use through::{from_a_sender_to_packets, what_calls_answered_stands_in_the_closed_journals};
 pub use work::{FreeGate, Gate, Job, Order, WorkList};

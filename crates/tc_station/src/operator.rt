@@ -10,7 +10,7 @@ ghost use Rattle.tc_station.specs.Tally.{count_in, tally, newcomer_at_desks, arr
 use std::alloc::{AllocError, Global};
 use std::marker::Model;
 use tc_channel::Journal;
-use tc_desk::{Crew, DeskOperator, Post};
+use tc_desk::{DeskOperator, OperatorList, OwnedDesk};
 
 /// Someone who makes operations on the channels of a station, and counts those that were answered, channel by channel.
 /// One thread has it at a time.
@@ -34,7 +34,7 @@ impl Model for Operator {
     ghost invariant = { λ o. vcids_of (settings_of_desks o.desks.items) ≡ o.vcids.items };
 }
 
-impl Crew for Operator {
+impl OperatorList for Operator {
     ghost at_desks = { λ o. o.desks };
 
     fn operators(&self) -> &[DeskOperator] {
@@ -76,28 +76,28 @@ impl Room {
 // An operator at each of these desks, which has made nothing, in a list with room for them.
 fn desk_operators<J: Journal>(
     mut operators: Vec<DeskOperator>,
-    posts: &mut [Post<J>],
+    owned_desks: &mut [OwnedDesk<J>],
 ) -> Vec<DeskOperator>
     requires empty { operators.items ≡ [] }
-    requires room { length posts.old ≤ vec_capacity operators }
-    ensures issued { posts.new ≡ map with_one_issued posts.old }
-    ensures operators { result.items ≡ map arrival posts.old }
+    requires room { length owned_desks.old ≤ vec_capacity operators }
+    ensures issued { owned_desks.new ≡ map with_one_issued owned_desks.old }
+    ensures operators { result.items ≡ map arrival owned_desks.old }
 {
-    for place in 0..posts.len() {
-        operators.push_reserved(posts[place].operator());
+    for place in 0..owned_desks.len() {
+        operators.push_reserved(owned_desks[place].operator());
     }
     operators
 }
 
 impl Operator {
-    /// An operator that has made nothing, and has seen what the keepers of these desks have seen.
-    pub(crate) fn new<J: Journal>(room: Room, posts: &mut [Post<J>]) -> Operator
-        requires room { IsRoomFor (vcids_of (settings_of_desks posts.old)) room }
-        ensures issued { posts.new ≡ map with_one_issued posts.old }
-        ensures operator { result ≡ newcomer_at_desks (vcids_of (settings_of_desks posts.old)) posts.old }
+    /// An operator that has made nothing, and has seen what the owners of these desks have seen.
+    pub(crate) fn new<J: Journal>(room: Room, owned_desks: &mut [OwnedDesk<J>]) -> Operator
+        requires room { IsRoomFor (vcids_of (settings_of_desks owned_desks.old)) room }
+        ensures issued { owned_desks.new ≡ map with_one_issued owned_desks.old }
+        ensures operator { result ≡ newcomer_at_desks (vcids_of (settings_of_desks owned_desks.old)) owned_desks.old }
     {
         let Room { vcids, desks } = room;
-        let desks = desk_operators(desks, posts);
+        let desks = desk_operators(desks, owned_desks);
         Operator { vcids, desks }
     }
 

@@ -12,12 +12,12 @@ ghost use Rattle.tc_station.specs.Room.{IsRoomFor};
 ghost use Rattle.tc_station.specs.Tally.{HasMadeNothing, KnowsDesks, KnowsTheSame, IsOurs, tallied, fresh, issued_more, newcomer_at_desks, tally};
 ghost use Rattle.tc_station.specs.Call.{IsBringCall, IsCallOn, IsCounted, IsMetAt, IsMetCallAt, IsNotBrought, IsNotBroughtWatched, IsNotReleased, IsNotTaken, IsReplied, IsRepliedWatched, IsUnitNotTaken};
 ghost use Rattle.tc_station.specs.Balance.{AreInBalance};
-ghost use Rattle.tc_channel.specs.Journal.{IsNumberTold};
+ghost use Rattle.tc_channel.specs.Journal.{IsNumberReported};
 ghost use Rattle.tc_station.specs.StationSettings.{vcids_of, HaveDistinctVcids, IsFirstDouble, IsFirstRefused, AreStationSettings, IsStationFault};
 
-use crate::closing::{are_in_balance, are_in_told_balance};
+use crate::closing::{are_in_balance, are_in_reported_balance};
 use crate::faults::{
-    BringFault, CloseFault, FlightCloseFault, OperatorsFault, ReleaseRefused, StationFault,
+    BringFault, CloseFault, CountingCloseFault, OperatorsFault, ReleaseRefused, StationFault,
     TakeRefused, TakeUnitRefused, WatcherFault,
 };
 use crate::guest::Passing;
@@ -28,11 +28,11 @@ use std::alloc::{AllocError, Global};
 use std::marker::Model;
 use std::sync::Wait;
 use tc_channel::{
-    Channel, ChannelWith, Delivery, Event, FlightChannel, FrameReply, Journal, Kept, NoMemory,
-    Settings, SettingsFault, Unkept, each_clcw_fits_its_word,
+    Channel, ChannelWith, CountingChannel, Delivery, Event, FrameReply, Journal, NoMemory,
+    Recorded, Settings, SettingsFault, Unrecorded, each_clcw_fits_its_word,
 };
 use tc_desk::{
-    Framing, LeftOpen, Operation, Post, Question, Refusal, Release, Taking, UnitTaking,
+    Framing, LeftOpen, Operation, OwnedDesk, Question, Refusal, Release, Taking, UnitTaking,
     WatchedFraming, Watching, close_together, take_out_together,
 };
 use tc_link::{Frame, Link, LocateFault, read_frame};
@@ -62,15 +62,15 @@ pub struct StationOf<J: Journal> {
     scid: u16,
     vcids: Vcids,
     issued: u16,
-    desks: Vec<Post<J>>,
+    desks: Vec<OwnedDesk<J>>,
 }
 
 /// A station whose channels keep their journals in memory, and give them out when it is closed.
-pub type Station = StationOf<Kept>;
+pub type Station = StationOf<Recorded>;
 
 /// A station whose channels' journals take no memory, for flight software and long simulations. It does what [`Station`] does,
 /// by the same proof, but for its close, which compares the numbers of events.
-pub type FlightStation = StationOf<Unkept>;
+pub type CountingStation = StationOf<Unrecorded>;
 
 /// A station whose channels weren't closed together: it is given back with the operators, and work can go on.
 #[derive(Drop)]
@@ -161,7 +161,7 @@ impl<J: Journal> StationOf<J> {
     }
 
     /// Brings the frame at the front of the octets to its channel, under the channel's lock. What the channel's own call takes
-    /// is all that is allocated, here and in the next three calls. So a station in flight runs out of memory here only for a
+    /// is all that is allocated, here and in the next three calls. So a counting station runs out of memory here only for a
     /// frame of Type-BD, and never for a take.
     pub fn bring(
         &self,
@@ -337,8 +337,8 @@ impl<J: Journal> StationOf<J> {
         let Some(place) = self.vcids.place_of(vcid) else {
             unreachable!()
         };
-        let post = &self.desks[place];
-        operator.desks[place].operate_met(post.desk(), rt, watcher, operation)
+        let owned_desk = &self.desks[place];
+        operator.desks[place].operate_met(owned_desk.desk(), rt, watcher, operation)
     }
 
     /// The watcher meets its channel, under the channel's lock: what it had seen is a beginning of the journal at that moment, and then
@@ -356,8 +356,8 @@ impl<J: Journal> StationOf<J> {
         let Some(place) = self.vcids.place_of(vcid) else {
             unreachable!()
         };
-        let post = &self.desks[place];
-        operator.desks[place].meet(post.desk(), rt, watcher);
+        let owned_desk = &self.desks[place];
+        operator.desks[place].meet(owned_desk.desk(), rt, watcher);
     }
 
     // The operation on the desk of the channel at this place, which has this id, by the operator there.
@@ -452,17 +452,21 @@ impl<J: Journal> StationOf<J> {
             Ok(channels) => Ok(channels),
             Err(left) => {
                 let refusal = left.refusal;
-                let LeftOpen { posts, crews, .. } = left;
+                let LeftOpen {
+                    owned_desks,
+                    operator_lists,
+                    ..
+                } = left;
                 let station = StationOf {
                     alloc,
                     scid,
                     vcids,
                     issued,
-                    desks: posts,
+                    desks: owned_desks,
                 };
                 Err(StillOpen {
                     station,
-                    operators: crews,
+                    operators: operator_lists,
                     refusal,
                 })
             }
@@ -470,7 +474,7 @@ impl<J: Journal> StationOf<J> {
     }
 }
 
-impl StationOf<Kept> {
+impl StationOf<Recorded> {
     ghost use Rattle.tc_station.specs.Faults.{IsCloseFault};
 
     /// Ends the station: takes the channels out of their locks and compares their journals with the operators' counts. Two lists
@@ -500,29 +504,29 @@ impl StationOf<Kept> {
     }
 }
 
-impl StationOf<Unkept> {
-    ghost use Rattle.tc_station.specs.Faults.{IsFlightCloseFault};
+impl StationOf<Unrecorded> {
+    ghost use Rattle.tc_station.specs.Faults.{IsCountingCloseFault};
 
     /// Ends the station: takes the channels out of their locks and compares the numbers of their events with the operators'
     /// counts. 2^64 - 1 is for as many events or more, so it is no balance. All else is as for a [`Station`].
-    pub fn close(self, operators: Vec<Operator>) -> Result<Vec<FlightChannel>, FlightCloseFault>
+    pub fn close(self, operators: Vec<Operator>) -> Result<Vec<CountingChannel>, CountingCloseFault>
         requires ours { All (λ o. o.vcids ≡ self.vcids) operators.items }
         ensures all { IfOk result (λ _. self.issued ≤ vec_len operators) }
         ensures balanced { IfOk result (λ channels. AreInBalance self.vcids operators.items channels.items) }
-        ensures told { IfOk result (λ channels. All IsNumberTold channels.items) }
+        ensures reported { IfOk result (λ channels. All IsNumberReported channels.items) }
         ensures channels { IfOk result (λ channels. map (λ c. c.settings.vcid) channels.items ≡ self.vcids) }
-        ensures fault { IfErr result (IsFlightCloseFault self operators.items) }
+        ensures fault { IfErr result (IsCountingCloseFault self operators.items) }
     {
         if operators.len() < usize::from(self.issued) {
-            return Err(FlightCloseFault::Missing(self, operators));
+            return Err(CountingCloseFault::Missing(self, operators));
         }
         match self.into_channels() {
-            Err(station) => Err(FlightCloseFault::NoMemory(station, operators)),
+            Err(station) => Err(CountingCloseFault::NoMemory(station, operators)),
             Ok((vcids, channels)) => {
-                if are_in_told_balance(&vcids, &operators, &channels) {
+                if are_in_reported_balance(&vcids, &operators, &channels) {
                     Ok(channels)
                 } else {
-                    Err(FlightCloseFault::Unbalanced(channels, operators))
+                    Err(CountingCloseFault::Unbalanced(channels, operators))
                 }
             }
         }
@@ -593,10 +597,10 @@ fn start<J: Journal>(
     let mut desks = Vec::with_capacity(alloc, list.len())?;
     for settings in list {
         vcids.push_reserved(settings.vcid);
-        let Ok(post) = Post::new(alloc, settings) else {
+        let Ok(owned_desk) = OwnedDesk::new(alloc, settings) else {
             return Err(NoMemory);
         };
-        desks.push_reserved(post);
+        desks.push_reserved(owned_desk);
     }
     Ok(StationOf {
         alloc,
@@ -623,18 +627,18 @@ fn rooms(alloc: Global, vcids: &[u8], n: u16) -> Result<Vec<Room>, AllocError>
 fn issue<J: Journal>(
     alloc: Global,
     vcids: &[u8],
-    posts: &mut [Post<J>],
+    owned_desks: &mut [OwnedDesk<J>],
     n: u16,
 ) -> Result<Vec<Operator>, AllocError>
-    requires ids { vcids_of (settings_of_desks posts.old) ≡ vcids.now }
-    ensures issued { IfOk result (λ _. posts.new ≡ issued_more n posts.old) }
-    ensures refused { IfErr result (λ _. posts.new ≡ posts.old) }
-    ensures operators { IfOk result (λ operators. operators.items ≡ replicate n (newcomer_at_desks vcids.now posts.old)) }
+    requires ids { vcids_of (settings_of_desks owned_desks.old) ≡ vcids.now }
+    ensures issued { IfOk result (λ _. owned_desks.new ≡ issued_more n owned_desks.old) }
+    ensures refused { IfErr result (λ _. owned_desks.new ≡ owned_desks.old) }
+    ensures operators { IfOk result (λ operators. operators.items ≡ replicate n (newcomer_at_desks vcids.now owned_desks.old)) }
 {
     let mut rooms = rooms(alloc, vcids, n)?;
     let mut operators = Vec::with_capacity(alloc, usize::from(n))?;
     while let Some(room) = rooms.pop() {
-        operators.push_reserved(Operator::new(room, posts));
+        operators.push_reserved(Operator::new(room, owned_desks));
     }
     Ok(operators)
 }

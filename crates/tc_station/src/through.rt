@@ -26,7 +26,7 @@ ghost use Rattle.tc_station.specs.Location.{IsLocated};
 ghost use Rattle.tc_station.specs.Roster.{Roster, IsPlace};
 ghost use Rattle.tc_station.specs.Tally.{AtStation, IsOurs};
 ghost use Rattle.tc_station.specs.Through.{IsAnsweredAmong, IsAnsweredIn, IsClosedSince, IsGivenOut, IsWordRead, IsShownIn};
-ghost use Rattle.tc_station.specs.Together.{AreClosedTogether, crews_of};
+ghost use Rattle.tc_station.specs.Together.{AreClosedTogether, operator_lists_of};
 
 use tc_channel::{what_was_passed_on_is_admitted_in_order, what_was_sent_is_given_in_order};
 use tc_desk::each_event_stands_at_its_place;
@@ -52,7 +52,7 @@ use tc_desk::each_event_stands_at_its_place;
 pub fn from_a_sender_to_packets()
     ensures merge { (station : Roster) (operators : List AtStation) (closed : List History) (place : ℕ) (channel : History)
         → AreClosedTogether station operators closed → slice_get closed place ≡ Some channel
-        → IsMergeOf channel.journal (accounts_of (column place (crews_of operators))) }
+        → IsMergeOf channel.journal (accounts_of (column place (operator_lists_of operators))) }
     ensures frames { (station : Roster) (place vcid : ℕ) (frame : List ℕ) (grows : Bool) (before after : AtStation) (brought : Brought) (channel : History)
         → IsCallAt place vcid (Event.Frame frame) (IsReplied vcid frame) (IsNotBrought grows frame) before (Ok brought) after
         → IsClosedSince station place after channel

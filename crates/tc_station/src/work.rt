@@ -59,7 +59,7 @@ where
     J::Entry: Send,
 {
     ghost use Rattle.tc_station.specs.Tried.{IsListMade, IsJobMade, HasMadeTheSame};
-    ghost use Rattle.tc_station.specs.Work.{IsDone, MayWantMemory, IsWorked, AreManned, AreWorked, IsTallyOf, NoCountFalls, IsRaised, line_of_fault};
+    ghost use Rattle.tc_station.specs.Work.{IsDone, MayWantMemory, IsWorked, AreStaffed, AreWorked, IsTallyOf, NoCountFalls, IsRaised, line_of_fault};
 
     /// Does each list of jobs in a thread of its own, with the operator of its place. A refusal other than for memory is
     /// passed over. A list whose job is refused for memory is given up there; the others are done in full, and the lowest such
@@ -98,7 +98,7 @@ where
         lists: &[WorkList],
         operators: &mut [Operator],
     ) -> Option<u32>
-        requires { AreManned self.now lists.now operators.old }
+        requires { AreStaffed self.now lists.now operators.old }
         ensures { AreWorked self.now lists.now result operators.old operators.new }
     {
         if lists.len() < 2 {
@@ -123,17 +123,17 @@ where
     ) -> Option<u32>
         requires front_some { 0 < length front_lists.now }
         requires back_some { 0 < length back_lists.now }
-        requires front_manned { AreManned self.now front_lists.now front.old }
-        requires back_manned { AreManned self.now back_lists.now back.old }
+        requires front_staffed { AreStaffed self.now front_lists.now front.old }
+        requires back_staffed { AreStaffed self.now back_lists.now back.old }
         ensures { (a : Option ℕ) × (b : Option ℕ) × (result ≡ lower a b)
             × AreWorked self.now front_lists.now a front.old front.new × AreWorked self.now back_lists.now b back.old back.new }
     {
         let mut first = || -> Option<u32>
-            requires { IsSend J.row × IsSend J.Entry.row × IsSync R.row × IsSync G.row × AreManned self.now front_lists.now front.now }
+            requires { IsSend J.row × IsSend J.Entry.row × IsSync R.row × IsSync G.row × AreStaffed self.now front_lists.now front.now }
             ensures { AreWorked self.entry.now front_lists.entry.now result front.entry.now front.exit.now }
         { self.work_all(rt, gate, front_lists, front) };
         let mut second = || -> Option<u32>
-            requires { IsSend J.row × IsSend J.Entry.row × IsSync R.row × IsSync G.row × AreManned self.now back_lists.now back.now }
+            requires { IsSend J.row × IsSend J.Entry.row × IsSync R.row × IsSync G.row × AreStaffed self.now back_lists.now back.now }
             ensures { AreWorked self.entry.now back_lists.entry.now result back.entry.now back.exit.now }
         { self.work_all(rt, gate, back_lists, back) };
         let (a, b) = join_mut(rt, &mut first, &mut second);
@@ -149,7 +149,7 @@ where
         operators: &mut [Operator],
     ) -> Option<u32>
         requires one { length lists.now < 2 }
-        requires manned { AreManned self.now lists.now operators.old }
+        requires staffed { AreStaffed self.now lists.now operators.old }
         ensures { AreWorked self.now lists.now result operators.old operators.new }
     {
         if lists.is_empty() {

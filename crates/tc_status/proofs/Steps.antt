@@ -9,7 +9,7 @@ use Rattle.tc_channel.specs.Settings.{IsAllowed}
 use Rattle.tc_channel.specs.Journal.{History}
 use Rattle.tc_channel.specs.Run.{IsLawful}
 use Rattle.tc_status.specs.declared.board.View.{View}
-use Rattle.tc_status.specs.Board.{IsEarlier, status_word, view, spent, with_told, IsBehind, IsBoard, IsRead, IsCompared}
+use Rattle.tc_status.specs.Board.{IsEarlier, status_word, view, spent, with_reported, IsBehind, IsBoard, IsRead, IsCompared}
 use Rattle.tc_status.proofs.Beginnings.{beginning-self, beginning-trans}
 
 abbrev pub Kept : State (Unit {0}) View → Type 0
@@ -27,7 +27,7 @@ first-stays (x ∷ xs) zero p w at live live' same = (w, refl, live', same)
 first-stays (x ∷ xs) (suc id) p w at live live' same = (p, at, live, refl)
 
 behind-later : (p h : History) (v : View) → IsEarlier p h → IsBehind p v → IsBehind h v
-behind-later p h v later behind = λ live. let b = behind live in (beginning-trans v.seen p h b.0 later, beginning-trans v.told p h b.1 later)
+behind-later p h v later behind = λ live. let b = behind live in (beginning-trans v.seen p h b.0 later, beginning-trans v.reported p h b.1 later)
 
 behind-self : (h : History) → IsBehind h (view h)
 behind-self h = λ _. (beginning-self h, beginning-self h)
@@ -122,9 +122,9 @@ reads slots id me live s b len at small =
       },
     )
 
-pub joins : (id : ℕ) (v : View) (other : ℕ) (w : View) → id ≡ 0 → v.live ≡ true → w.live ≡ true → Joins Kept id v other w (with_told v w) spent
+pub joins : (id : ℕ) (v : View) (other : ℕ) (w : View) → id ≡ 0 → v.live ≡ true → w.live ≡ true → Joins Kept id v other w (with_reported v w) spent
 joins id v other w is_first live live' = rw is_first (λ s b at apart there.
-    let both = with_told v w in
+    let both = with_reported v w in
     let same : b.publisher ≡ v = some-injective b.publisher v (sym b.first ∙ at) in
     let seen : b.publisher.seen ≡ v.seen = ap (λ (x : View). x.seen) same in
     let mine = b.behind 0 v at live in
@@ -149,6 +149,6 @@ compares slots id me is_first live = rw is_first (λ s b len at small.
       loads s 0 b,
       record {
         seat = ap (λ h. (view h, me.1)) same;
-        later = subst (λ (h : History). IsEarlier me.0.told h) same (b.behind 0 me.0 at live).1;
+        later = subst (λ (h : History). IsEarlier me.0.reported h) same (b.behind 0 me.0 at live).1;
       },
     ))

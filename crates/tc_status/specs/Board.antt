@@ -36,7 +36,7 @@ status_word h = clcw h.settings h.journal no_flag
 
 -- the view of a seat that has seen this history and was told no other
 abbrev pub view : History → View
-view h = record { live = true; seen = h; told = h }
+view h = record { live = true; seen = h; reported = h }
 
 -- a history that stands where none is meant
 abbrev pub no_history : History
@@ -44,15 +44,15 @@ no_history = record { settings = record { vcid = 0; width = 0; buffer = 0; first
 
 -- what a seat leaves that was joined to another
 abbrev pub spent : View
-spent = record { live = false; seen = no_history; told = no_history }
+spent = record { live = false; seen = no_history; reported = no_history }
 
 -- the first seat is told what the second has seen
-abbrev pub with_told : View → View → View
-with_told v w = record v { told = w.seen }
+abbrev pub with_reported : View → View → View
+with_reported v w = record v { reported = w.seen }
 
 -- what a live seat has seen, and what it was told, are beginnings of what was published
 abbrev pub IsBehind : History → View → Type 0
-IsBehind published v = v.live ≡ true → IsEarlier v.seen published × IsEarlier v.told published
+IsBehind published v = v.live ≡ true → IsEarlier v.seen published × IsEarlier v.reported published
 
 -- what holds of a board at every moment: the first seat is the publisher's, whose publication the word is of, and no live seat is ahead of it
 pub record IsBoard (words : List ℕ) (views : List View) : Type 0 where
@@ -75,7 +75,7 @@ pub record IsRead (before : Me Unit View) (found : ℕ) (after : Me Unit View) :
 -- what was seen begins with what was told, which needs to be known no longer
 pub record IsCompared (before after : Me Unit View) : Type 0 where
   pub seat : after ≡ (view before.0.seen, before.1)
-  pub later : IsEarlier before.0.told before.0.seen
+  pub later : IsEarlier before.0.reported before.0.seen
 
 -- a live seat at this board, with no slot
 pub record IsSeated (board seat : TableId) (me : Me Unit View) : Type 0 where

@@ -12,7 +12,7 @@ pub struct View {
     /// What was published from this seat, or seen from it.
     pub seen: Past,
     /// What was seen from the seat that was last joined to this one.
-    pub told: Past,
+    pub reported: Past,
 }
 
 /// The rule that every step at a board keeps.
@@ -82,9 +82,9 @@ impl Split<View> for Doubles {
 pub struct Tells;
 
 impl Join<View> for Tells {
-    ghost use Rattle.tc_status.specs.Board.{with_told, spent};
+    ghost use Rattle.tc_status.specs.Board.{with_reported, spent};
 
-    ghost both = { with_told };
+    ghost both = { with_reported };
 
     ghost spent = { spent };
 }

@@ -12,8 +12,8 @@ use crate::watcher::{Watcher, meet};
 use std::alloc::Global;
 use std::marker::Model;
 use tc_channel::{
-    ChannelWith, Delivery, Event, FrameReply, Journal, Kept, NoMemory, ReleaseFault, Settings,
-    SettingsFault, TakeFault, TakeUnitFault, Unkept,
+    ChannelWith, Delivery, Event, FrameReply, Journal, NoMemory, Recorded, ReleaseFault, Settings,
+    SettingsFault, TakeFault, TakeUnitFault, Unrecorded,
 };
 use tc_link::Frame;
 
@@ -26,10 +26,10 @@ pub struct DeskOf<J: Journal> {
 }
 
 /// A desk whose channel keeps its journal in memory.
-pub type Desk = DeskOf<Kept>;
+pub type Desk = DeskOf<Recorded>;
 
 /// A desk whose channel's journal takes no memory.
-pub type FlightDesk = DeskOf<Unkept>;
+pub type CountingDesk = DeskOf<Unrecorded>;
 
 impl<J: Journal> Model for DeskOf<J> {
     ghost use Rattle.std.specs.Prelude.{◌≡◌};

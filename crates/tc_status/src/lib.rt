@@ -13,7 +13,7 @@ mod laws;
 mod publisher;
 mod watcher;
 
-pub use desk::{Desk, DeskOf, FlightDesk};
+pub use desk::{CountingDesk, Desk, DeskOf};
 pub use laws::{each_seat_is_behind_the_publisher, the_flags_of_the_link_have_their_own_bits};
 pub use publisher::Publisher;
 pub use watcher::{Watcher, meet};

@@ -48,7 +48,14 @@ fn play(
 ) {
     let kept: Run<Channel> = play_on(rt, alloc, "Channel", wanted, earlier, steps);
     kept.check_journal(rt);
-    let _flight: Run<FlightChannel> = play_on(rt, alloc, "FlightChannel", wanted, earlier, steps);
+    let _counting: Run<CountingChannel> = play_on(
+        rt,
+        alloc,
+        "CountingChannel",
+        wanted,
+        earlier,
+        steps,
+    );
     let _fixed: Run<FixedChannel> = play_on(rt, alloc, "FixedChannel", wanted, earlier, steps);
 }
 

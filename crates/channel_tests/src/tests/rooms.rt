@@ -29,29 +29,29 @@ fn items_in_two_rooms(rt: HostRuntime) {
     assert_eq!(&rt; (slots.capacity(), slots.size(), slots.len()), (2, 3, 0));
     assert!(&rt; slots.is_empty());
     assert_eq!(&rt; slots.front(), None);
-    assert!(&rt; slots.lay(&[1, 2, 3]).expect(&rt, "an item"));
-    assert!(&rt; slots.lay(&[]).expect(&rt, "an item"));
+    assert!(&rt; slots.stage(&[1, 2, 3]).expect(&rt, "an item"));
+    assert!(&rt; slots.stage(&[]).expect(&rt, "an item"));
     assert_eq!(&rt; (slots.len(), slots.is_empty()), (0, true));
-    slots.settle();
-    assert!(&rt; !slots.lay(&[9]).expect(&rt, "an answer"));
+    slots.commit();
+    assert!(&rt; !slots.stage(&[9]).expect(&rt, "an answer"));
     assert_eq!(&rt; (slots.len(), slots.is_empty()), (2, false));
     assert_eq!(&rt; slots.front(), Some([1, 2, 3].as_slice()));
     slots.pop_front();
-    assert!(&rt; slots.lay(&[4]).expect(&rt, "an item"));
-    slots.settle();
+    assert!(&rt; slots.stage(&[4]).expect(&rt, "an item"));
+    slots.commit();
     slots.pop_front();
     assert_eq!(&rt; slots.front(), Some([4].as_slice()));
 }
 
-// Of three items the first one waits, and the others are laid and let go.
+// Of three items the first one waits, and the others are staged and rolled back.
 #[test]
-fn items_laid_and_let_go(rt: HostRuntime) {
+fn items_staged_and_let_go(rt: HostRuntime) {
     let mut slots: Slots<GrowingRoom> = Slots::with_capacity(rt.alloc(), 3, 3).expect(&rt, "rooms");
-    assert!(&rt; slots.lay(&[1]).expect(&rt, "an item"));
-    slots.settle();
-    assert!(&rt; slots.lay(&[2]).expect(&rt, "an item"));
-    assert!(&rt; slots.lay(&[3]).expect(&rt, "an item"));
-    slots.let_go();
+    assert!(&rt; slots.stage(&[1]).expect(&rt, "an item"));
+    slots.commit();
+    assert!(&rt; slots.stage(&[2]).expect(&rt, "an item"));
+    assert!(&rt; slots.stage(&[3]).expect(&rt, "an item"));
+    slots.roll_back();
     assert_eq!(&rt; (slots.len(), slots.front()), (1, Some([1].as_slice())));
     assert!(&rt; slots.put(&[4]).expect(&rt, "an item"));
     assert!(&rt; slots.put(&[5]).expect(&rt, "an item"));

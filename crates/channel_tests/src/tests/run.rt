@@ -31,7 +31,7 @@ pub enum Step<'a> {
 
 // What is told of a channel.
 #[derive(Clone, Copy, Debug, PartialEq, Eq)]
-struct Told {
+struct Reported {
     report: Report,
     word: u32,
     events_and_fields: (u64, usize),
@@ -41,8 +41,8 @@ struct Told {
     units: Option<usize>,
 }
 
-fn tell<C: Form>(channel: &C) -> Told {
-    Told {
+fn tell<C: Form>(channel: &C) -> Reported {
+    Reported {
         report: channel.state(),
         word: channel.word(),
         events_and_fields: channel.events_and_fields(),
@@ -78,9 +78,9 @@ impl<C: Form> Run<C> {
     }
 
     // A call was refused memory, and the channel is as it was.
-    fn check_refused(&self, rt: &(impl Abort + Print), call: &str, told: &Told) {
+    fn check_refused(&self, rt: &(impl Abort + Print), call: &str, reported: &Reported) {
         let _ = println!(rt; "refused: {}::{call}", self.name);
-        assert_eq!(rt; tell(&self.channel), *told);
+        assert_eq!(rt; tell(&self.channel), *reported);
     }
 
     // The journal must have one event more.
@@ -89,12 +89,12 @@ impl<C: Form> Run<C> {
     }
 
     fn frame(&mut self, rt: &(impl Abort + Print), octets: &[u8], reply: FrameReply) {
-        let told = tell(&self.channel);
+        let reported = tell(&self.channel);
         let mut answer = offer(rt, &mut self.channel, octets);
         if answer.is_err() {
             let event = reply.act.event;
             let _ = println!(rt; "refused: {}::frame, event {event}", self.name);
-            assert_eq!(rt; tell(&self.channel), told);
+            assert_eq!(rt; tell(&self.channel), reported);
             answer = offer(rt, &mut self.channel, octets);
         }
         assert_eq!(rt; answer, Ok(reply));
@@ -111,11 +111,11 @@ impl<C: Form> Run<C> {
     }
 
     fn release(&mut self, rt: &(impl Abort + Print), unit: &str, expected: Delivery) {
-        let told = tell(&self.channel);
+        let reported = tell(&self.channel);
         let mut answer = self.channel.let_out();
         if answer == Err(ReleaseFault::NoMemory) {
             let _ = println!(rt; "refused: {}::release, {unit}", self.name);
-            assert_eq!(rt; tell(&self.channel), told);
+            assert_eq!(rt; tell(&self.channel), reported);
             answer = self.channel.let_out();
         }
         assert_eq!(rt; answer, Ok(expected));
@@ -123,10 +123,10 @@ impl<C: Form> Run<C> {
     }
 
     fn take(&mut self, rt: &(impl Abort + Print), apid: u16, packet: &[u8]) {
-        let told = tell(&self.channel);
+        let reported = tell(&self.channel);
         let mut answer = self.channel.take_packet(self.alloc, apid);
         if answer == Err(TakeFault::NoMemory) {
-            self.check_refused(rt, "take", &told);
+            self.check_refused(rt, "take", &reported);
             answer = self.channel.take_packet(self.alloc, apid);
         }
         let taken = answer.expect(rt, "a packet");
@@ -135,10 +135,10 @@ impl<C: Form> Run<C> {
     }
 
     fn take_unit(&mut self, rt: &(impl Abort + Print), map: u8, unit: &[u8]) {
-        let told = tell(&self.channel);
+        let reported = tell(&self.channel);
         let mut answer = self.channel.take_whole(self.alloc, map);
         if answer == Err(TakeUnitFault::NoMemory) {
-            self.check_refused(rt, "take_unit", &told);
+            self.check_refused(rt, "take_unit", &reported);
             answer = self.channel.take_whole(self.alloc, map);
         }
         let taken = answer.expect(rt, "a unit");

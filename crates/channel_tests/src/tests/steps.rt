@@ -1,7 +1,7 @@
 //! The steps of calls, counted while they run.
 
 use super::*;
-use tc_channel::Count;
+use tc_channel::Tick;
 
 // How many steps were counted, up to 2^64 - 1.
 #[derive(Drop)]
@@ -9,7 +9,7 @@ struct Counted {
     steps: u64,
 }
 
-impl Count for Counted {
+impl Tick for Counted {
     ghost use Rattle.std.specs.Prelude.{false};
 
     ghost taken = { λ c. c.steps };
@@ -29,18 +29,18 @@ fn steps_of_each_call(rt: HostRuntime) {
     let mut channel = FixedChannel::new(rt.alloc(), settings).expect(&rt, "a channel");
     let mut count = Counted { steps: 0 };
     let packet = read_frame(&BD_PACKET).expect(&rt, "a frame");
-    assert_eq!(rt; channel.frame_counted(&packet, &mut count), DELIVERED);
+    assert_eq!(rt; channel.frame_with_steps(&packet, &mut count), DELIVERED);
     assert_eq!(rt; count.steps, 3);
     let buffered = read_frame(&FRAME).expect(&rt, "a frame");
-    assert_eq!(rt; channel.frame_counted(&buffered, &mut count), BUFFERED);
+    assert_eq!(rt; channel.frame_with_steps(&buffered, &mut count), BUFFERED);
     assert_eq!(rt; count.steps, 3);
-    assert_eq!(rt; channel.release_counted(&mut count), Ok(ONE));
+    assert_eq!(rt; channel.release_with_steps(&mut count), Ok(ONE));
     assert_eq!(rt; count.steps, 6);
     let mut octets = [0; 16];
-    assert_eq!(rt; channel.take_counted(5, &mut octets, &mut count), Ok(7));
+    assert_eq!(rt; channel.take_with_steps(5, &mut octets, &mut count), Ok(7));
     assert_eq!(rt; count.steps, 8);
     assert_eq!(rt;
-        channel.take_unit_counted(3, &mut octets, &mut count),
+        channel.take_unit_with_steps(3, &mut octets, &mut count),
         Err(NoUnitTaken::Empty)
     );
     assert_eq!(rt; count.steps, 10);

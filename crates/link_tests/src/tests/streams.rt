@@ -18,7 +18,7 @@ const CLTU: [u8; 18] = [
     0xc5, 0x79,
 ];
 
-// A frame whose copy is refused is held: all octets up to its end were taken, and the frames before it stay.
+// A frame whose copy is refused stays in the decoder: all octets up to its end were taken, and the frames before it stay.
 fn feed(
     rt: &(impl Abort + Print),
     alloc: Global,
@@ -29,8 +29,8 @@ fn feed(
     if decoder.feed(alloc, frames, &CLTU).is_err() {
         let _ = println!(rt; "refused: Decoder::feed");
         assert!(rt; frames.len() == count);
-        let held = Vec::from_slice(alloc, decoder.held()).expect(rt, "a frame");
-        frames.push(held).expect(rt, "a frame");
+        let carried = Vec::from_slice(alloc, decoder.carried()).expect(rt, "a frame");
+        frames.push(carried).expect(rt, "a frame");
     }
 }
 
@@ -52,7 +52,7 @@ fn length_of(rt: &(impl Abort + Print), alloc: Global, stream: &[u8]) -> Option<
     let mut decoder = decoder_of(rt, alloc, Mode::Correct);
     for octet in stream {
         if decoder.feed_octet(*octet).ended {
-            return Some(decoder.held().len());
+            return Some(decoder.carried().len());
         }
     }
     None

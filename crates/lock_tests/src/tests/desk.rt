@@ -1,5 +1,5 @@
-mod manned;
 mod meetings;
+mod staffed;
 mod threads;
 mod together;
 

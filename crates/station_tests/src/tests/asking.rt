@@ -72,7 +72,7 @@ fn of_word(vcid: u8, answer: Option<u32>) -> Asked {
 // What is told of a channel: its CLCW with both link flags 0, and its number of events; and of who isn't locked how many data fields,
 // packets for APID 5 and units of MAP 3 wait.
 #[derive(Clone, Copy, PartialEq, Eq)]
-pub(super) struct Told {
+pub(super) struct Reported {
     pub(super) word: Option<u32>,
     events: Option<u64>,
     held: [Option<usize>; 3],
@@ -83,7 +83,7 @@ pub(super) trait Asking: Drop {
     // Makes the operation of a line on a virtual channel.
     fn ask<R: Wait + Abort>(&mut self, rt: &R, vcid: u8, line: &Line) -> Asked;
 
-    fn told<R: Wait + Abort>(&mut self, rt: &R, vcid: u8) -> Told;
+    fn reported<R: Wait + Abort>(&mut self, rt: &R, vcid: u8) -> Reported;
 
     // Whether it has virtual channel 2 beside 1.
     fn has_two(&self) -> bool {
@@ -91,8 +91,8 @@ pub(super) trait Asking: Drop {
     }
 }
 
-fn told_of<J: Journal>(channel: &ChannelWith<J>) -> Told {
-    Told {
+fn reported_of<J: Journal>(channel: &ChannelWith<J>) -> Reported {
+    Reported {
         word: Some(channel.clcw(NO_FLAG)),
         events: Some(channel.events()),
         held: [
@@ -137,8 +137,8 @@ impl Asking for Channel {
         }
     }
 
-    fn told<R: Wait + Abort>(&mut self, _: &R, _: u8) -> Told {
-        told_of(self)
+    fn reported<R: Wait + Abort>(&mut self, _: &R, _: u8) -> Reported {
+        reported_of(self)
     }
 }
 
@@ -167,8 +167,8 @@ impl Asking for Watched {
         }
     }
 
-    fn told<R: Wait + Abort>(&mut self, _: &R, _: u8) -> Told {
-        told_of(self.desk.channel())
+    fn reported<R: Wait + Abort>(&mut self, _: &R, _: u8) -> Reported {
+        reported_of(self.desk.channel())
     }
 }
 
@@ -181,7 +181,7 @@ pub(super) struct Watched {
 
 // A station with one operator. Frames are brought plainly, or with a watcher of their channel.
 #[derive(Drop)]
-pub(super) struct Crew<J: Journal> {
+pub(super) struct OperatorList<J: Journal> {
     is_watched: bool,
     pub(super) station: StationOf<J>,
     pub(super) operator: Operator,
@@ -203,16 +203,16 @@ fn status_of<J: Journal>(station: &StationOf<J>, rt: &impl Wait, vcid: u8) -> Op
     Some(station.watch(&mut watcher, NO_FLAG))
 }
 
-impl<J: Journal> Crew<J> {
+impl<J: Journal> OperatorList<J> {
     pub(super) fn new(
         rt: &(impl Abort + Print),
         mut station: StationOf<J>,
         is_watched: bool,
-    ) -> Crew<J>
+    ) -> OperatorList<J>
         ensures { result.station.vcids ≡ station.vcids }
     {
         let operator = only_operator(rt, &mut station);
-        Crew {
+        OperatorList {
             is_watched,
             station,
             operator,
@@ -270,7 +270,7 @@ impl<J: Journal> Crew<J> {
 
     // The channels of the closed station. One growth may be refused: all is given back, and it is closed then.
     pub(super) fn close(self, rt: &(impl Abort + Print), alloc: Global) -> Vec<ChannelWith<J>> {
-        let Crew {
+        let OperatorList {
             is_watched: _,
             station,
             operator,
@@ -300,7 +300,7 @@ pub(super) fn closed_together<J: Journal>(
     }
 }
 
-impl<J: Journal> Asking for Crew<J> {
+impl<J: Journal> Asking for OperatorList<J> {
     fn ask<R: Wait + Abort>(&mut self, rt: &R, vcid: u8, line: &Line) -> Asked {
         match line {
             Line::Frame(octets) if self.is_watched => {
@@ -315,8 +315,8 @@ impl<J: Journal> Asking for Crew<J> {
         }
     }
 
-    fn told<R: Wait + Abort>(&mut self, rt: &R, vcid: u8) -> Told {
-        Told {
+    fn reported<R: Wait + Abort>(&mut self, rt: &R, vcid: u8) -> Reported {
+        Reported {
             word: status_of(&self.station, rt, vcid),
             events: self.operator.count(vcid),
             held: [None; 3],

@@ -1,11 +1,11 @@
-//! Closes with operators of another station, which count otherwise, and closes in flight.
+//! Closes with operators of another station, which count otherwise, and closes of counting stations.
 
 ghost use Rattle.std.specs.Prelude.{◌≡◌, All};
 
-use super::asking::Crew;
+use super::asking::OperatorList;
 use super::*;
-use tc_channel::{Kept, Unkept};
-use tc_station::{FlightCloseFault, FlightStation};
+use tc_channel::{Recorded, Unrecorded};
+use tc_station::{CountingCloseFault, CountingStation};
 
 // A close with the operator of another station is refused, and gives back the channels.
 fn check_unbalanced(rt: &impl Abort, station: Station, operators: Vec<Operator>)
@@ -24,18 +24,18 @@ fn check_unbalanced(rt: &impl Abort, station: Station, operators: Vec<Operator>)
 #[test]
 fn an_operator_of_another_station_is_out_of_balance(rt: HostRuntime) {
     let alloc = rt.alloc();
-    let mut crew = Crew::new(&rt, station_of_two(&rt, alloc), false);
-    assert!(rt; crew.bring(&rt, &FRAME).is_ok());
-    let other: Crew<Kept> = Crew::new(&rt, station_of_two(&rt, alloc), false);
+    let mut operator_list = OperatorList::new(&rt, station_of_two(&rt, alloc), false);
+    assert!(rt; operator_list.bring(&rt, &FRAME).is_ok());
+    let other: OperatorList<Recorded> = OperatorList::new(&rt, station_of_two(&rt, alloc), false);
     let operators = list_of(alloc, other.operator).expect(&rt, "a list");
-    check_unbalanced(&rt, crew.station, operators)
+    check_unbalanced(&rt, operator_list.station, operators)
 }
 
-fn check_unbalanced_in_flight(rt: &impl Abort, station: FlightStation, operators: Vec<Operator>)
+fn check_unbalanced_counting(rt: &impl Abort, station: CountingStation, operators: Vec<Operator>)
     requires { All (λ o. o.vcids ≡ station.vcids) operators.items }
 {
     match station.close(operators) {
-        Err(FlightCloseFault::Unbalanced(channels, operators)) => {
+        Err(CountingCloseFault::Unbalanced(channels, operators)) => {
             check_events(rt, &channels, &[0]);
             assert_eq!(rt; operators.len(), 1);
             assert!(rt; operators[0].count(1) == Some(1));
@@ -44,7 +44,7 @@ fn check_unbalanced_in_flight(rt: &impl Abort, station: FlightStation, operators
     }
 }
 
-fn close_in_flight(rt: &impl Abort, station: FlightStation, operators: Vec<Operator>)
+fn close_counting(rt: &impl Abort, station: CountingStation, operators: Vec<Operator>)
     requires { All (λ o. o.vcids ≡ station.vcids) operators.items }
 {
     let channels = station.close(operators).expect(rt, "channels");
@@ -52,13 +52,17 @@ fn close_in_flight(rt: &impl Abort, station: FlightStation, operators: Vec<Opera
 }
 
 #[test]
-fn closes_in_flight(rt: HostRuntime) {
+fn closes_counting(rt: HostRuntime) {
     let alloc = rt.alloc();
-    let mut crew: Crew<Unkept> = Crew::new(&rt, station_of_one(&rt, alloc), false);
-    assert!(rt; crew.bring(&rt, &FRAME).is_ok());
+    let mut operator_list: OperatorList<Unrecorded> = OperatorList::new(
+        &rt,
+        station_of_one(&rt, alloc),
+        false,
+    );
+    assert!(rt; operator_list.bring(&rt, &FRAME).is_ok());
     let mut station = station_of_one(&rt, alloc);
     let own = new_operators(&rt, &mut station, 1);
-    let operators = list_of(alloc, crew.operator).expect(&rt, "a list");
-    check_unbalanced_in_flight(&rt, station_of_one(&rt, alloc), operators);
-    close_in_flight(&rt, station, own)
+    let operators = list_of(alloc, operator_list.operator).expect(&rt, "a list");
+    check_unbalanced_counting(&rt, station_of_one(&rt, alloc), operators);
+    close_counting(&rt, station, own)
 }

@@ -4,7 +4,7 @@ ghost use Rattle.std.specs.Prelude.{◌≡◌, ◌≤◌, All, length};
 ghost use Rattle.tc_station.specs.Tally.{IsOurs};
 
 use super::asking::{Watched, closed_together};
-use super::replay::{Replay, Row, new_channel, play_in_flight, play_kept, row_settings};
+use super::replay::{Replay, Row, new_channel, play_counting, play_recorded, row_settings};
 use super::*;
 use std::thread::Threads;
 use tc_channel::{NoMemory, SettingsFault};
@@ -38,18 +38,18 @@ static UNITS: Row<'static> = Row {
 
 #[test]
 fn growth_of_each_call_of_a_station(rt: HostRuntime) {
-    play_kept(&rt, rt.alloc(), "Station", false, &PACKETS);
-    play_kept(&rt, rt.alloc(), "Station", false, &UNITS)
+    play_recorded(&rt, rt.alloc(), "Station", false, &PACKETS);
+    play_recorded(&rt, rt.alloc(), "Station", false, &UNITS)
 }
 
 #[test]
 fn growth_of_watched_frames(rt: HostRuntime) {
-    play_kept(&rt, rt.alloc(), "Watched station", true, &PACKETS)
+    play_recorded(&rt, rt.alloc(), "Watched station", true, &PACKETS)
 }
 
 #[test]
-fn growth_of_each_call_of_a_station_in_flight(rt: HostRuntime) {
-    play_in_flight(&rt, rt.alloc(), false, &PACKETS)
+fn growth_of_each_call_of_a_counting_station(rt: HostRuntime) {
+    play_counting(&rt, rt.alloc(), false, &PACKETS)
 }
 
 fn new_desk(rt: &(impl Abort + Print), alloc: Global, row: &Row) -> Desk {
@@ -110,7 +110,7 @@ struct Published {
     channel: Channel,
     publisher: Publisher,
     old: Watcher,
-    ghost told: { publisher.published ≡ channel },
+    ghost reported: { publisher.published ≡ channel },
     ghost same: { old.board ≡ publisher.board },
 }
 

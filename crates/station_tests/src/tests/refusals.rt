@@ -1,8 +1,8 @@
 //! What stations refuse.
 
-use super::asking::Crew;
+use super::asking::OperatorList;
 use super::*;
-use tc_channel::{Kept, SettingsFault};
+use tc_channel::{Recorded, SettingsFault};
 use tc_link::FrameFault;
 use tc_station::{
     BringFault, LocateFault, ReleaseRefused, StationFault, TakeRefused, TakeUnitRefused,
@@ -61,44 +61,54 @@ const OTHER_BOTH: [u8; 13] = [
 // Octets for no channel are refused alike where they are located and where they are brought.
 fn check_unplaced(
     rt: &(impl Wait + Abort),
-    crew: &mut Crew<Kept>,
+    operator_list: &mut OperatorList<Recorded>,
     octets: &[u8],
     fault: LocateFault,
 ) {
-    assert!(rt; crew.station.locate(octets).err() == Some(fault));
-    assert!(rt; crew.bring(rt, octets) == Err(BringFault::Locate(fault)));
-    assert!(rt; crew.bring_watched(rt, octets) == Err(BringFault::Locate(fault)));
-    assert!(rt; crew.operator.count(1) == Some(0));
+    assert!(rt; operator_list.station.locate(octets).err() == Some(fault));
+    assert!(rt; operator_list.bring(rt, octets) == Err(BringFault::Locate(fault)));
+    assert!(rt; operator_list.bring_watched(rt, octets) == Err(BringFault::Locate(fault)));
+    assert!(rt; operator_list.operator.count(1) == Some(0));
 }
 
 #[test]
 fn octets_for_no_channel(rt: HostRuntime) {
-    let mut crew = Crew::new(&rt, station_of_one(&rt, rt.alloc()), false);
+    let mut operator_list = OperatorList::new(&rt, station_of_one(&rt, rt.alloc()), false);
     let other = LocateFault::OtherSpacecraft;
-    check_unplaced(&rt, &mut crew, &OTHER_SPACECRAFT, other);
-    check_unplaced(&rt, &mut crew, &OTHER_BOTH, other);
-    check_unplaced(&rt, &mut crew, &ad_frame(2, 0), LocateFault::UnknownChannel);
+    check_unplaced(&rt, &mut operator_list, &OTHER_SPACECRAFT, other);
+    check_unplaced(&rt, &mut operator_list, &OTHER_BOTH, other);
+    check_unplaced(
+        &rt,
+        &mut operator_list,
+        &ad_frame(2, 0),
+        LocateFault::UnknownChannel,
+    );
     let short = LocateFault::Frame(FrameFault::Short);
-    check_unplaced(&rt, &mut crew, &FRAME[..3], short);
-    let located = crew.station.locate(&FRAME).expect(&rt, "a place");
+    check_unplaced(&rt, &mut operator_list, &FRAME[..3], short);
+    let located = operator_list.station.locate(&FRAME).expect(&rt, "a place");
     assert!(rt; located.vcid == 1 && located.frame.octets() == FRAME.as_slice());
 }
 
-fn check_refused(rt: &(impl Wait + Abort), crew: &mut Crew<Kept>) {
-    assert!(rt; crew.release(rt, 2) == Err(ReleaseRefused::UnknownChannel));
-    assert!(rt; crew.release(rt, 1) == Err(ReleaseRefused::Empty));
-    assert!(rt; crew.take(rt, 2, 5).err() == Some(TakeRefused::UnknownChannel));
-    assert!(rt; crew.take(rt, 1, 6).err() == Some(TakeRefused::NoQueue));
-    assert!(rt; crew.take(rt, 1, 5).err() == Some(TakeRefused::Empty));
-    assert!(rt; crew.take_unit(rt, 2, 3).err() == Some(TakeUnitRefused::UnknownChannel));
-    assert!(rt; crew.take_unit(rt, 1, 3).err() == Some(TakeUnitRefused::NoMap));
+fn check_refused(rt: &(impl Wait + Abort), operator_list: &mut OperatorList<Recorded>) {
+    assert!(rt; operator_list.release(rt, 2) == Err(ReleaseRefused::UnknownChannel));
+    assert!(rt; operator_list.release(rt, 1) == Err(ReleaseRefused::Empty));
+    assert!(rt; operator_list.take(rt, 2, 5).err() == Some(TakeRefused::UnknownChannel));
+    assert!(rt; operator_list.take(rt, 1, 6).err() == Some(TakeRefused::NoQueue));
+    assert!(rt; operator_list.take(rt, 1, 5).err() == Some(TakeRefused::Empty));
+    assert!(rt; operator_list.take_unit(rt, 2, 3).err() == Some(TakeUnitRefused::UnknownChannel));
+    assert!(rt; operator_list.take_unit(rt, 1, 3).err() == Some(TakeUnitRefused::NoMap));
 }
 
 #[test]
 fn operations_on_no_channel_and_on_none_there(rt: HostRuntime) {
-    let mut crew = Crew::new(&rt, station_of_one(&rt, rt.alloc()), false);
-    check_refused(&rt, &mut crew);
-    let unknown = crew.station.watcher(&rt, 2);
+    let mut operator_list = OperatorList::new(&rt, station_of_one(&rt, rt.alloc()), false);
+    check_refused(&rt, &mut operator_list);
+    let unknown = operator_list.station.watcher(&rt, 2);
     assert_eq!(rt; unknown.err(), Some(WatcherFault::UnknownChannel));
-    assert!(rt; (crew.operator.count(1), crew.operator.count(2)) == (Some(0), None));
+    assert!(rt;
+        (
+            operator_list.operator.count(1),
+            operator_list.operator.count(2)
+        ) == (Some(0), None)
+    );
 }

@@ -1,8 +1,8 @@
 //! The lines of a script on channels of a station, and on channels that stand alone.
 
-use super::asking::{Asked, Asking, Crew};
+use super::asking::{Asked, Asking, OperatorList};
 use super::*;
-use tc_channel::{FlightChannel, Octets};
+use tc_channel::{CountingChannel, Octets};
 use tc_cli::{Answer, Line, Reason, parse_line};
 use tc_station::StationFault;
 use test_parts::{made_again, room};
@@ -58,10 +58,10 @@ pub(super) fn ask<A: Asking, R: Wait + Abort + Print>(
     asked: &mut A,
     (vcid, line): (u8, &Line),
 ) -> String {
-    let told = asked.told(rt, vcid);
+    let reported = asked.reported(rt, vcid);
     let mut answer = asked.ask(rt, vcid, line);
     if answer.is_err() {
-        assert!(rt; asked.told(rt, vcid) == told, "{who}");
+        assert!(rt; asked.reported(rt, vcid) == reported, "{who}");
         answer = asked.ask(rt, vcid, line);
         call_of(rt, who, &answer);
     }
@@ -147,16 +147,16 @@ impl Replay {
         line: (u8, &Line),
     ) -> String {
         let alone = self.ask_alone(rt, line);
-        let told = ask(rt, self.alloc, who, asked, line);
-        assert_eq!(rt; told.as_str(), alone.as_str(), "{who}");
-        told
+        let reported = ask(rt, self.alloc, who, asked, line);
+        assert_eq!(rt; reported.as_str(), alone.as_str(), "{who}");
+        reported
     }
 
     // Each channel tells the CLCW of the one that stands alone.
     fn check_words<A: Asking, R: Wait + Abort>(&self, rt: &R, asked: &mut A) {
-        assert!(rt; asked.told(rt, 1).word == Some(self.first.clcw(NO_FLAG)));
+        assert!(rt; asked.reported(rt, 1).word == Some(self.first.clcw(NO_FLAG)));
         if asked.has_two() {
-            assert!(rt; asked.told(rt, 2).word == Some(self.second.clcw(NO_FLAG)));
+            assert!(rt; asked.reported(rt, 2).word == Some(self.second.clcw(NO_FLAG)));
         }
     }
 
@@ -180,8 +180,8 @@ impl Replay {
     ) {
         let line = read_line(rt, self.alloc, line);
         let event = event_of(self.alloc, &line);
-        let told = self.ask_both(rt, who, asked, (1, &line));
-        assert_eq!(rt; told.as_str(), expected, "{who}");
+        let reported = self.ask_both(rt, who, asked, (1, &line));
+        assert_eq!(rt; reported.as_str(), expected, "{who}");
         self.note(rt, event, expected);
         assert!(rt; self.first.journal() == self.journal.as_slice(), "{who}");
         self.check_words(rt, asked);
@@ -271,16 +271,20 @@ fn play_on<J: Journal>(
     is_watched: bool,
     row: &Row,
 ) -> (Replay, Vec<ChannelWith<J>>) {
-    let mut crew: Crew<J> = Crew::new(rt, new_station(rt, alloc, row), is_watched);
+    let mut operator_list: OperatorList<J> = OperatorList::new(
+        rt,
+        new_station(rt, alloc, row),
+        is_watched,
+    );
     let mut replay = Replay::new(rt, alloc, row);
-    replay.play(rt, who, &mut crew, row);
-    let channels = crew.close(rt, alloc);
+    replay.play(rt, who, &mut operator_list, row);
+    let channels = operator_list.close(rt, alloc);
     replay.check_closed(rt, &channels);
     (replay, channels)
 }
 
 // On one whose channels keep their journals.
-pub(super) fn play_kept(
+pub(super) fn play_recorded(
     rt: &(impl Wait + Abort + Print),
     alloc: Global,
     who: &str,
@@ -291,13 +295,19 @@ pub(super) fn play_kept(
     replay.check_journals(rt, &channels);
 }
 
-// On one in flight.
-pub(super) fn play_in_flight(
+// On a counting one.
+pub(super) fn play_counting(
     rt: &(impl Wait + Abort + Print),
     alloc: Global,
     is_watched: bool,
     row: &Row,
 ) {
-    let played: (Replay, Vec<FlightChannel>) = play_on(rt, alloc, "FlightStation", is_watched, row);
+    let played: (Replay, Vec<CountingChannel>) = play_on(
+        rt,
+        alloc,
+        "CountingStation",
+        is_watched,
+        row,
+    );
     assert_eq!(rt; played.1.len(), 2);
 }

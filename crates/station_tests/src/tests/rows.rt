@@ -1,6 +1,6 @@
 //! Operations on virtual channel 1, as lines of a script, and what each is answered.
 
-use super::replay::{Row, play_in_flight, play_kept};
+use super::replay::{Row, play_counting, play_recorded};
 use super::*;
 
 static ROWS: [Row; 5] = [
@@ -36,13 +36,13 @@ static ROWS: [Row; 5] = [
     },
 ];
 
-// On stations whose channels keep their journals, and on those in flight, with frames that are brought in each manner.
+// On stations whose channels keep their journals, and on those that count them, with frames that are brought in each manner.
 #[test]
 fn a_station_answers_as_channels_that_stand_alone(rt: HostRuntime) {
     for row in &ROWS {
         for is_watched in [false, true] {
-            play_kept(&rt, rt.alloc(), row.name, is_watched, row);
-            play_in_flight(&rt, rt.alloc(), is_watched, row);
+            play_recorded(&rt, rt.alloc(), row.name, is_watched, row);
+            play_counting(&rt, rt.alloc(), is_watched, row);
         }
     }
 }

@@ -4,7 +4,7 @@ ghost use Rattle.std.specs.Prelude.{◌≡◌};
 ghost use Rattle.tc_station.specs.Moments.{IsWatcherOf};
 ghost use Rattle.tc_station.specs.Tally.{IsOurs, KnowsDesks};
 
-use super::asking::Crew;
+use super::asking::OperatorList;
 use super::*;
 use tc_channel::SettingsFault;
 use tc_link::read_frame;
@@ -18,21 +18,37 @@ const BROUGHT: Brought = Brought {
 };
 
 // The watcher reads this.
-fn check_read<J: Journal>(rt: &impl Abort, crew: &Crew<J>, watcher: &mut Watcher, word: u32) {
-    assert_eq!(rt; crew.station.watch(watcher, NO_FLAG), word);
+fn check_read<J: Journal>(
+    rt: &impl Abort,
+    operator_list: &OperatorList<J>,
+    watcher: &mut Watcher,
+    word: u32,
+) {
+    assert_eq!(rt; operator_list.station.watch(watcher, NO_FLAG), word);
 }
 
 #[test]
 fn each_watcher_reads_its_own_channel(rt: HostRuntime) {
     let station: Station = station_of_two(&rt, rt.alloc());
-    let mut crew = Crew::new(&rt, station, true);
-    let mut first = crew.station.watcher(&rt, 1).expect(&rt, "a watcher");
-    let mut second = crew.station.watcher(&rt, 2).expect(&rt, "a watcher");
-    assert!(rt; crew.bring(&rt, &FRAME) == Ok(BROUGHT));
-    check_read(&rt, &crew, &mut first, 0x01040001);
-    check_read(&rt, &crew, &mut second, 0x01080000);
-    assert!(rt; crew.bring_watched(&rt, &NEXT) == Ok((BROUGHT, 0x01040002)));
-    assert!(rt; (crew.operator.count(1), crew.operator.count(2)) == (Some(2), Some(0)));
+    let mut operator_list = OperatorList::new(&rt, station, true);
+    let mut first = operator_list
+        .station
+        .watcher(&rt, 1)
+        .expect(&rt, "a watcher");
+    let mut second = operator_list
+        .station
+        .watcher(&rt, 2)
+        .expect(&rt, "a watcher");
+    assert!(rt; operator_list.bring(&rt, &FRAME) == Ok(BROUGHT));
+    check_read(&rt, &operator_list, &mut first, 0x01040001);
+    check_read(&rt, &operator_list, &mut second, 0x01080000);
+    assert!(rt; operator_list.bring_watched(&rt, &NEXT) == Ok((BROUGHT, 0x01040002)));
+    assert!(rt;
+        (
+            operator_list.operator.count(1),
+            operator_list.operator.count(2)
+        ) == (Some(2), Some(0))
+    );
 }
 
 // Brings octets, and then lets the watcher of channel 1 meet it, by the same operator. So a call leaves an operator with which a watcher

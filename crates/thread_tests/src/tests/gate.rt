@@ -92,7 +92,7 @@ fn two_unlocks(rt: &impl Abort, alloc: Global) -> [WorkList; 2] {
 }
 
 // A station with channels 1 and 2, and so many operators.
-pub(super) fn new_crew(rt: &impl Abort, alloc: Global, n: u16) -> (Station, Vec<Operator>)
+pub(super) fn new_operator_list(rt: &impl Abort, alloc: Global, n: u16) -> (Station, Vec<Operator>)
     ensures ours { All (IsOurs result.0) result.1.items }
     ensures number { length result.1.items ≡ n }
 {
@@ -120,7 +120,7 @@ pub(super) fn do_lists<R: Threads + Wait + Sync + Abort, G: Gate + Sync>(
 #[test]
 fn workers_of_two_channels_meet(rt: HostRuntime) {
     let lists = two_unlocks(&rt, rt.alloc());
-    let (station, mut operators) = new_crew(&rt, rt.alloc(), 2);
+    let (station, mut operators) = new_operator_list(&rt, rt.alloc(), 2);
     let gate = Meeting::new(100_000_000);
     do_lists(&rt, &gate, &station, &mut operators, &lists);
     assert!(rt; gate.came() == (true, true));
@@ -157,8 +157,8 @@ fn workers_of_a_script_meet(rt: HostRuntime) {
 struct Inside {
     turns: u32,
     inside: AtomicBool,
-    told: AtomicBool,
-    was_told: AtomicBool,
+    reported: AtomicBool,
+    was_reported: AtomicBool,
 }
 
 impl Inside {
@@ -166,17 +166,17 @@ impl Inside {
         Inside {
             turns,
             inside: AtomicBool::new(false),
-            told: AtomicBool::new(false),
-            was_told: AtomicBool::new(false),
+            reported: AtomicBool::new(false),
+            was_reported: AtomicBool::new(false),
         }
     }
 
     fn tell(&self) {
-        self.told.store(true, Ordering::SeqCst);
+        self.reported.store(true, Ordering::SeqCst);
     }
 
-    fn was_told(&self) -> bool {
-        self.was_told.load(Ordering::SeqCst)
+    fn was_reported(&self) -> bool {
+        self.was_reported.load(Ordering::SeqCst)
     }
 }
 
@@ -184,8 +184,8 @@ impl Gate for Inside {
     fn pass(&self, vcid: u8) {
         if vcid == 1 {
             self.inside.store(true, Ordering::SeqCst);
-            if comes_true(&self.told, self.turns) {
-                self.was_told.store(true, Ordering::SeqCst);
+            if comes_true(&self.reported, self.turns) {
+                self.was_reported.store(true, Ordering::SeqCst);
             }
         } else {
             comes_true(&self.inside, self.turns);
@@ -209,7 +209,7 @@ fn tell_of_the_second(station: &Station, watcher: &mut Watcher, gate: &Inside) {
 #[test]
 fn a_channel_is_worked_while_the_lock_of_another_is_held(rt: HostRuntime) {
     let lists = two_unlocks(&rt, rt.alloc());
-    let (station, mut operators) = new_crew(&rt, rt.alloc(), 2);
+    let (station, mut operators) = new_operator_list(&rt, rt.alloc(), 2);
     let mut watcher = station.watcher(&rt, 2).expect(&rt, "a watcher");
     let gate = Inside::new(100_000_000);
     join(
@@ -217,7 +217,7 @@ fn a_channel_is_worked_while_the_lock_of_another_is_held(rt: HostRuntime) {
         || do_lists(&rt, &gate, &station, &mut operators, &lists),
         || tell_of_the_second(&station, &mut watcher, &gate),
     );
-    assert!(rt; gate.was_told());
+    assert!(rt; gate.was_reported());
 }
 
 // Tells the gate when a watcher of channel 1 was made while someone is inside.
@@ -230,13 +230,13 @@ fn tell_of_a_watcher(rt: &impl Wait, station: &Station, gate: &Inside) {
 #[test]
 fn who_passes_holds_the_lock(rt: HostRuntime) {
     let lists = two_unlocks(&rt, rt.alloc());
-    let (station, mut operators) = new_crew(&rt, rt.alloc(), 2);
+    let (station, mut operators) = new_operator_list(&rt, rt.alloc(), 2);
     let gate = Inside::new(20_000_000);
     join(
         &rt,
         || do_lists(&rt, &gate, &station, &mut operators, &lists),
         || tell_of_a_watcher(&rt, &station, &gate),
     );
-    assert!(rt; gate.told.load(Ordering::SeqCst));
-    assert!(rt; !gate.was_told());
+    assert!(rt; gate.reported.load(Ordering::SeqCst));
+    assert!(rt; !gate.was_reported());
 }

@@ -4,7 +4,7 @@ use super::*;
 use tc_channel::SettingsFault;
 use tc_link::FrameFault;
 use tc_station::{
-    BringFault, FlightCloseFault, FlightStation, LocateFault, OperatorsFault, ReleaseRefused,
+    BringFault, CountingCloseFault, CountingStation, LocateFault, OperatorsFault, ReleaseRefused,
     StationFault, TakeRefused, TakeUnitRefused, WatcherFault, WorkFault,
 };
 
@@ -115,18 +115,18 @@ fn faults_of_operators_have_texts(rt: HostRuntime) {
     check_close_text(&rt, alloc, no_memory, "no memory")
 }
 
-fn station_in_flight(rt: &impl Abort, alloc: Global) -> FlightStation {
+fn counting_station(rt: &impl Abort, alloc: Global) -> CountingStation {
     station_of_one(rt, alloc)
 }
 
 #[test]
-fn faults_of_a_close_in_flight_have_texts(rt: HostRuntime) {
+fn faults_of_a_counting_close_have_texts(rt: HostRuntime) {
     let alloc = rt.alloc();
-    let missing = FlightCloseFault::Missing(station_in_flight(&rt, alloc), Vec::new(alloc));
+    let missing = CountingCloseFault::Missing(counting_station(&rt, alloc), Vec::new(alloc));
     check_close_text(&rt, alloc, missing, "an operator is missing");
-    let no_memory = FlightCloseFault::NoMemory(station_in_flight(&rt, alloc), Vec::new(alloc));
+    let no_memory = CountingCloseFault::NoMemory(counting_station(&rt, alloc), Vec::new(alloc));
     check_close_text(&rt, alloc, no_memory, "no memory");
-    let unbalanced = FlightCloseFault::Unbalanced(Vec::new(alloc), Vec::new(alloc));
+    let unbalanced = CountingCloseFault::Unbalanced(Vec::new(alloc), Vec::new(alloc));
     let text = "the operators' counts and the numbers of events differ";
     check_close_text(&rt, alloc, unbalanced, text)
 }

@@ -3,7 +3,7 @@
 ghost use Rattle.std.specs.Prelude.{All};
 ghost use Rattle.tc_station.specs.Tally.{IsOurs};
 
-use super::gate::{do_lists, new_crew};
+use super::gate::{do_lists, new_operator_list};
 use super::*;
 use tc_station::{FreeGate, Job, Order, WorkList};
 
@@ -72,7 +72,7 @@ fn check_merge(rt: &impl Abort, journal: &[Event], third: u8) {
 fn two_threads_on_two_channels(rt: HostRuntime) {
     let alloc = rt.alloc();
     let lists = [frames_of(&rt, alloc, 1), frames_of(&rt, alloc, 2)];
-    let (station, mut operators) = new_crew(&rt, alloc, 2);
+    let (station, mut operators) = new_operator_list(&rt, alloc, 2);
     do_lists(&rt, &FreeGate, &station, &mut operators, &lists);
     let channels = closed_together(&rt, station, operators);
     assert_eq!(rt; channels.len(), 2);

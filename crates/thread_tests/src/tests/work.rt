@@ -1,6 +1,6 @@
 //! Workers, each of which passes the gate once.
 
-use super::gate::{do_lists, new_crew};
+use super::gate::{do_lists, new_operator_list};
 use super::*;
 use std::sync::atomic::{AtomicU32, Ordering};
 use tc_station::{Gate, Job, Order, WorkList};
@@ -64,7 +64,7 @@ impl Gate for Counting {
 fn each_worker_passes_the_gate_once(rt: HostRuntime) {
     let alloc = rt.alloc();
     let lists = seven_lists(&rt, alloc);
-    let (station, mut operators) = new_crew(&rt, alloc, 7);
+    let (station, mut operators) = new_operator_list(&rt, alloc, 7);
     let gate = Counting {
         passed: AtomicU32::new(0),
     };

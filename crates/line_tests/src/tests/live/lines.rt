@@ -3,7 +3,7 @@
 use super::check_answers;
 
 #[test]
-fn the_flags_of_a_link_are_told_of_its_channel_alone(rt: HostRuntime) {
+fn the_flags_of_a_link_are_reported_of_its_channel_alone(rt: HostRuntime) {
     check_answers(
         &rt,
         rt.alloc(),

@@ -21,7 +21,7 @@ fn lines_are_answered_and_flushed_one_by_one(rt: HostRuntime) -> Result<(), Fail
 }
 
 #[test]
-fn how_frames_end_is_told(rt: HostRuntime) -> Result<(), Fail> {
+fn how_frames_end_is_reported(rt: HostRuntime) -> Result<(), Fail> {
     let lines = [
         (
             "channel 1 10 1 0\nframe 302a0407000020e7\nframe 002a040e00c01005c0000000aa6b6e\n",

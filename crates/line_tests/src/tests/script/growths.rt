@@ -46,8 +46,8 @@ fn check_refused<T: Abort>(
     let answered = answers.iter().filter(|octet| **octet == b'\n').count();
     let before = line.saturating_sub(setups.saturating_add(1)) as usize;
     // The growths of the report come after the last line's answer.
-    let told = answered == before || (line == lines && answered == before.saturating_add(1));
-    assert!(rt; told, "{answered} answers at line {line}");
+    let reported = answered == before || (line == lines && answered == before.saturating_add(1));
+    assert!(rt; reported, "{answered} answers at line {line}");
     assert!(rt; expected.as_bytes().starts_with(answers));
 }
 

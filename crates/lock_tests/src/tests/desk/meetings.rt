@@ -2,7 +2,7 @@
 
 ghost use Rattle.std.specs.Prelude.{◌≡◌};
 
-use super::manned::{Locked, Manned, bring};
+use super::staffed::{Locked, Staffed, bring};
 use super::*;
 use std::sync::Wait;
 use tc_channel::ReleaseFault;
@@ -36,16 +36,16 @@ fn check_meetings<R: Abort + Wait>(
     assert_eq!(rt; watcher.read(), 0x01040401);
 }
 
-fn check(rt: &(impl Abort + Wait), manned: &mut Manned, other: &mut DeskOperator)
-    requires other { other.old.lock ≡ manned.old.post.lock }
-    requires head { manned.old.operator.own.seen.head ≡ manned.old.post.own.seen.head }
+fn check(rt: &(impl Abort + Wait), staffed: &mut Staffed, other: &mut DeskOperator)
+    requires other { other.old.lock ≡ staffed.old.owned_desk.lock }
+    requires head { staffed.old.operator.own.seen.head ≡ staffed.old.owned_desk.own.seen.head }
 {
-    check_meetings(rt, manned.post.desk(), &mut manned.operator, other)
+    check_meetings(rt, staffed.owned_desk.desk(), &mut staffed.operator, other)
 }
 
 #[test]
 fn a_watcher_meets_what_another_operator_did(rt: HostRuntime) {
-    let mut manned = Manned::new(&rt, rt.alloc());
-    let mut other = manned.other();
-    check(&rt, &mut manned, &mut other);
+    let mut staffed = Staffed::new(&rt, rt.alloc());
+    let mut other = staffed.other();
+    check(&rt, &mut staffed, &mut other);
 }

@@ -3,7 +3,7 @@
 ghost use Rattle.std.specs.Prelude.{◌≡◌};
 ghost use Rattle.std.specs.Thread.{IsSync};
 
-use super::manned::{Locked, Manned, bring};
+use super::staffed::{Locked, Staffed, bring};
 use super::together::{closed, list_of_two};
 use super::*;
 use std::sync::Wait;
@@ -57,13 +57,13 @@ fn side_by_side<R: Threads + Abort + Wait + Sync>(
 // The desk's own operator and this one bring their frames. Says whether each was answered.
 fn work<R: Threads + Abort + Wait + Sync>(
     rt: &R,
-    manned: &mut Manned,
+    staffed: &mut Staffed,
     other: &mut DeskOperator,
 ) -> bool
-    requires { other.old.lock ≡ manned.old.post.lock }
-    ensures { other.new.lock ≡ manned.new.post.lock }
+    requires { other.old.lock ≡ staffed.old.owned_desk.lock }
+    ensures { other.new.lock ≡ staffed.new.owned_desk.lock }
 {
-    side_by_side(rt, manned.post.desk(), &mut manned.operator, other)
+    side_by_side(rt, staffed.owned_desk.desk(), &mut staffed.operator, other)
 }
 
 // Of the frames of the journal those of one thread are all that it brought, in their order.
@@ -82,27 +82,30 @@ fn check_frames(rt: &impl Abort, journal: &[Event], who: u8) {
 }
 
 // Closes the desk with both operators.
-fn close_both(rt: &impl Abort, alloc: Global, manned: Manned, other: DeskOperator) -> Channel
-    requires { other.lock ≡ manned.post.lock }
+fn close_both(rt: &impl Abort, alloc: Global, staffed: Staffed, other: DeskOperator) -> Channel
+    requires { other.lock ≡ staffed.owned_desk.lock }
 {
-    let Manned { post, operator } = manned;
-    let posts = list_of(alloc, post).expect(rt, "a list");
-    let crew = list_of(alloc, operator).expect(rt, "a list");
+    let Staffed {
+        owned_desk,
+        operator,
+    } = staffed;
+    let owned_desks = list_of(alloc, owned_desk).expect(rt, "a list");
+    let operator_list = list_of(alloc, operator).expect(rt, "a list");
     let other = list_of(alloc, other).expect(rt, "a list");
-    let crews = list_of_two(rt, alloc, crew, other);
-    closed(rt, alloc, posts, crews)
+    let operator_lists = list_of_two(rt, alloc, operator_list, other);
+    closed(rt, alloc, owned_desks, operator_lists)
         .pop()
         .expect(rt, "a channel")
 }
 
 #[test]
 fn the_journal_is_a_merge_of_what_two_threads_brought(rt: HostRuntime) {
-    let mut manned = Manned::new(&rt, rt.alloc());
-    let mut other = manned.other();
-    assert!(rt; work(&rt, &mut manned, &mut other));
-    assert_eq!(rt; manned.operator.count(), u64::from(TURNS));
+    let mut staffed = Staffed::new(&rt, rt.alloc());
+    let mut other = staffed.other();
+    assert!(rt; work(&rt, &mut staffed, &mut other));
+    assert_eq!(rt; staffed.operator.count(), u64::from(TURNS));
     assert_eq!(rt; other.count(), u64::from(TURNS));
-    let channel = close_both(&rt, rt.alloc(), manned, other);
+    let channel = close_both(&rt, rt.alloc(), staffed, other);
     assert_eq!(rt; channel.journal().len(), 500);
     check_frames(&rt, channel.journal(), 1);
     check_frames(&rt, channel.journal(), 2);

@@ -5,13 +5,13 @@ ghost use Rattle.tc_desk.specs.Together.{AreOurs};
 
 use super::*;
 use std::sync::Wait;
-use tc_channel::Kept;
+use tc_channel::Recorded;
 use tc_desk::{
-    DeskOperator, Framing, Post, Release, UnitTaking, close_together, take_out_together,
+    DeskOperator, Framing, OwnedDesk, Release, UnitTaking, close_together, take_out_together,
 };
 use tc_link::read_frame;
 
-pub(super) type Desk = Post<Kept>;
+pub(super) type Desk = OwnedDesk<Recorded>;
 
 // As `BD_UNIT`, for virtual channel 2.
 const OTHER_FRAME: [u8; 8] = [0x20, 0x2a, 0x08, 0x07, 0x00, 0xc3, 0xaa, 0xbb];
@@ -115,14 +115,14 @@ pub(super) fn list_of_two<T: Drop>(rt: &impl Abort, alloc: Global, first: T, sec
 }
 
 // The two desks in their order, and one's operators in the same.
-fn posts_of(rt: &impl Abort, alloc: Global, desks: Desks) -> Vec<Desk>
+fn owned_desks_of(rt: &impl Abort, alloc: Global, desks: Desks) -> Vec<Desk>
     ensures { result.items ≡ desks.first ∷ desks.second ∷ [] }
 {
     let Desks { first, second } = desks;
     list_of_two(rt, alloc, first, second)
 }
 
-fn crew_of(rt: &impl Abort, alloc: Global, worker: Worker) -> Vec<DeskOperator>
+fn operator_list_of(rt: &impl Abort, alloc: Global, worker: Worker) -> Vec<DeskOperator>
     ensures { result.items ≡ worker.first ∷ worker.second ∷ [] }
 {
     let Worker { first, second } = worker;
@@ -132,20 +132,20 @@ fn crew_of(rt: &impl Abort, alloc: Global, worker: Worker) -> Vec<DeskOperator>
 pub(super) fn closed(
     rt: &impl Abort,
     alloc: Global,
-    posts: Vec<Desk>,
-    crews: Vec<Vec<DeskOperator>>,
+    owned_desks: Vec<Desk>,
+    operator_lists: Vec<Vec<DeskOperator>>,
 ) -> Vec<Channel>
-    requires { AreOurs posts.items (map (λ crew. crew.items) crews.items) }
+    requires { AreOurs owned_desks.items (map (λ operator_list. operator_list.items) operator_lists.items) }
 {
-    match close_together(alloc, posts, crews) {
+    match close_together(alloc, owned_desks, operator_lists) {
         Ok(channels) => channels,
         Err(_) => panic!(rt; "not closed"),
     }
 }
 
 // Takes the channels out, whoever made their events.
-fn taken_out(rt: &impl Abort, alloc: Global, posts: Vec<Desk>) -> Vec<Channel> {
-    match take_out_together(alloc, posts) {
+fn taken_out(rt: &impl Abort, alloc: Global, owned_desks: Vec<Desk>) -> Vec<Channel> {
+    match take_out_together(alloc, owned_desks) {
         Ok(channels) => channels,
         Err(_) => panic!(rt; "not taken out"),
     }
@@ -195,14 +195,14 @@ fn desks_closed_together(rt: HostRuntime) {
     let (desks, one, other) = worked(&rt, alloc);
     check_counts(&rt, &one);
     check_counts(&rt, &other);
-    let posts = posts_of(&rt, alloc, desks);
-    let crews = list_of_two(
+    let owned_desks = owned_desks_of(&rt, alloc, desks);
+    let operator_lists = list_of_two(
         &rt,
         alloc,
-        crew_of(&rt, alloc, one),
-        crew_of(&rt, alloc, other),
+        operator_list_of(&rt, alloc, one),
+        operator_list_of(&rt, alloc, other),
     );
-    check_channels(&rt, alloc, &closed(&rt, alloc, posts, crews));
+    check_channels(&rt, alloc, &closed(&rt, alloc, owned_desks, operator_lists));
 }
 
 // Who worked at the desks isn't asked.
@@ -210,6 +210,6 @@ fn desks_closed_together(rt: HostRuntime) {
 fn desks_taken_out_together(rt: HostRuntime) {
     let alloc = rt.alloc();
     let (desks, _, _) = worked(&rt, alloc);
-    let posts = posts_of(&rt, alloc, desks);
-    check_channels(&rt, alloc, &taken_out(&rt, alloc, posts));
+    let owned_desks = owned_desks_of(&rt, alloc, desks);
+    check_channels(&rt, alloc, &taken_out(&rt, alloc, owned_desks));
 }

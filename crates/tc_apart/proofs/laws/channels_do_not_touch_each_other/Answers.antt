@@ -1,8 +1,8 @@
-use Rattle.tc_apart.proofs.OneChannel.{same-answers, same-channel}
+use Rattle.tc_apart.proofs.OneChannel.{both-seen}
 use Rattle.tc_apart.proofs.laws.channels_do_not_touch_each_other.Goals as goal
 
 pub returns-clause-answers : goal.returns-clause-answers
-returns-clause-answers c = same-answers
+returns-clause-answers c = λ vcid one other a after b behind channel apart_a apart_b of_a of_b done_a done_b same. (both-seen c.each_input_begins_with_one_frame_at_most.ensures vcid one other a after b behind channel apart_a apart_b of_a of_b done_a done_b same).0
 
 pub returns-clause-channel : goal.returns-clause-channel
-returns-clause-channel c = same-channel
+returns-clause-channel c = λ vcid one other a after b behind channel apart_a apart_b of_a of_b done_a done_b same. (both-seen c.each_input_begins_with_one_frame_at_most.ensures vcid one other a after b behind channel apart_a apart_b of_a of_b done_a done_b same).1

@@ -4,10 +4,10 @@ use Rattle.tc_c.proofs.channel.tcrx_channel_frame_at.Goals as goal
 
 pub returns-in-Some-clause-done : goal.returns-in-Some-clause-done
 returns-in-Some-clause-done c =
-    let left = left-so c.lend.result c.in-Some.held _ c.frame_counted.new.channel c.in-Some.is (c.lend.follows.holds c.frame_counted.new.channel) in
-    rw (← c.in-Some.ensures.channel) (frame-left _ c.args.octets.now c.frame_counted.result c.in-Some.held.now c.frame_counted.new.channel _ left c.frame_counted.ensures.done)
+    let left = left-so c.lend.result c.in-Some.held _ c.frame_with_steps.new.channel c.in-Some.is (c.lend.follows.holds c.frame_with_steps.new.channel) in
+    rw (← c.in-Some.ensures.channel) (frame-left _ c.args.octets.now c.frame_with_steps.result c.in-Some.held.now c.frame_with_steps.new.channel _ left c.frame_with_steps.ensures.done)
 
 pub returns-in-Some-clause-refused : goal.returns-in-Some-clause-refused
 returns-in-Some-clause-refused c =
-    let left = left-so c.lend.result c.in-Some.held _ c.frame_counted.new.channel c.in-Some.is (c.lend.follows.holds c.frame_counted.new.channel) in
-    λ refused. left ∙ ap Some (c.frame_counted.ensures.refused refused) ∙ c.in-Some.ensures.channel
+    let left = left-so c.lend.result c.in-Some.held _ c.frame_with_steps.new.channel c.in-Some.is (c.lend.follows.holds c.frame_with_steps.new.channel) in
+    λ refused. left ∙ ap Some (c.frame_with_steps.ensures.refused refused) ∙ c.in-Some.ensures.channel

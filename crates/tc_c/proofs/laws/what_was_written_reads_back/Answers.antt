@@ -7,8 +7,8 @@ use Rattle.tc_c.proofs.laws.what_was_written_reads_back.Goals as goal
 
 pub returns-clause-frame : goal.returns-clause-frame
 returns-clause-frame c = λ frame field header is.
-    let told : Header → FrameRecord = λ h. record { status = 0; header = header_record h; length = length frame } in
-    ap told (sym is.header_bits)
+    let reported : Header → FrameRecord = λ h. record { status = 0; header = header_record h; length = length frame } in
+    ap reported (sym is.header_bits)
 
 pub returns-clause-packet : goal.returns-clause-packet
 returns-clause-packet c = λ packet field header is. ap (written_packet (length packet)) is.header_bits

@@ -4,5 +4,5 @@ use Rattle.tc_channel.proofs.holding.packets_in.Given as goal
 
 abbrev pub invariant-loop-queue : goal.invariant-loop-queue
 invariant-loop-queue g l =
-    (l.told.items ≡ filter_map (queue_holding l.channel.settings l.channel.journal) (take l.queue-index l.queues))
-    × (vec_len l.told ≤ l.queue-index) × (length l.queues ≤ vec_capacity l.told)
+    (l.reported.items ≡ filter_map (queue_holding l.channel.settings l.channel.journal) (take l.queue-index l.queues))
+    × (vec_len l.reported ≤ l.queue-index) × (length l.queues ≤ vec_capacity l.reported)

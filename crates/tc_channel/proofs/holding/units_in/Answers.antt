@@ -4,6 +4,6 @@ use Rattle.tc_channel.proofs.holding.units_in.Goals as goal
 
 pub loop-chosen-preserved : goal.loop-chosen-preserved
 loop-chosen-preserved g c = elim c.match-units_of.branch [
-  | in-Some w ↦ rw w.told-is (grind (arith, common_steps, filter_map-append))
-  | in_default w ↦ rw w.told-is (grind (arith, common_steps, filter_map-append))
+  | in-Some w ↦ rw w.reported-is (grind (arith, common_steps, filter_map-append))
+  | in_default w ↦ rw w.reported-is (grind (arith, common_steps, filter_map-append))
 ]

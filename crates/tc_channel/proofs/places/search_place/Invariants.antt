@@ -6,5 +6,5 @@ use Rattle.tc_channel.proofs.places.search_place.Given as goal
 abbrev pub invariant-loop-place : goal.invariant-loop-place
 invariant-loop-place g l = record {
   none : NoneHas l.key (take l.place l.queues);
-  cost : g.C.Count.taken l.steps ≤ g.C.Count.taken l.fn.steps + l.place;
+  cost : g.C.Tick.taken l.steps ≤ g.C.Tick.taken l.fn.steps + l.place;
 }

@@ -12,18 +12,18 @@ loop-place-preserved g c =
     let i = c.loop-place.place in
     let q = c.index-queues-place.result in
     let old = c.loop-place.table.items in
-    let is = c.key_counted-key.ensures.key in
+    let is = c.key_with_steps-key.ensures.key in
     let size = c.loop-place.invariant.size in
     elim c.if-key-lt-KEYS.branch [
       | then-key-lt-KEYS+then-index-none w ↦ (
           let lt = w.if-key-lt-KEYS.true in
-          let free : get_or old q.key 0 ≡ length qs = ap (λ k. get_or old k 0) (sym is) ∙ get_or_default old c.key_counted-key.result 0 w.index.result.now (omega arith) ∙ sym w.index.ensures ∙ w.if-index-none.true in
+          let free : get_or old q.key 0 ≡ length qs = ap (λ k. get_or old k 0) (sym is) ∙ get_or_default old c.key_with_steps-key.result 0 w.index.result.now (omega arith) ∙ sym w.index.ensures ∙ w.if-index-none.true in
           rw (w.table-is, is) (next-place qs i (length qs) q old c.loop-place-test.true (omega arith) c.index-queues-place.is (omega arith) free c.loop-place.invariant))
       | else-key-lt-KEYS w ↦ rw w.table-is (elim w.else-key-lt-KEYS.branch [
         | else-key-lt-KEYS-via-then-key-lt-KEYS+else-index-none w' ↦ (
             let lt = w'.if-key-lt-KEYS.true in
-            let told : get_or old q.key 0 ≡ w'.index.result.now = ap (λ k. get_or old k 0) (sym is) ∙ get_or_default old c.key_counted-key.result 0 w'.index.result.now (omega arith) ∙ sym w'.index.ensures in
-            kept-place qs i (length qs) q old c.loop-place-test.true c.index-queues-place.is (λ e. w'.if-index-none.false (sym told ∙ e)) c.loop-place.invariant)
+            let reported : get_or old q.key 0 ≡ w'.index.result.now = ap (λ k. get_or old k 0) (sym is) ∙ get_or_default old c.key_with_steps-key.result 0 w'.index.result.now (omega arith) ∙ sym w'.index.ensures in
+            kept-place qs i (length qs) q old c.loop-place-test.true c.index-queues-place.is (λ e. w'.if-index-none.false (sym reported ∙ e)) c.loop-place.invariant)
         | else-key-lt-KEYS-via-else-key-lt-KEYS w' ↦ (
             let far = w'.if-key-lt-KEYS.false in
             skip-place qs i (length qs) q old c.loop-place-test.true c.index-queues-place.is (omega arith) c.loop-place.invariant)
@@ -41,7 +41,7 @@ returns g c =
     let whole : take c.loop-place.place qs ≡ qs = take_all c.loop-place.place qs c.loop-place-test.false in
     let all : AreFirst keys (length qs) items = subst (λ x. AreFirst (keys_of (rings_in x)) (length qs) items) whole c.loop-place.invariant in
     record {
-      told = λ some. rw (table, count) all;
+      reported = λ some. rw (table, count) all;
       few = λ some. omega arith;
       many = λ least most none. (let e : length items ≡ 0 = sym (ap length table) ∙ none in absurd (omega arith));
     }

@@ -1,5 +1,5 @@
 use Rattle.std.proofs.Common.{take, drop, get_or, ◌≡◌, ◌≢◌, ℕ, zero, suc, ◌+◌, ◌<◌, ◌≤◌, Bool, true, false, eqb, ltb, ◌&&◌, List, [], ◌∷◌, ◌++◌, Option, Some, None, refl, sym, ◌∙◌, subst, inl, inr, lit<, lit≤, arith, All, AllPairs, codes, not}
-use Rattle.tc_cli.proofs.Names.{Answer, AreAnswers, AreRising, Empty, Event, History, IsFirstLine, IsLawfulHistory, IsLineAnswered, IsNumberTold, IsPerformed, IsScriptReport, Linked, NoMap, NoQueue, Operating, Progress, Racked, SettingUp, Settings, at_first, length-append, one_more}
+use Rattle.tc_cli.proofs.Names.{Answer, AreAnswers, AreRising, Empty, Event, History, IsFirstLine, IsLawfulHistory, IsLineAnswered, IsNumberReported, IsPerformed, IsScriptReport, Linked, NoMap, NoQueue, Operating, Progress, Racked, SettingUp, Settings, at_first, length-append, one_more}
 use Rattle.std.specs.Fmt.{digits}
 use Rattle.std.specs.List.{flat_map}
 use Rattle.std.proofs.lemmas.Bool.{eq-eqb}
@@ -243,7 +243,7 @@ reported =
       record { moves = []; below = tt; is = refl },
       record {
         rising = one-rising own;
-        told = one-of IsNumberTold own (lit< tt);
+        reported = one-of IsNumberReported own (lit< tt);
         lawful = one-of IsLawfulHistory own (allowed-all, lawful);
         written = refl;
       },
@@ -277,7 +277,7 @@ one-more-done count old new lt plain before answered =
     let after = from (count + 1) in
     let left : from count ≡ get_or lines count [] ++ 10 ∷ from (count + 1) = at_drop_more (flat_map ended) lines count [] lt ∙ append_assoc (get_or lines count []) (10 ∷ []) after in
     let next : IsFirstLine (from count) (get_or lines count []) (from (count + 1)) = subst (λ (rest : List ℕ). IsFirstLine rest (get_or lines count []) after) (sym left) (line (get_or lines count []) after plain) in
-    subst (λ (told : List (Option Answer)). AreAnswers (IsPerformed 42) example.script told new after) (sym (take_more all_answers count None lt))
+    subst (λ (reported : List (Option Answer)). AreAnswers (IsPerformed 42) example.script reported new after) (sym (take_more all_answers count None lt))
     (one_more {answers = take count all_answers} {answer = get_or all_answers count None} before next answered)
 
 done : AreDone 11 (at last)

@@ -1,12 +1,12 @@
-use Rattle.tc_desk.proofs.Names.{◌≡◌, ◌≤◌, ◌+◌, ◌++◌, reverse, All, vec_len, vec_capacity, keepers_of, IsFresh}
+use Rattle.tc_desk.proofs.Names.{◌≡◌, ◌≤◌, ◌+◌, ◌++◌, reverse, All, vec_len, vec_capacity, owners_of, IsFresh}
 use Rattle.tc_desk.proofs.together.hold_all.Given as goal
 
-abbrev pub invariant-loop-post : goal.invariant-loop-post
-invariant-loop-post g l =
-    (l.posts.items ++ reverse (keepers_of l.held.items) ≡ l.fn.posts.items)
-    × All IsFresh l.held.items
-    × (vec_len l.posts + vec_len l.held ≤ vec_capacity l.posts)
-    × (vec_len l.posts + vec_len l.held ≤ vec_capacity l.held)
+abbrev pub invariant-loop-owned_desk : goal.invariant-loop-owned_desk
+invariant-loop-owned_desk g l =
+    (l.owned_desks.items ++ reverse (owners_of l.guard.items) ≡ l.fn.owned_desks.items)
+    × All IsFresh l.guard.items
+    × (vec_len l.owned_desks + vec_len l.guard ≤ vec_capacity l.owned_desks)
+    × (vec_len l.owned_desks + vec_len l.guard ≤ vec_capacity l.guard)
 
-abbrev pub decreases-loop-post : goal.decreases-loop-post
-decreases-loop-post g l = vec_len l.posts
+abbrev pub decreases-loop-owned_desk : goal.decreases-loop-owned_desk
+decreases-loop-owned_desk g l = vec_len l.owned_desks

@@ -1,6 +1,6 @@
 use Rattle.std.proofs.Common.{false, refl}
 use Rattle.tc_cltu.specs.declared.block.Mode.TheVariants.{Correct}
-use Rattle.tc_loop.specs.Examples.{told_by_9}
+use Rattle.tc_loop.specs.Examples.{learnt_by_9}
 use Rattle.tc_loop.proofs.Starts.{each-premise}
 use Rattle.tc_ends.specs.Examples.{in_cltus}
 use Rattle.tc_ends.proofs.Arrived.{carried-unaltered, carried-whole}
@@ -15,8 +15,8 @@ returns c = record {
   frames_sent = met.from-first;
   only = met.only-first;
   carried = met.carried;
-  unaltered = carried-unaltered Correct false told_by_9.loop.frames told_by_9.session in_cltus met.carried;
-  brought = carried-whole Correct false told_by_9.loop told_by_9.session in_cltus met.carried;
+  unaltered = carried-unaltered Correct false learnt_by_9.loop.frames learnt_by_9.session in_cltus met.carried;
+  brought = carried-whole Correct false learnt_by_9.loop learnt_by_9.session in_cltus met.carried;
   headers = refl;
   queue = met.queue;
   asked = refl;

@@ -13,6 +13,6 @@ new-requires-clause-limits g c = (limit_of c.args.limits, c.in_ok-runs.ensures.l
 
 pub invariant_of-result : goal.invariant_of-result
 invariant_of-result g c = record {
-  rooms = rw c.start.ensures.events (c.in_ok-workings.ensures.started (limit_of c.args.limits) c.in_ok-runs.ensures.limits);
+  rooms = rw c.start.ensures.events (c.in_ok-channel_core.ensures.started (limit_of c.args.limits) c.in_ok-runs.ensures.limits);
   limits = c.requires.limits;
 }

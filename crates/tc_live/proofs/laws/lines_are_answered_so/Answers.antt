@@ -23,8 +23,9 @@ use Rattle.tc_rack.specs.declared.stage.Stage.TheVariants.{SettingUp}
 use Rattle.tc_live.specs.Examples.{plain_channel, receiver_with}
 use Rattle.tc_live.specs.Receiver.{Receiving, new_receiver}
 use Rattle.tc_live.specs.Serving.{IsLineSaid}
-use Rattle.tc_live.specs.declared.answer.LiveAnswer.TheVariants as told
+use Rattle.tc_live.specs.declared.answer.LiveAnswer.TheVariants as reported
 use Rattle.tc_live.specs.declared.check.FrameCheck.TheVariants.{Nothing}
+use Rattle.tc_live.specs.declared.ends.FrameEnds.TheVariants.{NoFrame}
 use Rattle.tc_live.proofs.laws.lines_are_answered_so.Goals as goal
 
 allowed : IsAllowed plain_channel
@@ -44,7 +45,7 @@ allowed = record {
 
 -- the channel is set up
 abbrev set_up : Receiving
-set_up = record { check = Nothing; scid = 42; stage = SettingUp (plain_channel ∷ []) }
+set_up = record { check = Nothing; ends = NoFrame; scid = 42; stage = SettingUp (plain_channel ∷ []) }
 
 abbrev no_signal : Link
 no_signal = record { no_rf = true; no_bit_lock = false }
@@ -58,19 +59,19 @@ rack link = record { scid = 42; channels = channel link ∷ [] }
 channel-line : IsLineSaid (new_receiver Nothing 42) (codes "channel 1 10 1 0 plain") set_up []
 unfolding live_line_of line_of words
 channel-line = inl (
-  told.Nothing,
+  reported.Nothing,
   set_up,
   (
     Script (said.Channel 1 10 1 0 false),
     refl,
-    inl (said.Channel 1 10 1 0 false, refl, ((None, refl, refl, refl), ([], plain_channel ∷ [], refl, ((λ there. (let inside : there.0 < 0 = there.2 in omega arith)), allowed, refl), refl))),
+    inl (said.Channel 1 10 1 0 false, refl, (set_up, ((None, refl, refl, refl), ([], plain_channel ∷ [], refl, ((λ there. (let inside : there.0 < 0 = there.2 in omega arith)), allowed, refl), refl)), refl)),
   ),
   ([], (refl, refl), refl),
 )
 
 link-line : IsLineSaid set_up (codes "link 1 1 0") (receiver_with no_signal) (codes "link 1 1 0\n")
 unfolding live_line_of words digits
-link-line = inl (told.Link 1 no_signal, receiver_with no_signal, (LinkOf 1 no_signal, refl, ((true, rack no_signal, (0, channel no_flag, channel no_signal, (refl, refl), refl, refl), refl, refl), ((λ e. cc), refl))), ([], (refl, refl), sym (append-nil (codes "link 1 1 0\n"))))
+link-line = inl (reported.Link 1 no_signal, receiver_with no_signal, (LinkOf 1 no_signal, refl, ((true, rack no_signal, (0, channel no_flag, channel no_signal, (refl, refl), refl, refl), refl, refl), ((λ e. cc), refl))), ([], (refl, refl), sym (append-nil (codes "link 1 1 0\n"))))
 
 -- the flag of the radio frequency signal is bit 16 of the word
 abbrev clcw_text : List ℕ
@@ -79,7 +80,7 @@ clcw_text = codes "clcw 1 " ++ word_text 0x01048000 ++ codes "\n"
 clcw-line : IsLineSaid (receiver_with no_signal) (codes "clcw 1") (receiver_with no_signal) clcw_text
 unfolding live_line_of line_of words digits clcw_within run_within no_limits
 clcw-line = inl (
-  told.Operation (answers.Clcw 1 0x01048000),
+  reported.Operation (answers.Clcw 1 0x01048000),
   receiver_with no_signal,
   (
     Script (said.Clcw 1),
@@ -88,13 +89,17 @@ clcw-line = inl (
       said.Clcw 1,
       refl,
       (
+        receiver_with no_signal,
         (
-          Some (answers.Clcw 1 0x01048000),
-          (answers.Clcw 1 0x01048000, (rack no_signal, rack no_signal, refl, (inl (0, channel no_signal, (refl, refl), refl), refl), refl), refl),
-          refl,
-          refl,
+          (
+            Some (answers.Clcw 1 0x01048000),
+            (answers.Clcw 1 0x01048000, (rack no_signal, rack no_signal, refl, (inl (0, channel no_signal, (refl, refl), refl), refl), refl), refl),
+            refl,
+            refl,
+          ),
+          ((λ e. cc), refl),
         ),
-        ((λ e. cc), refl),
+        refl,
       ),
     ),
   ),

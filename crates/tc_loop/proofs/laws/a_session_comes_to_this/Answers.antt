@@ -1,5 +1,9 @@
-use Rattle.tc_loop.proofs.Worked.{none-accepted, one-accepted, none-known, zero-reported, one-known, two-begun}
+use Rattle.std.proofs.Common.{refl}
+unfoldable use Rattle.tc_channel.specs.Run.{run_within}
+unfoldable use Rattle.tc_channel.specs.Reply.{clcw_within}
+unfoldable use Rattle.tc_link.specs.Window.{some_of_first}
 use Rattle.tc_loop.proofs.laws.a_session_comes_to_this.Goals as goal
 
 pub returns : goal.returns
-returns c = record { none_accepted = none-accepted; one_accepted = one-accepted; none_known = none-known; reported = zero-reported; one_known = one-known; two_begun = two-begun }
+unfolding run_within some_of_first clcw_within
+returns c = record { none_accepted = refl; one_accepted = refl; none_known = refl; reported = refl; one_known = refl; two_begun = refl }

@@ -1,15 +1,21 @@
-use Rattle.tc_loop.proofs.Starts.{another, before-loop, each-premise, told-accepted, told-known, trap-accepted, trap-known, trap-not-another, trap-says}
+use Rattle.std.proofs.Common.{refl}
+unfoldable use Rattle.tc_channel.specs.ChannelState.{no_limits}
+unfoldable use Rattle.tc_channel.specs.Run.{run_within, passed_on}
+unfoldable use Rattle.tc_channel.specs.Reply.{clcw_within}
+unfoldable use Rattle.tc_link.specs.Window.{some_of_first}
+use Rattle.tc_loop.proofs.Starts.{another, before-loop, each-premise, trap-not-another}
 use Rattle.tc_loop.proofs.laws.starts_come_to_this.Goals as goal
 
 pub returns : goal.returns
+unfolding run_within some_of_first passed_on no_limits clcw_within
 returns c = record {
-  trap_says = trap-says;
-  trap_known = trap-known;
+  trap_says = refl;
+  trap_known = refl;
   trap_names_one_of_before = trap-not-another;
-  trap_accepted = trap-accepted;
+  trap_accepted = refl;
   met = each-premise;
   before_met = before-loop;
   another_met = another;
-  met_known = told-known;
-  met_accepted = told-accepted;
+  met_known = refl;
+  met_accepted = refl;
 }

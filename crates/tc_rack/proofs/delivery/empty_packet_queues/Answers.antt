@@ -11,4 +11,4 @@ loop-place-preserved g c =
     let is = c.as_slice.ensures ∙ ap (λ (s : Settings). s.queues) (c.settings-in-loop-place.ensures ∙ c.loop-place.invariant.settings) in
     let count = c.len-count.ensures ∙ ap (λ (s : Settings). length s.queues) c.settings.ensures in
     let less : c.loop-place.place < length c.args.channel.now.history.settings.queues = omega (arith, c.loop-place-test.true, count) in
-    packets-emptied c.args.channel.now.history.settings _ _ _ _ _ _ _ _ _ c.loop-place.invariant is less c.in_ok-empty_queue.ensures.told c.in_ok-empty_queue.ensures.settings
+    packets-emptied c.args.channel.now.history.settings _ _ _ _ _ _ _ _ _ c.loop-place.invariant is less c.in_ok-empty_queue.ensures.reported c.in_ok-empty_queue.ensures.settings

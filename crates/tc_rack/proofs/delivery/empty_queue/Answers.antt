@@ -12,5 +12,5 @@ pub loop-preserved : goal.loop-preserved
 loop-preserved g c =
     one-more-taken _ _ _ _ _ _ _ _ _ c.loop.invariant c.take_from-answer.ensures.taken c.take_from-answer.ensures.rest c.take_from-answer.ensures.settings c.in_ok-tell.ensures
 
-pub returns-clause-told : goal.returns-clause-told
-returns-clause-told g c = all-taken _ _ _ _ _ _ c.loop.invariant (omega arith)
+pub returns-clause-reported : goal.returns-clause-reported
+returns-clause-reported g c = all-taken _ _ _ _ _ _ c.loop.invariant (omega arith)

@@ -7,5 +7,5 @@ abbrev pub invariant-loop : goal.invariant-loop
 invariant-loop g l = record {
   count : length l.rooms.items ≡ l.counter;
   room : l.rooms.capacity ≡ l.count;
-  sizes : HaveSize l.size (map g.R.Room.held l.rooms.items);
+  sizes : HaveSize l.size (map g.R.Room.contents l.rooms.items);
 }

@@ -3,7 +3,7 @@ use Rattle.tc_station.proofs.station.issue.Given as goal
 
 abbrev pub invariant-loop-room : goal.invariant-loop-room
 invariant-loop-room g l =
-    (l.posts ≡ issued_more (vec_len l.operators) l.fn.posts) × (l.operators.items ≡ replicate (vec_len l.operators) (newcomer_at_desks l.vcids l.fn.posts))
+    (l.owned_desks ≡ issued_more (vec_len l.operators) l.fn.owned_desks) × (l.operators.items ≡ replicate (vec_len l.operators) (newcomer_at_desks l.vcids l.fn.owned_desks))
     × All (IsRoomFor l.vcids) l.rooms.items × (vec_len l.operators + vec_len l.rooms ≡ l.n) × (l.n ≤ vec_capacity l.operators)
 
 abbrev pub decreases-loop-room : goal.decreases-loop-room

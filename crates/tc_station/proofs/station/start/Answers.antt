@@ -1,14 +1,14 @@
 use Rattle.tc_station.proofs.Names.{◌≡◌, ◌≢◌, ◌≤◌, ◌∙◌, ap, sym, subst, arith, rules, All, AllPairs, common_steps, HaveIssued, vcids_of, map-id}
 use Rattle.std.proofs.lemmas.Iterator.Adapters.{YieldsList-from_vec}
 use Rattle.std.proofs.lemmas.Iterator.Consumers.{YieldsList-end}
-use Rattle.tc_station.proofs.Posts.{have-end}
+use Rattle.tc_station.proofs.OwnedDesks.{have-end}
 use Rattle.tc_station.proofs.VcidTable.{distinct-ids, small-ids}
 use Rattle.tc_station.proofs.station.start.Goals as goal
 
 pub loop-settings-preserved : goal.loop-settings-preserved
 loop-settings-preserved g c =
     let i = c.loop-settings.invariant in
-    let have : HaveIssued 0 c.push_reserved-in-loop-settings.new.self.items = have-end 0 c.loop-settings.desks.items c.push_reserved-in-loop-settings.new.self.items c.in-Ok.post c.push_reserved-in-loop-settings.ensures.items i.2 (search rules) in
+    let have : HaveIssued 0 c.push_reserved-in-loop-settings.new.self.items = have-end 0 c.loop-settings.desks.items c.push_reserved-in-loop-settings.new.self.items c.in-Ok.owned_desk c.push_reserved-in-loop-settings.ensures.items i.2 (search rules) in
     (grind (arith, common_steps), grind (arith, common_steps), have, grind (arith, common_steps), grind (arith, common_steps), grind (arith, common_steps), grind (arith, common_steps), grind (arith, common_steps))
 
 pub new-requires-2 : goal.new-requires-2

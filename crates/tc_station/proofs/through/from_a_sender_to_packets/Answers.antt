@@ -1,5 +1,5 @@
 use Rattle.tc_station.proofs.Names.{◌≡◌, ◌≢◌, ℕ, [], take, Some, ap, subst, ◌∙◌, arith, slice_get_within, Settings, IsReleased, IsOldestPacket, IsOldestUnit, Moment, IsReplied, IsNotBrought, IsNotReleased, IsNotTaken, IsUnitNotTaken, no_limits, Vec, Frame, Release, Take, TakeUnit, buffered_fields, frame_reply, release_reply, take_reply, unit_reply}
-use Rattle.tc_station.proofs.ClosedSince.{answered, post-there, shown}
+use Rattle.tc_station.proofs.ClosedSince.{answered, owned_desk-there, shown}
 use Rattle.tc_station.proofs.through.from_a_sender_to_packets.Goals as goal
 
 pub returns-clause-merge : goal.returns-clause-merge
@@ -7,8 +7,8 @@ returns-clause-merge c = λ station operators closed place channel together out.
     let all = together.2 in
     let inside = slice_get_within closed place channel out in
     let many = all.as_many in
-    let post = post-there together.0 place (omega (arith, inside, many)) in
-    let one = all.each place post.0 channel post.1 out in
+    let owned_desk = owned_desk-there together.0 place (omega (arith, inside, many)) in
+    let one = all.each place owned_desk.0 channel owned_desk.1 out in
     one.merge
 
 pub returns-clause-frames : goal.returns-clause-frames

@@ -13,7 +13,7 @@ loop-fed-init c = record {
 pub loop-fed-preserved : goal.loop-fed-preserved
 loop-fed-preserved c =
     let l = c.loop-fed in let inv = l.invariant in let next = c.feed_front.new.self in
-    let more = if c.in-Some.fed.ended then next.held ∷ [] else [] in
+    let more = if c.in-Some.fed.ended then next.carried ∷ [] else [] in
     record {
       mode = c.feed_front.ensures.mode ∙ inv.mode;
       taken = (
@@ -31,10 +31,10 @@ pub returns-in_err-keep-clause-short : goal.returns-in_err-keep-clause-short
 returns-in_err-keep-clause-short c =
     let l = c.loop-fed in let inv = l.invariant in let was = c.args.self.now in let os = c.args.piece.now in let next = c.feed_front.new.self in let rest = c.in-Some.others.now in
     let before = map (λ frame. frame.items) c.args.frames.now.items in
-    let all = taken-more 1029 was l.self next os l.rest.now rest inv.taken.0 (if c.in-Some.fed.ended then next.held ∷ [] else []) inv.mode inv.taken.1 c.in-Some.ensures.front in
-    let held : IsTaken 1029 was next os rest (inv.taken.0 ++ next.held ∷ []) = subst (λ (b : Bool). IsTaken 1029 was next os rest (inv.taken.0 ++ (if b then next.held ∷ [] else []))) c.in_err-keep.ensures.ended all in
+    let all = taken-more 1029 was l.self next os l.rest.now rest inv.taken.0 (if c.in-Some.fed.ended then next.carried ∷ [] else []) inv.mode inv.taken.1 c.in-Some.ensures.front in
+    let carried : IsTaken 1029 was next os rest (inv.taken.0 ++ next.carried ∷ []) = subst (λ (b : Bool). IsTaken 1029 was next os rest (inv.taken.0 ++ (if b then next.carried ∷ [] else []))) c.in_err-keep.ensures.ended all in
     let short : (given : List (List ℕ)) × (map (λ frame. frame.items) c.keep.new.frames.items ≡ before ++ given) × StopsShort 1029 was next os given =
-    (inv.taken.0, c.in_err-keep.ensures.unchanged ∙ inv.taken.2, taken-short 1029 was next os rest inv.taken.0 held) in
+    (inv.taken.0, c.in_err-keep.ensures.unchanged ∙ inv.taken.2, taken-short 1029 was next os rest inv.taken.0 carried) in
     of-error c.from_residual.result short
 
 pub returns-clause-state : goal.returns-clause-state

@@ -4,7 +4,7 @@ use Rattle.atomic_table.proofs.Names.{◌≡◌, List, [], ◌∷◌, refl, drop
 use Rattle.std.proofs.alloc.Calls.{Goes-blank}
 use Rattle.atomic_table.specs.contracts.badge.Badge as badge
 use Rattle.tc_desk.specs.contracts.resident.ResidentBadge as resident
-use Rattle.tc_desk.proofs.Sent.{resident_val, resident_told, badge_told}
+use Rattle.tc_desk.proofs.Sent.{resident_val, resident_reported, badge_reported}
 use Rattle.tc_desk.specs.contracts.resident.ResidentBadge.into_badge.{ended, clauses}
 use Rattle.tc_desk.specs.contracts.resident.ResidentBadge.into_badge.Key.{name as #self}
 use Rattle.tc_desk.proofs.resident.ResidentBadge.into_badge.Statement.{statement}
@@ -17,12 +17,12 @@ into_badge_spec 𝓤 𝓛 𝓜 𝓡 wired U _ =
     let Br : RattleType = badge.the_row W in let Rr : RattleType = resident.the_row W in
     let hs : Stays En.signature.params En.kept = (stay_dropped (plain (λ _. Rr)) no, tt) in
     proved 𝓛 En hs c 𝓜 𝓡 (Goes-blank 𝓛 1 (plain (λ _. Rr)) no (λ κs x f. tt), tt) (#self inst) fn closed
-    (λ κs. ((λ x. resident_val ∷ []), tt)) (λ κs. ((λ x vs so. resident_told W x vs so), tt)) (λ κs qs bounds a gh are.
+    (λ κs. ((λ x. resident_val ∷ []), tt)) (λ κs. ((λ x vs so. resident_reported W x vs so), tt)) (λ κs qs bounds a gh are.
     let x : Br.Denot = a.0.badge in
     let y : (walk_of 𝓛 En hs c).Ghost = ((κs, qs, bounds, a, (resident_val ∷ [], tt)), gh) in let Post : Val → SProp 𝓤 = (walk_of 𝓛 En hs c).post y in
     qed 𝓛 ((raw (alive 𝓛 En.signature κs qs) ⊛ ‵ (owns (types_at En.signature.params κs) a y.0.4)) ∷ raw ((c κs a).requires gh) ∷ []) ∵
     split ! $ move ! (1 ∷ []) $ fsplit ! $ fsplit ! $ fpick ! (λ vss. fsplit3 ! $ drop ! $ peeks ! Br (Is Br) (shows 𝓛 Br) x vss.0 (λ so.
-    rewrite ! 0 (λ (ws : List Val). ‵ (Br.own_val x ws)) (badge_told W x vss.0 so) refl $ keep ! (0 ∷ 4 ∷ []) $
+    rewrite ! 0 (λ (ws : List Val). ‵ (Br.own_val x ws)) (badge_reported W x vss.0 so) refl $ keep ! (0 ∷ 4 ∷ []) $
     enter ! 𝓣.C 𝓣.Λ fn (resident_val ∷ []) Post $ alloc_all ! (λ l. pass_all ! refl ((tt, ((tt, tt), tt)), tt) $
     sets ! (of_opd ! (get_in ! (fld ! refl (stop !)) (sub ! 0 refl (whole !)))) refl (tt, (tt, tt)) $ sets ! (of_opd ! (get ! refl)) refl (tt, (tt, tt)) $
     use0 𝓛 (raw (fact 𝓤 (x ≡ x))) (fact_i 𝓤 (x ≡ x) (emp 𝓤) refl) $ nothing ! $ nothing ! $ fjoin ! $

@@ -1,5 +1,5 @@
 use Rattle.std.proofs.Common.{[], map, ap, ◌∙◌}
-use Rattle.tc_rooms.proofs.Names.{Laid, laid, map-set}
+use Rattle.tc_rooms.proofs.Names.{Contents, contents_of, map-set}
 use Rattle.std.specs.Prelude.{set}
 use Rattle.tc_rooms.specs.Rooms.{HaveSize}
 use Rattle.tc_rooms.proofs.Waiting.{size-got}
@@ -8,7 +8,7 @@ use Rattle.tc_rooms.proofs.ring.Ring.clear.Goals as goal
 pub returns : goal.returns
 returns g c =
     let xs = c.self.inside.rooms.items in
-    let sizes : HaveSize c.args.size (map g.R.Room.held xs) = rw c.self.view_is c.requires.sizes in
-    let same = size-got g.R.Room.held c.args.size xs c.args.place c.in-Some.room.now sizes c.in-Some.ensures.value in
-    rw (← c.self.view_is) (map-set g.R.Room.held xs c.args.place c.clear.new.self
-    ∙ ap (λ (x : Laid). set (map g.R.Room.held xs) c.args.place x) (c.clear.ensures.cleared ∙ ap (laid []) same))
+    let sizes : HaveSize c.args.size (map g.R.Room.contents xs) = rw c.self.view_is c.requires.sizes in
+    let same = size-got g.R.Room.contents c.args.size xs c.args.place c.in-Some.room.now sizes c.in-Some.ensures.value in
+    rw (← c.self.view_is) (map-set g.R.Room.contents xs c.args.place c.clear.new.self
+    ∙ ap (λ (x : Contents). set (map g.R.Room.contents xs) c.args.place x) (c.clear.ensures.cleared ∙ ap (contents_of []) same))

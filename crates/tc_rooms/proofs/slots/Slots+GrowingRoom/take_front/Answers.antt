@@ -7,4 +7,4 @@ pub returns-clause-taken : goal.returns-clause-taken
 returns-clause-taken c =
     let i = c.self.inside in
     let some : 0 < i.waiting = grind (arith, common_steps) in
-    turned-seen i.waiting i.laid i.size i.ring c.turn_out-block.new.self c.args.self.now c.self.invariant some c.turn_out-block.ensures.turned c.self.view_is
+    turned-seen i.waiting i.staged i.size i.ring c.turn_out-block.new.self c.args.self.now c.self.invariant some c.turn_out-block.ensures.turned c.self.view_is

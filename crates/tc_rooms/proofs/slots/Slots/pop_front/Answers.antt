@@ -7,4 +7,4 @@ pub returns : goal.returns
 returns g c =
     let i = c.self.inside in
     let some : 0 < i.waiting = grind (arith, common_steps) in
-    turned-seen i.waiting i.laid i.size i.ring c.turn.new.self c.args.self.now c.self.invariant some c.turn.ensures c.self.view_is
+    turned-seen i.waiting i.staged i.size i.ring c.turn.new.self c.args.self.now c.self.invariant some c.turn.ensures c.self.view_is

@@ -1,5 +1,5 @@
 use Rattle.tc_station.proofs.Names.{◌∙◌, sym, ap, subst, Identity, Roster, IsDeskOf}
-use Rattle.tc_station.proofs.Posts.{desk-of}
+use Rattle.tc_station.proofs.OwnedDesks.{desk-of}
 use Rattle.tc_station.proofs.station.StationOf.ask.Goals as goal
 
 pub returns : goal.returns

@@ -1,5 +1,5 @@
-use Rattle.tc_station.proofs.Names.{◌∙◌, ℕ, sym, ap, subst, arith, Roster, HaveIssued, settings_in, crews_of}
-use Rattle.tc_station.proofs.Posts.{are-ours, closed-settings, ids-same, issued-same, length-same, settings-heads, station-cause}
+use Rattle.tc_station.proofs.Names.{◌∙◌, ℕ, sym, ap, subst, arith, Roster, HaveIssued, settings_in, operator_lists_of}
+use Rattle.tc_station.proofs.OwnedDesks.{are-ours, closed-settings, ids-same, issued-same, length-same, settings-heads, station-cause}
 use Rattle.tc_station.proofs.station.StationOf.close_together.Goals as goal
 
 pub close_together-requires : goal.close_together-requires
@@ -9,7 +9,7 @@ close_together-requires g c =
 pub invariant_of-station : goal.invariant_of-station
 invariant_of-station g c =
     let old = c.self.inside.desks in
-    let new = c.in-Err.left.posts in
+    let new = c.in-Err.left.owned_desks in
     let same = c.in-Err.ensures.kept.0 in
     let long = length-same old.items new.items same in
     let as-many = c.self.invariant.0 in
@@ -18,7 +18,7 @@ invariant_of-station g c =
 
 pub returns-in-Ok-clause-channels : goal.returns-in-Ok-clause-channels
 returns-in-Ok-clause-channels g c =
-    closed-settings c.self.inside.desks.items (crews_of c.args.operators.items) c.in-Ok.channels.items c.in-Ok.ensures.closed
+    closed-settings c.self.inside.desks.items (operator_lists_of c.args.operators.items) c.in-Ok.channels.items c.in-Ok.ensures.closed
     ∙ (settings-heads c.self.inside.desks.items ∙ ap (λ (r : Roster). settings_in r) c.self.view_is)
 
 pub returns-in-Ok-clause-closed : goal.returns-in-Ok-clause-closed

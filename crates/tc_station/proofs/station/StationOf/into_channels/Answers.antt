@@ -1,5 +1,5 @@
 use Rattle.tc_station.proofs.Names.{arith}
-use Rattle.tc_station.proofs.Posts.{ids-same, issued-same, length-same}
+use Rattle.tc_station.proofs.OwnedDesks.{ids-same, issued-same, length-same}
 use Rattle.tc_station.proofs.station.StationOf.into_channels.Goals as goal
 
 pub invariant_of-result : goal.invariant_of-result

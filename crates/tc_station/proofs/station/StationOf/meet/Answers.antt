@@ -14,7 +14,7 @@ invariant_of-operator g c =
 pub meet-requires : goal.meet-requires
 meet-requires g c =
     let at : IsPlace c.args.self.now c.args.vcid c.in-Some.place = search rules in
-    let lock = same-lock c.args.self.now _ _ _ _ _ _ _ _ _ _ _ c.operator.view_is c.operator.invariant c.requires.ours c.self.view_is c.self.invariant.1 at c.index_mut.ensures.value c.index-post.ensures in
+    let lock = same-lock c.args.self.now _ _ _ _ _ _ _ _ _ _ _ c.operator.view_is c.operator.invariant c.requires.ours c.self.view_is c.self.invariant.1 at c.index_mut.ensures.value c.index-owned_desk.ensures in
     let known = head-known c.args.self.now _ _ _ _ c.args.vcid _ c.args.watcher.now c.operator.view_is c.operator.invariant c.requires.ours c.requires.knows at c.index_mut.ensures.value c.requires.watcher in
     record { ours = lock ∙ sym c.desk.ensures.lock; board = known.1 }
 

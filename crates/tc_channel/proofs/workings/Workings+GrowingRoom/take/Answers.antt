@@ -1,8 +1,0 @@
-use Rattle.tc_channel.proofs.AtWork.{packet-taken, queues-work, some-mapped}
-use Rattle.tc_channel.proofs.workings.Workings+GrowingRoom.take.Goals as goal
-
-pub invariant_of-self : goal.invariant_of-self
-invariant_of-self g c = queues-work _ c.take.new.self c.args.apid c.self.invariant c.take.ensures.rings c.take.ensures.sizes c.take.ensures.settled
-
-pub returns-clause-done : goal.returns-clause-done
-returns-clause-done g c = λ some limits s journal k. packet-taken c.take.new.self c.args.apid (rw (← c.self.view_is) at k) (some-mapped _ _ _ c.take.ensures.item some) c.take.ensures.rings c.take.ensures.sizes c.take.ensures.settled

@@ -1,0 +1,65 @@
+-- What a channel works with, in rooms, and how large these are.
+use Rattle.std.specs.Prelude.{◌≡◌, ◌<◌, ◌≤◌, ℕ, List, [], ◌∷◌, ◌++◌, min}
+use Rattle.std.specs.List.{AllByRecursion}
+use Rattle.tc_link.specs.Farm.{Machine}
+use Rattle.tc_packet.specs.declared.Service.{Service}
+use Rattle.tc_packet.specs.Reassembly.{largest_unit, place_of, stream_count}
+use Rattle.tc_rooms.specs.Rooms.{Slotted}
+use Rattle.tc_packet.specs.Store.{Store, open_runs, limit_at}
+use Rattle.tc_channel.specs.declared.settings.Settings.{Settings}
+use Rattle.tc_channel.specs.declared.event.Event.{Event}
+use Rattle.tc_channel.specs.Channel.{Inside, HoldsWithin}
+use Rattle.tc_channel.specs.Memory.{largest_item, largest_field}
+use Rattle.tc_channel.specs.Keyed.{Keyed, rings_in, room_sizes, AreCommitted}
+
+-- each stream has the limit of its MAP
+abbrev pub HaveLimits : (ℕ → ℕ) → Store → Type 0
+HaveLimits limits store = (service : Service) (map_id : ℕ) → map_id < 64 → limit_at store (place_of service map_id) ≡ limits map_id
+
+-- no limit is over the largest unit
+abbrev pub AreSmall : Store → Type 0
+AreSmall store = (place : ℕ) → place < stream_count → limit_at store place ≤ largest_unit
+
+-- the rooms are large enough for the unit of each stream: on a plain channel it is a data field
+abbrev pub AreEnough : Store → List ℕ → Type 0
+AreEnough store sizes = (place : ℕ) → place < stream_count → AllByRecursion (λ (n : ℕ). min (limit_at store place) (largest_item store.segmented) ≤ n) sizes
+
+-- so many octets are enough for the unit of each stream
+abbrev pub IsEnough : Store → ℕ → Type 0
+IsEnough store size = (place : ℕ) → place < stream_count → min (limit_at store place) (largest_item store.segmented) ≤ size
+
+-- FARM-1, the buffer of data fields, the open runs, the packet queues and the unit queues
+pub record Parts : Type 0 where
+  pub farm : Machine
+  pub fields : Slotted
+  pub store : Store
+  pub queues : List Keyed
+  pub units : List Keyed
+
+-- the same without the rooms
+abbrev pub inside_of : Parts → Inside
+inside_of parts = record { farm = parts.farm; ring = parts.fields.ring; open_runs = open_runs parts.store; rings = rings_in parts.queues; unit_rings = rings_in parts.units }
+
+-- all of it is that of the journal's run within these limits, nothing is staged that doesn't count, and each room is large enough
+pub record HoldsInRooms (limits : ℕ → ℕ) (s : Settings) (journal : List Event) (parts : Parts) : Type 0 where
+  pub holds : HoldsWithin limits s journal (inside_of parts)
+  pub field_size : parts.fields.size ≡ largest_field
+  pub fields_committed : parts.fields.staged ≡ []
+  pub committed : AreCommitted parts.queues
+  pub units_committed : AreCommitted parts.units
+  pub limits_are : HaveLimits limits parts.store
+  pub small : AreSmall parts.store
+  pub sizes : AreEnough parts.store (room_sizes parts.queues)
+  pub unit_sizes : AreEnough parts.store (room_sizes parts.units)
+
+-- it is that of some channel's run
+abbrev pub AreChannelCore : Parts → Type 0
+AreChannelCore parts = (limits : ℕ → ℕ) × (s : Settings) × (journal : List Event) × HoldsInRooms limits s journal parts
+
+-- whatever journal the first parts are those of, the others are those of that journal and one more event
+abbrev pub GoOn : Event → Parts → Parts → Type 0
+GoOn event old new = (limits : ℕ → ℕ) (s : Settings) (journal : List Event) → HoldsInRooms limits s journal old → HoldsInRooms limits s (journal ++ event ∷ []) new
+
+-- or they are those of the same journal
+abbrev pub Stay : Parts → Parts → Type 0
+Stay old new = (limits : ℕ → ℕ) (s : Settings) (journal : List Event) → HoldsInRooms limits s journal old → HoldsInRooms limits s journal new

@@ -1,0 +1,368 @@
+//! What a channel works with, in rooms that are made at the start or that grow.
+
+ghost use Rattle.std.specs.Prelude.{List, ℕ, ◌≡◌, false, [], ◌<◌, ◌≤◌, ◌+◌, ◌⊎◌, length, option_map, IfOk, IsOk, OnOk, OnErr, IsSome, IsTrue, ◌↔◌, None, Option};
+ghost use Rattle.tc_packet.specs.declared.Service.{Service};
+ghost use Rattle.tc_packet.specs.declared.Service.TheVariants.{Bd};
+ghost use Rattle.tc_packet.specs.Reassembly.{run_at, stream_place};
+ghost use Rattle.tc_packet.specs.Store.{limit_at, open_runs};
+ghost use Rattle.tc_channel.specs.declared.event.Event.{Event};
+ghost use Rattle.tc_channel.specs.declared.event.Event.TheVariants as Event;
+ghost use Rattle.tc_channel.specs.declared.settings.Settings.{Settings};
+ghost use Rattle.tc_channel.specs.Admission.{map_of};
+ghost use Rattle.tc_channel.specs.Channel.{FollowsWithin, FollowsKindWithin, EndsWithin, EndsAtOnceWithin, buffered_of, with_field};
+ghost use Rattle.tc_channel.specs.Delivering.{IsDelivered};
+ghost use Rattle.tc_channel.specs.StoredQueues.{AreDistinct, keys_of};
+ghost use Rattle.tc_channel.specs.Keyed.{rings_in, room_sizes, AreCommitted};
+ghost use Rattle.tc_channel.specs.Memory.{largest_field};
+ghost use Rattle.tc_channel.specs.Reply.{IsBypassData, frame_reply_within, release_reply_within, take_reply_within, unit_reply_within, waiting_packets_within, waiting_units_within, buffered_fields_within};
+ghost use Rattle.tc_channel.specs.Run.{run_within};
+ghost use Rattle.tc_channel.specs.Settings.{IsAllowed};
+ghost use Rattle.tc_channel.specs.ChannelCore.{AreEnough, AreSmall, GoOn, HaveLimits, HoldsInRooms, IsEnough, Stay};
+ghost use Rattle.tc_channel.specs.Steps.{delivery_steps, frame_steps_within, looks_for, release_steps_within};
+
+use crate::empty_queues::{empty_queues, empty_unit_queues};
+use crate::queues::{Queues, deliver_ended, deliver_nothing};
+use crate::reply::{Delivery, FrameReply};
+use crate::settings::Settings;
+use crate::steps::Tick;
+use std::alloc::{AllocError, Global};
+use std::marker::Model;
+use tc_link::{Act, Arrival, Farm, Frame, Kind, Report, Window, each_arrival_has_an_entry, kind};
+use tc_packet::{Service, read_segment};
+use tc_rooms::{FixedRoom, GrowingRoom, Room, Runs, Slots};
+
+/// The most octets of a data field: a frame has 1,024 at most (CCSDS 232.0-B, 4.1.2.7), and 5 of them are its primary header.
+pub const LARGEST_FIELD: usize = 1_019;
+
+/// FARM-1, the buffer of accepted data fields, reassembly, the packet queues and the unit queues of chosen MAPs: all that a channel
+/// has but its settings and its journal. A [`ChannelWith`](crate::ChannelWith) has its core in rooms that grow, a channel in rooms
+/// has it in rooms that are made at the start. The room of a data field never grows.
+///
+/// What is said of a call holds for whatever limits, settings and journal this core is that of. Where memory runs out it stays
+/// that of the same journal.
+#[derive(Drop)]
+pub struct ChannelCore<R: Room> {
+    farm: Farm,
+    fields: Slots<FixedRoom>,
+    runs: Runs<R>,
+    queues: Queues<R>,
+    units: Queues<R>,
+}
+
+impl<R: Room> Model for ChannelCore<R> {
+    ghost use Rattle.tc_channel.specs.ChannelCore.{Parts, AreChannelCore};
+
+    ghost Value = { Parts };
+
+    ghost view = { λ w. record { farm = w.farm; fields = w.fields; store = w.runs; queues = w.queues; units = w.units } };
+
+    ghost invariant = { λ w. AreChannelCore (record { farm = w.farm; fields = w.fields; store = w.runs; queues = w.queues; units = w.units }) };
+}
+
+impl<R: Room> ChannelCore<R> {
+    /// The core of a channel that starts: with these open runs, of which none is open, a room for each data field of the buffer, and
+    /// rooms of `size` octets for packets and units.
+    pub fn new<C: Tick>(
+        alloc: Global,
+        settings: &Settings,
+        runs: Runs<R>,
+        size: usize,
+        steps: &mut C,
+    ) -> Result<ChannelCore<R>, AllocError>
+        requires allowed { IsAllowed settings.now }
+        requires segmented { runs.segmented ≡ settings.now.segmented }
+        requires none { (place : ℕ) → run_at (open_runs runs).runs place ≡ None }
+        requires small { AreSmall runs }
+        requires enough { IsEnough runs size }
+        requires limits { (limits : ℕ → ℕ) × HaveLimits limits runs }
+        ensures started { IfOk result (λ w. (limits : ℕ → ℕ) → HaveLimits limits runs → HoldsInRooms limits settings.now [] w) }
+    {
+        let window = Window::new(settings.width).unwrap();
+        let fields = Slots::with_capacity(alloc, settings.buffer as usize, LARGEST_FIELD)?;
+        let queues = Queues::new(
+            alloc,
+            empty_queues(alloc, settings.queues.as_slice(), size)?,
+            steps,
+        )?;
+        let units = Queues::new(
+            alloc,
+            empty_unit_queues(alloc, settings.maps.as_slice(), size)?,
+            steps,
+        )?;
+        Ok(ChannelCore {
+            farm: Farm::new(window, settings.first),
+            fields,
+            runs,
+            queues,
+            units,
+        })
+    }
+
+    /// Takes a frame in: an accepted AD data field is copied into the buffer; of an accepted BD data field the unit that it ends is queued
+    /// at once. Only a frame of Type-BD may be refused, and only where rooms grow. A step is counted for each packet that is cut from the
+    /// unit, and for each queue that is looked at.
+    #[inline(always)]
+    pub fn frame<C: Tick>(&mut self, frame: &Frame, steps: &mut C) -> Result<FrameReply, AllocError>
+        ensures reply { IfOk result (λ reply. (limits : ℕ → ℕ) (s : Settings) (journal : List Event) → HoldsInRooms limits s journal self.old
+            → reply ≡ frame_reply_within limits s journal frame.now) }
+        ensures done { OnOk result (GoOn (Event.Frame frame.now) self.old self.new) }
+        ensures refused { OnErr result (Stay self.old self.new) }
+        ensures bypass { OnErr result (IsBypassData frame.now) }
+        ensures answered { R.grows ≡ false → IsOk result }
+        ensures cost { OnOk result ((limits : ℕ → ℕ) (s : Settings) (journal : List Event) → HoldsInRooms limits s journal self.old
+            → C.taken steps.new ≤ C.taken steps.old + frame_steps_within limits s journal frame.now) }
+        ensures refused_cost { OnErr result ((limits : ℕ → ℕ) (s : Settings) (journal : List Event) → HoldsInRooms limits s journal self.old
+            → C.taken steps.new ≤ C.taken steps.old + (frame_steps_within limits s journal frame.now + length s.queues)) }
+        ensures quiet { (IsBypassData frame.now → ⊥) → C.taken steps.new ≡ C.taken steps.old }
+    {
+        each_arrival_has_an_entry();
+        let kind = kind(frame);
+        let room = self.fields.len() < self.fields.capacity();
+        let field = &frame.octets()[5..];
+        let delivery = pass_bypass(
+            &mut self.runs,
+            &mut self.queues,
+            &mut self.units,
+            kind,
+            field,
+            steps,
+        )?;
+        let act = self.farm.step(Arrival::Frame { kind, room });
+        put_field(&mut self.fields, &act, field);
+        Ok(FrameReply { act, delivery })
+    }
+
+    /// Lets the oldest data field out of the buffer, where one waits, and queues the unit that it ends, with steps as of
+    /// [`frame`](Workings::frame).
+    #[inline(always)]
+    pub fn release<C: Tick>(&mut self, steps: &mut C) -> Result<Delivery, AllocError>
+        requires waits { 0 < length self.old.fields.ring.items }
+        ensures reply { IfOk result (λ delivery. (limits : ℕ → ℕ) (s : Settings) (journal : List Event) → HoldsInRooms limits s journal self.old
+            → delivery ≡ release_reply_within limits s journal) }
+        ensures done { OnOk result (GoOn Event.Release self.old self.new) }
+        ensures refused { OnErr result (Stay self.old self.new) }
+        ensures answered { R.grows ≡ false → IsOk result }
+        ensures cost { OnOk result ((limits : ℕ → ℕ) (s : Settings) (journal : List Event) → HoldsInRooms limits s journal self.old
+            → C.taken steps.new ≤ C.taken steps.old + release_steps_within limits s journal) }
+        ensures refused_cost { OnErr result ((limits : ℕ → ℕ) (s : Settings) (journal : List Event) → HoldsInRooms limits s journal self.old
+            → C.taken steps.new ≤ C.taken steps.old + (release_steps_within limits s journal + length s.queues)) }
+    {
+        let field = self.fields.front().unwrap();
+        let delivery = pass(
+            &mut self.runs,
+            &mut self.queues,
+            &mut self.units,
+            Service::Ad,
+            field,
+            steps,
+        )?;
+        self.fields.pop_front();
+        self.farm.step(Arrival::Release);
+        Ok(delivery)
+    }
+
+    /// Drops the oldest packet of the queue with this APID, where one waits, and says whether it did.
+    #[tactic(auto, using(crate::proofs::Closing::at_work))]
+    pub fn drop_packet<C: Tick>(&mut self, apid: u16, steps: &mut C) -> bool
+        ensures waits { (limits : ℕ → ℕ) (s : Settings) (journal : List Event) → HoldsInRooms limits s journal self.old → (IsTrue result ↔ IsSome (take_reply_within limits s journal apid)) }
+        ensures done { IsTrue result → GoOn (Event.Take apid) self.old self.new }
+        ensures refused { result ≡ false → self.new ≡ self.old }
+        ensures cost { C.taken steps.new ≤ C.taken steps.old + looks_for apid (length self.old.queues) }
+    {
+        self.queues.pop(apid, steps)
+    }
+
+    /// Drops the oldest unit of the queue of this chosen MAP, where one waits, and says whether it did.
+    #[tactic(auto, using(crate::proofs::Closing::at_work))]
+    pub fn drop_unit<C: Tick>(&mut self, map: u8, steps: &mut C) -> bool
+        ensures waits { (limits : ℕ → ℕ) (s : Settings) (journal : List Event) → HoldsInRooms limits s journal self.old → (IsTrue result ↔ IsSome (unit_reply_within limits s journal map)) }
+        ensures done { IsTrue result → GoOn (Event.TakeUnit map) self.old self.new }
+        ensures refused { result ≡ false → self.new ≡ self.old }
+        ensures cost { C.taken steps.new ≤ C.taken steps.old + looks_for map (length self.old.units) }
+    {
+        self.units.pop(map as u16, steps)
+    }
+
+    /// The oldest packet of the queue with this APID, lent.
+    #[tactic(auto, using(crate::proofs::Closing::at_work))]
+    pub fn oldest<C: Tick>(&self, apid: u16, steps: &mut C) -> Option<&[u8]>
+        ensures packet { (limits : ℕ → ℕ) (s : Settings) (journal : List Event) → HoldsInRooms limits s journal self.now
+            → option_map (λ octets. octets.now) result ≡ take_reply_within limits s journal apid }
+        ensures cost { C.taken steps.new ≤ C.taken steps.old + looks_for apid (length self.now.queues) }
+    {
+        self.queues.oldest(apid, steps)
+    }
+
+    /// The oldest unit of the queue of this chosen MAP, lent.
+    #[tactic(auto, using(crate::proofs::Closing::at_work))]
+    pub fn oldest_unit<C: Tick>(&self, map: u8, steps: &mut C) -> Option<&[u8]>
+        ensures unit { (limits : ℕ → ℕ) (s : Settings) (journal : List Event) → HoldsInRooms limits s journal self.now
+            → option_map (λ octets. octets.now) result ≡ unit_reply_within limits s journal map }
+        ensures cost { C.taken steps.new ≤ C.taken steps.old + looks_for map (length self.now.units) }
+    {
+        self.units.oldest(map as u16, steps)
+    }
+
+    /// FARM-1's components.
+    pub fn report(&self) -> Report
+        ensures report { (limits : ℕ → ℕ) (s : Settings) (journal : List Event) → HoldsInRooms limits s journal self.now → result ≡ (run_within limits s journal).report }
+        ensures farm_b { result.farm_b < 4 }
+    {
+        self.farm.report()
+    }
+
+    /// How many data fields wait in the buffer.
+    pub fn buffered(&self) -> usize
+        ensures count { (limits : ℕ → ℕ) (s : Settings) (journal : List Event) → HoldsInRooms limits s journal self.now → result ≡ length (buffered_fields_within limits s journal) }
+        ensures fields { result ≡ length self.now.fields.ring.items }
+    {
+        self.fields.len()
+    }
+
+    /// How many packets wait in the queue with this APID, if there is one.
+    pub fn queued<C: Tick>(&self, apid: u16, steps: &mut C) -> Option<usize>
+        ensures count { (limits : ℕ → ℕ) (s : Settings) (journal : List Event) → HoldsInRooms limits s journal self.now
+            → result ≡ option_map length (waiting_packets_within limits s journal apid) }
+        ensures cost { C.taken steps.new ≤ C.taken steps.old + looks_for apid (length self.now.queues) }
+    {
+        Some(self.queues.find(apid, steps)?.len())
+    }
+
+    /// How many units wait in the queue of this MAP, if it is chosen.
+    pub fn units<C: Tick>(&self, map: u8, steps: &mut C) -> Option<usize>
+        ensures count { (limits : ℕ → ℕ) (s : Settings) (journal : List Event) → HoldsInRooms limits s journal self.now
+            → result ≡ option_map length (waiting_units_within limits s journal map) }
+        ensures cost { C.taken steps.new ≤ C.taken steps.old + looks_for map (length self.now.units) }
+    {
+        Some(self.units.find(map as u16, steps)?.len())
+    }
+}
+
+impl ChannelCore<GrowingRoom> {
+    /// The oldest packet of the queue with this APID, moved out of it; none where there is no such queue, and where it is empty.
+    #[tactic(auto, using(crate::proofs::Closing::at_work))]
+    pub fn take<C: Tick>(&mut self, apid: u16, steps: &mut C) -> Option<Vec<u8>>
+        ensures packet { (limits : ℕ → ℕ) (s : Settings) (journal : List Event) → HoldsInRooms limits s journal self.old
+            → option_map (λ packet. packet.items) result ≡ take_reply_within limits s journal apid }
+        ensures done { IsSome result → GoOn (Event.Take apid) self.old self.new }
+        ensures refused { result ≡ None → self.new ≡ self.old }
+        ensures cost { C.taken steps.new ≤ C.taken steps.old + looks_for apid (length self.old.queues) }
+    {
+        self.queues.take(apid, steps)
+    }
+
+    /// The oldest unit of the queue of this chosen MAP, moved out of it; none where the MAP isn't chosen, and where its queue is empty.
+    #[tactic(auto, using(crate::proofs::Closing::at_work))]
+    pub fn take_unit<C: Tick>(&mut self, map: u8, steps: &mut C) -> Option<Vec<u8>>
+        ensures unit { (limits : ℕ → ℕ) (s : Settings) (journal : List Event) → HoldsInRooms limits s journal self.old
+            → option_map (λ unit. unit.items) result ≡ unit_reply_within limits s journal map }
+        ensures done { IsSome result → GoOn (Event.TakeUnit map) self.old self.new }
+        ensures refused { result ≡ None → self.new ≡ self.old }
+        ensures cost { C.taken steps.new ≤ C.taken steps.old + looks_for map (length self.old.units) }
+    {
+        self.units.take(map as u16, steps)
+    }
+}
+
+// Copies the data field of an accepted AD frame, for which there is room, to the buffer's end.
+fn put_field(fields: &mut Slots<FixedRoom>, act: &Act, field: &[u8])
+    requires field { length field.now ≤ fields.old.size }
+    requires room { IsSome (buffered_of act.now field.now) → length fields.old.ring.items < fields.old.ring.capacity }
+    requires committed { fields.old.staged ≡ [] }
+    ensures items { fields.new.ring.items ≡ with_field fields.old.ring.items (buffered_of act.now field.now) }
+    ensures capacity { fields.new.ring.capacity ≡ fields.old.ring.capacity }
+    ensures size { fields.new.size ≡ fields.old.size }
+    ensures committed { fields.new.staged ≡ [] }
+{
+    if act.event == 1 && act.accepted {
+        fields.put(field).unwrap();
+    }
+}
+
+// Passes a data field to reassembly, and delivers the unit that it ends. Where memory runs out the open runs and the queues are as they
+// were.
+#[inline(always)]
+fn pass<R: Room, C: Tick>(
+    runs: &mut Runs<R>,
+    queues: &mut Queues<R>,
+    units: &mut Queues<R>,
+    service: Service,
+    field: &[u8],
+    steps: &mut C,
+) -> Result<Delivery, AllocError>
+    requires field { 0 < length field.now }
+    requires within { length field.now ≤ largest_field }
+    requires small { AreSmall runs.old }
+    requires distinct { AreDistinct (keys_of (rings_in queues.old)) }
+    requires units_distinct { AreDistinct (keys_of (rings_in units.old)) }
+    requires sizes { AreEnough runs.old (room_sizes queues.old) }
+    requires unit_sizes { AreEnough runs.old (room_sizes units.old) }
+    requires committed { AreCommitted queues.old }
+    requires units_committed { AreCommitted units.old }
+    ensures follows { OnOk result (FollowsWithin (limit_at runs.old (stream_place service field.now)) (open_runs runs.old) (open_runs runs.new) service field.now) }
+    ensures delivered { IfOk result (λ delivery. (unit : Option (List ℕ)) × EndsWithin (limit_at runs.old (stream_place service field.now)) (open_runs runs.old) service field.now unit
+        × IsDelivered (map_of field.now) unit (rings_in queues.old) (rings_in queues.new) (rings_in units.old) (rings_in units.new) delivery) }
+    ensures refused { OnErr result ((open_runs runs.new ≡ open_runs runs.old) × (rings_in queues.new ≡ rings_in queues.old) × (rings_in units.new ≡ rings_in units.old)) }
+    ensures limits { (place : ℕ) → limit_at runs.new place ≡ limit_at runs.old place }
+    ensures segmented { runs.new.segmented ≡ runs.old.segmented }
+    ensures sizes { room_sizes queues.new ≡ room_sizes queues.old }
+    ensures unit_sizes { room_sizes units.new ≡ room_sizes units.old }
+    ensures committed { AreCommitted queues.new }
+    ensures units_committed { AreCommitted units.new }
+    ensures answered { R.grows ≡ false → IsOk result }
+    ensures cost { OnOk result ((unit : Option (List ℕ)) × EndsWithin (limit_at runs.old (stream_place service field.now)) (open_runs runs.old) service field.now unit
+        × (C.taken steps.new ≤ C.taken steps.old + delivery_steps unit (length queues.old) (length units.old))) }
+    ensures refused_cost { OnErr result ((C.taken steps.new ≡ C.taken steps.old) ⊎ ((unit : Option (List ℕ)) × EndsWithin (limit_at runs.old (stream_place service field.now)) (open_runs runs.old) service field.now unit
+        × (C.taken steps.new ≤ C.taken steps.old + (delivery_steps unit (length queues.old) (length units.old) + length queues.old)))) }
+{
+    let map = read_segment(field[0]).map;
+    let ended = runs.stage(service, field)?;
+    let delivery = deliver_ended(runs, queues, units, map, field, ended, steps)?;
+    runs.commit(service, map, ended);
+    Ok(delivery)
+}
+
+// Passes the field of a BD frame on at once, and no other.
+#[inline(always)]
+fn pass_bypass<R: Room, C: Tick>(
+    runs: &mut Runs<R>,
+    queues: &mut Queues<R>,
+    units: &mut Queues<R>,
+    kind: Kind,
+    field: &[u8],
+    steps: &mut C,
+) -> Result<Delivery, AllocError>
+    requires field { 0 < length field.now }
+    requires within { length field.now ≤ largest_field }
+    requires small { AreSmall runs.old }
+    requires distinct { AreDistinct (keys_of (rings_in queues.old)) }
+    requires units_distinct { AreDistinct (keys_of (rings_in units.old)) }
+    requires sizes { AreEnough runs.old (room_sizes queues.old) }
+    requires unit_sizes { AreEnough runs.old (room_sizes units.old) }
+    requires committed { AreCommitted queues.old }
+    requires units_committed { AreCommitted units.old }
+    ensures follows { OnOk result (FollowsKindWithin (limit_at runs.old (stream_place Bd field.now)) kind (open_runs runs.old) (open_runs runs.new) field.now) }
+    ensures delivered { IfOk result (λ delivery. (unit : Option (List ℕ)) × EndsAtOnceWithin (limit_at runs.old (stream_place Bd field.now)) kind (open_runs runs.old) field.now unit
+        × IsDelivered (map_of field.now) unit (rings_in queues.old) (rings_in queues.new) (rings_in units.old) (rings_in units.new) delivery) }
+    ensures refused { OnErr result ((open_runs runs.new ≡ open_runs runs.old) × (rings_in queues.new ≡ rings_in queues.old) × (rings_in units.new ≡ rings_in units.old)) }
+    ensures bypass { OnErr result (kind ≡ Kind.Bd) }
+    ensures limits { (place : ℕ) → limit_at runs.new place ≡ limit_at runs.old place }
+    ensures segmented { runs.new.segmented ≡ runs.old.segmented }
+    ensures sizes { room_sizes queues.new ≡ room_sizes queues.old }
+    ensures unit_sizes { room_sizes units.new ≡ room_sizes units.old }
+    ensures committed { AreCommitted queues.new }
+    ensures units_committed { AreCommitted units.new }
+    ensures answered { R.grows ≡ false → IsOk result }
+    ensures cost { OnOk result ((unit : Option (List ℕ)) × EndsAtOnceWithin (limit_at runs.old (stream_place Bd field.now)) kind (open_runs runs.old) field.now unit
+        × (C.taken steps.new ≤ C.taken steps.old + delivery_steps unit (length queues.old) (length units.old))) }
+    ensures refused_cost { OnErr result ((C.taken steps.new ≡ C.taken steps.old) ⊎ ((unit : Option (List ℕ)) × EndsAtOnceWithin (limit_at runs.old (stream_place Bd field.now)) kind (open_runs runs.old) field.now unit
+        × (C.taken steps.new ≤ C.taken steps.old + (delivery_steps unit (length queues.old) (length units.old) + length queues.old)))) }
+    ensures quiet { (kind ≡ Kind.Bd → ⊥) → C.taken steps.new ≡ C.taken steps.old }
+{
+    match kind {
+        Kind::Bd => pass(runs, queues, units, Service::Bd, field, steps),
+        Kind::Ad(_) => Ok(deliver_nothing()),
+        Kind::Bc(_) => Ok(deliver_nothing()),
+        Kind::Invalid => Ok(deliver_nothing()),
+    }
+}
