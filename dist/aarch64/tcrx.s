@@ -1433,9 +1433,9 @@ tc_channel.settings.LentSettings.copied:
 	cmp	x25, x8
 	b.ne	885b
 	b	93b
-	.section	.text.tc_fixed.channel.start._8edf7f4d45787de3,"ax",@progbits
+	.section	.text.tc_fixed.channel.start._2310a0e7207bbbe1,"ax",@progbits
 	.p2align	2
-tc_fixed.channel.start._8edf7f4d45787de3:
+tc_fixed.channel.start._2310a0e7207bbbe1:
 	str	d8, [sp, #-112]!
 	stp	x29, x30, [sp, #16]
 	add	x29, sp, #16
@@ -3423,9 +3423,9 @@ tc_c.rack.bring:
 983:
 	mov	w0, #46
 	b	498b
-	.section	.text.tc_channel.queues.Queues.pop._b17872a0ae3feaa2,"ax",@progbits
+	.section	.text.tc_channel.queues.Queues.pop._c24f996cf599204e,"ax",@progbits
 	.p2align	2
-tc_channel.queues.Queues.pop._b17872a0ae3feaa2:
+tc_channel.queues.Queues.pop._c24f996cf599204e:
 	ldr	x11, [x0, #32]
 	ldp	x8, x10, [x0]
 	and	x9, x1, #0xffff
@@ -3944,7 +3944,7 @@ tcrx_channel_new_at:
 	str	d0, [sp, #504]
 	str	x8, [sp, #512]
 	stp	xzr, xzr, [x9, #16]
-	bl	tc_fixed.channel.start._8edf7f4d45787de3
+	bl	tc_fixed.channel.start._2310a0e7207bbbe1
 	ldrb	w8, [sp, #592]
 	cbnz	w8, 613b
 	ldur	q0, [x21, #208]
@@ -4300,7 +4300,7 @@ tcrx_channel_new_with_limits_at:
 	str	wzr, [sp, #420]
 	stp	x21, x25, [sp, #424]
 	str	x25, [sp, #440]
-	bl	tc_fixed.channel.start._8edf7f4d45787de3
+	bl	tc_fixed.channel.start._2310a0e7207bbbe1
 	ldrb	w8, [sp, #512]
 	cbnz	w8, 613b
 	ldur	q0, [x22, #72]
@@ -6085,6 +6085,67 @@ tcrx_read_clcw:
 	mov	w0, #31
 	ret
 	.size	tcrx_read_clcw, .-tcrx_read_clcw
+	.section	.text.tcrx_read_frame_at,"ax",@progbits
+	.globl	tcrx_read_frame_at
+	.p2align	2
+	.type	tcrx_read_frame_at,@function
+tcrx_read_frame_at:
+	mov	w8, #4096
+	cmp	x0, #0
+	csel	x8, x8, xzr, eq
+	cmp	x1, #5
+	b.hs	62f
+	mov	w0, #1
+	b	598f
+62:
+	add	x9, x0, x8
+	ldrb	w8, [x9]
+	cmp	w8, #63
+	b.hi	613f
+	tst	w8, #0xc
+	b.eq	602f
+	mov	w0, #3
+	b	598f
+613:
+	mov	w0, #2
+598:
+	stp	x29, x30, [sp, #-16]!
+	mov	x29, sp
+	bl	tc_c.status.code
+	mov	x1, xzr
+	mov	w0, w0
+	ldp	x29, x30, [sp], #16
+	ret
+602:
+	ldrb	w11, [x9, #2]
+	ldrb	w12, [x9, #3]
+	lsl	w10, w11, #8
+	and	w10, w10, #0x300
+	orr	w10, w10, w12
+	cmp	w10, #5
+	b.hs	62f
+	mov	w0, #4
+	b	598b
+62:
+	add	w10, w10, #1
+	cmp	x1, x10
+	b.hs	192f
+	mov	w0, #5
+	b	598b
+192:
+	lsl	x11, x11, #46
+	lsl	x12, x8, #4
+	ldrb	w13, [x9, #1]
+	ldrb	w9, [x9, #4]
+	and	x11, x11, #0x3f000000000000
+	and	x12, x12, #0x100
+	bfi	w13, w8, #8, #2
+	orr	x9, x11, x9, lsl #56
+	orr	x10, x12, x10, lsl #16
+	orr	x0, x9, x13, lsl #32
+	orr	x1, x10, x8, lsr #5
+	ret
+	.size	tcrx_read_frame_at, .-tcrx_read_frame_at
 	.section	.text.tcrx_read_packet_at,"ax",@progbits
 	.globl	tcrx_read_packet_at
 	.p2align	2
@@ -6130,6 +6191,156 @@ tcrx_read_packet_at:
 350:
 	ret
 	.size	tcrx_read_packet_at, .-tcrx_read_packet_at
+	.section	.text.tcrx_read_tm_at,"ax",@progbits
+	.globl	tcrx_read_tm_at
+	.p2align	2
+	.type	tcrx_read_tm_at,@function
+tcrx_read_tm_at:
+	stp	x29, x30, [sp, #-16]!
+	mov	w8, #4096
+	and	w9, w0, #0xff
+	cmp	x1, #0
+	csel	x8, x8, xzr, eq
+	cmp	w9, #1
+	mov	x29, sp
+	b.hi	613f
+	cmp	x2, #2048
+	b.ls	583f
+	mov	w0, #54
+	bl	tc_c.status.code
+	mov	x1, xzr
+	mov	w0, w0
+	ldp	x29, x30, [sp], #16
+	ret
+613:
+	mov	w0, #22
+	bl	tc_c.status.code
+	mov	x1, xzr
+	mov	w0, w0
+	ldp	x29, x30, [sp], #16
+	ret
+583:
+	tst	w0, #0xff
+	mov	w9, #13
+	mov	w10, #11
+	csel	x9, x10, x9, eq
+	cmp	x2, x9
+	b.hs	62f
+	mov	w0, #54
+	bl	tc_c.status.code
+	mov	x1, xzr
+	mov	w0, w0
+	ldp	x29, x30, [sp], #16
+	ret
+62:
+	add	x8, x1, x8
+	ldrb	w9, [x8]
+	cmp	w9, #63
+	b.hi	613f
+	ldrb	w10, [x8, #1]
+	tbnz	w10, #0, 583f
+	mov	w0, #55
+	bl	tc_c.status.code
+	mov	x1, xzr
+	mov	w0, w0
+	ldp	x29, x30, [sp], #16
+	ret
+613:
+	mov	w0, #2
+	bl	tc_c.status.code
+	mov	x1, xzr
+	mov	w0, w0
+	ldp	x29, x30, [sp], #16
+	ret
+583:
+	tst	w0, #0xff
+	b.eq	556f
+	mov	w12, #255
+	mov	w15, #255
+	mov	x13, x8
+	mov	x11, x2
+602:
+	ldrb	w14, [x13]
+	ldrb	w16, [x13, #1]
+	adrp	x17, .LT48aab116
+	add	x17, x17, :lo12:.LT48aab116
+	adrp	x18, .LT33c05f58
+	add	x18, x18, :lo12:.LT33c05f58
+	eor	w14, w14, w15
+	ldrb	w15, [x13, #2]
+	eor	w12, w16, w12
+	and	x14, x14, #0xff
+	ldrb	w16, [x13, #3]
+	and	x12, x12, #0xff
+	ldrh	w14, [x17, x14, lsl #1]
+	adrp	x17, .LTbb337a2b
+	add	x17, x17, :lo12:.LTbb337a2b
+	ldrh	w15, [x17, x15, lsl #1]
+	adrp	x17, .LT48c7e4e5
+	add	x17, x17, :lo12:.LT48c7e4e5
+	ldrh	w12, [x18, x12, lsl #1]
+	ldrh	w16, [x17, x16, lsl #1]
+	sub	x11, x11, #4
+	cmp	x11, #3
+	eor	w12, w12, w14
+	eor	w14, w15, w16
+	eor	w12, w12, w14
+	add	x14, x13, #4
+	ubfx	w15, w12, #8, #8
+	mov	x13, x14
+	b.hi	602b
+	cbz	x11, 583f
+	mov	x13, xzr
+602:
+	ldrb	w15, [x14, x13]
+	and	w16, w12, #0xff00
+	add	x13, x13, #1
+	cmp	x11, x13
+	eor	w15, w15, w16, lsr #8
+	eor	w15, w15, w15, lsr #4
+	orr	w12, w15, w12, lsl #8
+	eor	w12, w12, w15, lsl #12
+	eor	w12, w12, w15, lsl #5
+	b.ne	602b
+583:
+	tst	w12, #0xffff
+	b.eq	602f
+	mov	w0, #8
+	bl	tc_c.status.code
+	mov	x1, xzr
+	mov	w0, w0
+	ldp	x29, x30, [sp], #16
+	ret
+556:
+	ldrb	w11, [x8, #5]
+	ldrb	w12, [x8, #4]
+	add	x13, x8, x2
+	bfi	x11, x12, #8, #3
+	sub	x12, x13, #4
+	b	556f
+602:
+	ldrb	w11, [x8, #5]
+	ldrb	w12, [x8, #4]
+	add	x13, x8, x2
+	bfi	x11, x12, #8, #3
+	sub	x12, x13, #6
+556:
+	ldrb	w13, [x8, #3]
+	lsl	x11, x11, #48
+	ldrb	w8, [x8, #2]
+	orr	w9, w10, w9, lsl #8
+	ubfx	w10, w10, #1, #3
+	ldr	w12, [x12]
+	orr	x11, x11, x13, lsl #32
+	lsr	w9, w9, #4
+	orr	x8, x11, x8, lsl #24
+	rev	w11, w12
+	lsl	x0, x11, #32
+	orr	x8, x8, x10, lsl #16
+	orr	x1, x8, x9
+	ldp	x29, x30, [sp], #16
+	ret
+	.size	tcrx_read_tm_at, .-tcrx_read_tm_at
 	.section	.text.tcrx_storage_at,"ax",@progbits
 	.globl	tcrx_storage_at
 	.p2align	2
@@ -6580,217 +6791,6 @@ tcrx_storage_with_limits_at:
 	add	sp, sp, #128
 	ret
 	.size	tcrx_storage_with_limits_at, .-tcrx_storage_with_limits_at
-	.section	.text.tcrx_read_frame_at,"ax",@progbits
-	.globl	tcrx_read_frame_at
-	.p2align	2
-	.type	tcrx_read_frame_at,@function
-tcrx_read_frame_at:
-	mov	w8, #4096
-	cmp	x0, #0
-	csel	x8, x8, xzr, eq
-	cmp	x1, #5
-	b.hs	62f
-	mov	w0, #1
-	b	598f
-62:
-	add	x9, x0, x8
-	ldrb	w8, [x9]
-	cmp	w8, #63
-	b.hi	613f
-	tst	w8, #0xc
-	b.eq	602f
-	mov	w0, #3
-	b	598f
-613:
-	mov	w0, #2
-598:
-	stp	x29, x30, [sp, #-16]!
-	mov	x29, sp
-	bl	tc_c.status.code
-	mov	x1, xzr
-	mov	w0, w0
-	ldp	x29, x30, [sp], #16
-	ret
-602:
-	ldrb	w11, [x9, #2]
-	ldrb	w12, [x9, #3]
-	lsl	w10, w11, #8
-	and	w10, w10, #0x300
-	orr	w10, w10, w12
-	cmp	w10, #5
-	b.hs	62f
-	mov	w0, #4
-	b	598b
-62:
-	add	w10, w10, #1
-	cmp	x1, x10
-	b.hs	192f
-	mov	w0, #5
-	b	598b
-192:
-	lsl	x11, x11, #46
-	lsl	x12, x8, #4
-	ldrb	w13, [x9, #1]
-	ldrb	w9, [x9, #4]
-	and	x11, x11, #0x3f000000000000
-	and	x12, x12, #0x100
-	bfi	w13, w8, #8, #2
-	orr	x9, x11, x9, lsl #56
-	orr	x10, x12, x10, lsl #16
-	orr	x0, x9, x13, lsl #32
-	orr	x1, x10, x8, lsr #5
-	ret
-	.size	tcrx_read_frame_at, .-tcrx_read_frame_at
-	.section	.text.tcrx_read_tm_at,"ax",@progbits
-	.globl	tcrx_read_tm_at
-	.p2align	2
-	.type	tcrx_read_tm_at,@function
-tcrx_read_tm_at:
-	stp	x29, x30, [sp, #-16]!
-	mov	w8, #4096
-	and	w9, w0, #0xff
-	cmp	x1, #0
-	csel	x8, x8, xzr, eq
-	cmp	w9, #1
-	mov	x29, sp
-	b.hi	613f
-	cmp	x2, #2048
-	b.ls	583f
-	mov	w0, #54
-	bl	tc_c.status.code
-	mov	x1, xzr
-	mov	w0, w0
-	ldp	x29, x30, [sp], #16
-	ret
-613:
-	mov	w0, #22
-	bl	tc_c.status.code
-	mov	x1, xzr
-	mov	w0, w0
-	ldp	x29, x30, [sp], #16
-	ret
-583:
-	tst	w0, #0xff
-	mov	w9, #13
-	mov	w10, #11
-	csel	x9, x10, x9, eq
-	cmp	x2, x9
-	b.hs	62f
-	mov	w0, #54
-	bl	tc_c.status.code
-	mov	x1, xzr
-	mov	w0, w0
-	ldp	x29, x30, [sp], #16
-	ret
-62:
-	add	x8, x1, x8
-	ldrb	w9, [x8]
-	cmp	w9, #63
-	b.hi	613f
-	ldrb	w10, [x8, #1]
-	tbnz	w10, #0, 583f
-	mov	w0, #55
-	bl	tc_c.status.code
-	mov	x1, xzr
-	mov	w0, w0
-	ldp	x29, x30, [sp], #16
-	ret
-613:
-	mov	w0, #2
-	bl	tc_c.status.code
-	mov	x1, xzr
-	mov	w0, w0
-	ldp	x29, x30, [sp], #16
-	ret
-583:
-	tst	w0, #0xff
-	b.eq	556f
-	mov	w12, #255
-	mov	w15, #255
-	mov	x13, x8
-	mov	x11, x2
-602:
-	ldrb	w14, [x13]
-	ldrb	w16, [x13, #1]
-	adrp	x17, .LT48aab116
-	add	x17, x17, :lo12:.LT48aab116
-	adrp	x18, .LT33c05f58
-	add	x18, x18, :lo12:.LT33c05f58
-	eor	w14, w14, w15
-	ldrb	w15, [x13, #2]
-	eor	w12, w16, w12
-	and	x14, x14, #0xff
-	ldrb	w16, [x13, #3]
-	and	x12, x12, #0xff
-	ldrh	w14, [x17, x14, lsl #1]
-	adrp	x17, .LTbb337a2b
-	add	x17, x17, :lo12:.LTbb337a2b
-	ldrh	w15, [x17, x15, lsl #1]
-	adrp	x17, .LT48c7e4e5
-	add	x17, x17, :lo12:.LT48c7e4e5
-	ldrh	w12, [x18, x12, lsl #1]
-	ldrh	w16, [x17, x16, lsl #1]
-	sub	x11, x11, #4
-	cmp	x11, #3
-	eor	w12, w12, w14
-	eor	w14, w15, w16
-	eor	w12, w12, w14
-	add	x14, x13, #4
-	ubfx	w15, w12, #8, #8
-	mov	x13, x14
-	b.hi	602b
-	cbz	x11, 583f
-	mov	x13, xzr
-602:
-	ldrb	w15, [x14, x13]
-	and	w16, w12, #0xff00
-	add	x13, x13, #1
-	cmp	x11, x13
-	eor	w15, w15, w16, lsr #8
-	eor	w15, w15, w15, lsr #4
-	orr	w12, w15, w12, lsl #8
-	eor	w12, w12, w15, lsl #12
-	eor	w12, w12, w15, lsl #5
-	b.ne	602b
-583:
-	tst	w12, #0xffff
-	b.eq	602f
-	mov	w0, #8
-	bl	tc_c.status.code
-	mov	x1, xzr
-	mov	w0, w0
-	ldp	x29, x30, [sp], #16
-	ret
-556:
-	ldrb	w11, [x8, #5]
-	ldrb	w12, [x8, #4]
-	add	x13, x8, x2
-	bfi	x11, x12, #8, #3
-	sub	x12, x13, #4
-	b	556f
-602:
-	ldrb	w11, [x8, #5]
-	ldrb	w12, [x8, #4]
-	add	x13, x8, x2
-	bfi	x11, x12, #8, #3
-	sub	x12, x13, #6
-556:
-	ldrb	w13, [x8, #3]
-	lsl	x11, x11, #48
-	ldrb	w8, [x8, #2]
-	orr	w9, w10, w9, lsl #8
-	ubfx	w10, w10, #1, #3
-	ldr	w12, [x12]
-	orr	x11, x11, x13, lsl #32
-	lsr	w9, w9, #4
-	orr	x8, x11, x8, lsl #24
-	rev	w11, w12
-	lsl	x0, x11, #32
-	orr	x8, x8, x10, lsl #16
-	orr	x1, x8, x9
-	ldp	x29, x30, [sp], #16
-	ret
-	.size	tcrx_read_tm_at, .-tcrx_read_tm_at
 	.section	.text.tcrx_channel_units_at,"ax",@progbits
 	.globl	tcrx_channel_units_at
 	.p2align	2
@@ -7519,7 +7519,7 @@ tcrx_channel_take_at:
 	mov	x1, x22
 613:
 	mov	x0, x19
-	bl	tc_channel.queues.Queues.pop._b17872a0ae3feaa2
+	bl	tc_channel.queues.Queues.pop._c24f996cf599204e
 	ldr	x9, [x21, #288]
 	mov	x1, x20
 	adds	x9, x9, #1
@@ -7739,7 +7739,7 @@ tcrx_channel_take_unit_at:
 613:
 	mov	x0, x20
 	mov	w1, w19
-	bl	tc_channel.queues.Queues.pop._b17872a0ae3feaa2
+	bl	tc_channel.queues.Queues.pop._c24f996cf599204e
 	ldr	x9, [x22, #288]
 	mov	x1, x21
 	adds	x9, x9, #1

@@ -1661,9 +1661,9 @@ tc_channel.settings.LentSettings.copied:
 	popq	%r15
 	popq	%rbp
 	retq
-	.section	.text.tc_fixed.channel.start._8edf7f4d45787de3,"ax",@progbits
+	.section	.text.tc_fixed.channel.start._2310a0e7207bbbe1,"ax",@progbits
 	.p2align	4
-tc_fixed.channel.start._8edf7f4d45787de3:
+tc_fixed.channel.start._2310a0e7207bbbe1:
 	pushq	%rbp
 	pushq	%r15
 	pushq	%r14
@@ -3609,9 +3609,9 @@ tc_c.rack.bring:
 	popq	%rbx
 	popq	%rbp
 	retq
-	.section	.text.tc_channel.queues.Queues.pop._b17872a0ae3feaa2,"ax",@progbits
+	.section	.text.tc_channel.queues.Queues.pop._c24f996cf599204e,"ax",@progbits
 	.p2align	4
-tc_channel.queues.Queues.pop._b17872a0ae3feaa2:
+tc_channel.queues.Queues.pop._c24f996cf599204e:
 	movq	(%rdi), %rax
 	movq	8(%rdi), %rdx
 	movzwl	%si, %ecx
@@ -4157,7 +4157,7 @@ tcrx_channel_new_at:
 	leaq	624(%rsp), %rdi
 	leaq	408(%rsp), %rsi
 	leaq	464(%rsp), %rdx
-	callq	tc_fixed.channel.start._8edf7f4d45787de3
+	callq	tc_fixed.channel.start._2310a0e7207bbbe1
 	cmpb	$0, 624(%rsp)
 	jne	548b
 	movq	640(%rsp), %rax
@@ -4658,7 +4658,7 @@ tcrx_channel_new_with_limits_at:
 	leaq	592(%rsp), %rdi
 	leaq	208(%rsp), %rsi
 	leaq	304(%rsp), %rdx
-	callq	tc_fixed.channel.start._8edf7f4d45787de3
+	callq	tc_fixed.channel.start._2310a0e7207bbbe1
 	cmpb	$0, 592(%rsp)
 	jne	284b
 	movq	608(%rsp), %rax
@@ -6561,6 +6561,70 @@ tcrx_read_clcw:
 	movq	%rdi, %rdx
 	retq
 	.size	tcrx_read_clcw, .-tcrx_read_clcw
+	.section	.text.tcrx_read_frame_at,"ax",@progbits
+	.globl	tcrx_read_frame_at
+	.p2align	4
+	.type	tcrx_read_frame_at,@function
+tcrx_read_frame_at:
+	xorl	%ecx, %ecx
+	testq	%rdi, %rdi
+	sete	%al
+	movb	$1, %r10b
+	cmpq	$5, %rsi
+	jb	253f
+	movb	%al, %cl
+	shll	$12, %ecx
+	movzwl	(%rdi,%rcx), %eax
+	rolw	$8, %ax
+	movzwl	%ax, %edx
+	movb	$2, %r10b
+	cmpl	$16383, %edx
+	ja	253f
+	movb	$3, %r10b
+	testl	$3072, %eax
+	jne	253f
+	movzbl	2(%rdi,%rcx), %r9d
+	movzbl	3(%rdi,%rcx), %r8d
+	shll	$8, %r8d
+	movzwl	%r9w, %r10d
+	andl	$3, %r10d
+	orl	%r10d, %r8d
+	rolw	$8, %r8w
+	movb	$4, %r10b
+	cmpw	$5, %r8w
+	jb	253f
+	incl	%r8d
+	movzwl	%r8w, %r11d
+	movb	$5, %r10b
+	cmpq	%r11, %rsi
+	jae	327f
+253:
+	pushq	%rax
+	movzbl	%r10b, %edi
+	callq	tc_c.status.code
+	movl	%eax, %eax
+	xorl	%edx, %edx
+	addq	$8, %rsp
+	retq
+327:
+	movl	%edx, %esi
+	shrl	$13, %esi
+	andl	$1023, %eax
+	shrb	$2, %r9b
+	movzbl	4(%rdi,%rcx), %ecx
+	shlq	$56, %rcx
+	movzbl	%r9b, %edi
+	shlq	$48, %rdi
+	orq	%rcx, %rdi
+	shlq	$32, %rax
+	orq	%rdi, %rax
+	shll	$16, %r8d
+	shrl	$4, %edx
+	andl	$256, %edx
+	orl	%r8d, %edx
+	orl	%esi, %edx
+	retq
+	.size	tcrx_read_frame_at, .-tcrx_read_frame_at
 	.section	.text.tcrx_read_packet_at,"ax",@progbits
 	.globl	tcrx_read_packet_at
 	.p2align	4
@@ -6614,6 +6678,144 @@ tcrx_read_packet_at:
 5:
 	retq
 	.size	tcrx_read_packet_at, .-tcrx_read_packet_at
+	.section	.text.tcrx_read_tm_at,"ax",@progbits
+	.globl	tcrx_read_tm_at
+	.p2align	4
+	.type	tcrx_read_tm_at,@function
+tcrx_read_tm_at:
+	pushq	%r15
+	pushq	%r14
+	pushq	%r12
+	pushq	%rbx
+	pushq	%rax
+	movq	%rdx, %rax
+	xorl	%ecx, %ecx
+	testq	%rsi, %rsi
+	sete	%dl
+	movb	$22, %r8b
+	cmpb	$1, %dil
+	ja	284f
+	movb	$54, %r8b
+	cmpq	$2048, %rax
+	ja	284f
+	xorl	%r9d, %r9d
+	testb	%dil, %dil
+	setne	%r9b
+	leaq	11(,%r9,2), %r9
+	cmpq	%r9, %rax
+	jb	284f
+	movb	%dl, %cl
+	shll	$12, %ecx
+	addq	%rcx, %rsi
+	movzwl	(%rsi), %ecx
+	rolw	$8, %cx
+	movzwl	%cx, %edx
+	movb	$2, %r8b
+	cmpl	$16383, %edx
+	ja	284f
+	movb	$55, %r8b
+	testb	$1, %cl
+	je	284f
+	testb	%dil, %dil
+	je	166f
+	movw	$-1, %di
+	movq	%rsi, %r10
+	movq	%rax, %r8
+	.p2align	4
+928:
+	movq	%r10, %r9
+	addq	$-4, %r8
+	movzbl	2(%r10), %r10d
+	movzbl	3(%r9), %r11d
+	movl	%edi, %ebx
+	shrl	$8, %ebx
+	xorb	(%r9), %bl
+	movzbl	%bl, %ebx
+	leaq	.LT48aab116(%rip), %r14
+	xorb	1(%r9), %dil
+	movzbl	%dil, %edi
+	leaq	.LT33c05f58(%rip), %r15
+	movzwl	(%r15,%rdi,2), %edi
+	leaq	.LTbb337a2b(%rip), %r15
+	leaq	.LT48c7e4e5(%rip), %r12
+	xorw	(%r14,%rbx,2), %di
+	xorw	(%r15,%r10,2), %di
+	xorw	(%r12,%r11,2), %di
+	leaq	4(%r9), %r10
+	cmpq	$3, %r8
+	ja	928b
+	testq	%r8, %r8
+	je	409f
+	xorl	%r10d, %r10d
+	.p2align	4
+548:
+	movzbl	4(%r9,%r10), %r11d
+	movzwl	%di, %ebx
+	shrl	$8, %ebx
+	xorl	%r11d, %ebx
+	movl	%ebx, %r11d
+	shrl	$4, %r11d
+	xorl	%ebx, %r11d
+	shll	$8, %edi
+	movl	%r11d, %ebx
+	orl	%r11d, %edi
+	shll	$12, %r11d
+	shll	$5, %ebx
+	xorl	%r11d, %edi
+	xorl	%ebx, %edi
+	incq	%r10
+	cmpq	%r10, %r8
+	jne	548b
+409:
+	movb	$8, %r8b
+	testw	%di, %di
+	je	548f
+284:
+	movzbl	%r8b, %edi
+	callq	tc_c.status.code
+	movl	%eax, %eax
+	xorl	%edx, %edx
+850:
+	addq	$8, %rsp
+	popq	%rbx
+	popq	%r12
+	popq	%r14
+	popq	%r15
+	retq
+166:
+	movzbl	4(%rsi), %edi
+	addq	%rsi, %rax
+	addq	$-4, %rax
+	jmp	284f
+548:
+	movzbl	4(%rsi), %edi
+	addq	%rsi, %rax
+	addq	$-6, %rax
+284:
+	movzbl	5(%rsi), %r8d
+	shll	$8, %r8d
+	andl	$7, %edi
+	orl	%r8d, %edi
+	rolw	$8, %di
+	movl	(%rax), %eax
+	movzbl	3(%rsi), %r8d
+	shrl	%ecx
+	andl	$7, %ecx
+	shrl	$4, %edx
+	bswapl	%eax
+	shlq	$32, %rax
+	movzwl	%di, %edi
+	shlq	$48, %rdi
+	shlq	$32, %r8
+	orq	%rdi, %r8
+	movzbl	2(%rsi), %esi
+	shll	$24, %esi
+	orq	%r8, %rsi
+	shll	$16, %ecx
+	orq	%rsi, %rcx
+	orq	%rcx, %rdx
+	jmp	850b
+	.size	tcrx_read_tm_at, .-tcrx_read_tm_at
 	.section	.text.tcrx_storage_at,"ax",@progbits
 	.globl	tcrx_storage_at
 	.p2align	4
@@ -7247,208 +7449,6 @@ tcrx_storage_with_limits_at:
 	.long	409b-.LJ0bde1fc8_0
 	.long	27b-.LJ0bde1fc8_0
 	.long	652b-.LJ0bde1fc8_0
-	.section	.text.tcrx_read_frame_at,"ax",@progbits
-	.globl	tcrx_read_frame_at
-	.p2align	4
-	.type	tcrx_read_frame_at,@function
-tcrx_read_frame_at:
-	xorl	%ecx, %ecx
-	testq	%rdi, %rdi
-	sete	%al
-	movb	$1, %r10b
-	cmpq	$5, %rsi
-	jb	253f
-	movb	%al, %cl
-	shll	$12, %ecx
-	movzwl	(%rdi,%rcx), %eax
-	rolw	$8, %ax
-	movzwl	%ax, %edx
-	movb	$2, %r10b
-	cmpl	$16383, %edx
-	ja	253f
-	movb	$3, %r10b
-	testl	$3072, %eax
-	jne	253f
-	movzbl	2(%rdi,%rcx), %r9d
-	movzbl	3(%rdi,%rcx), %r8d
-	shll	$8, %r8d
-	movzwl	%r9w, %r10d
-	andl	$3, %r10d
-	orl	%r10d, %r8d
-	rolw	$8, %r8w
-	movb	$4, %r10b
-	cmpw	$5, %r8w
-	jb	253f
-	incl	%r8d
-	movzwl	%r8w, %r11d
-	movb	$5, %r10b
-	cmpq	%r11, %rsi
-	jae	327f
-253:
-	pushq	%rax
-	movzbl	%r10b, %edi
-	callq	tc_c.status.code
-	movl	%eax, %eax
-	xorl	%edx, %edx
-	addq	$8, %rsp
-	retq
-327:
-	movl	%edx, %esi
-	shrl	$13, %esi
-	andl	$1023, %eax
-	shrb	$2, %r9b
-	movzbl	4(%rdi,%rcx), %ecx
-	shlq	$56, %rcx
-	movzbl	%r9b, %edi
-	shlq	$48, %rdi
-	orq	%rcx, %rdi
-	shlq	$32, %rax
-	orq	%rdi, %rax
-	shll	$16, %r8d
-	shrl	$4, %edx
-	andl	$256, %edx
-	orl	%r8d, %edx
-	orl	%esi, %edx
-	retq
-	.size	tcrx_read_frame_at, .-tcrx_read_frame_at
-	.section	.text.tcrx_read_tm_at,"ax",@progbits
-	.globl	tcrx_read_tm_at
-	.p2align	4
-	.type	tcrx_read_tm_at,@function
-tcrx_read_tm_at:
-	pushq	%r15
-	pushq	%r14
-	pushq	%r12
-	pushq	%rbx
-	pushq	%rax
-	movq	%rdx, %rax
-	xorl	%ecx, %ecx
-	testq	%rsi, %rsi
-	sete	%dl
-	movb	$22, %r8b
-	cmpb	$1, %dil
-	ja	284f
-	movb	$54, %r8b
-	cmpq	$2048, %rax
-	ja	284f
-	xorl	%r9d, %r9d
-	testb	%dil, %dil
-	setne	%r9b
-	leaq	11(,%r9,2), %r9
-	cmpq	%r9, %rax
-	jb	284f
-	movb	%dl, %cl
-	shll	$12, %ecx
-	addq	%rcx, %rsi
-	movzwl	(%rsi), %ecx
-	rolw	$8, %cx
-	movzwl	%cx, %edx
-	movb	$2, %r8b
-	cmpl	$16383, %edx
-	ja	284f
-	movb	$55, %r8b
-	testb	$1, %cl
-	je	284f
-	testb	%dil, %dil
-	je	166f
-	movw	$-1, %di
-	movq	%rsi, %r10
-	movq	%rax, %r8
-	.p2align	4
-928:
-	movq	%r10, %r9
-	addq	$-4, %r8
-	movzbl	2(%r10), %r10d
-	movzbl	3(%r9), %r11d
-	movl	%edi, %ebx
-	shrl	$8, %ebx
-	xorb	(%r9), %bl
-	movzbl	%bl, %ebx
-	leaq	.LT48aab116(%rip), %r14
-	xorb	1(%r9), %dil
-	movzbl	%dil, %edi
-	leaq	.LT33c05f58(%rip), %r15
-	movzwl	(%r15,%rdi,2), %edi
-	leaq	.LTbb337a2b(%rip), %r15
-	leaq	.LT48c7e4e5(%rip), %r12
-	xorw	(%r14,%rbx,2), %di
-	xorw	(%r15,%r10,2), %di
-	xorw	(%r12,%r11,2), %di
-	leaq	4(%r9), %r10
-	cmpq	$3, %r8
-	ja	928b
-	testq	%r8, %r8
-	je	409f
-	xorl	%r10d, %r10d
-	.p2align	4
-548:
-	movzbl	4(%r9,%r10), %r11d
-	movzwl	%di, %ebx
-	shrl	$8, %ebx
-	xorl	%r11d, %ebx
-	movl	%ebx, %r11d
-	shrl	$4, %r11d
-	xorl	%ebx, %r11d
-	shll	$8, %edi
-	movl	%r11d, %ebx
-	orl	%r11d, %edi
-	shll	$12, %r11d
-	shll	$5, %ebx
-	xorl	%r11d, %edi
-	xorl	%ebx, %edi
-	incq	%r10
-	cmpq	%r10, %r8
-	jne	548b
-409:
-	movb	$8, %r8b
-	testw	%di, %di
-	je	548f
-284:
-	movzbl	%r8b, %edi
-	callq	tc_c.status.code
-	movl	%eax, %eax
-	xorl	%edx, %edx
-850:
-	addq	$8, %rsp
-	popq	%rbx
-	popq	%r12
-	popq	%r14
-	popq	%r15
-	retq
-166:
-	movzbl	4(%rsi), %edi
-	addq	%rsi, %rax
-	addq	$-4, %rax
-	jmp	284f
-548:
-	movzbl	4(%rsi), %edi
-	addq	%rsi, %rax
-	addq	$-6, %rax
-284:
-	movzbl	5(%rsi), %r8d
-	shll	$8, %r8d
-	andl	$7, %edi
-	orl	%r8d, %edi
-	rolw	$8, %di
-	movl	(%rax), %eax
-	movzbl	3(%rsi), %r8d
-	shrl	%ecx
-	andl	$7, %ecx
-	shrl	$4, %edx
-	bswapl	%eax
-	shlq	$32, %rax
-	movzwl	%di, %edi
-	shlq	$48, %rdi
-	shlq	$32, %r8
-	orq	%rdi, %r8
-	movzbl	2(%rsi), %esi
-	shll	$24, %esi
-	orq	%r8, %rsi
-	shll	$16, %ecx
-	orq	%rsi, %rcx
-	orq	%rcx, %rdx
-	jmp	850b
-	.size	tcrx_read_tm_at, .-tcrx_read_tm_at
 	.section	.text.tcrx_channel_units_at,"ax",@progbits
 	.globl	tcrx_channel_units_at
 	.p2align	4
@@ -8404,7 +8404,7 @@ tcrx_channel_take_at:
 	movl	%ebp, %esi
 859:
 	movq	%rbx, %rdi
-	callq	tc_channel.queues.Queues.pop._b17872a0ae3feaa2
+	callq	tc_channel.queues.Queues.pop._c24f996cf599204e
 	movq	%r14, %rdx
 	movq	288(%r15), %rax
 	incq	%rax
@@ -8647,7 +8647,7 @@ tcrx_channel_take_unit_at:
 12:
 	movq	%r14, %rdi
 	movl	%ebx, %esi
-	callq	tc_channel.queues.Queues.pop._b17872a0ae3feaa2
+	callq	tc_channel.queues.Queues.pop._c24f996cf599204e
 	movq	%r15, %rdx
 	movq	288(%r12), %rax
 	incq	%rax
