@@ -62,18 +62,18 @@ extern "C" {
 /**
  * @defgroup tcrx_version Version of this interface
  *
- * A caller can test for what it needs: `#if TCRX_API_VERSION < 0x000200`.
+ * A caller can test for what it needs: `#if TCRX_API_VERSION < 0x000300`.
  * @{
  */
 #define TCRX_API_MAJOR 0 /**< From 1.0.0 on only a new one may break a caller. */
-#define TCRX_API_MINOR 2 /**< Additions. While MAJOR is 0 a new one may break a caller. */
+#define TCRX_API_MINOR 3 /**< Additions. While MAJOR is 0 a new one may break a caller. */
 #define TCRX_API_PATCH 0 /**< Corrections: a new one never breaks a caller. */
 
 /** The version as a number, eight bits for each of the three. */
 #define TCRX_API_VERSION (TCRX_API_MAJOR * 0x10000 + TCRX_API_MINOR * 0x100 + TCRX_API_PATCH)
 
 /** The version as a text. */
-#define TCRX_API_TEXT "0.2.0"
+#define TCRX_API_TEXT "0.3.0"
 /** @} */
 
 /**
@@ -204,7 +204,7 @@ typedef struct {
     tcrx_status status; /**< #TCRX_DONE, or why not. */
     tcrx_farm farm;     /**< The record after the step; where the call is refused, as it was given. */
     uint8_t event;      /**< 1 to 10, the row E1 to E10 of the state table. */
-    uint8_t accepted;   /**< Whether the frame was accepted. */
+    uint8_t accepted;   /**< Whether the frame's data was accepted; 0 for a control command, too. */
 } tcrx_step_answer;
 
 /** A CLCW. */
@@ -365,7 +365,7 @@ typedef struct {
     uint32_t queued;    /**< Packets that were queued; 1 for a unit that was queued whole. */
     uint32_t dropped;   /**< Packets that were dropped: no telecommand, no queue, or no room; 1 for such a whole unit. */
     uint8_t event;      /**< 1 to 9, the row E1 to E9 of the state table of FARM-1. */
-    uint8_t accepted;   /**< Whether the frame was accepted. */
+    uint8_t accepted;   /**< Whether the frame's data was accepted; 0 for a control command, too. */
     uint8_t rest;       /**< Whether octets were left that begin with no packet. */
 } tcrx_reply;
 
@@ -1149,7 +1149,7 @@ extern const size_t tcrx_static_size;
 
 /**
  * Ends the start: each request for memory after it stops the program by TCRX_STORAGE_TRAP() of tcrx_static.c, a trap of the processor
- * unless defined otherwise.
+ * unless defined otherwise. Where that returns, the request is refused.
  */
 void tcrx_storage_seal(void);
 

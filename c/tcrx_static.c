@@ -9,7 +9,8 @@
  * back isn't given again: make all channels at the start, and keep them. Where the array is too small a channel isn't made, by
  * TCRX_NO_MEMORY, and what was cut for it until then is lost.
  *
- * tcrx_storage_seal() ends the start. A request after it stops the program by TCRX_STORAGE_TRAP(), which may be defined by -D or here.
+ * tcrx_storage_seal() ends the start. A request after it stops the program by TCRX_STORAGE_TRAP(), which may be defined by -D or here;
+ * where that returns, the request is refused.
  * The calls of a channel never come to that: only those that make one ask for memory. There is no lock, since all channels are made by
  * one thread.
  */
@@ -67,6 +68,7 @@ static rattle_block cut_end(size_t count) {
 rattle_block rattle_alloc(size_t count, size_t alignment) {
     if (sealed) {
         TCRX_STORAGE_TRAP();
+        return none();
     }
     if (alignment == 1) {
         return cut_end(count);

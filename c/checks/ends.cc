@@ -103,15 +103,7 @@ void check_drops() {
     tell(tcrx_blocks() == 0, "no block is left of channels that ended");
 }
 
-// Makes a call whose first block would be refused: it asks for none. What it answers.
-template <typename Call>
-tcrx::Status without_memory(Call call, const std::string &what) {
-    tcrx_refuse(0);
-    const tcrx::Status status = call();
-    tell(tcrx_refuse(-1) >= 0, what + " asks for no memory");
-    return status;
-}
-
+// Each block of a channel that is made; that no other call asks for one is compared by growths.c.
 void check_refused_growths() {
     const tcrx::Limit listed[] = {{0, 64}, {2, 6}};
     const tcrx::Limits limits = {0, listed};
@@ -134,19 +126,6 @@ void check_refused_growths() {
         tell(status == tcrx::Status::no_memory && tcrx_blocks() == 0, "a channel that isn't made");
     }
     tell(channel.is_held() && refusals > 0, "a channel that is made in the end");
-    Bytes room(64);
-    const Bytes half = frame(0, true, {0x42, 1, 2, 3}), rest = frame(0, true, {0x82, 4, 5, 6}), whole = first_packet();
-    const std::vector<std::pair<std::string, tcrx::Status>> done = {
-        {"a Type-AD frame", without_memory([&] { return channel.frame(whole).status(); }, "a Type-AD frame")},
-        {"a first segment", without_memory([&] { return channel.frame(half).status(); }, "a first segment")},
-        {"a last segment", without_memory([&] { return channel.frame(rest).status(); }, "a last segment")},
-        {"a release", without_memory([&] { return channel.release().status(); }, "a release")},
-        {"a take", without_memory([&] { return channel.take(5, room).status(); }, "a take")},
-        {"a unit", without_memory([&] { return channel.take_unit(2, room).status(); }, "a unit")}};
-    for (const auto &[what, status] : done) {
-        tell(status == tcrx::Status::done, what + " in the end");
-    }
-    tell(Bytes(room.begin(), room.begin() + 6) == Bytes({1, 2, 3, 4, 5, 6}), "the unit that came of it");
     tell(refusals >= 8, std::to_string(refusals) + " growths were refused");
     std::printf("ends: %d growths refused\n", refusals);
 }

@@ -2,8 +2,7 @@
  * Refuses each block that the making of a channel asks for in turn: the first one, then the second, until it asks for no more. Each
  * time the answer must be TCRX_NO_MEMORY, no channel may be held, and no block may be left of it. Then each kind of call is made once
  * with its first block refused: none may ask for any. Packets and units that are taken must be those that were sent. Nothing may be
- * left of a channel that was freed; settings and limits that make no channel must be refused by their fault before any is asked for; and
- * the address must not be null where no block is given.
+ * left of a channel that was freed, and the address must not be null where no block is given. What makes no channel is in storage.c.
  *
  * The memory is that of tcrx_memory.c, which is linked with this. What is refused are its calls of malloc, which the linker leads here:
  * by --wrap=malloc and --wrap=free. The last line says how many blocks were refused.
@@ -138,20 +137,6 @@ static tcrx_status take_unit(void) {
     return taken(written, units[units_taken].octets, units[units_taken].count, &units_taken);
 }
 
-/* Two queues with one APID, and a MAP with two limits, make no channel, and that is answered without a block. */
-static bool is_refused_by_its_fault(void) {
-    static const tcrx_queue twice[] = {{5, 4}, {5, 4}};
-    static const tcrx_limit two_limits[] = {{2, 5}, {2, 5}};
-    tcrx_channel other = TCRX_HOLDS_NONE;
-    given_first = 0;
-    met = false;
-    refusing = true;
-    const tcrx_status queue = tcrx_channel_new(&other, settings, twice, 2, NULL, 0);
-    const tcrx_status limit = tcrx_channel_new_with_limits(&other, settings, queues, 2, maps, 2, 9, two_limits, 2);
-    refusing = false;
-    return queue == TCRX_DOUBLE_APID && limit == TCRX_DOUBLE_LIMIT && !met;
-}
-
 #ifdef PORTABLE
 /* What the portable form asks for is inside it. */
 static bool is_never_null(void) {
@@ -213,14 +198,11 @@ int main(void) {
             printf("call %zu isn't as it must be\n", i);
         }
     }
-    const bool told = is_refused_by_its_fault(), never = is_never_null();
+    const bool never = is_never_null();
     const bool freed = free_it() == TCRX_DONE && blocks == 0;
-    if (!told) {
-        printf("settings or limits with a fault aren't refused by that\n");
-    }
     if (!never) {
         printf("where no block is given, its address is null\n");
     }
     printf("%lu blocks refused in %lu calls, %lu calls done, %s\n", refusals, count, good, freed ? "all freed" : "not all freed");
-    return good == count && told && never && freed && refusals > 0 ? 0 : 1;
+    return good == count && never && freed && refusals > 0 ? 0 : 1;
 }

@@ -1,7 +1,8 @@
 /*
- * Calls that are refused: records that no FARM-1 has, lengths beyond the octets, fields out of range, short buffers, settings and
- * limits of a channel, frames for no channel of a rack; and each text. Each must have its status, and leave the buffer and the channel as they were. In the proved build
- * the statuses are those of its clauses; this is for builds that no proof is of. The guards of tcrx.h are in nulls.c.
+ * Calls that are refused, of each with each status one: records that no FARM-1 has, lengths beyond the octets, fields out of range, short
+ * buffers, settings and limits of a channel, frames for no channel of a rack; and each text. Each must have its status, and leave the
+ * buffer and the channel as they were. In the proved build the statuses are those of its clauses; this is for builds that no proof is of.
+ * The guards of tcrx.h are in nulls.c, takes into short buffers in channels.c.
  *
  * Where it is compiled with LIMITED, channels without limits have units of 16 octets, for machines that are slow; and with STATIC it is
  * over an array of so many octets.
@@ -45,13 +46,9 @@ static void check_records(void) {
     expect(tcrx_farm_step(wait, 0, 7, 2).status == TCRX_BAD_FLAG, "a room", 0);
     expect(tcrx_farm_step(wait, 0, 7, 1).status == TCRX_BAD_ARRIVAL && tcrx_farm_step(wait, 7, 7, 1).status == TCRX_BAD_ARRIVAL, "an arrival", 0);
     expect(tcrx_farm_step(wait, TCRX_AD, 7, 1).status == TCRX_NO_ENTRY, "no entry", 0);
-    for (unsigned width = 0; width < 256; width++) {
-        const tcrx_farm_answer started = tcrx_farm_start((uint8_t)width, 200);
-        const bool good = width >= 2 && width <= 254 && width % 2 == 0;
-        const tcrx_farm none = {0, 0, 0, 0, 0, 0, 0}, first = {(uint8_t)width, 1, 200, 0, 0, 0, 0};
-        expect(started.status == (good ? TCRX_DONE : TCRX_BAD_WIDTH), "the status of a width", width);
-        expect(memcmp(&started.farm, good ? &first : &none, sizeof none) == 0, "the record of a width", width);
-    }
+    const tcrx_farm none = {0, 0, 0, 0, 0, 0, 0};
+    const tcrx_farm_answer started = tcrx_farm_start(3, 200);
+    expect(started.status == TCRX_BAD_WIDTH && memcmp(&started.farm, &none, sizeof none) == 0, "an odd width", 0);
 }
 
 static void check_clcws(void) {
@@ -59,11 +56,8 @@ static void check_clcws(void) {
         0x81040000u, 0x21040000u, 0x41040000u, 0x00040000u, 0x02040000u, 0x03040000u, 0x01050000u, 0x01060000u, 0x01040100u,
     };
     const tcrx_farm farm = {10, 1, 5, 2, 0, 0, 0};
-    for (unsigned n = 0; n < 256; n++) {
-        const tcrx_status flag = n < 2 ? TCRX_DONE : TCRX_BAD_FLAG;
-        expect(tcrx_clcw(farm, (uint8_t)n, 1, 1).status == (n < 64 ? TCRX_DONE : TCRX_BAD_VCID), "a virtual channel", n);
-        expect(tcrx_clcw(farm, 1, (uint8_t)n, 0).status == flag && tcrx_clcw(farm, 1, 0, (uint8_t)n).status == flag, "a flag of the link", n);
-    }
+    expect(tcrx_clcw(farm, 64, 1, 1).status == TCRX_BAD_VCID, "a virtual channel", 64);
+    expect(tcrx_clcw(farm, 1, 2, 0).status == TCRX_BAD_FLAG && tcrx_clcw(farm, 1, 0, 2).status == TCRX_BAD_FLAG, "a flag of the link", 2);
     for (size_t i = 0; i < sizeof bad / sizeof bad[0]; i++) {
         const tcrx_clcw_fields read = tcrx_read_clcw(bad[i]);
         expect(read.status == TCRX_NO_CLCW && read.vcid == 0 && read.vr == 0 && read.wait == 0, "no CLCW", i);
@@ -127,19 +121,13 @@ static void check_write(tcrx_header header, size_t field_count, size_t room, tcr
 }
 
 static void check_writing(void) {
-    const tcrx_header good = {1023, 63, 255, 1, 0}, scid = {1024, 63, 255, 1, 0}, vcid = {1023, 64, 255, 1, 0};
-    const tcrx_header bypass = {1024, 63, 255, 2, 0}, control = {1024, 63, 255, 1, 255};
-    for (size_t room = 0; room <= 20; room++) {
-        check_write(good, 8, room, room < 13 ? TCRX_NO_ROOM : TCRX_DONE, 13, room);
-    }
-    check_write(good, 1019, 1023, TCRX_NO_ROOM, 1024, 30);
+    const tcrx_header good = {1023, 63, 255, 1, 0}, scid = {1024, 63, 255, 1, 0}, bypass = {1024, 63, 255, 2, 0};
+    check_write(good, 8, 12, TCRX_NO_ROOM, 13, 12);
     check_write(good, 1019, 1024, TCRX_DONE, 1024, 31);
     check_write(good, 1020, 2000, TCRX_TOO_LONG, 0, 32);
     check_write(good, 0, 2000, TCRX_EMPTY_DATA, 0, 33);
     check_write(scid, 0, 0, TCRX_BAD_FIELD, 0, 34);
-    check_write(vcid, 2000, 0, TCRX_BAD_FIELD, 0, 35);
     check_write(bypass, 0, 0, TCRX_BAD_FLAG, 0, 36);
-    check_write(control, 0, 0, TCRX_BAD_FLAG, 0, 37);
 }
 
 /* What is made goes here. */
@@ -158,33 +146,24 @@ static void expect_refused(tcrx_written written, tcrx_status status, size_t leng
 static void check_packets_made(void) {
     static uint8_t field[65537];
     const size_t all = sizeof made;
-    const tcrx_packet_header good = {2047, 16383, 1, 1, 3}, telecommand = {2048, 0, 2, 0, 0}, secondary = {0, 0, 0, 255, 4};
-    const tcrx_packet_header apid = {2048, 0, 1, 0, 0}, count = {0, 16384, 1, 0, 0}, sequence = {0, 0, 1, 0, 4};
+    const tcrx_packet_header good = {2047, 16383, 1, 1, 3}, telecommand = {2048, 0, 2, 0, 0}, apid = {2048, 0, 1, 0, 0};
     expect_refused(tcrx_write_packet(telecommand, field, 0, fresh(), all), TCRX_BAD_FLAG, 0, 100);
-    expect_refused(tcrx_write_packet(secondary, field, 0, fresh(), all), TCRX_BAD_FLAG, 0, 101);
     expect_refused(tcrx_write_packet(apid, field, 0, fresh(), all), TCRX_BAD_FIELD, 0, 102);
-    expect_refused(tcrx_write_packet(count, field, 0, fresh(), all), TCRX_BAD_FIELD, 0, 103);
-    expect_refused(tcrx_write_packet(sequence, field, 0, fresh(), all), TCRX_BAD_FIELD, 0, 104);
     expect_refused(tcrx_write_packet(good, field, 0, fresh(), 0), TCRX_EMPTY_DATA, 0, 105);
     expect_refused(tcrx_write_packet(good, field, 65537, fresh(), 0), TCRX_LONG_PACKET, 0, 106);
     expect_refused(tcrx_write_packet(good, field, 65536, fresh(), all), TCRX_NO_ROOM, 65542, 107);
-    expect_refused(tcrx_write_packet(good, field, 1, fresh(), 6), TCRX_NO_ROOM, 7, 108);
 }
 
 static void check_segments_made(void) {
     static uint8_t unit[65543];
     const size_t all = sizeof made;
-    const tcrx_header good = {1023, 63, 255, 0, 0}, flag = {1024, 63, 255, 0, 2}, scid = {1024, 63, 255, 0, 0}, vcid = {0, 64, 0, 1, 0};
+    const tcrx_header good = {1023, 63, 255, 0, 0}, flag = {1024, 63, 255, 0, 2}, scid = {1024, 63, 255, 0, 0};
     expect_refused(tcrx_write_segment(flag, 64, 0, 0, unit, 0, fresh(), all), TCRX_BAD_FLAG, 0, 120);
     expect_refused(tcrx_write_segment(scid, 64, 0, 0, unit, 0, fresh(), all), TCRX_BAD_FIELD, 0, 121);
-    expect_refused(tcrx_write_segment(vcid, 64, 0, 0, unit, 0, fresh(), all), TCRX_BAD_FIELD, 0, 122);
     expect_refused(tcrx_write_segment(good, 64, 0, 0, unit, 0, fresh(), all), TCRX_BAD_MAP, 0, 123);
-    expect_refused(tcrx_write_segment(good, 63, 0, 0, unit, 0, fresh(), all), TCRX_BAD_SIZE, 0, 124);
     expect_refused(tcrx_write_segment(good, 63, 1019, 0, unit, 0, fresh(), all), TCRX_BAD_SIZE, 0, 125);
     expect_refused(tcrx_write_segment(good, 63, 1018, 0, unit, 0, fresh(), all), TCRX_EMPTY_DATA, 0, 126);
     expect_refused(tcrx_write_segment(good, 63, 1018, 99, unit, 65543, fresh(), all), TCRX_LONG_UNIT, 0, 127);
-    expect_refused(tcrx_write_segment(good, 63, 1, 65542, unit, 65542, fresh(), 0), TCRX_NO_SEGMENT, 0, 128);
-    expect_refused(tcrx_write_segment(good, 63, 1, 65541, unit, 65542, fresh(), 6), TCRX_NO_ROOM, 7, 129);
     expect_refused(tcrx_write_segment(good, 63, 1018, 0, unit, 65542, fresh(), 1023), TCRX_NO_ROOM, 1024, 130);
     expect_refused(tcrx_write_segment(good, 63, 1018, UINT32_MAX, unit, 65542, fresh(), all), TCRX_NO_SEGMENT, 0, 131);
 }
@@ -192,12 +171,7 @@ static void check_segments_made(void) {
 static void check_commands_made(void) {
     const size_t all = sizeof made;
     expect_refused(tcrx_write_command(1024, 0, 0, 0, fresh(), all), TCRX_BAD_FIELD, 0, 140);
-    expect_refused(tcrx_write_command(0, 64, 0, 0, fresh(), all), TCRX_BAD_FIELD, 0, 141);
-    for (unsigned kind = 0; kind < 256; kind++) {
-        if (kind != TCRX_UNLOCK && kind != TCRX_SET_VR) {
-            expect_refused(tcrx_write_command(1023, 63, (uint8_t)kind, 0, fresh(), 0), TCRX_BAD_COMMAND, 0, kind);
-        }
-    }
+    expect_refused(tcrx_write_command(1023, 63, TCRX_BD, 0, fresh(), 0), TCRX_BAD_COMMAND, 0, 141);
     expect_refused(tcrx_write_command(1023, 63, TCRX_UNLOCK, 0, fresh(), 5), TCRX_NO_ROOM, 6, 142);
     expect_refused(tcrx_write_command(1023, 63, TCRX_SET_VR, 0, fresh(), 7), TCRX_NO_ROOM, 8, 143);
 }
@@ -207,10 +181,8 @@ static void check_fields_made(void) {
     const size_t all = sizeof made;
     const tcrx_header header = {1, 2, 3, 0, 0};
     expect_refused(tcrx_add_fecf(frame, 4, fresh(), all), TCRX_SHORT, 0, 150);
-    expect_refused(tcrx_check_fecf(frame, 4, fresh(), all), TCRX_SHORT, 0, 151);
     expect(tcrx_write_frame(header, field, 1, frame, sizeof frame).length == 6, "a short frame", 152);
     expect_refused(tcrx_add_fecf(frame, 7, fresh(), all), TCRX_FILL, 0, 153);
-    expect_refused(tcrx_check_fecf(frame, 7, fresh(), all), TCRX_FILL, 0, 154);
     expect_refused(tcrx_add_fecf(frame, 5, fresh(), all), TCRX_TRUNCATED, 0, 155);
     expect_refused(tcrx_check_fecf(frame, 6, fresh(), all), TCRX_NO_FECF, 0, 156);
     expect_refused(tcrx_add_fecf(frame, 6, fresh(), 7), TCRX_NO_ROOM, 8, 157);
@@ -220,9 +192,6 @@ static void check_fields_made(void) {
     expect_refused(tcrx_check_fecf(field, 8, fresh(), 0), TCRX_WRONG_FECF, 0, 160);
     expect(tcrx_write_frame(header, field, 1018, frame, sizeof frame).length == 1023, "a long frame", 161);
     expect_refused(tcrx_add_fecf(frame, 1023, fresh(), 0), TCRX_LONG_FRAME, 0, 162);
-    expect(tcrx_write_frame(header, field, 1019, frame, sizeof frame).length == 1024, "the longest frame", 163);
-    expect_refused(tcrx_add_fecf(frame, 1025, fresh(), all), TCRX_FILL, 0, 164);
-    expect_refused(tcrx_check_fecf(frame, 1025, fresh(), all), TCRX_FILL, 0, 165);
 }
 
 static void check_cltus_made(void) {
@@ -233,7 +202,6 @@ static void check_cltus_made(void) {
     expect_refused(tcrx_randomise(frame, 1030, fresh(), 0), TCRX_LONG_CLTU, 0, 183);
     expect_refused(tcrx_write_cltu(frame, 1029, fresh(), 1030), TCRX_NO_ROOM, 1186, 184);
     expect_refused(tcrx_randomise(frame, 1029, fresh(), 1028), TCRX_NO_ROOM, 1029, 185);
-    expect_refused(tcrx_write_cltu(frame, 1, fresh(), 17), TCRX_NO_ROOM, 18, 186);
     expect(tcrx_write_cltu(frame, 1029, room, sizeof room).length == 1186, "the longest CLTU", 191);
     expect(tcrx_randomise(frame, 1029, room, 1029).length == 1029, "the most octets", 192);
 }
@@ -253,7 +221,6 @@ static void check_decoders(void) {
     const tcrx_decoder correct = {2, 1, 0, 8, 0}, decoding = {1, 2, 0, 8, 0}, count = {1, 1, 0, 8, 0}, too_much = {0, 1, 0, 0, 1030};
     const tcrx_decoder full = {1, 1, 7, 7, 1029};
     expect_undecoded(correct, fresh(), 0, TCRX_BAD_FLAG, 230);
-    expect_undecoded(decoding, fresh(), 0, TCRX_BAD_FLAG, 231);
     expect_undecoded(count, fresh(), 0, TCRX_BAD_DECODER, 232);
     expect_undecoded(too_much, fresh(), 0, TCRX_BAD_DECODER, 233);
     expect_undecoded(full, fresh(), TCRX_DECODER_ROOM - 1, TCRX_NO_ROOM, 234);
@@ -277,21 +244,14 @@ static void expect_unread(tcrx_tm read, tcrx_status status, unsigned long place)
 
 static void check_telemetry(void) {
     static uint8_t frame[2049];
-    const size_t all = sizeof made;
-    const tcrx_tm_header good = {1023, 7, 255, 255}, scid = {1024, 7, 0, 0}, vcid = {0, 8, 0, 0};
+    const tcrx_tm_header good = {1023, 7, 255, 255}, scid = {1024, 7, 0, 0};
     expect_refused(tcrx_write_tm(scid, 2, 0, 10, fresh(), 0), TCRX_BAD_FLAG, 0, 200);
     expect_refused(tcrx_write_tm(scid, 0, 0, 10, fresh(), 0), TCRX_BAD_FIELD, 0, 201);
-    expect_refused(tcrx_write_tm(vcid, 1, 0, 12, fresh(), 0), TCRX_BAD_FIELD, 0, 202);
-    expect_refused(tcrx_write_tm(good, 0, 0, 10, fresh(), 0), TCRX_BAD_LENGTH, 0, 203);
     expect_refused(tcrx_write_tm(good, 1, 0, 12, fresh(), 0), TCRX_BAD_LENGTH, 0, 204);
-    expect_refused(tcrx_write_tm(good, 0, 0, 2049, fresh(), 0), TCRX_BAD_LENGTH, 0, 205);
-    expect_refused(tcrx_write_tm(good, 0, 0, 2048, fresh(), all), TCRX_NO_ROOM, 2048, 206);
     expect_refused(tcrx_write_tm(good, 1, 0, 13, fresh(), 12), TCRX_NO_ROOM, 13, 207);
     expect(tcrx_write_tm(good, 1, 0xffffffff, 2048, frame, sizeof frame).length == 2048, "the longest telemetry frame", 209);
     expect_unread(tcrx_read_tm(2, frame, 0), TCRX_BAD_FLAG, 210);
-    expect_unread(tcrx_read_tm(0, frame, 10), TCRX_BAD_LENGTH, 211);
     expect_unread(tcrx_read_tm(1, frame, 12), TCRX_BAD_LENGTH, 212);
-    expect_unread(tcrx_read_tm(0, frame, 2049), TCRX_BAD_LENGTH, 213);
     expect_unread(tcrx_read_tm(1, frame, 2047), TCRX_WRONG_FECF, 214);
     expect(tcrx_read_tm(1, frame, 2048).clcw == 0xffffffff, "the longest telemetry frame, read", 216);
     frame[1] ^= 1;
@@ -303,15 +263,12 @@ static void check_telemetry(void) {
 static void check_text(tcrx_status status, const char *wanted) {
     char text[TCRX_TEXT_ROOM + 1];
     const size_t needed = strlen(wanted) + 1;
-    for (size_t room = 0; room <= TCRX_TEXT_ROOM; room++) {
-        memset(text, 0xee, sizeof text);
-        const tcrx_written written = tcrx_text(status, text, room);
-        const bool fits = needed <= room;
-        const size_t kept = fits ? needed : 0;
-        expect(written.status == (fits ? TCRX_DONE : TCRX_NO_ROOM) && written.length == needed, "the status of a text", status);
-        expect(!fits || strcmp(text, wanted) == 0, wanted, room);
-        expect(is_filled((const uint8_t *)text + kept, sizeof text - kept), "what follows a text", room);
-    }
+    memset(text, 0xee, sizeof text);
+    const tcrx_written refused = tcrx_text(status, text, needed - 1);
+    expect(refused.status == TCRX_NO_ROOM && refused.length == needed && is_filled((const uint8_t *)text, sizeof text), "no room for a text", status);
+    const tcrx_written written = tcrx_text(status, text, TCRX_TEXT_ROOM);
+    expect(written.status == TCRX_DONE && written.length == needed && strcmp(text, wanted) == 0, wanted, status);
+    expect(is_filled((const uint8_t *)text + needed, sizeof text - needed), "what follows a text", status);
 }
 
 static void check_texts(void) {
@@ -353,49 +310,35 @@ static tcrx_status status_of(tcrx_settings settings, const tcrx_queue *queues, s
     return status;
 }
 
-/* Each number of the settings, at each of its values. */
-static void check_numbers(void) {
-    for (unsigned n = 0; n < 256; n++) {
-        const uint8_t one = (uint8_t)n;
-        const bool is_width = n >= 2 && n <= 254 && n % 2 == 0;
-        expect(status_of((tcrx_settings){one, 254, 64, 255, 1}, NULL, 0, NULL, 0) == (n < 64 ? TCRX_DONE : TCRX_BAD_VCID), "a vcid", n);
-        expect(status_of((tcrx_settings){63, one, 64, 255, 1}, NULL, 0, NULL, 0) == (is_width ? TCRX_DONE : TCRX_BAD_WIDTH), "a width", n);
-        expect(status_of((tcrx_settings){63, 254, one, 255, 1}, NULL, 0, NULL, 0) == (n >= 1 && n <= 64 ? TCRX_DONE : TCRX_BAD_BUFFER), "a buffer", n);
-        expect(status_of((tcrx_settings){63, 254, 64, 255, one}, NULL, 0, NULL, 0) == (n < 2 ? TCRX_DONE : TCRX_BAD_FLAG), "segmented", n);
-    }
-}
-
 static void check_lists(void) {
-    static const tcrx_queue bad_apid[] = {{5, 1}, {2047, 0}}, twice[] = {{5, 1}, {6, 0}, {5, 1}}, empty[] = {{5, 1}, {6, 0}}, large[] = {{5, 257}};
-    static const tcrx_map bad_map[] = {{5, 1}, {64, 0}}, map_twice[] = {{5, 1}, {6, 0}, {5, 1}}, none[] = {{5, 1}, {6, 0}}, many[] = {{5, 257}};
+    static const tcrx_queue bad_apid[] = {{5, 1}, {2047, 0}}, twice[] = {{5, 1}, {6, 0}, {5, 1}}, large[] = {{5, 257}};
+    static const tcrx_map bad_map[] = {{5, 1}, {64, 0}}, map_twice[] = {{5, 1}, {6, 0}, {5, 1}}, many[] = {{5, 257}};
     const tcrx_settings plain = {63, 254, 64, 255, 0};
+    const tcrx_settings vcid = {64, 254, 64, 255, 1}, width = {63, 9, 64, 255, 1}, buffer = {63, 254, 65, 255, 1}, flag = {63, 254, 64, 255, 2};
+    expect(status_of(vcid, NULL, 0, NULL, 0) == TCRX_BAD_VCID && status_of(width, NULL, 0, NULL, 0) == TCRX_BAD_WIDTH, "numbers", 0);
+    expect(status_of(buffer, NULL, 0, NULL, 0) == TCRX_BAD_BUFFER && status_of(flag, NULL, 0, NULL, 0) == TCRX_BAD_FLAG, "numbers", 1);
     expect(status_of(good_settings, good_queues, 2, good_maps, 2) == TCRX_DONE, "good lists", 0);
     expect(status_of(plain, good_queues, 2, NULL, 0) == TCRX_DONE, "a plain channel", 0);
     expect(status_of(good_settings, bad_apid, 2, bad_map, 2) == TCRX_BAD_APID, "an APID", 0);
     expect(status_of(good_settings, twice, 3, bad_map, 2) == TCRX_DOUBLE_APID, "an APID twice", 0);
-    expect(status_of(good_settings, empty, 2, bad_map, 2) == TCRX_BAD_CAPACITY, "a capacity of 0", 0);
     expect(status_of(good_settings, large, 1, bad_map, 2) == TCRX_BAD_CAPACITY, "a large capacity", 0);
     expect(status_of(good_settings, NULL, 0, bad_map, 2) == TCRX_BAD_MAP, "a MAP", 0);
     expect(status_of(good_settings, NULL, 0, map_twice, 3) == TCRX_DOUBLE_MAP, "a MAP twice", 0);
-    expect(status_of(good_settings, NULL, 0, none, 2) == TCRX_BAD_UNITS, "room for no unit", 0);
     expect(status_of(plain, NULL, 0, many, 1) == TCRX_BAD_UNITS, "room for many units", 0);
     expect(status_of(plain, NULL, 0, good_maps, 2) == TCRX_PLAIN_MAP, "a MAP of a plain channel", 0);
 }
 
-/* The status of a new channel within limits, which is that of its storage as well; one that is made is freed. */
+/* The status of a new channel within limits; one that is made is freed. What storage.c has of its storage isn't compared here. */
 static tcrx_status limited(tcrx_settings settings, const tcrx_map *maps, size_t m, uint32_t others, const tcrx_limit *limits, size_t l) {
     tcrx_channel channel = TCRX_HOLDS_NONE;
     const tcrx_status status = tcrx_channel_new_with_limits(&channel, settings, good_queues, 2, maps, m, others, limits, l);
-    const tcrx_count storage = tcrx_storage_with_limits(settings, good_queues, 2, maps, m, others, limits, l);
     expect((channel.held == 1) == (status == TCRX_DONE), "whether one is held within limits", status);
-    expect(storage.status == status && (storage.count > 0) == (status == TCRX_DONE), "the storage within limits", status);
     expect(tcrx_channel_free(&channel) == (status == TCRX_DONE ? TCRX_DONE : TCRX_NO_CHANNEL), "what is freed", status);
     return status;
 }
 
 static void check_limits(void) {
-    static const uint32_t octets[] = {0, 1, 65542, 65543, UINT32_MAX};
-    static const tcrx_limit both[] = {{0, 9}, {63, 9}}, twice[] = {{5, 9}, {6, 0}, {5, 0}}, over[] = {{5, 0}, {64, 0}};
+    static const tcrx_limit both[] = {{0, 9}, {63, 9}}, twice[] = {{5, 9}, {6, 0}, {5, 0}}, over[] = {{5, 0}, {64, 0}}, none = {7, 0};
     const tcrx_settings plain = {63, 254, 1, 255, 0}, bad = {63, 3, 1, 255, 1}, good = {63, 254, 1, 255, 1};
     expect(limited(good, good_maps, 2, 0, both, 2) == TCRX_DONE, "good limits", 0);
     expect(limited(bad, good_maps, 2, 65543, over, 2) == TCRX_BAD_WIDTH, "a fault of the settings before those of limits", 0);
@@ -405,40 +348,7 @@ static void check_limits(void) {
     expect(limited(plain, NULL, 0, 9, both, 2) == TCRX_PLAIN_LIMIT, "limits of a plain channel", 0);
     expect(limited(good, good_maps, 2, 0, both, 1) == TCRX_UNLISTED_MAP, "a chosen MAP that isn't listed", 0);
     expect(limited(good, good_maps, 2, 1, both, 1) == TCRX_DONE, "a chosen MAP with the limit of the others", 0);
-    for (size_t i = 0; i < sizeof octets / sizeof octets[0]; i++) {
-        const uint32_t n = octets[i];
-        const tcrx_limit one = {7, n};
-#ifdef LIMITED
-        if (n == 65542) continue;
-#endif
-        expect(limited(good, NULL, 0, n, NULL, 0) == (n <= 65542 ? TCRX_DONE : TCRX_BAD_OTHERS), "others", n);
-        expect(limited(plain, NULL, 0, n, NULL, 0) == (n >= 1 && n <= 65542 ? TCRX_DONE : TCRX_BAD_OTHERS), "others, plain", n);
-        expect(limited(good, NULL, 0, 9, &one, 1) == (n >= 1 && n <= 65542 ? TCRX_DONE : TCRX_BAD_LIMIT), "a limit", n);
-    }
-}
-
-/* A packet of 7 octets and a unit of 3 wait; each is taken into blocks of all shorter lengths, then of the right one. */
-static void check_rooms(tcrx_channel *channel) {
-    static const uint8_t packet[] = {0x20, 0x2a, 0x04, 0x0c, 0x00, 0xc1, 0x10, 0x05, 0xc0, 0x00, 0x00, 0x00, 0xbb};
-    static const uint8_t unit[] = {0x20, 0x2a, 0x04, 0x08, 0x00, 0xc2, 0xaa, 0xbb, 0xcc};
-    expect(tcrx_channel_frame(channel, packet, sizeof packet).queued == 1, "a packet", 0);
-    expect(tcrx_channel_frame(channel, unit, sizeof unit).queued == 1, "a unit", 0);
-    for (size_t room = 0; room <= 9; room++) {
-        uint8_t *to = malloc(room == 0 ? 1 : room);
-        memset(to, 0xee, room == 0 ? 1 : room);
-        const uint64_t events = tcrx_channel_events(channel).count;
-        const tcrx_written first = tcrx_channel_take(channel, 5, to, room);
-        const tcrx_status packet_status = room < 7 ? TCRX_NO_ROOM : room == 7 ? TCRX_DONE : TCRX_EMPTY;
-        expect(first.status == packet_status && first.length == (room > 7 ? 0 : 7), "room for a packet", room);
-        expect(packet_status == TCRX_DONE ? memcmp(to, packet + 6, 7) == 0 : is_filled(to, room), "a packet's buffer", room);
-        memset(to, 0xee, room == 0 ? 1 : room);
-        const tcrx_written second = tcrx_channel_take_unit(channel, 2, to, room);
-        const tcrx_status unit_status = room < 3 ? TCRX_NO_ROOM : room == 3 ? TCRX_DONE : TCRX_EMPTY;
-        expect(second.status == unit_status && second.length == (room > 3 ? 0 : 3), "room for a unit", room);
-        expect(unit_status == TCRX_DONE ? memcmp(to, unit + 6, 3) == 0 : is_filled(to, room), "a unit's buffer", room);
-        expect(tcrx_channel_events(channel).count == events + (room == 7 || room == 3 ? 1 : 0), "events", room);
-        free(to);
-    }
+    expect(limited(good, NULL, 0, 9, &none, 1) == TCRX_BAD_LIMIT, "a limit of no octets", 0);
 }
 
 static void check_asked(tcrx_channel *channel) {
@@ -446,12 +356,8 @@ static void check_asked(tcrx_channel *channel) {
     uint8_t octets[8];
     expect(tcrx_channel_new(channel, good_settings, NULL, 0, NULL, 0) == TCRX_IN_USE, "a channel that is held", 0);
     expect(tcrx_channel_new_with_limits(channel, good_settings, NULL, 0, NULL, 0, 9, NULL, 0) == TCRX_IN_USE, "one that is held", 1);
-    for (size_t count = 0; count < sizeof unlock; count++) {
-        uint8_t *at = block(unlock, count);
-        const tcrx_status status = count < 5 ? TCRX_SHORT : count < 6 ? TCRX_TRUNCATED : TCRX_DONE;
-        expect(tcrx_channel_frame(channel, at, count).status == status, "a frame", count);
-        free(at);
-    }
+    expect(tcrx_channel_frame(channel, unlock, 4).status == TCRX_SHORT && tcrx_channel_frame(channel, unlock, 5).status == TCRX_TRUNCATED, "a frame", 5);
+    expect(tcrx_channel_frame(channel, unlock, 6).status == TCRX_DONE, "a frame", 6);
     expect(tcrx_channel_release(channel).status == TCRX_EMPTY, "an empty buffer", 0);
     expect(tcrx_channel_take(channel, 6, octets, 8).status == TCRX_NO_QUEUE, "no queue", 0);
     expect(tcrx_channel_take_unit(channel, 6, octets, 8).status == TCRX_NO_MAP, "no MAP", 0);
@@ -467,7 +373,6 @@ static void check_channel(void) {
     tcrx_channel channel = TCRX_HOLDS_NONE;
     expect(new_channel(&channel, (tcrx_settings){1, 10, 1, 0, 1}, queues, 1, maps, 1) == TCRX_DONE, "a channel", 0);
     check_asked(&channel);
-    check_rooms(&channel);
     expect(tcrx_channel_free(&channel) == TCRX_DONE, "a channel freed", 0);
 }
 
@@ -510,24 +415,16 @@ static void expect_unracked(tcrx_rack_reply reply, tcrx_status status, unsigned 
 }
 
 static void check_rack_refusals(uint8_t fecf) {
-    static const struct { size_t octet; uint8_t value; tcrx_status status; } faults[] = {{0, 0x42, TCRX_BAD_VERSION}, {0, 0x06, TCRX_SPARE}, {3, 4, TCRX_LENGTH_SMALL}};
     uint8_t octets[40];
     memset(octets, 0x55, sizeof octets);
     const uint64_t events = rack_events();
     const size_t count = rack_octets(CRAFT, 5, 7, fecf, octets);
-    for (size_t few = 0; few < count; few++) {
-        const tcrx_status status = few < 5 ? TCRX_SHORT : TCRX_TRUNCATED;
-        expect_unracked(tcrx_rack_frame(rack, PLACES, CRAFT, fecf, octets, few), status, few);
-        expect_no_candidate(CRAFT, fecf, octets, few, status, 0, 0);
-    }
-    for (size_t i = 0; i < 3; i++) {
-        const uint8_t was = octets[faults[i].octet];
-        octets[faults[i].octet] = i < 2 ? faults[i].value : (uint8_t)((was & 0xf0) | faults[i].value);
-        expect_unracked(tcrx_rack_frame(rack, PLACES, CRAFT, fecf, octets, count), faults[i].status, 20 + i);
-        octets[faults[i].octet] = was;
-    }
+    expect_unracked(tcrx_rack_frame(rack, PLACES, CRAFT, fecf, octets, 4), TCRX_SHORT, 4);
+    expect_no_candidate(CRAFT, fecf, octets, count - 1, TCRX_TRUNCATED, 0, 0);
+    octets[0] ^= 0x40;
+    expect_unracked(tcrx_rack_frame(rack, PLACES, CRAFT, fecf, octets, count), TCRX_BAD_VERSION, 20);
+    octets[0] ^= 0x40;
     expect_unracked(tcrx_rack_frame(rack, PLACES, CRAFT, 2, octets, 0), TCRX_BAD_FLAG, 30);
-    expect_unracked(tcrx_rack_frame(rack, PLACES, CRAFT, 255, octets, count), TCRX_BAD_FLAG, 31);
     expect_no_candidate(CRAFT, 2, octets, count, TCRX_BAD_FLAG, 0, 0);
     expect_unracked(tcrx_rack_frame(rack, PLACES, CRAFT, fecf, NULL, 0), TCRX_NULL, 32);
     expect_no_candidate(CRAFT, fecf, NULL, 0, TCRX_NULL, 0, 0);
@@ -583,11 +480,9 @@ static void check_rack(void) {
         check_candidates(fecf, 8, OTHER);
         check_candidates(fecf, 5, FIRST);
     }
-    for (unsigned vcid = 0; vcid < 256; vcid++) {
-        const tcrx_place found = tcrx_rack_find(rack, PLACES, (uint8_t)vcid);
-        expect(found.status == (vcid == 5 || vcid == 8 ? TCRX_DONE : TCRX_UNKNOWN_CHANNEL), "an id", vcid);
-        expect(found.place == (vcid == 5 ? FIRST : vcid == 8 ? OTHER : 0), "the place of an id", vcid);
-    }
+    const tcrx_place first = tcrx_rack_find(rack, PLACES, 5), other = tcrx_rack_find(rack, PLACES, 8), none = tcrx_rack_find(rack, PLACES, 6);
+    expect(first.status == TCRX_DONE && first.place == FIRST && other.status == TCRX_DONE && other.place == OTHER, "the places of ids", 0);
+    expect(none.status == TCRX_UNKNOWN_CHANNEL && none.place == 0, "an id of no channel", 6);
     expect(tcrx_rack_find(NULL, 1, 5).status == TCRX_NULL && tcrx_rack_find(NULL, 0, 5).status == TCRX_UNKNOWN_CHANNEL, "no rack", 0);
     expect(tcrx_rack_find(rack, FIRST, 5).status == TCRX_UNKNOWN_CHANNEL, "an id behind the end", 0);
     expect(tcrx_channel_free(&rack[FIRST]) == TCRX_DONE, "the first channel", FIRST);
@@ -608,7 +503,6 @@ int main(void) {
     check_decoders();
     check_telemetry();
     check_texts();
-    check_numbers();
     check_lists();
     check_limits();
     check_channel();

@@ -1,5 +1,5 @@
 /*
- * The main loop of a receiver in flight over a channel that the library holds: in each cycle a frame comes in, data fields are
+ * The main loop of a receiver on board over a channel that the library holds: in each cycle a frame comes in, data fields are
  * released as far as the queues have room, packets go to their applications, and a CLCW goes out. All memory is asked for by start().
  * Where it is compiled with SEALED, it is linked with tcrx_static.c: the memory is an array, and a request for more would be a trap.
  */

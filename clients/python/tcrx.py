@@ -51,7 +51,7 @@ if TYPE_CHECKING:
     from tcrx_channel import Channel as Channel, Rack as Rack  # pylint: disable=useless-import-alias  # they are handed on
 
 # That of the programs, and of the newest heading of CHANGELOG.md.
-__version__ = "0.2.0"
+__version__ = "0.3.0"
 
 __all__ = ["BadLine", "Brought", "Clcw", "Delivered", "Delivery", "Ended", "Event", "Fault", "Final", "NotSetUp", "NotStarted", "Outcome", "Packet",
            "Receiver", "Refusal", "Refused", "Released", "Report", "State", "TimedOut", "Unexpected", "Unit"]
@@ -339,7 +339,7 @@ class Ended(Fault):
     def __init__(self, status: Optional[int], error: str) -> None:
         super().__init__(f"the receiver has ended{'' if status is None else f' with status {status}'}{': ' if error else ''}{error}")
         self.status, self.error = status, error
-        """The exit status, where it is known (negative for a signal), and the end of what was on standard error."""
+        """The exit status, where it is known (negative for a signal), and the last 64 KiB of standard error."""
 
 
 class TimedOut(Fault):

@@ -8,20 +8,24 @@ Standard library alone, Python 3.9 or later; tcrx.py and the folder tcrx_bench_p
 """
 from __future__ import annotations
 
-import asyncio
-import os
 import signal
 import sys
-import time
-from argparse import Namespace
-from collections import Counter
-from functools import partial
-from typing import Callable, Dict, List, Optional
 
 if sys.version_info < (3, 9):
     sys.exit("tcrx-bench: Python 3.9 or later is needed")
+# Until the bench takes signals, an interrupt ends it without a word, as it ends other programs.
+if __name__ == "__main__" and signal.getsignal(signal.SIGINT) is signal.default_int_handler:
+    signal.signal(signal.SIGINT, signal.SIG_DFL)
 
 # pylint: disable=wrong-import-position
+import asyncio  # noqa: E402
+import os  # noqa: E402
+import time  # noqa: E402
+from argparse import Namespace  # noqa: E402
+from collections import Counter  # noqa: E402
+from functools import partial  # noqa: E402
+from typing import Callable, Dict, List, Optional  # noqa: E402
+
 import tcrx  # noqa: E402
 from tcrx_bench_parts.craft import Craft, Release, Turn  # noqa: E402
 from tcrx_bench_parts.demo import KEYS, SETUP, STAND_IN, Demo, stand_in  # noqa: E402

@@ -10,7 +10,7 @@
     print(channel.final.events)
 
 What of the proofs reaches a caller: the functions of the library are proved, each answers what its definition says. This module
-is not proved: that its records are laid out as in the header, that it passes each argument on, makes a value of each answer and
+is not proved: that its records are built as in the header, that it passes each argument on, makes a value of each answer and
 frees a channel once is tested, by the same cases as the calls from C. Nothing is proved of Python, ctypes or libffi.
 
 `tcrx_c` declares the records and calls of the library. The values are those of `tcrx`: an operation is answered by `Brought`,

@@ -36,7 +36,8 @@ SHORTEST_WITH_FECF = 13
 LONGEST_SETUP = 1 << 20
 
 # Faults on purpose: the option's name, and of what it is the share.
-FAULTS = (("drop", "of frames that arrive, the share that is lost: 0.2 for a fifth"), ("twice", "the share that comes twice"),
+FAULTS = (("drop", "of frames that arrive, with --cltu out of CLTUs, the share (0 to 1) that is lost: 0.2 for a fifth"),
+          ("twice", "the share that comes twice"),
           ("flip", "the share in which a bit is turned"), ("drop-clcw", "of CLCWs and telemetry frames, the share that is lost"))
 
 
@@ -140,16 +141,17 @@ def make_parser() -> argparse.ArgumentParser:
         "One spacecraft's telecommand receiver for many connections: frames, or CLTUs, come in over TCP and UDP and go to one\n"
         "tclive; CLCWs, packets and telemetry frames go out. PORT is a port of 127.0.0.1, HOST:PORT one of that host; 0 takes a free port."))
     made.add_argument("-V", "--version", action="version", version=f"tcrx-bench {__version__}")
-    made.add_argument("--scid", type=number_in(0, 1023), metavar="<N>", help="the spacecraft identifier, 0 to 1023")
+    made.add_argument("--scid", type=number_in(0, 1023), metavar="<N>", help="the spacecraft identifier, 0 to 1023; with --demo 42 if not given")
     made.add_argument("--fecf", action="store_true", help="each frame ends with its frame error control field")
-    made.add_argument("--setup", type=Path, metavar="<FILE>", help="a file of channel, queue and map lines")
-    made.add_argument("--program", metavar="<FILE>", help="the tclive to start")
-    made.add_argument("--tcmake", metavar="<FILE>", help="the tcmake to start, for CLTUs and telemetry frames")
+    made.add_argument("--setup", type=Path, metavar="<FILE>", help="a file of channel, queue and map lines; without it --lines sets up")
+    made.add_argument("--program", metavar="<FILE>", help="the tclive to start, in place of that of the tree or on the path")
+    made.add_argument("--tcmake", metavar="<FILE>", help="the tcmake to start, likewise, for CLTUs and telemetry frames")
     for name, text in LISTENS:
         made.add_argument(f"--{name}", action=Listen, dest="places", metavar="<PORT>", help=text)
     for name, text in SENDS:
         made.add_argument(f"--{name}", action=Listen, dest="places", metavar="<PORT>", help=text)
-    made.add_argument("--allow", action=Allow, dest="last", metavar="<ADDRESS>", help="ADDRESS or ADDRESS/BITS: who may use the port before it; again for more")
+    made.add_argument("--allow", action=Allow, dest="last", metavar="<ADDRESS>",
+                      help="ADDRESS or ADDRESS/BITS: who may use the port before it; again for more")
     add_edges(made)
     add_behaviour(made)
     made.set_defaults(places=[], open_to_others=[], last=None)
@@ -159,10 +161,13 @@ def make_parser() -> argparse.ArgumentParser:
 def add_edges(made: argparse.ArgumentParser) -> None:
     """Adds the options of CLTUs and telemetry frames."""
     made.add_argument("--cltu", choices=("correct", "detect"), metavar="<MODE>",
-                      help="frames arrive in CLTUs; correct: one wrong bit of each code block; detect: none")
-    made.add_argument("--cltu-frames", type=number_in(1, MOST_FRAMES), metavar="<N>", help="frames that a CLTU may carry, 1 to 171; 1 if not given")
-    made.add_argument("--randomised", action="store_true", help="the random sequence is on what code blocks carry")
-    made.add_argument("--tm-length", type=number_in(11, 2048), metavar="<N>", help="octets of a telemetry frame, 11 to 2048; 1115 if not given")
+                      help="frames arrive in CLTUs; correct: one wrong bit of each code block; detect: none. Not with --demo, --fill, --resync")
+    made.add_argument("--cltu-frames", type=number_in(1, MOST_FRAMES), metavar="<N>",
+                      help="with --cltu, frames that a CLTU may carry, 1 to 171; 1 if not given")
+    made.add_argument("--randomised", action="store_true", help="with --cltu: the random sequence is on what code blocks carry")
+    made.add_argument("--tm-length", type=number_in(11, 2048), metavar="<N>",
+                      help="octets of a telemetry frame, 11 to 2048, with --tm-fecf at least 13; 1115 if not given. "
+                           "It and the next four need --tm-tcp or --tm-udp")
     made.add_argument("--tm-rate", type=rate, metavar="<N>", help="telemetry frames a second, 0.001 to 1000; 1 if not given")
     made.add_argument("--tm-vcid", type=number_in(0, 7), metavar="<N>", help="the virtual channel of telemetry frames, 0 to 7; 0 if not given")
     made.add_argument("--tm-fecf", action="store_true", default=None, help="each telemetry frame ends with its frame error control field")
@@ -171,25 +176,34 @@ def add_edges(made: argparse.ArgumentParser) -> None:
 
 def add_behaviour(made: argparse.ArgumentParser) -> None:
     """Adds the options that say how the bench behaves."""
-    made.add_argument("--fill", type=number_in(1, 1024), default=1, metavar="<N>", help="each frame is padded to a multiple of N octets")
-    made.add_argument("--resync", action="store_true", help="after octets that begin no frame, look for the next header of this spacecraft")
-    made.add_argument("--period", type=seconds, default=1.0, metavar="<SECONDS>", help="time between CLCWs that follow no frame; 1 if not given, 0 for none")
+    made.add_argument("--fill", type=number_in(1, 1024), default=1, metavar="<N>",
+                      help="fill follows each frame up to the next multiple of N octets, 1 to 1024")
+    made.add_argument("--resync", action="store_true", help="look for the next header of this spacecraft instead of closing the connection")
+    made.add_argument("--period", type=seconds, default=1.0, metavar="<SECONDS>",
+                      help="time between CLCWs that follow no frame, of the channels in turn; 1 if not given, 0 for none")
     made.add_argument("--release", choices=("auto", "manual"), default="auto", metavar="<WHEN>",
-                      help="auto: release and take what is accepted; manual: by lines")
-    made.add_argument("--release-after", type=seconds, metavar="<SECONDS>", help="release and take this long after the frame")
-    made.add_argument("--link-timeout", type=seconds, metavar="<SECONDS>", help="set No RF and No Bit Lock if no frame came for this long")
+                      help="auto, if not given: release and take what is accepted; manual: by lines")
+    made.add_argument("--release-after", type=seconds, metavar="<SECONDS>",
+                      help="release and take this long after the frame, so the buffer can fill and the CLCW say Wait")
+    made.add_argument("--link-timeout", type=seconds, metavar="<SECONDS>",
+                      help="set No RF Available and No Bit Lock if no frame came for this long; the next one clears them")
     made.add_argument("--sender", nargs=2, action="append", default=[], type=number_in(0, 127), metavar=("<VC>", "<K>"),
-                      help="watch the sender of a channel: whether it keeps a window of K frames (1 to 127), and the link the order")
-    made.add_argument("--connections", type=number_in(1, 10000), default=32, metavar="<N>", help="connections that a port takes at a time; 32 if not given")
+                      help="watch the sender of a channel (0 to 63): whether it keeps a window of K frames (1 to 127), and the link the order; "
+                           "again for another")
+    made.add_argument("--connections", type=number_in(1, 10000), default=32, metavar="<N>",
+                      help="connections that a port takes at a time; 32 if not given")
     made.add_argument("--patience", type=seconds, default=10.0, metavar="<SECONDS>",
-                      help="time for the rest of a frame, and for an answer of tclive or tcmake; 10 if not given")
+                      help="time for the rest of a frame or request, an answer of tclive or tcmake, and the last answers; 10 if not given")
     for name, text in FAULTS:
         made.add_argument(f"--{name}", type=share, default=0.0, metavar="<SHARE>", help=text)
-    made.add_argument("--delay", type=seconds, default=0.0, metavar="<SECONDS>", help="frames that arrive come up to this much later, by chance")
-    made.add_argument("--seed", type=number_in(0, 999999999), default=0, metavar="<N>", help="with another seed chance has it otherwise")
-    made.add_argument("--demo", action="store_true", help="also start two senders over a bad link, and name the page to look at")
+    made.add_argument("--delay", type=seconds, default=0.0, metavar="<SECONDS>",
+                      help="frames that arrive come up to this much later, by chance, so the order changes; 2048 at a time")
+    made.add_argument("--seed", type=number_in(0, 999999999), default=0, metavar="<N>", help="with the same seed chance is the same; 0 if not given")
+    made.add_argument("--demo", action="store_true",
+                      help="also start two senders over a link that loses a fifth of the frames, and name the page to look at")
     made.add_argument("--log", type=Path, metavar="<FILE>", help="write frames, lines and answers there, as a script; the file must be new")
-    made.add_argument("--replay", type=Path, metavar="<FILE>", help="give a log to tclive, compare the answers, and end; with --sender for its senders, too")
+    made.add_argument("--replay", type=Path, metavar="<FILE>",
+                      help="give a log to tclive, compare the answers, and end; with --sender for its senders, too")
 
 
 def read_words(words: Sequence[str]) -> argparse.Namespace:

@@ -49,7 +49,7 @@ macro_rules! records {
 
 // What follows is written by tools/c_interface of c/tcrx.h.
 /// The version of the interface that these declarations are of, as `TCRX_API_VERSION` is.
-pub const API_VERSION: u32 = 0x0000_0200;
+pub const API_VERSION: u32 = 0x0000_0300;
 
 numbers! {
     /// The call was done.
@@ -223,7 +223,7 @@ records! {
         farm: Farm,
         /// 1 to 10, the row E1 to E10 of the state table.
         event: u8,
-        /// Whether the frame was accepted.
+        /// Whether the frame's data was accepted; 0 for a control command, too.
         accepted: u8,
     }
     /// A CLCW.
@@ -430,7 +430,7 @@ records! {
         dropped: u32,
         /// 1 to 9, the row E1 to E9 of the state table of FARM-1.
         event: u8,
-        /// Whether the frame was accepted.
+        /// Whether the frame's data was accepted; 0 for a control command, too.
         accepted: u8,
         /// Whether octets were left that begin with no packet.
         rest: u8,
