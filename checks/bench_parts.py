@@ -126,6 +126,13 @@ def read_count(link: socket.socket, count: int) -> bytes:
     return octets
 
 
+def free_port(kind: int = socket.SOCK_STREAM) -> int:
+    """A port of this machine that nothing uses at the moment."""
+    with socket.socket(socket.AF_INET, kind) as taken:
+        taken.bind(("127.0.0.1", 0))
+        return int(taken.getsockname()[1])
+
+
 class Bench:
     """A bench that runs, from its start to its end. Its ports are free ones."""
 

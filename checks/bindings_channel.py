@@ -29,7 +29,7 @@ from client_parts import NOTHING, ONE, UNLOCK, cltu, frame, packet, raises, same
 import tcrx
 import tcrx_channel
 from tcrx import (Brought, Channel, Clcw, Delivery, Ended, Event, Final, NotSetUp, NotStarted, Outcome, Packet, Refusal, Refused,
-                  Released, Report, State, Unit)
+                  Released, Report, State)
 from tcrx_channel import (BadSettings, Decoder, Frame, NoMemory, NotRead, NotWritten, Rack, Tm, add_fecf, check_fecf, randomise, read_frame,
                           read_tm, storage, write_cltu, write_frame, write_packet, write_segments, write_set_vr, write_tm, write_unlock)
 
@@ -352,7 +352,7 @@ def check_fork() -> None:
 # --- Memory ---
 
 def check_growths(refusing: str) -> None:
-    """Each block of a channel that is made refused in turn; no other call asks for any."""
+    """Each block of a channel that is made refused in turn. That no other call asks for any is compared by c/checks/growths.c."""
     memory = ctypes.PyDLL(refusing)
     memory.tcrx_refuse.restype, memory.tcrx_blocks.restype = ctypes.c_long, ctypes.c_long
     memory.tcrx_refuse.argtypes = [ctypes.c_long]
@@ -376,20 +376,10 @@ def check_growths(refusing: str) -> None:
     unlimited = done(lambda: Channel(1, **SETTINGS, library=refusing), memory.tcrx_blocks, "a channel")
     unlimited.close()
     channel = done(lambda: Channel(1, **SETTINGS, limits={0: 64, 2: 3}, library=refusing), memory.tcrx_blocks, "a channel within limits")
-    made = refused
-    steps = ((lambda: channel.bring(frame(0, whole(0, ONE))), Brought(1, Event.E1, True, NOTHING)),
-             (lambda: channel.bring(frame(0, b"\x42\x01\x02", bypass=1)), Brought(1, Event.E6, True, NOTHING)),
-             (lambda: channel.bring(frame(0, b"\x82\x03", bypass=1)), Brought(1, Event.E6, True, Delivery(1, 0, False))),
-             (channel.release, Released(1, Delivery(1, 0, False))),
-             (lambda: channel.take(5), Packet(1, 5, ONE)),
-             (lambda: channel.take_unit(2), Unit(1, 2, b"\x01\x02\x03")))
-    for call, wanted in steps:
-        same(done(call, lambda: (channel.report(), channel.events), f"{wanted}"), wanted, "a call in the end")
-    done(lambda: storage(1, **SETTINGS, library=refusing), memory.tcrx_blocks, "a storage")
-    tell(made >= 8 and refused == made, f"{refused} blocks were refused, {made} of channels that are made")
+    tell(refused >= 8, f"{refused} blocks were refused")
     print(f"channel in Python: {refused} blocks refused")
     tell(memory.tcrx_blocks() > 0, "a channel has blocks")
-    del call, steps, channel, unlimited
+    del channel, unlimited
     gc.collect()
     same(memory.tcrx_blocks(), 0, "blocks of a channel that nothing refers to")
     with Channel(1, **SETTINGS, library=refusing):

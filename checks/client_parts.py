@@ -13,7 +13,7 @@ from comparing import TOP, begun, tell
 CLIENT = TOP / "clients/python/tcrx.py"
 sys.path.insert(0, str(CLIENT.parent))
 # pylint: disable-next=wrong-import-position  # the client is found by the path above
-from tcrx import Clcw, Delivery  # noqa: E402
+from tcrx import BadLine, Clcw, Delivery  # noqa: E402
 
 NOTHING = Delivery(0, 0, False)
 # Starts a receiver, whose answers are compared as they are, of whatever type.
@@ -35,6 +35,13 @@ def raises(kind: type[BaseException], call: Callable[..., object], what: str) ->
         return fault
     tell(False, f"{what}: {answer!r}, and no {kind.__name__}")
     return None
+
+
+def has_reason(call: Callable[..., object], reason: str, what: str) -> None:
+    """Compares the reason of a bad line."""
+    # pylint: disable=no-member  # raises() gives a fault of the kind that it is asked for
+    fault = raises(BadLine, call, what)
+    tell(fault and fault.reason == reason and reason in str(fault) and fault.line, f"{what}: {fault!r}, and not {reason}")
 
 
 def begin(words: Sequence[str | Path], **streams: Any) -> subprocess.Popen[Any]:

@@ -249,16 +249,39 @@ def full_queues(drawer: Drawer, most: bool) -> None:
     drawer.operate(20)
 
 
-def at_bounds(drawer: Drawer) -> None:
-    """As much as there can be at a time: each channel; a queue for each application, with a packet in each; each MAP chosen, with a unit on
-    each and a run open on each of both services, and a buffer full of the longest frames; and thousands of units."""
+def most_channels(drawer: Drawer) -> List[int]:
+    """Each channel; a queue for each application on one, each MAP chosen on another, and both on a third."""
     vcids = drawer.chance.sample(range(64), 64)
     for vcid in vcids:
         drawer.add(f"channel {vcid} 254 64 0")
     for apid in range(2_047):
         drawer.add(f"queue {vcids[0]} {apid} {256 if apid == 77 else 1}")
+        drawer.add(f"queue {vcids[2]} {apid} 1")
     for place in range(64):
-        drawer.add(f"map {vcids[1]} {place} 1")
+        for vcid in vcids[1:3]:
+            drawer.add(f"map {vcid} {place} 1")
+    return vcids
+
+
+def most_packets(drawer: Drawer, channel: VirtualChannel) -> None:
+    """A unit with a packet for each queue, and for one as many as it has room for, by frames of both types; and thousands of units."""
+    one = [bytes([0x10 | apid >> 8, apid & 255]) + bytes.fromhex("c0000000aa") for apid in range(2_047)]
+    unit = b"".join(one) + one[77] * 255
+    for sequenced in (False, True):
+        for start in range(0, len(unit), LONGEST_PART):
+            part = 0x40 * (start == 0) | 0x80 * (start + LONGEST_PART >= len(unit))
+            drawer.send(channel, sequenced, bytes([part]) + unit[start:start + LONGEST_PART])
+        for apid in [*range(2_047)] + [77] * 256:
+            drawer.add(f"take {channel.vcid} {apid}")
+    for _ in range(2_000):
+        drawer.send(channel, False, b"\xc0" + one[77])
+        drawer.add(f"take {channel.vcid} 77")
+
+
+def at_bounds(drawer: Drawer) -> None:
+    """As much as there can be at a time: the most channels; a unit on each MAP and a run open on each of both services, and a buffer full of
+    the longest frames; and the most packets."""
+    vcids = most_channels(drawer)
     for vcid in vcids:
         drawer.send(drawer.receiver.channels[vcid], vcid % 2 > 0, b"\xe1")
     packets, units = (drawer.receiver.channels[vcid] for vcid in vcids[:2])
@@ -271,16 +294,7 @@ def at_bounds(drawer: Drawer) -> None:
         for place in range(64):
             for sequenced in (True, False):
                 drawer.send(units, sequenced, bytes([part | place]) + drawer.chance.randbytes(60))
-    one = [bytes([0x10 | apid >> 8, apid & 255]) + bytes.fromhex("c0000000aa") for apid in range(2_047)]
-    unit = b"".join(one) + one[77] * 255
-    for start in range(0, len(unit), LONGEST_PART):
-        part = 0x40 * (start == 0) | 0x80 * (start + LONGEST_PART >= len(unit))
-        drawer.send(packets, False, bytes([part]) + unit[start:start + LONGEST_PART])
-    for apid in [*range(2_047)] + [77] * 256:
-        drawer.add(f"take {packets.vcid} {apid}")
-    for _ in range(2_000):
-        drawer.send(packets, False, b"\xc0" + one[77])
-        drawer.add(f"take {packets.vcid} 77")
+    most_packets(drawer, packets)
 
 
 def long_unit(drawer: Drawer, beyond: int) -> None:
