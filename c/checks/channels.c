@@ -54,10 +54,10 @@ static size_t octets_for(unsigned vcid) {
     for (size_t at = 0, end = 0; at < script_length; at = end + 1) {
         const char *feed = memchr(script + at, '\n', script_length - at);
         end = feed == NULL ? script_length : (size_t)(feed - script);
-        for (; at < end && strchr(" \t", script[at]) != NULL; at++) {
+        for (; at < end && strchr(" \t\r", script[at]) != NULL; at++) {
         }
         const bool is_frame = end - at > 12 && memcmp(script + at, "frame", 5) == 0;
-        for (at += 5; is_frame && strchr(" \t", script[at]) != NULL; at++) {
+        for (at += 5; is_frame && strchr(" \t\r", script[at]) != NULL; at++) {
         }
         const bool is_its = is_frame && (unsigned)(digit(script[at + 4]) << 4 | digit(script[at + 5])) >> 2 == vcid;
         all += is_its ? (end - at) / 2 : 0;
