@@ -1,13 +1,14 @@
 -- A seat's channel, once what was lent of it came back.
-use Rattle.std.proofs.Common.{◌≡◌, ◌≤◌, ◌∙◌, ℕ, List, length, Option, Some, None, OnSome, IfSome, IfNone, ap}
+use Rattle.std.proofs.Common.{◌≡◌, ◌<◌, ◌≤◌, ◌∙◌, ℕ, List, length, Option, Some, None, OnSome, IfSome, IfNone, ap, arith}
 use Rattle.tc_link.specs.Frame.{BeginsWith}
 use Rattle.tc_channel.specs.declared.event.Event.TheVariants as Event
 use Rattle.tc_channel.specs.Reply.{frame_reply_within}
 use Rattle.tc_fixed.specs.History.{LimitedHistory, with_limited_event}
 use Rattle.tc_fixed.specs.Limits.{limit_of}
+use Rattle.tc_fixed.specs.Taking.{IsOver}
 use Rattle.tc_c.specs.declared.buffer.WrittenRecord.{WrittenRecord}
 use Rattle.tc_c.specs.declared.channel.ReplyRecord.{ReplyRecord}
-use Rattle.tc_c.specs.Channel.{reply_record, taken, IsCopied}
+use Rattle.tc_c.specs.Channel.{reply_record, taken, too_short, IsCopied}
 
 pub left-so : {A : Type 0} (lent : Option A) (held : A) (left : Option LimitedHistory) (new : LimitedHistory) → lent ≡ Some held
     → OnSome lent (left ≡ Some new) → left ≡ Some new
@@ -28,3 +29,13 @@ pub take-left : (item : Option (List ℕ)) (old to : List ℕ) (result : Written
     → IfSome item (λ octets. length octets ≤ length old → (result ≡ taken (length octets)) × IsCopied octets old to × (left ≡ Some after))
 take-left None old to result new after left is each = tt
 take-left (Some octets) old to result new after left is each = λ fits. let done = each fits in (done.0, done.1, is ∙ ap Some done.2)
+
+-- where there is no room for an item, it isn't taken, and its length is answered
+pub not-taken : (item : Option (List ℕ)) (room needed : ℕ) (P : List ℕ → Type 0) → IsOver room needed item → IfSome item (λ octets. length octets ≤ room → P octets)
+not-taken None room needed P over = tt
+not-taken (Some octets) room needed P over = λ fits. absurd (omega (arith, over.0, fits))
+
+pub length-needed : (item : Option (List ℕ)) (room needed : ℕ) (result : WrittenRecord) → IsOver room needed item → result ≡ too_short needed
+    → IfSome item (λ octets. room < length octets → result ≡ too_short (length octets))
+length-needed None room needed result over is = tt
+length-needed (Some octets) room needed result over is = λ short. rw (← over.1) is

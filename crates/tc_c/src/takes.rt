@@ -1,45 +1,22 @@
 //! Packets and units out of a channel that C holds, into the caller's buffer.
 
-ghost use Rattle.std.specs.Prelude.{◌≡◌, ◌≢◌, ◌<◌, ◌≤◌, ◌+◌, [], length, Some, None, IfSome, IfNone, option_map};
+ghost use Rattle.std.specs.Prelude.{◌≡◌, ◌<◌, ◌≤◌, ◌+◌, [], length, Some, None, IfSome, IfNone};
 ghost use Rattle.tc_channel.specs.declared.event.Event.TheVariants as Event;
 ghost use Rattle.tc_channel.specs.Reply.{take_reply_within, unit_reply_within, waiting_packets_within, waiting_units_within};
-ghost use Rattle.tc_channel.specs.Steps.{looks_for, take_steps};
+ghost use Rattle.tc_channel.specs.Steps.{looks_for};
 ghost use Rattle.tc_fixed.specs.History.{with_limited_event};
 ghost use Rattle.tc_fixed.specs.Limits.{limit_of};
 ghost use Rattle.tc_c.specs.Channel.{no_octets, too_short, taken, IsCopied};
-ghost use Rattle.tc_c.specs.Status.{code_of};
 
-use crate::buffer::{WrittenRecord, not_written, written};
+use crate::buffer::{WrittenRecord, no_room, not_written, written};
 use crate::lent::NoSteps;
 use crate::seat::Seat;
-use crate::status::{Status, code};
+use crate::status::Status;
 use tc_channel::Tick;
 use tc_fixed::{FixedChannel, NoUnitTaken, NothingTaken};
 
-// The answer where there is no room for an item of so many octets.
-fn no_room(needed: Option<usize>) -> WrittenRecord
-    ensures answer { IfSome needed (λ length. result ≡ too_short length) }
-    ensures status { result.status ≡ code_of Status.NoRoom }
-{
-    WrittenRecord {
-        status: code(Status::NoRoom),
-        length: needed.unwrap_or(0),
-    }
-}
-
-// How long the packet is that would be taken next.
-fn packet_length<C: Tick>(channel: &FixedChannel, apid: u16, steps: &mut C) -> Option<usize>
-    ensures length { result ≡ option_map length (take_reply_within (limit_of channel.now.limits) channel.now.settings channel.now.journal apid) }
-    ensures cost { C.taken steps.new ≤ C.taken steps.old + looks_for apid (length channel.now.settings.queues) }
-{
-    match channel.oldest_with_steps(apid, steps) {
-        Some(packet) => Some(packet.len()),
-        None => None,
-    }
-}
-
 /// What [`tcrx_channel_take_at`] runs once with the channel of its seat, and with a count that isn't kept. A step is a queue that is
-/// looked at; where the buffer is too short it is looked for once more, for the length.
+/// looked at.
 pub fn take_with_steps<C: Tick>(
     channel: &mut FixedChannel,
     apid: u16,
@@ -51,12 +28,11 @@ pub fn take_with_steps<C: Tick>(
     ensures no_queue { waiting_packets_within (limit_of channel.old.limits) channel.old.settings channel.old.journal apid ≡ None → result ≡ no_octets Status.NoQueue }
     ensures empty { waiting_packets_within (limit_of channel.old.limits) channel.old.settings channel.old.journal apid ≡ Some [] → result ≡ no_octets Status.Empty }
     ensures refused { 0 < result.status → (to.new ≡ to.old) × (channel.new ≡ channel.old) }
-    ensures cost { result.status ≢ code_of Status.NoRoom → C.taken steps.new ≤ C.taken steps.old + take_steps apid (length channel.old.settings.queues) }
-    ensures over_cost { C.taken steps.new ≤ C.taken steps.old + (take_steps apid (length channel.old.settings.queues) + looks_for apid (length channel.old.settings.queues)) }
+    ensures once { C.taken steps.new ≤ C.taken steps.old + looks_for apid (length channel.old.settings.queues) }
 {
     match channel.take_with_steps(apid, to, steps) {
         Ok(length) => written(length),
-        Err(NothingTaken::NoRoom) => no_room(packet_length(channel, apid, steps)),
+        Err(NothingTaken::NoRoom(needed)) => no_room(needed),
         Err(NothingTaken::NoQueue) => not_written(Status::NoQueue),
         Err(NothingTaken::Empty) => not_written(Status::Empty),
     }
@@ -85,19 +61,8 @@ pub extern "C" fn tcrx_channel_take_at(
     }
 }
 
-// How long the unit is that would be taken next.
-fn unit_length<C: Tick>(channel: &FixedChannel, map: u8, steps: &mut C) -> Option<usize>
-    ensures length { result ≡ option_map length (unit_reply_within (limit_of channel.now.limits) channel.now.settings channel.now.journal map) }
-    ensures cost { C.taken steps.new ≤ C.taken steps.old + looks_for map (length channel.now.settings.maps) }
-{
-    match channel.oldest_unit_with_steps(map, steps) {
-        Some(unit) => Some(unit.len()),
-        None => None,
-    }
-}
-
 /// What [`tcrx_channel_take_unit_at`] runs once with the channel of its seat, and with a count that isn't kept. A step is a queue that is
-/// looked at; where the buffer is too short it is looked for once more, for the length.
+/// looked at.
 pub fn take_unit_with_steps<C: Tick>(
     channel: &mut FixedChannel,
     map: u8,
@@ -109,12 +74,11 @@ pub fn take_unit_with_steps<C: Tick>(
     ensures no_map { waiting_units_within (limit_of channel.old.limits) channel.old.settings channel.old.journal map ≡ None → result ≡ no_octets Status.NoMap }
     ensures empty { waiting_units_within (limit_of channel.old.limits) channel.old.settings channel.old.journal map ≡ Some [] → result ≡ no_octets Status.Empty }
     ensures refused { 0 < result.status → (to.new ≡ to.old) × (channel.new ≡ channel.old) }
-    ensures cost { result.status ≢ code_of Status.NoRoom → C.taken steps.new ≤ C.taken steps.old + take_steps map (length channel.old.settings.maps) }
-    ensures over_cost { C.taken steps.new ≤ C.taken steps.old + (take_steps map (length channel.old.settings.maps) + looks_for map (length channel.old.settings.maps)) }
+    ensures once { C.taken steps.new ≤ C.taken steps.old + looks_for map (length channel.old.settings.maps) }
 {
     match channel.take_unit_with_steps(map, to, steps) {
         Ok(length) => written(length),
-        Err(NoUnitTaken::NoRoom) => no_room(unit_length(channel, map, steps)),
+        Err(NoUnitTaken::NoRoom(needed)) => no_room(needed),
         Err(NoUnitTaken::NoMap) => not_written(Status::NoMap),
         Err(NoUnitTaken::Empty) => not_written(Status::Empty),
     }

@@ -1,7 +1,11 @@
 -- What a channel works with, over what rooms add to it.
-use Rattle.tc_channel.proofs.Names.{◌≡◌, ℕ, ◌<◌, Bool, true, false, cond, eqb, List, [], ◌∷◌, ◌++◌, length, drop, Option, Some, None, refl, sym, ap, subst, ◌∙◌, arith, slice_get, IsSome, option_map, HoldsWithin, at_most, run_left, run_at, Settings, Event, Take, TakeUnit, AreRuns, first_of, Service, Bd, Store, open_runs, limit_at, StoredQueue, queue_for, oldest_for, popped, shorter, Keyed, rings_in, room_sizes, AreCommitted, Ad, no_limits, stored, ring_in, run_within, length-map, QueueSetting, MapSetting}
-use Rattle.tc_channel.specs.ChannelCore.{HaveLimits, inside_of, Parts, HoldsInRooms, AreChannelCore}
-use Rattle.std.specs.Prelude.{OnErr, Result, Ok, Err}
+use Rattle.tc_channel.proofs.Names.{◌≡◌, ℕ, ◌<◌, Bool, true, false, cond, eqb, nat_lt, List, [], ◌∷◌, ◌++◌, length, drop, Option, Some, None, refl, sym, ap, subst, ◌∙◌, arith, slice_get, IsSome, option_map, HoldsWithin, at_most, run_left, run_at, Settings, Event, Take, TakeUnit, AreRuns, first_of, Service, Bd, Store, open_runs, limit_at, StoredQueue, queue_for, oldest_for, popped, shorter, Keyed, rings_in, room_sizes, AreCommitted, Ad, no_limits, stored, ring_in, run_within, length-map, QueueSetting, MapSetting}
+use Rattle.tc_channel.specs.ChannelCore.{HaveLimits, inside_of, GoOn, Parts, HoldsInRooms, AreChannelCore}
+use Rattle.tc_channel.specs.Copying.{copied_out}
+use Rattle.tc_channel.specs.StoredQueues.{items_for}
+use Rattle.tc_channel.specs.declared.reply.NotCopied.{NotCopied}
+use Rattle.tc_channel.specs.declared.reply.NotCopied.TheVariants.{NoRoom}
+use Rattle.std.specs.Prelude.{OnErr, OnOk, Result, Ok, Err}
 use Rattle.tc_channel.specs.Reply.{take_reply_within, unit_reply_within}
 use Rattle.tc_packet.specs.Reassembly.{place_of}
 use Rattle.circular_buffer.specs.Buffer.{buffer}
@@ -133,3 +137,37 @@ pub still-holds : {limits : ℕ → ℕ} {s : Settings} {journal : List Event} {
     → AreCommitted queues → AreCommitted units → HoldsInRooms limits s journal (record parts { store = store; queues = queues; units = units })
 still-holds {journal = journal} {parts = parts} store queues units k runs_are queues_are units_are limits_are segmented sizes unit_sizes committed units_committed =
     holds-on journal (record parts { store = store; queues = queues; units = units }) k (rw (runs_are, queues_are, units_are) k.holds) refl k.fields_committed limits_are segmented sizes unit_sizes committed units_committed
+
+-- where an item was copied out, one waited
+copied-waits : (room key : ℕ) (ws : List StoredQueue) → OnOk (copied_out room (items_for key ws)) (IsSome (oldest_for key ws))
+copied-waits room key ws = by (items_for key ws) where
+  over : (item : List ℕ) (t : Bool) → OnOk (cond t (Err (NoRoom (length item))) (Ok (length item))) (IsSome (Some item))
+  over item true = tt
+  over item false = refl
+
+  by : (waiting : Option (List (List ℕ))) → OnOk (copied_out room waiting) (IsSome (oldest waiting))
+  by None = tt
+  by (Some []) = tt
+  by (Some (item ∷ items)) = over item (nat_lt room (length item))
+
+-- the oldest packet was copied out, or nothing was done
+pub packet-copied : (parts : Parts) (later : List Keyed) (room apid : ℕ) (answer : Result ℕ NotCopied) → answer ≡ copied_out room (items_for apid (rings_in parts.queues)) → OnOk answer (rings_in later ≡ popped apid (rings_in parts.queues))
+    → room_sizes later ≡ room_sizes parts.queues → (AreCommitted parts.queues → AreCommitted later) → OnOk answer (GoOn (Take apid) parts (record parts { queues = later }))
+packet-copied parts later room apid (Err fault) reply is same still = tt
+packet-copied parts later room apid (Ok count) reply is same still = λ limits s journal k. packet-taken later apid k (rw (← reply) at (copied-waits room apid (rings_in parts.queues))) is same still
+
+pub unit-copied : (parts : Parts) (later : List Keyed) (room map_id : ℕ) (answer : Result ℕ NotCopied) → answer ≡ copied_out room (items_for map_id (rings_in parts.units)) → OnOk answer (rings_in later ≡ popped map_id (rings_in parts.units))
+    → room_sizes later ≡ room_sizes parts.units → (AreCommitted parts.units → AreCommitted later) → OnOk answer (GoOn (TakeUnit map_id) parts (record parts { units = later }))
+unit-copied parts later room map_id (Err fault) reply is same still = tt
+unit-copied parts later room map_id (Ok count) reply is same still = λ limits s journal k. unit-taken later map_id k (rw (← reply) at (copied-waits room map_id (rings_in parts.units))) is same still
+
+-- so it is the core of some channel
+pub queues-copied : (P : Type 0) (parts : Parts) (later : List Keyed) (apid : ℕ) (answer : Result ℕ NotCopied) → AreChannelCore parts → OnOk answer (rings_in later ≡ popped apid (rings_in parts.queues))
+    → room_sizes later ≡ room_sizes parts.queues → (AreCommitted parts.queues → AreCommitted later) → OnErr answer ((later ≡ parts.queues) × P) → AreChannelCore (record parts { queues = later })
+queues-copied P parts later apid (Ok count) w is same still kept = queues-work parts later apid w is same still
+queues-copied P parts later apid (Err fault) w is same still kept = rw kept.0 w
+
+pub units-copied : (P : Type 0) (parts : Parts) (later : List Keyed) (map_id : ℕ) (answer : Result ℕ NotCopied) → AreChannelCore parts → OnOk answer (rings_in later ≡ popped map_id (rings_in parts.units))
+    → room_sizes later ≡ room_sizes parts.units → (AreCommitted parts.units → AreCommitted later) → OnErr answer ((later ≡ parts.units) × P) → AreChannelCore (record parts { units = later })
+units-copied P parts later map_id (Ok count) w is same still kept = units-work parts later map_id w is same still
+units-copied P parts later map_id (Err fault) w is same still kept = rw kept.0 w

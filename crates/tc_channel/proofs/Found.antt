@@ -1,6 +1,11 @@
 -- Where a key stands, and what is read and written there.
 use Rattle.tc_channel.proofs.Names.{◌≡◌, ◌≢◌, ℕ, zero, suc, ◌<◌, false, List, [], ◌∷◌, length, drop, take, get_or, Option, Some, None, refl, sym, ap, ◌∙◌, arith, set, slice_get, option_map, IsTrue, IsSome, option_and_then, AllByRecursion, eq-eqb, ne_eqb, map-set, get_or-map, keys_of, queue_for, shorter, popped, StoredQueue, oldest_for, slotted, Keyed, ring_in, rings_in, IsFirst}
+use Rattle.std.specs.Prelude.{Err, Result}
 use Rattle.circular_buffer.specs.Buffer.{buffer}
+use Rattle.tc_channel.specs.Copying.{copied_in, copied_out}
+use Rattle.tc_channel.specs.StoredQueues.{items_for}
+use Rattle.tc_channel.specs.declared.reply.NotCopied.{NotCopied}
+use Rattle.tc_channel.specs.declared.reply.NotCopied.TheVariants.{NoQueue}
 
 -- no queue so far has the key
 abbrev pub NoneHas : ℕ → List Keyed → Type 0
@@ -73,6 +78,16 @@ oldest-in key i qs q inside is first = ap oldest-of (found-in key i qs q inside 
 
 pub oldest-none : (key : ℕ) (ws : List StoredQueue) → AllByRecursion (λ (other : ℕ). key ≢ other) (keys_of ws) → oldest_for key ws ≡ None
 oldest-none key ws none = ap oldest-of (not-found key ws none)
+
+-- it is copied out
+abbrev copied-of : ℕ → Option StoredQueue → Result ℕ NotCopied
+copied-of room q = copied_out room (option_map (λ (x : StoredQueue). x.ring.items) q)
+
+pub copied-first : (room key i : ℕ) (qs : List Keyed) (q : Keyed) → i < length qs → q ≡ get_or qs i q → IsFirst key i (keys_of (rings_in qs)) → copied_out room (items_for key (rings_in qs)) ≡ copied_in room (slice_get q.slots.ring.items 0)
+copied-first room key i qs q inside is first = ap (copied-of room) (found-in key i qs q inside is first)
+
+pub copied-none : (room key : ℕ) (ws : List StoredQueue) → AllByRecursion (λ (other : ℕ). key ≢ other) (keys_of ws) → copied_out room (items_for key ws) ≡ Err NoQueue
+copied-none room key ws none = ap (copied-of room) (not-found key ws none)
 
 pub none-waits : (items : List (List ℕ)) → length items ≡ 0 → IsSome (slice_get items 0) → IsTrue false
 none-waits [] none some = absurd cc

@@ -72,7 +72,7 @@ way-put base now later p left all n i a distinct inside is for_it some put_is k 
       count = omega arith;
     }
 
--- a key is told by its place
+-- a key is found by its place
 key-at : (ws : List StoredQueue) (i : ℕ) (m : ℕ) (q : StoredQueue) → i < length ws → m ≡ get_or (keys_of ws) i m → q ≡ get_or ws i q → q.key ≡ m
 key-at ws i m q inside is q_is = ap (λ (x : StoredQueue). x.key) q_is ∙ sym (get_or-map (λ (x : StoredQueue). x.key) ws i q m inside) ∙ sym is
 

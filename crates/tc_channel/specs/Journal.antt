@@ -21,6 +21,6 @@ event_of Release = events.Release
 event_of (Take apid) = events.Take apid
 event_of (TakeUnit map_id) = events.TakeUnit map_id
 
--- the number of its events is told as it is: 2^64 - 1 is told for as many or more
+-- the number of its events is reported as it is: 2^64 - 1 is reported for as many or more
 abbrev pub IsNumberReported : History → Type 0
 IsNumberReported channel = length channel.journal < 18446744073709551615

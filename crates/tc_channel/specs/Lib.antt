@@ -16,6 +16,7 @@ pub mod Channel
 pub mod Keyed
 pub mod Places
 pub mod Delivering
+pub mod Copying
 pub mod Steps
 pub mod ChannelCore
 pub mod Examples

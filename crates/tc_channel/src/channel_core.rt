@@ -10,6 +10,7 @@ ghost use Rattle.tc_channel.specs.declared.event.Event.TheVariants as Event;
 ghost use Rattle.tc_channel.specs.declared.settings.Settings.{Settings};
 ghost use Rattle.tc_channel.specs.Admission.{map_of};
 ghost use Rattle.tc_channel.specs.Channel.{FollowsWithin, FollowsKindWithin, EndsWithin, EndsAtOnceWithin, buffered_of, with_field};
+ghost use Rattle.tc_channel.specs.Copying.{IsCopiedIn, copied_out};
 ghost use Rattle.tc_channel.specs.Delivering.{IsDelivered};
 ghost use Rattle.tc_channel.specs.StoredQueues.{AreDistinct, keys_of};
 ghost use Rattle.tc_channel.specs.Keyed.{rings_in, room_sizes, AreCommitted};
@@ -22,7 +23,7 @@ ghost use Rattle.tc_channel.specs.Steps.{delivery_steps, frame_steps_within, loo
 
 use crate::empty_queues::{empty_queues, empty_unit_queues};
 use crate::queues::{Queues, deliver_ended, deliver_nothing};
-use crate::reply::{Delivery, FrameReply};
+use crate::reply::{Delivery, FrameReply, NotCopied};
 use crate::settings::Settings;
 use crate::steps::Tick;
 use std::alloc::{AllocError, Global};
@@ -133,7 +134,7 @@ impl<R: Room> ChannelCore<R> {
     }
 
     /// Lets the oldest data field out of the buffer, where one waits, and queues the unit that it ends, with steps as of
-    /// [`frame`](Workings::frame).
+    /// [`frame`](ChannelCore::frame).
     #[inline(always)]
     pub fn release<C: Tick>(&mut self, steps: &mut C) -> Result<Delivery, AllocError>
         requires waits { 0 < length self.old.fields.ring.items }
@@ -181,6 +182,42 @@ impl<R: Room> ChannelCore<R> {
         ensures cost { C.taken steps.new ≤ C.taken steps.old + looks_for map (length self.old.units) }
     {
         self.units.pop(map as u16, steps)
+    }
+
+    /// Copies the oldest packet of the queue with this APID to the front of these octets and drops it, and says how many it has.
+    pub fn copy_packet<C: Tick>(
+        &mut self,
+        apid: u16,
+        into: &mut [u8],
+        steps: &mut C,
+    ) -> Result<usize, NotCopied>
+        ensures count { (limits : ℕ → ℕ) (s : Settings) (journal : List Event) → HoldsInRooms limits s journal self.old
+            → result ≡ copied_out (length into.old) (waiting_packets_within limits s journal apid) }
+        ensures packet { (limits : ℕ → ℕ) (s : Settings) (journal : List Event) → HoldsInRooms limits s journal self.old
+            → IfOk result (λ count. IsCopiedIn (take_reply_within limits s journal apid) count into.old into.new) }
+        ensures done { OnOk result (GoOn (Event.Take apid) self.old self.new) }
+        ensures refused { OnErr result ((self.new ≡ self.old) × (into.new ≡ into.old)) }
+        ensures cost { C.taken steps.new ≤ C.taken steps.old + looks_for apid (length self.old.queues) }
+    {
+        self.queues.copy_out(apid, into, steps)
+    }
+
+    /// Copies the oldest unit of the queue of this chosen MAP to the front of these octets and drops it, and says how many it has.
+    pub fn copy_unit<C: Tick>(
+        &mut self,
+        map: u8,
+        into: &mut [u8],
+        steps: &mut C,
+    ) -> Result<usize, NotCopied>
+        ensures count { (limits : ℕ → ℕ) (s : Settings) (journal : List Event) → HoldsInRooms limits s journal self.old
+            → result ≡ copied_out (length into.old) (waiting_units_within limits s journal map) }
+        ensures unit { (limits : ℕ → ℕ) (s : Settings) (journal : List Event) → HoldsInRooms limits s journal self.old
+            → IfOk result (λ count. IsCopiedIn (unit_reply_within limits s journal map) count into.old into.new) }
+        ensures done { OnOk result (GoOn (Event.TakeUnit map) self.old self.new) }
+        ensures refused { OnErr result ((self.new ≡ self.old) × (into.new ≡ into.old)) }
+        ensures cost { C.taken steps.new ≤ C.taken steps.old + looks_for map (length self.old.units) }
+    {
+        self.units.copy_out(map as u16, into, steps)
     }
 
     /// The oldest packet of the queue with this APID, lent.

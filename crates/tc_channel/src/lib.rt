@@ -74,7 +74,9 @@ pub use memory::{
 };
 pub use past::Past;
 pub use recorded::Recorded;
-pub use reply::{Delivery, FrameReply, NoMemory, ReleaseFault, TakeFault, TakeUnitFault};
+pub use reply::{
+    Delivery, FrameReply, NoMemory, NotCopied, ReleaseFault, TakeFault, TakeUnitFault,
+};
 pub use settings::{LentSettings, MapSetting, QueueSetting, Settings, SettingsFault};
 pub use steps::{Steps, Tick};
 pub use unrecorded::{EventsSeen, Unrecorded};

@@ -1,9 +1,10 @@
 //! The queues of a channel, and what they take of a unit.
 
-ghost use Rattle.std.specs.Prelude.{ℕ, List, ◌≡◌, ◌≤◌, ◌↔◌, ◌+◌, length, false, IfOk, IsOk, IsTrue, IsSome, OnErr, Some, None, option_map};
+ghost use Rattle.std.specs.Prelude.{ℕ, List, ◌≡◌, ◌≤◌, ◌↔◌, ◌+◌, length, false, IfOk, IsOk, IsTrue, IsSome, OnErr, OnOk, Some, None, option_map};
 ghost use Rattle.std.specs.Option.{option_copied};
 ghost use Rattle.tc_packet.specs.SpacePacket.{packets_of};
-ghost use Rattle.tc_channel.specs.StoredQueues.{keys_of, AreDistinct, queue_for, popped, StoredQueue, oldest_for};
+ghost use Rattle.tc_channel.specs.Copying.{IsCopiedIn, copied_out};
+ghost use Rattle.tc_channel.specs.StoredQueues.{items_for, keys_of, AreDistinct, queue_for, popped, StoredQueue, oldest_for};
 ghost use Rattle.tc_packet.specs.declared.runs.Ended.TheVariants as Ended;
 ghost use Rattle.tc_packet.specs.Store.{unit_in, IsThere, IsAtMost};
 ghost use Rattle.tc_channel.specs.Keyed.{ring_in, rings_in, room_sizes, Fit, FitsIn, AreCommitted};
@@ -13,9 +14,9 @@ ghost use Rattle.tc_channel.specs.Steps.{delivery_steps, looks_for, packet_steps
 use crate::delivering::deliver;
 use crate::places::{find_in, see_places};
 use crate::queue::Queue;
-use crate::reply::Delivery;
+use crate::reply::{Delivery, NotCopied};
 use crate::steps::Tick;
-use crate::taking::{pop_from, take_from};
+use crate::taking::{copy_from, pop_from, take_from};
 use std::alloc::{AllocError, Global};
 use std::boxed::BoxedSlice;
 use std::marker::Model;
@@ -86,6 +87,24 @@ impl<R: Room> Queues<R> {
         ensures cost { C.taken steps.new ≤ C.taken steps.old + looks_for key (length self.old) }
     {
         pop_from(&mut self.queues, &self.table, key, steps)
+    }
+
+    /// Copies the oldest item of the queue with this key to the front of these octets and drops it, and says how many it has.
+    pub fn copy_out<C: Tick>(
+        &mut self,
+        key: u16,
+        into: &mut [u8],
+        steps: &mut C,
+    ) -> Result<usize, NotCopied>
+        ensures count { result ≡ copied_out (length into.old) (items_for key (rings_in self.old)) }
+        ensures item { IfOk result (λ count. IsCopiedIn (oldest_for key (rings_in self.old)) count into.old into.new) }
+        ensures rings { OnOk result (rings_in self.new ≡ popped key (rings_in self.old)) }
+        ensures sizes { room_sizes self.new ≡ room_sizes self.old }
+        ensures committed { AreCommitted self.old → AreCommitted self.new }
+        ensures refused { OnErr result ((self.new ≡ self.old) × (into.new ≡ into.old)) }
+        ensures cost { C.taken steps.new ≤ C.taken steps.old + looks_for key (length self.old) }
+    {
+        copy_from(&mut self.queues, &self.table, key, into, steps)
     }
 }
 

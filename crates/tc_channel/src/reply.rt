@@ -67,6 +67,16 @@ pub enum TakeUnitFault {
     NoMemory,
 }
 
+/// Why no item was copied out of a queue.
+#[derive(Clone, Copy, Debug, PartialEq, Eq)]
+pub enum NotCopied {
+    /// There is no queue with that key.
+    NoQueue,
+    Empty,
+    /// The item has so many octets, and there is room for fewer. It still waits.
+    NoRoom(usize),
+}
+
 impl From<AllocError> for NoMemory {
     fn from(_error: AllocError) -> NoMemory {
         NoMemory

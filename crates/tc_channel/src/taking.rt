@@ -1,14 +1,16 @@
 //! What is taken from the queue with a key.
 
-ghost use Rattle.std.specs.Prelude.{ℕ, ◌<◌, ◌≤◌, ◌≡◌, ◌↔◌, ◌+◌, length, false, IsTrue, IsSome, None, option_map};
+ghost use Rattle.std.specs.Prelude.{ℕ, ◌<◌, ◌≤◌, ◌≡◌, ◌↔◌, ◌+◌, length, false, IfOk, IsTrue, IsSome, None, OnErr, OnOk, option_map};
 ghost use Rattle.std.specs.Box.{boxed_slice_items};
-ghost use Rattle.tc_channel.specs.StoredQueues.{keys_of, popped, oldest_for};
+ghost use Rattle.tc_channel.specs.Copying.{IsCopiedIn, copied_in, copied_out};
+ghost use Rattle.tc_channel.specs.StoredQueues.{items_for, keys_of, popped, oldest_for};
 ghost use Rattle.tc_channel.specs.Keyed.{rings_in, room_sizes, AreCommitted};
 ghost use Rattle.tc_channel.specs.Places.{IsFirst, IsTableOf};
 ghost use Rattle.tc_channel.specs.Steps.{looks};
 
 use crate::places::place_of;
 use crate::queue::Queue;
+use crate::reply::NotCopied;
 use crate::steps::Tick;
 use std::boxed::BoxedSlice;
 use tc_rooms::{GrowingRoom, Room};
@@ -89,4 +91,49 @@ pub(crate) fn take_from<C: Tick>(
         Some(place) => take_at(queues, place),
         None => None,
     }
+}
+
+// Copies an item, where there is one, to the front of these octets, and says how many it has.
+fn copy_to_front(item: Option<&[u8]>, into: &mut [u8]) -> Result<usize, NotCopied>
+    ensures count { result ≡ copied_in (length into.old) (option_map (λ octets. octets.now) item.entry) }
+    ensures item { IfOk result (λ count. IsCopiedIn (option_map (λ octets. octets.now) item.entry) count into.old into.new) }
+    ensures refused { OnErr result (into.new ≡ into.old) }
+{
+    let Some(octets) = item else {
+        return Err(NotCopied::Empty);
+    };
+    if into.len() < octets.len() {
+        return Err(NotCopied::NoRoom(octets.len()));
+    }
+    into[..octets.len()].copy_from_slice(octets);
+    Ok(octets.len())
+}
+
+/// Copies the oldest item of the queue with this key to the front of these octets and drops it, and says how many it has.
+#[tactic(auto, using(crate::proofs::Closing::at_place))]
+pub(crate) fn copy_from<R: Room, C: Tick>(
+    queues: &mut BoxedSlice<Queue<R>>,
+    table: &[u16],
+    key: u16,
+    into: &mut [u8],
+    steps: &mut C,
+) -> Result<usize, NotCopied>
+    requires { IsTableOf (keys_of (rings_in (boxed_slice_items queues.old))) table.now }
+    ensures count { result ≡ copied_out (length into.old) (items_for key (rings_in (boxed_slice_items queues.old))) }
+    ensures item { IfOk result (λ count. IsCopiedIn (oldest_for key (rings_in (boxed_slice_items queues.old))) count into.old into.new) }
+    ensures rings { OnOk result (rings_in (boxed_slice_items queues.new) ≡ popped key (rings_in (boxed_slice_items queues.old))) }
+    ensures keys { keys_of (rings_in (boxed_slice_items queues.new)) ≡ keys_of (rings_in (boxed_slice_items queues.old)) }
+    ensures sizes { room_sizes (boxed_slice_items queues.new) ≡ room_sizes (boxed_slice_items queues.old) }
+    ensures committed { AreCommitted (boxed_slice_items queues.old) → AreCommitted (boxed_slice_items queues.new) }
+    ensures refused { OnErr result ((boxed_slice_items queues.new ≡ boxed_slice_items queues.old) × (into.new ≡ into.old)) }
+    ensures cost { key < 2048 → C.taken steps.new ≤ C.taken steps.old + looks (boxed_slice_items queues.old) table.now }
+    ensures far { 2048 ≤ key → C.taken steps.new ≤ C.taken steps.old + length (boxed_slice_items queues.old) }
+{
+    let Some(place) = place_of(queues, table, key, steps) else {
+        return Err(NotCopied::NoQueue);
+    };
+    let queue = &mut queues[place];
+    let count = copy_to_front(queue.front(), into)?;
+    queue.pop_front();
+    Ok(count)
 }

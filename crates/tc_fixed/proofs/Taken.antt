@@ -1,8 +1,12 @@
 -- What a take answers, by what waits.
-use Rattle.std.proofs.Common.{◌≡◌, ℕ, ◌<◌, ◌≤◌, List, [], ◌∷◌, length, Option, Some, None, refl, arith}
-use Rattle.std.specs.Prelude.{slice_get, option_map, ◌↔◌, IsErrOf, Result, Ok, Err}
+use Rattle.std.proofs.Common.{◌≡◌, ℕ, ◌<◌, ◌≤◌, Bool, true, false, cond, List, [], ◌∷◌, length, nat_lt, Option, Some, None, refl, sym, ap, arith}
+use Rattle.std.proofs.lemmas.Bool.Decides.{nat_tests}
+use Rattle.std.specs.Prelude.{slice_get, ◌↔◌, IsErrAnd, IsErrOf, Result, Ok, Err}
 use Rattle.std.specs.Option.{option_and_then}
-use Rattle.tc_fixed.specs.Taking.{IsOver, nothing_in, unit_fault_of}
+use Rattle.tc_channel.specs.Copying.{copied_out}
+use Rattle.tc_channel.specs.declared.reply.NotCopied.{NotCopied}
+use Rattle.tc_channel.specs.declared.reply.NotCopied.TheVariants.{NoRoom}
+use Rattle.tc_fixed.specs.Taking.{IsOver, fault_of, unit_fault_of}
 use Rattle.tc_fixed.specs.declared.faults.NothingTaken.{NothingTaken}
 use Rattle.tc_fixed.specs.declared.faults.NothingTaken.TheVariants as taking
 use Rattle.tc_fixed.specs.declared.faults.NoUnitTaken.{NoUnitTaken}
@@ -12,44 +16,53 @@ use Rattle.tc_fixed.specs.declared.faults.NoUnitTaken.TheVariants as unit_taking
 abbrev pub oldest : Option (List (List ℕ)) → Option (List ℕ)
 oldest items = option_and_then (λ xs. slice_get xs 0) items
 
+-- what a take answers, by what the copying does
+abbrev pub answer_by : {F : Type 0} → (NotCopied → F) → Result ℕ NotCopied → Result ℕ F
+answer_by fault (Ok count) = Ok count
+answer_by fault (Err why) = Err (fault why)
+
+pub fault-answered : {F : Type 0} (fault : NotCopied → F) (reply : Result ℕ NotCopied) (why : NotCopied) (answer : Result ℕ F) → reply ≡ Err why → IsErrAnd answer (λ e. e ≡ fault why) → answer ≡ answer_by fault reply
+fault-answered fault reply why (Err e) was is = rw was (ap (λ x. Err x) is)
+fault-answered fault reply why (Ok count) was is = absurd is
+
 -- an answer has a fault just where what waits is its cause
 pub record Says (room : ℕ) (waiting : Option (List (List ℕ))) (answer : Result ℕ NothingTaken) : Type 0 where
   pub no_queue : IsErrOf answer taking.NoQueue ↔ (waiting ≡ None)
   pub empty : IsErrOf answer taking.Empty ↔ (waiting ≡ Some [])
-  pub no_room : IsErrOf answer taking.NoRoom ↔ IsOver room (oldest waiting)
+  pub no_room : (needed : ℕ) → IsErrOf answer (taking.NoRoom needed) ↔ IsOver room needed (oldest waiting)
 
-pub says-nothing : (room : ℕ) (waiting : Option (List (List ℕ))) (count : Option ℕ) (fault : NothingTaken) → None ≡ oldest waiting → count ≡ option_map length waiting → fault ≡ nothing_in count → Says room waiting (Err fault)
-says-nothing room None count fault none count_is is = rw (is, count_is) (record { no_queue = (λ e. refl, λ e. refl); empty = (λ e. absurd cc, λ e. absurd cc); no_room = (λ e. absurd cc, λ over. absurd over) })
-says-nothing room (Some []) count fault none count_is is = rw (is, count_is) (record { no_queue = (λ e. absurd cc, λ e. absurd cc); empty = (λ e. refl, λ e. refl); no_room = (λ e. absurd cc, λ over. absurd over) })
-says-nothing room (Some (x ∷ xs)) count fault none count_is is = absurd cc
+by-packet : (room : ℕ) (waiting : Option (List (List ℕ))) → Says room waiting (answer_by fault_of (copied_out room waiting))
+by-packet room None = record { no_queue = (λ e. refl, λ e. refl); empty = (λ e. absurd cc, λ e. absurd cc); no_room = λ needed. (λ e. absurd cc, λ over. absurd over) }
+by-packet room (Some []) = record { no_queue = (λ e. absurd cc, λ e. absurd cc); empty = (λ e. refl, λ e. refl); no_room = λ needed. (λ e. absurd cc, λ over. absurd over) }
+by-packet room (Some (item ∷ later)) = by (nat_lt room (length item)) refl where
+  by : (t : Bool) → nat_lt room (length item) ≡ t → Says room (Some (item ∷ later)) (answer_by fault_of (cond t (Err (NoRoom (length item))) (Ok (length item))))
+  by true is =
+      let less : room < length item = grind (arith, nat_tests) in
+      record { no_queue = (λ e. absurd cc, λ e. absurd cc); empty = (λ e. absurd cc, λ e. absurd cc); no_room = λ needed. (λ e. (less, let same : length item ≡ needed = cc in sym same), λ over. rw over.1 refl) }
+  by false is =
+      let most : length item ≤ room = grind (arith, nat_tests) in
+      record { no_queue = (λ e. absurd cc, λ e. absurd cc); empty = (λ e. absurd cc, λ e. absurd cc); no_room = λ needed. (λ e. absurd cc, λ over. absurd (omega (arith, over.0, most))) }
 
-pub says-over : (room : ℕ) (waiting : Option (List (List ℕ))) (item : List ℕ) → Some item ≡ oldest waiting → room < length item → Says room waiting (Err taking.NoRoom)
-says-over room (Some (x ∷ xs)) item some over =
-    let same : item ≡ x = cc in
-    record { no_queue = (λ e. absurd cc, λ e. absurd cc); empty = (λ e. absurd cc, λ e. absurd cc); no_room = (λ e. rw (← same) over, λ o. refl) }
-says-over room _ item some over = absurd cc
-
-pub says-taken : (room : ℕ) (waiting : Option (List (List ℕ))) (item : List ℕ) (count : ℕ) → Some item ≡ oldest waiting → length item ≤ room → Says room waiting (Ok count)
-says-taken room (Some (x ∷ xs)) item count some fits =
-    let same : item ≡ x = cc in
-    let short : length x ≤ room = rw (← same) fits in
-    record { no_queue = (λ e. absurd cc, λ e. absurd cc); empty = (λ e. absurd cc, λ e. absurd cc); no_room = (λ e. absurd cc, λ over. absurd (omega (arith, over, short))) }
-says-taken room _ item count some fits = absurd cc
+pub packet-says : (room : ℕ) (waiting : Option (List (List ℕ))) (reply : Result ℕ NotCopied) (answer : Result ℕ NothingTaken) → reply ≡ copied_out room waiting → answer ≡ answer_by fault_of reply → Says room waiting answer
+packet-says room waiting reply answer reply_is is = rw (is, reply_is) (by-packet room waiting)
 
 -- the same of a unit queue
 pub record SaysOfUnit (room : ℕ) (waiting : Option (List (List ℕ))) (answer : Result ℕ NoUnitTaken) : Type 0 where
   pub no_map : IsErrOf answer unit_taking.NoMap ↔ (waiting ≡ None)
   pub empty : IsErrOf answer unit_taking.Empty ↔ (waiting ≡ Some [])
-  pub no_room : IsErrOf answer unit_taking.NoRoom ↔ IsOver room (oldest waiting)
+  pub no_room : (needed : ℕ) → IsErrOf answer (unit_taking.NoRoom needed) ↔ IsOver room needed (oldest waiting)
 
-pub of-unit : (room : ℕ) (waiting : Option (List (List ℕ))) (fault : NothingTaken) (unit_fault : NoUnitTaken) → unit_fault ≡ unit_fault_of fault → Says room waiting (Err fault) → SaysOfUnit room waiting (Err unit_fault)
-of-unit room waiting taking.NoQueue unit_fault is says = rw is (record { no_map = (λ e. says.no_queue.0 refl, λ e. refl); empty = (λ e. absurd cc, λ e. absurd (let f = says.empty.1 e in cc)); no_room = (λ e. absurd cc, λ o. absurd (let f = says.no_room.1 o in cc)) })
-of-unit room waiting taking.Empty unit_fault is says = rw is (record { no_map = (λ e. absurd cc, λ e. absurd (let f = says.no_queue.1 e in cc)); empty = (λ e. says.empty.0 refl, λ e. refl); no_room = (λ e. absurd cc, λ o. absurd (let f = says.no_room.1 o in cc)) })
-of-unit room waiting taking.NoRoom unit_fault is says = rw is (record { no_map = (λ e. absurd cc, λ e. absurd (let f = says.no_queue.1 e in cc)); empty = (λ e. absurd cc, λ e. absurd (let f = says.empty.1 e in cc)); no_room = (λ e. says.no_room.0 refl, λ o. refl) })
+by-unit : (room : ℕ) (waiting : Option (List (List ℕ))) → SaysOfUnit room waiting (answer_by unit_fault_of (copied_out room waiting))
+by-unit room None = record { no_map = (λ e. refl, λ e. refl); empty = (λ e. absurd cc, λ e. absurd cc); no_room = λ needed. (λ e. absurd cc, λ over. absurd over) }
+by-unit room (Some []) = record { no_map = (λ e. absurd cc, λ e. absurd cc); empty = (λ e. refl, λ e. refl); no_room = λ needed. (λ e. absurd cc, λ over. absurd over) }
+by-unit room (Some (item ∷ later)) = by (nat_lt room (length item)) refl where
+  by : (t : Bool) → nat_lt room (length item) ≡ t → SaysOfUnit room (Some (item ∷ later)) (answer_by unit_fault_of (cond t (Err (NoRoom (length item))) (Ok (length item))))
+  by true is =
+      let less : room < length item = grind (arith, nat_tests) in
+      record { no_map = (λ e. absurd cc, λ e. absurd cc); empty = (λ e. absurd cc, λ e. absurd cc); no_room = λ needed. (λ e. (less, let same : length item ≡ needed = cc in sym same), λ over. rw over.1 refl) }
+  by false is =
+      let most : length item ≤ room = grind (arith, nat_tests) in
+      record { no_map = (λ e. absurd cc, λ e. absurd cc); empty = (λ e. absurd cc, λ e. absurd cc); no_room = λ needed. (λ e. absurd cc, λ over. absurd (omega (arith, over.0, most))) }
 
-pub unit-taken : (room : ℕ) (waiting : Option (List (List ℕ))) (count : ℕ) → Says room waiting (Ok count) → SaysOfUnit room waiting (Ok count)
-unit-taken room waiting count says = record {
-  no_map = (λ e. absurd cc, λ e. absurd (let f = says.no_queue.1 e in cc));
-  empty = (λ e. absurd cc, λ e. absurd (let f = says.empty.1 e in cc));
-  no_room = (λ e. absurd cc, λ o. absurd (let f = says.no_room.1 o in cc));
-}
+pub unit-says : (room : ℕ) (waiting : Option (List (List ℕ))) (reply : Result ℕ NotCopied) (answer : Result ℕ NoUnitTaken) → reply ≡ copied_out room waiting → answer ≡ answer_by unit_fault_of reply → SaysOfUnit room waiting answer
+unit-says room waiting reply answer reply_is is = rw (is, reply_is) (by-unit room waiting)

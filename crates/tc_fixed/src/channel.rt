@@ -7,12 +7,13 @@ ghost use Rattle.tc_channel.specs.Run.{run_within, IsLawfulWithin};
 ghost use Rattle.tc_channel.specs.Reply.{IsBypassData, frame_reply_within, release_reply_within, take_reply_within, unit_reply_within, waiting_packets_within, waiting_units_within, buffered_fields_within, clcw_within};
 ghost use Rattle.tc_channel.specs.Era.{CountsUpInItsEraWithin};
 ghost use Rattle.tc_channel.specs.ChannelCore.{HaveLimits};
-ghost use Rattle.tc_channel.specs.Steps.{frame_steps_within, looks_for, release_steps_within, take_steps};
+ghost use Rattle.tc_channel.specs.Copying.{IsCopiedIn};
+ghost use Rattle.tc_channel.specs.Steps.{frame_steps_within, looks_for, release_steps_within};
 ghost use Rattle.tc_packet.specs.Reassembly.{run_at};
 ghost use Rattle.tc_packet.specs.Store.{open_runs};
 ghost use Rattle.tc_fixed.specs.History.{with_limited_event};
 ghost use Rattle.tc_fixed.specs.Limits.{AreLimits, LimitsMapsByHeaders, HaveOctets, IsOthers, IsRefusalWithLimits, limit_of, none};
-ghost use Rattle.tc_fixed.specs.Taking.{IsOver, IsCopiedIn, nothing_in};
+ghost use Rattle.tc_fixed.specs.Taking.{IsOver};
 
 use crate::faults::{NoUnitTaken, NothingReleased, NothingTaken};
 use crate::limits::{Limits, LimitsFault};
@@ -170,7 +171,7 @@ impl<N: Noted> FixedChannelWith<N> {
         ensures lawful { IsLawfulWithin (limit_of self.old.limits) self.old.settings self.old.journal }
         ensures no_queue { IsErrOf result NothingTaken.NoQueue ↔ (waiting_packets_within (limit_of self.old.limits) self.old.settings self.old.journal apid ≡ None) }
         ensures empty { IsErrOf result NothingTaken.Empty ↔ (waiting_packets_within (limit_of self.old.limits) self.old.settings self.old.journal apid ≡ Some []) }
-        ensures no_room { IsErrOf result NothingTaken.NoRoom ↔ IsOver (length into.old) (take_reply_within (limit_of self.old.limits) self.old.settings self.old.journal apid) }
+        ensures no_room { (needed : ℕ) → IsErrOf result (NothingTaken.NoRoom needed) ↔ IsOver (length into.old) needed (take_reply_within (limit_of self.old.limits) self.old.settings self.old.journal apid) }
         ensures reply { IfOk result (λ count. IsCopiedIn (take_reply_within (limit_of self.old.limits) self.old.settings self.old.journal apid) count into.old into.new) }
         ensures done { OnOk result (self.new ≡ with_limited_event self.old (Event.Take apid)) }
         ensures refused { OnErr result ((self.new ≡ self.old) × (into.new ≡ into.old)) }
@@ -189,19 +190,13 @@ impl<N: Noted> FixedChannelWith<N> {
         ensures lawful { IsLawfulWithin (limit_of self.old.limits) self.old.settings self.old.journal }
         ensures no_queue { IsErrOf result NothingTaken.NoQueue ↔ (waiting_packets_within (limit_of self.old.limits) self.old.settings self.old.journal apid ≡ None) }
         ensures empty { IsErrOf result NothingTaken.Empty ↔ (waiting_packets_within (limit_of self.old.limits) self.old.settings self.old.journal apid ≡ Some []) }
-        ensures no_room { IsErrOf result NothingTaken.NoRoom ↔ IsOver (length into.old) (take_reply_within (limit_of self.old.limits) self.old.settings self.old.journal apid) }
+        ensures no_room { (needed : ℕ) → IsErrOf result (NothingTaken.NoRoom needed) ↔ IsOver (length into.old) needed (take_reply_within (limit_of self.old.limits) self.old.settings self.old.journal apid) }
         ensures reply { IfOk result (λ count. IsCopiedIn (take_reply_within (limit_of self.old.limits) self.old.settings self.old.journal apid) count into.old into.new) }
         ensures done { OnOk result (self.new ≡ with_limited_event self.old (Event.Take apid)) }
         ensures refused { OnErr result ((self.new ≡ self.old) × (into.new ≡ into.old)) }
-        ensures cost { C.taken steps.new ≤ C.taken steps.old + take_steps apid (length self.old.settings.queues) }
+        ensures once { C.taken steps.new ≤ C.taken steps.old + looks_for apid (length self.old.settings.queues) }
     {
-        let Some(packet) = self.channel_core.oldest(apid, steps) else {
-            return Err(nothing_taken(self.channel_core.queued(apid, steps)));
-        };
-        let Some(count) = copy_to_front(packet, into) else {
-            return Err(NothingTaken::NoRoom);
-        };
-        self.channel_core.drop_packet(apid, steps);
+        let count = self.channel_core.copy_packet(apid, into, steps)?;
         self.journal.note(&LentEvent::Take(apid));
         Ok(count)
     }
@@ -212,7 +207,7 @@ impl<N: Noted> FixedChannelWith<N> {
         ensures lawful { IsLawfulWithin (limit_of self.old.limits) self.old.settings self.old.journal }
         ensures no_map { IsErrOf result NoUnitTaken.NoMap ↔ (waiting_units_within (limit_of self.old.limits) self.old.settings self.old.journal map ≡ None) }
         ensures empty { IsErrOf result NoUnitTaken.Empty ↔ (waiting_units_within (limit_of self.old.limits) self.old.settings self.old.journal map ≡ Some []) }
-        ensures no_room { IsErrOf result NoUnitTaken.NoRoom ↔ IsOver (length into.old) (unit_reply_within (limit_of self.old.limits) self.old.settings self.old.journal map) }
+        ensures no_room { (needed : ℕ) → IsErrOf result (NoUnitTaken.NoRoom needed) ↔ IsOver (length into.old) needed (unit_reply_within (limit_of self.old.limits) self.old.settings self.old.journal map) }
         ensures reply { IfOk result (λ count. IsCopiedIn (unit_reply_within (limit_of self.old.limits) self.old.settings self.old.journal map) count into.old into.new) }
         ensures done { OnOk result (self.new ≡ with_limited_event self.old (Event.TakeUnit map)) }
         ensures refused { OnErr result ((self.new ≡ self.old) × (into.new ≡ into.old)) }
@@ -231,19 +226,13 @@ impl<N: Noted> FixedChannelWith<N> {
         ensures lawful { IsLawfulWithin (limit_of self.old.limits) self.old.settings self.old.journal }
         ensures no_map { IsErrOf result NoUnitTaken.NoMap ↔ (waiting_units_within (limit_of self.old.limits) self.old.settings self.old.journal map ≡ None) }
         ensures empty { IsErrOf result NoUnitTaken.Empty ↔ (waiting_units_within (limit_of self.old.limits) self.old.settings self.old.journal map ≡ Some []) }
-        ensures no_room { IsErrOf result NoUnitTaken.NoRoom ↔ IsOver (length into.old) (unit_reply_within (limit_of self.old.limits) self.old.settings self.old.journal map) }
+        ensures no_room { (needed : ℕ) → IsErrOf result (NoUnitTaken.NoRoom needed) ↔ IsOver (length into.old) needed (unit_reply_within (limit_of self.old.limits) self.old.settings self.old.journal map) }
         ensures reply { IfOk result (λ count. IsCopiedIn (unit_reply_within (limit_of self.old.limits) self.old.settings self.old.journal map) count into.old into.new) }
         ensures done { OnOk result (self.new ≡ with_limited_event self.old (Event.TakeUnit map)) }
         ensures refused { OnErr result ((self.new ≡ self.old) × (into.new ≡ into.old)) }
-        ensures cost { C.taken steps.new ≤ C.taken steps.old + take_steps map (length self.old.settings.maps) }
+        ensures once { C.taken steps.new ≤ C.taken steps.old + looks_for map (length self.old.settings.maps) }
     {
-        let Some(unit) = self.channel_core.oldest_unit(map, steps) else {
-            return Err(nothing_taken(self.channel_core.units(map, steps)).into());
-        };
-        let Some(count) = copy_to_front(unit, into) else {
-            return Err(NoUnitTaken::NoRoom);
-        };
-        self.channel_core.drop_unit(map, steps);
+        let count = self.channel_core.copy_unit(map, into, steps)?;
         self.journal.note(&LentEvent::TakeUnit(map));
         Ok(count)
     }
@@ -443,28 +432,4 @@ fn start<N: Noted>(
         channel_core,
         journal: N::start(alloc),
     })
-}
-
-// Why nothing was taken, where so many items wait, or there is no queue.
-fn nothing_taken(waiting: Option<usize>) -> NothingTaken
-    ensures { result ≡ nothing_in waiting }
-{
-    match waiting {
-        Some(_) => NothingTaken::Empty,
-        None => NothingTaken::NoQueue,
-    }
-}
-
-// Copies octets to the front of others, where these are as many, and says how many they are.
-fn copy_to_front(octets: &[u8], into: &mut [u8]) -> Option<usize>
-    ensures copied { IfSome result (λ count. (count ≡ length octets.now) × (into.new ≡ octets.now ++ drop count into.old)) }
-    ensures over { IfNone result (length into.old < length octets.now) }
-    ensures fits { IfSome result (λ _. length octets.now ≤ length into.old) }
-    ensures same { IfNone result (into.new ≡ into.old) }
-{
-    if octets.len() > into.len() {
-        return None;
-    }
-    into[..octets.len()].copy_from_slice(octets);
-    Some(octets.len())
 }

@@ -2,6 +2,7 @@
 
 ghost use Rattle.std.specs.Prelude.{◌≡◌};
 
+use tc_channel::NotCopied;
 use thiserror::Error;
 
 /// Why no data field was released.
@@ -18,9 +19,9 @@ pub enum NothingTaken {
     NoQueue,
     #[error("the queue is empty")]
     Empty,
-    /// The packet has more octets than the place that it would be copied to. It still waits.
+    /// The packet has so many octets, more than the place that it would be copied to. It still waits.
     #[error("no room for the packet")]
-    NoRoom,
+    NoRoom(usize),
 }
 
 /// Why no unit was taken.
@@ -30,22 +31,37 @@ pub enum NoUnitTaken {
     NoMap,
     #[error("the queue is empty")]
     Empty,
-    /// The unit has more octets than the place that it would be copied to. It still waits.
+    /// The unit has so many octets, more than the place that it would be copied to. It still waits.
     #[error("no room for the unit")]
-    NoRoom,
+    NoRoom(usize),
+}
+
+/// The same fault, of a packet queue.
+impl From<NotCopied> for NothingTaken {
+    ghost use Rattle.tc_fixed.specs.Taking.{fault_of};
+
+    ghost from_gives = { λ fault e. e ≡ fault_of fault };
+
+    fn from(fault: NotCopied) -> NothingTaken {
+        match fault {
+            NotCopied::NoQueue => NothingTaken::NoQueue,
+            NotCopied::Empty => NothingTaken::Empty,
+            NotCopied::NoRoom(needed) => NothingTaken::NoRoom(needed),
+        }
+    }
 }
 
 /// The same fault, of the unit queue of a MAP.
-impl From<NothingTaken> for NoUnitTaken {
+impl From<NotCopied> for NoUnitTaken {
     ghost use Rattle.tc_fixed.specs.Taking.{unit_fault_of};
 
     ghost from_gives = { λ fault e. e ≡ unit_fault_of fault };
 
-    fn from(fault: NothingTaken) -> NoUnitTaken {
+    fn from(fault: NotCopied) -> NoUnitTaken {
         match fault {
-            NothingTaken::NoQueue => NoUnitTaken::NoMap,
-            NothingTaken::Empty => NoUnitTaken::Empty,
-            NothingTaken::NoRoom => NoUnitTaken::NoRoom,
+            NotCopied::NoQueue => NoUnitTaken::NoMap,
+            NotCopied::Empty => NoUnitTaken::Empty,
+            NotCopied::NoRoom(needed) => NoUnitTaken::NoRoom(needed),
         }
     }
 }

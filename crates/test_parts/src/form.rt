@@ -132,7 +132,7 @@ impl Form for FixedChannel {
             Ok(_) => Ok(Octets::from(item)),
             Err(NothingTaken::NoQueue) => Err(TakeFault::NoQueue),
             Err(NothingTaken::Empty) => Err(TakeFault::Empty),
-            Err(NothingTaken::NoRoom) => Err(TakeFault::NoMemory),
+            Err(NothingTaken::NoRoom(_)) => Err(TakeFault::NoMemory),
         }
     }
 
@@ -142,7 +142,7 @@ impl Form for FixedChannel {
             Ok(_) => Ok(Octets::from(item)),
             Err(NoUnitTaken::NoMap) => Err(TakeUnitFault::NoMap),
             Err(NoUnitTaken::Empty) => Err(TakeUnitFault::Empty),
-            Err(NoUnitTaken::NoRoom) => Err(TakeUnitFault::NoMemory),
+            Err(NoUnitTaken::NoRoom(_)) => Err(TakeUnitFault::NoMemory),
         }
     }
 

@@ -115,7 +115,7 @@ static NOTHING_TAKEN: [(NothingTaken, &str); 3] = [
         "no queue with that application process identifier",
     ),
     (NothingTaken::Empty, "the queue is empty"),
-    (NothingTaken::NoRoom, "no room for the packet"),
+    (NothingTaken::NoRoom(7), "no room for the packet"),
 ];
 
 static NO_UNIT_TAKEN: [(NoUnitTaken, &str); 3] = [
@@ -124,7 +124,7 @@ static NO_UNIT_TAKEN: [(NoUnitTaken, &str); 3] = [
         "no queue for that multiplexer access point",
     ),
     (NoUnitTaken::Empty, "the queue is empty"),
-    (NoUnitTaken::NoRoom, "no room for the unit"),
+    (NoUnitTaken::NoRoom(2), "no room for the unit"),
 ];
 
 static LIMITS_TEXTS: [(LimitsFault, &str); 7] = [
@@ -191,9 +191,9 @@ fn takes_into_few_octets_and_drops(rt: HostRuntime) {
     }
     let mut octets = UNTOUCHED;
     let taken = channel.take(5, &mut octets[..6]);
-    assert_eq!(rt; taken, Err(NothingTaken::NoRoom));
+    assert_eq!(rt; taken, Err(NothingTaken::NoRoom(7)));
     let taken = channel.take_unit(3, &mut octets[..1]);
-    assert_eq!(rt; taken, Err(NoUnitTaken::NoRoom));
+    assert_eq!(rt; taken, Err(NoUnitTaken::NoRoom(2)));
     assert_eq!(rt; (octets, channel.events()), (UNTOUCHED, 4));
     assert_eq!(rt; channel.take(5, &mut octets), Ok(7));
     assert!(rt; octets == [0x10, 0x05, 0xc0, 0x00, 0x00, 0x00, 0xaa, 0xee]);

@@ -22,7 +22,7 @@ impl Tick for Counted {
 }
 
 // The queue of MAP 3 is looked at, the one packet is cut, and its queue is found. A frame that is buffered takes no step, its release as
-// many as the other frame. A take looks for its queue twice.
+// many as the other frame. A take looks for its queue once.
 #[test]
 fn steps_of_each_call(rt: HostRuntime) {
     let settings = settings(&rt, rt.alloc(), &BOTH);
@@ -38,10 +38,10 @@ fn steps_of_each_call(rt: HostRuntime) {
     assert_eq!(rt; count.steps, 6);
     let mut octets = [0; 16];
     assert_eq!(rt; channel.take_with_steps(5, &mut octets, &mut count), Ok(7));
-    assert_eq!(rt; count.steps, 8);
+    assert_eq!(rt; count.steps, 7);
     assert_eq!(rt;
         channel.take_unit_with_steps(3, &mut octets, &mut count),
         Err(NoUnitTaken::Empty)
     );
-    assert_eq!(rt; count.steps, 10);
+    assert_eq!(rt; count.steps, 8);
 }
