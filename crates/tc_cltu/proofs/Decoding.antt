@@ -159,6 +159,7 @@ unfolding syndrome octet_bits block_times_x
 tail-syndrome = refl
 
 tail-rejected : (mode : Mode) → decoded mode tail_sequence ≡ None
+unfolding placed octet_bits
 tail-rejected mode = alike-rejected mode 0xC5 0x79 67 (omega arith) (omega arith) tail-syndrome (omega arith) refl
 
 tail-ends : (mode : Mode) (room f : ℕ) (fs rest : List ℕ) → frames_of mode room (Decoding (f ∷ fs) []) (tail_sequence ++ rest) ≡ (f ∷ fs) ∷ frames_of mode room (Searching 0) rest
@@ -239,6 +240,7 @@ unfolding syndrome octet_bits block_times_x
 idle-syndrome = refl
 
 idle-rejected : (mode : Mode) → decoded mode (alike 0x55 ++ 0x55 ∷ []) ≡ None
+unfolding placed octet_bits
 idle-rejected mode = alike-rejected mode 0x55 0x55 65 (omega arith) (omega arith) idle-syndrome (omega arith) refl
 
 idle-searching : (mode : Mode) (room n l : ℕ) → IsSearching (state_after mode room (Searching l) (idle n))

@@ -1,8 +1,9 @@
 -- Code blocks differ in four places at least.
 use Rattle.std.proofs.Common.{◌≡◌, ℕ, ◌^◌, ◌/◌, ◌*◌, zero, suc, ◌+◌, ◌%◌, ◌<◌, ◌≤◌, Bool, true, eqb, List, [], ◌∷◌, ◌++◌, bit_xor, length, get_or, take, nat_lt, if◌then◌else◌, length-append, subst, refl, ap, sym, ◌∙◌, arith, inl, inr}
 use Rattle.std.proofs.lemmas.Bool.{eqb-true, agree_below_at, cases_eq, lt-ltb}
-use Rattle.tc_cltu.proofs.Names.{IsInformation, bit_at, bits-same, bits_of, block_remainder, block_times_x, block_with_bit, code_block, differences, errors, octet_bits, same, same_below, take_at, word, xor_lt, xor_self, xor_zero_r}
-use Rattle.tc_cltu.specs.declared.tables.TheConstants.{PLACES}
+use Rattle.tc_cltu.proofs.Names.{IsInformation, bit_at, bits-same, bits_of, block_remainder, block_times_x, block_with_bit, code_block, differences, errors, flipped, octet_bits, same, same_below, take_at, word, xor_lt, xor_self, xor_zero_r}
+use Rattle.std.specs.Int.{w64, from_le_bytes, to_le_bytes}
+use Rattle.tc_cltu.specs.declared.tables.TheConstants.{ERRORS}
 use Rattle.tc_cltu.proofs.Division.{times_x-fits, remainder-fits}
 use Rattle.tc_cltu.proofs.Patterns.{AreBits, xors, weight, zeros, single, xors-bits, xors-length, zeros-bits, zeros-weight, two-is, differences-weight, none-same, by-way, single-length}
 use Rattle.tc_cltu.proofs.Words.{are-bits, bits-append, fifty-six, left, left-linear, block-left, seven, seven-bits, word-is, word-parts}
@@ -51,11 +52,20 @@ left-even e bits none =
     omega arith
 
 -- ---- each single error leaves something of its own
-abbrev pub placed : ℕ → ℕ
-placed s = get_or PLACES s 0
+abbrev pub error : ℕ → ℕ
+error s = get_or ERRORS s 0
+
+abbrev first_one : List ℕ → ℕ
+first_one [] = 0
+first_one (zero ∷ bs) = suc (first_one bs)
+first_one (suc b ∷ bs) = 0
+
+-- the place of the one in it, or 63
+unfoldable pub placed : ℕ → ℕ
+placed s = first_one (word (to_le_bytes w64 (error s)))
 
 pub place-of : (k : ℕ) → k < 63 → placed (left (single k 63)) ≡ k
-unfolding left single block_times_x
+unfolding placed octet_bits left single block_times_x
 place-of = same_below (λ k. placed (left (single k 63))) (λ k. k) 63 refl
 
 -- the test, at a number below 63 alone
@@ -63,13 +73,21 @@ right_place : ℕ → Bool
 right_place s = if nat_lt (placed s) 63 then eqb (left (single (placed s) 63)) s else true
 
 rights : (s : ℕ) → s < 128 → right_place s ≡ true
-unfolding right_place left single block_times_x
+unfolding right_place placed octet_bits left single block_times_x
 rights s less = agree_below_at right_place (λ _. true) 128 s refl less
 
 pub placed-is : (s : ℕ) → s < 128 → placed s < 63 → left (single (placed s) 63) ≡ s
 unfolding right_place
 placed-is s fits less =
     eqb-true _ _ (sym (ap (λ (t : Bool). if t then eqb (left (single (placed s) 63)) s else true) (lt-ltb (placed s) 63 less)) ∙ rights s fits)
+
+pub number-of : (k : ℕ) → k < 63 → error (left (single k 63)) ≡ from_le_bytes w64 (flipped (zeros 8) k)
+unfolding left single block_times_x
+number-of = same_below (λ k. error (left (single k 63))) (λ k. from_le_bytes w64 (flipped (zeros 8) k)) 63 refl
+
+pub is-placed : (s : ℕ) → s < 128 → nat_lt (placed s) 63 ≡ nat_lt 0 (error s)
+unfolding placed octet_bits
+is-placed s less = agree_below_at (λ s. nat_lt (placed s) 63) (λ s. nat_lt 0 (error s)) 128 s refl less
 
 -- ---- words
 word-length : (a b c d e f g h : ℕ) → length (word (a ∷ b ∷ c ∷ d ∷ e ∷ f ∷ g ∷ h ∷ [])) ≡ 63

@@ -3,6 +3,7 @@ pub mod Patterns
 pub mod Words
 pub mod Distance
 pub mod Taking
+pub mod Numbers
 pub mod Turned
 pub mod Octets
 pub mod Fill

@@ -47,9 +47,12 @@ set-octets (o ∷ os) (suc i) v each fits (suc j) = set-octets os i v (λ n. eac
 turned-fits : (o m : ℕ) → o < 256 → bit_xor o (128 / 2 ^ m) < 256
 turned-fits o m fits = let small = shr_le 128 m in xor_lt 8 o (128 / 2 ^ m) fits (omega arith)
 
+pub turned-octets : (os : List ℕ) (k : ℕ) → IsOctets os → IsOctets (flipped os k)
+turned-octets os k each = subst IsOctets (sym (turned-set os k)) (set-octets os (k / 8) _ each (turned-fits _ (k % 8) (each (k / 8))))
+
 turned-good : (information : List ℕ) (k : ℕ) → IsInformation information → IsInformation (flipped information k)
 turned-good information k is = record {
-  each = subst IsOctets (sym (turned-set information k)) (set-octets information (k / 8) _ is.each (turned-fits _ (k % 8) (is.each (k / 8))));
+  each = turned-octets information k is.each;
   seven = turned-length information k ∙ is.seven;
 }
 
@@ -122,7 +125,7 @@ differences-append [] bs [] ds l = omega arith
 differences-append (x ∷ xs) bs (c ∷ cs) ds l = let rest = differences-append xs bs cs ds (omega arith) in omega arith
 differences-append _ bs _ ds l = absurd (omega arith)
 
-block-length : (own : List ℕ) (last : ℕ) → length own ≡ 7 → length (own ++ last ∷ []) ≡ 8
+pub block-length : (own : List ℕ) (last : ℕ) → length own ≡ 7 → length (own ++ last ∷ []) ≡ 8
 block-length own last l = length-append own (last ∷ []) ∙ omega arith
 
 -- a candidate is found

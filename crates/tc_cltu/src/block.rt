@@ -1,12 +1,14 @@
 //! Code blocks.
 
-ghost use Rattle.std.specs.Prelude.{◌≡◌, ◌≢◌, ◌+◌, ◌^◌, ◌<◌, ◌≤◌, ◌++◌, ◌∷◌, [], ℕ, List, Some, None, length, IfSome, MatchOption};
+ghost use Rattle.std.specs.Prelude.{◌≡◌, ◌≢◌, ◌+◌, ◌^◌, ◌<◌, ◌≤◌, ◌++◌, ◌∷◌, [], ℕ, List, Some, None, length, take, bit_xor, IfSome, MatchOption};
+ghost use Rattle.std.specs.Int.{w64, from_le_bytes, to_le_bytes};
 ghost use Rattle.tc_link.specs.Frame.{IsOctets};
-ghost use Rattle.tc_cltu.specs.CodeBlock.{parity_of, code_block, decoded, errors, most_errors, flipped, IsInformation};
+ghost use Rattle.tc_cltu.specs.CodeBlock.{parity_of, code_block, decoded, errors, most_errors, IsInformation};
 ghost use Rattle.tc_cltu.specs.Reception.{fate_in, rejected_as, corrections_of, rejections_of, overruns_of};
+ghost use Rattle.tc_cltu.specs.declared.block.Mode.{Mode};
 ghost use Rattle.tc_cltu.specs.declared.block.Mode.TheVariants.{Detect};
 
-use crate::tables::{PLACES, REMAINDERS};
+use crate::tables::{ERRORS, REMAINDERS};
 use crate::writer::TAIL;
 
 /// What becomes of a code block with wrong bits.
@@ -82,26 +84,27 @@ pub fn decode_block(block: [u8; 8], mode: Mode) -> Option<[u8; 7]>
 
 /// What becomes of a code block, which is seven octets and one more, and the seven octets that it carries where it is taken.
 #[inline(always)]
-#[tactic(auto, using(crate::proofs::Taking::eight_list))]
+#[tactic(auto, using(crate::proofs::Numbers::parts))]
 pub fn judge(block: [u8; 8], mode: Mode) -> Judged
     ensures fate { result.fate ≡ fate_in mode block }
     ensures information { result.information ≡ decoded mode block }
     ensures parts { (own : List ℕ) × (last : ℕ) × IsInformation own × (block ≡ own ++ last ∷ []) }
 {
-    let [a, b, c, d, e, f, g, last] = block;
+    let word = word_of(block);
+    let [a, b, c, d, e, f, g, last] = word.to_le_bytes();
     let information = [a, b, c, d, e, f, g];
-    match place_of_error(&information, last, mode) {
+    match error_of(&information, last, mode) {
         None => Judged {
             fate: rejection(block),
             information: None,
         },
-        Some(63) => Judged {
+        Some(0) => Judged {
             fate: Fate::Right,
             information: Some(information),
         },
-        Some(place) => Judged {
+        Some(error) => Judged {
             fate: Fate::Corrected,
-            information: Some(turned(information, place)),
+            information: Some(first_seven(word ^ error)),
         },
     }
 }
@@ -117,39 +120,44 @@ fn rejection(block: [u8; 8]) -> Fate
     }
 }
 
-// Which bit of the seven octets and the last one of a block is to be turned: one past the 63 where none is.
+// A block as a number, whose lowest octet is the first: one sum turns a wrong bit of it.
+fn word_of(block: [u8; 8]) -> u64
+    ensures number { result ≡ from_le_bytes w64 block }
+    ensures octets { to_le_bytes w64 result ≡ block }
+{
+    u64::from_le_bytes(block)
+}
+
+// The first seven octets of a number.
+fn first_seven(word: u64) -> [u8; 7]
+    ensures { result ≡ take 7 (to_le_bytes w64 word) }
+{
+    let [a, b, c, d, e, f, g, _] = word.to_le_bytes();
+    [a, b, c, d, e, f, g]
+}
+
+// The wrong bit of a block, which is seven octets and the last one, as a number with this bit, or 0 where no bit is wrong.
 #[inline(always)]
-#[tactic(auto, using(crate::proofs::Taking::right_by, crate::proofs::Taking::wrong_by))]
-fn place_of_error(own: &[u8], last: u8, mode: Mode) -> Option<u8>
+#[tactic(auto, using(crate::proofs::Taking::wrong_by))]
+fn error_of(own: &[u8], last: u8, mode: Mode) -> Option<u64>
     requires { length own.now ≡ 7 }
-    ensures place { MatchOption result (decoded mode (own.now ++ last ∷ []) ≡ None) (λ place. decoded mode (own.now ++ last ∷ []) ≡ Some (flipped own.now place)) }
-    ensures right { result ≡ Some 63 → decoded Detect (own.now ++ last ∷ []) ≡ Some own.now }
-    ensures wrong { result ≢ Some 63 → decoded Detect (own.now ++ last ∷ []) ≡ None }
+    ensures taken { MatchOption result (decoded mode (own.now ++ last ∷ []) ≡ None) (λ error. decoded mode (own.now ++ last ∷ [])
+        ≡ Some (take 7 (to_le_bytes w64 (bit_xor (from_le_bytes w64 (own.now ++ last ∷ [])) error)))) }
+    ensures right { result ≡ Some 0 → (each : Mode) → decoded each (own.now ++ last ∷ []) ≡ Some own.now }
+    ensures wrong { result ≢ Some 0 → decoded Detect (own.now ++ last ∷ []) ≡ None }
     ensures each { IsInformation own.now }
 {
     let syndrome = parity(own) ^ (last >> 1);
     if syndrome == 0 {
-        return Some(63);
+        return Some(0);
     }
     match mode {
         Mode::Detect => None,
         Mode::Correct => {
-            let place = PLACES[usize::from(syndrome)];
-            if place < 63 { Some(place) } else { None }
+            let error = ERRORS[usize::from(syndrome)];
+            if error == 0 { None } else { Some(error) }
         }
     }
-}
-
-// Seven octets with one bit the other way round, if it is there.
-fn turned(information: [u8; 7], place: u8) -> [u8; 7]
-    ensures { result ≡ flipped information place }
-{
-    let mut octets = information;
-    let at = usize::from(place / 8);
-    if at < octets.len() {
-        octets[at] ^= 0x80 >> (place % 8);
-    }
-    octets
 }
 
 /// How many code blocks were corrected, how many rejected that aren't the tail sequence, and how many CLTUs carried too much.
