@@ -457,11 +457,11 @@ public:
 
     /** Takes the next octets of the stream, up to and with the first that ends a candidate frame, or all. */
     Fed feed(Octets octets) noexcept {
-        const tcrx_decoded answer = tcrx_cltu_octets(kept_, detail::pointer(octets), octets.size(), held_.data(), held_.size());
+        const tcrx_decoded answer = tcrx_cltu_octets(kept_, detail::pointer(octets), octets.size(), carried_.data(), carried_.size());
         kept_ = answer.decoder;
         const auto taken = static_cast<std::size_t>(answer.taken);
         const bool ended = answer.ended == 1;
-        return {ended, ended ? Octets(held_.data(), kept_.held) : Octets(), Octets(octets.data() + taken, octets.size() - taken),
+        return {ended, ended ? Octets(carried_.data(), kept_.carried) : Octets(), Octets(octets.data() + taken, octets.size() - taken),
                 answer.corrected, answer.rejected, answer.overlong};
     }
 
@@ -470,7 +470,7 @@ public:
 
 private:
     tcrx_decoder kept_{};
-    std::array<std::uint8_t, TCRX_DECODER_ROOM> held_{};
+    std::array<std::uint8_t, TCRX_DECODER_ROOM> carried_{};
 };
 
 /** Writes a frame, or what a CLTU carried, with the random sequence added: tcrx_randomise(). */

@@ -231,7 +231,7 @@ u32 EXPORT(module_cltu_octets)(const uint8_t *octets, u32 count, uint8_t *frame,
     numbers[1] = answer.decoder.decoding;
     numbers[2] = answer.decoder.last;
     numbers[3] = answer.decoder.count;
-    numbers[4] = answer.decoder.held;
+    numbers[4] = answer.decoder.carried;
     numbers[5] = answer.ended;
     answer_count(6, answer.taken);
     answer_count(8, answer.corrected);
@@ -246,7 +246,7 @@ u32 EXPORT(module_cltu_search)(void) {
     numbers[1] = answer.decoder.decoding;
     numbers[2] = answer.decoder.last;
     numbers[3] = answer.decoder.count;
-    numbers[4] = answer.decoder.held;
+    numbers[4] = answer.decoder.carried;
     numbers[5] = answer.ended;
     answer_count(6, answer.taken);
     answer_count(8, answer.corrected);

@@ -16,10 +16,10 @@ enum { FRAME = 1024, BLOCKS = 147, CLTU = 8 * BLOCKS + 10, CLTUS = 32, PIECE = 4
 typedef struct {
     bool corrects, decodes;
     uint8_t last, count;
-    uint32_t held;
+    uint32_t carried;
 } decoder;
 
-static uint8_t left_of[7][256], places[128], stream[CLTUS * CLTU], held[MOST + 8];
+static uint8_t left_of[7][256], places[128], stream[CLTUS * CLTU], carried[MOST + 8];
 static uint16_t sums[8][256];
 static unsigned long frames, corrected, rejected;
 
@@ -55,16 +55,16 @@ static size_t decode(decoder *d, const uint8_t *octets, size_t count) {
             d->decodes = wrong == 0 || (d->corrects && (wrong & (wrong - 1)) == 0);
             d->last = octets[at++];
             d->count = 0;
-            if (d->decodes) d->held = 0;
+            if (d->decodes) d->carried = 0;
             continue;
         }
         const uint8_t *block = octets + at;
         if (d->count == 0 && count - at >= 8) {
             at += 8;
         } else {
-            held[d->held + d->count++] = octets[at++];
+            carried[d->carried + d->count++] = octets[at++];
             if (d->count < 8) continue;
-            block = held + d->held;
+            block = carried + d->carried;
         }
         d->count = 0;
         uint8_t taken[8];
@@ -76,20 +76,20 @@ static size_t decode(decoder *d, const uint8_t *octets, size_t count) {
                 rejected += memcmp(taken, "\xc5\xc5\xc5\xc5\xc5\xc5\xc5\x79", 8) != 0;
                 d->decodes = false;
                 d->last = 0;
-                if (d->held == 0) continue;
+                if (d->carried == 0) continue;
                 frames++;
                 return at;
             }
             corrected++;
             taken[place / 8] ^= 0x80 >> place % 8;
         }
-        if (d->held + 7 > MOST) {
+        if (d->carried + 7 > MOST) {
             d->decodes = false;
             d->last = 0;
             continue;
         }
-        memcpy(held + d->held, taken, 8);
-        d->held += 7;
+        memcpy(carried + d->carried, taken, 8);
+        d->carried += 7;
     }
     return at;
 }

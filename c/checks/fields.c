@@ -80,7 +80,7 @@ static void expect_tm(tcrx_tm read, tcrx_tm_header header, uint64_t place) {
 /* In pieces of so many octets, the CLTU with a wrong bit in its first code block, or with none, and another octet behind it: what becomes
  * of its code blocks, and what it carries. */
 static void check_stream(uint8_t correct, uint8_t wrong, size_t size, uint64_t place) {
-    static uint8_t held[TCRX_DECODER_ROOM];
+    static uint8_t carried[TCRX_DECODER_ROOM];
     const frame_row *plain = &frame_rows[0];
     const size_t length = plain->fields[5], all = sizeof cltu_octets + 1;
     uint8_t octets[sizeof cltu_octets + 1];
@@ -91,7 +91,7 @@ static void check_stream(uint8_t correct, uint8_t wrong, size_t size, uint64_t p
     uint64_t ended = 0, corrected = 0, rejected = 0;
     for (size_t at = 0; at < all;) {
         const size_t count = all - at < size ? all - at : size;
-        const tcrx_decoded answer = tcrx_cltu_octets(decoder, octets + at, count, held, sizeof held);
+        const tcrx_decoded answer = tcrx_cltu_octets(decoder, octets + at, count, carried, sizeof carried);
         decoder = answer.decoder;
         at += (size_t)answer.taken;
         corrected += answer.corrected;
@@ -99,8 +99,8 @@ static void check_stream(uint8_t correct, uint8_t wrong, size_t size, uint64_t p
         expect(answer.status == TCRX_DONE && (answer.ended ? at == all - 1 : answer.taken == count), "how far octets are taken", place);
         if (answer.ended) {
             ended++;
-            expect(decoder.held == 14 && memcmp(held, plain->octets, length) == 0, "what a CLTU carries", place);
-            for (size_t k = length; k < 14; k++) expect(held[k] == 0x55, "its fill", place);
+            expect(decoder.carried == 14 && memcmp(carried, plain->octets, length) == 0, "what a CLTU carries", place);
+            for (size_t k = length; k < 14; k++) expect(carried[k] == 0x55, "its fill", place);
         }
     }
     expect(corrected == (correct && wrong ? 1u : 0u), "how many code blocks are corrected", place);

@@ -213,11 +213,11 @@ static void expect_undecoded(tcrx_decoder decoder, uint8_t *frame, size_t room, 
     expect(answer.status == status && answer.ended == 0 && answer.taken == 0, "octets that are refused", place);
     expect(answer.corrected == 0 && answer.rejected == 0 && answer.overlong == 0, "code blocks of octets that are refused", place);
     expect(kept.correct == decoder.correct && kept.decoding == decoder.decoding && kept.last == decoder.last, "a decoder as it was", place);
-    expect(kept.count == decoder.count && kept.held == decoder.held && is_filled(made, sizeof made), "what it holds as it was", place);
+    expect(kept.count == decoder.count && kept.carried == decoder.carried && is_filled(made, sizeof made), "what it holds as it was", place);
 }
 
 static void check_decoders(void) {
-    static uint8_t held[TCRX_DECODER_ROOM];
+    static uint8_t carried[TCRX_DECODER_ROOM];
     const tcrx_decoder correct = {2, 1, 0, 8, 0}, decoding = {1, 2, 0, 8, 0}, count = {1, 1, 0, 8, 0}, too_much = {0, 1, 0, 0, 1030};
     const tcrx_decoder full = {1, 1, 7, 7, 1029};
     expect_undecoded(correct, fresh(), 0, TCRX_BAD_FLAG, 230);
@@ -225,7 +225,7 @@ static void check_decoders(void) {
     expect_undecoded(too_much, fresh(), 0, TCRX_BAD_DECODER, 233);
     expect_undecoded(full, fresh(), TCRX_DECODER_ROOM - 1, TCRX_NO_ROOM, 234);
     const uint8_t last = 0xfe;
-    const tcrx_decoded answer = tcrx_cltu_octets(full, &last, 1, held, sizeof held);
+    const tcrx_decoded answer = tcrx_cltu_octets(full, &last, 1, carried, sizeof carried);
     expect(answer.status == TCRX_DONE && answer.decoder.decoding == 0 && answer.ended == 0, "no room for a code block", 236);
     expect(answer.overlong == 1 && answer.corrected == 0 && answer.rejected == 0, "a CLTU that carries too much", 237);
     const tcrx_decoded anew = tcrx_cltu_search(full);

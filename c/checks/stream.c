@@ -14,7 +14,7 @@
 
 enum { FRAME = 1024, BLOCKS = 147, CLTU = 8 * BLOCKS + 10, CLTUS = 32, PIECE = 4096 };
 
-static uint8_t stream[CLTUS * CLTU], held[TCRX_DECODER_ROOM];
+static uint8_t stream[CLTUS * CLTU], carried[TCRX_DECODER_ROOM];
 
 /* Octets that follow from one another, in CLTUs. */
 static int fill_stream(unsigned long wrong) {
@@ -50,7 +50,7 @@ int main(int count, char **words) {
     for (unsigned long i = 0; i < times; i++) {
         for (size_t at = 0; at < sizeof stream;) {
             const size_t left = sizeof stream - at;
-            const tcrx_decoded answer = tcrx_cltu_octets(decoder, stream + at, left < PIECE ? left : PIECE, held, sizeof held);
+            const tcrx_decoded answer = tcrx_cltu_octets(decoder, stream + at, left < PIECE ? left : PIECE, carried, sizeof carried);
             if (answer.status != TCRX_DONE) return 1;
             decoder = answer.decoder;
             at += (size_t)answer.taken;

@@ -14,14 +14,14 @@ enum { SPACECRAFT = 42, CHANNEL = 1, APID = 5, UNITS = 1, SHORTEST = 8, LONGEST 
 typedef struct {
     tcrx_channel rack[1];
     tcrx_decoder decoder;
-    uint8_t held[TCRX_DECODER_ROOM], fecf;
+    uint8_t carried[TCRX_DECODER_ROOM], fecf;
     unsigned most, frames, refused, over_the_bound, overlong;
 } receiver;
 
 /* What a CLTU carried: the random sequence comes off, then frame after frame, each of its own length. */
 static void receive_candidate(receiver *at) {
     static uint8_t plain[CARRIED];
-    size_t left = tcrx_randomise(at->held, at->decoder.held, plain, sizeof plain).length;
+    size_t left = tcrx_randomise(at->carried, at->decoder.carried, plain, sizeof plain).length;
     const uint8_t *rest = plain;
     for (unsigned i = 0; i < at->most; i++) {
         const tcrx_candidate_reply reply = tcrx_rack_candidate(at->rack, 1, SPACECRAFT, at->fecf, rest, left);
@@ -39,7 +39,7 @@ static void receive_candidate(receiver *at) {
 /* Octets of the radio, in pieces of any size. */
 static void receive(receiver *at, const uint8_t *octets, size_t count) {
     while (count > 0) {
-        const tcrx_decoded answer = tcrx_cltu_octets(at->decoder, octets, count, at->held, sizeof at->held);
+        const tcrx_decoded answer = tcrx_cltu_octets(at->decoder, octets, count, at->carried, sizeof at->carried);
         at->decoder = answer.decoder;
         at->overlong += (unsigned)answer.overlong;
         if (answer.ended) {

@@ -144,7 +144,7 @@ class Bench:  # pylint: disable=too-many-instance-attributes  # it is made of th
             self.watches = Watches(self.options.sender, self.judge.ask_all, partial(self.craft.note_text, "sender"))
             for line in self.watches.setup():
                 self.judge.tell(line)
-            self.craft.begun_channel, self.craft.senders, self.craft.is_held = self.watches.begin, self.watches.state, self.watches.is_behind
+            self.craft.begun_channel, self.craft.senders, self.craft.is_behind = self.watches.begin, self.watches.state, self.watches.is_behind
             self.watches.went_on, self.watches.time = self._judged, self.craft.now
         assert self.watches
         self.engine.heard = self.watches.see

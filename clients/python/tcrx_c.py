@@ -138,7 +138,7 @@ class _Tm(Structure):
 
 
 class _Decoder(Structure):
-    _fields_ = [("correct", c_uint8), ("decoding", c_uint8), ("last", c_uint8), ("count", c_uint8), ("held", c_uint16)]
+    _fields_ = [("correct", c_uint8), ("decoding", c_uint8), ("last", c_uint8), ("count", c_uint8), ("carried", c_uint16)]
 
 
 class _Decoded(Structure):

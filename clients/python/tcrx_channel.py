@@ -17,8 +17,8 @@ frees a channel once is tested, by the same cases as the calls from C. Nothing i
 `Released`, `Packet`, `Unit`, `Clcw` or `Report`, or by `Refused` with its reason. What leaves a call without an answer is an
 exception.
 
-- Threads. The library is called with the GIL held, since a call takes about a microsecond. So calls of one channel from several
-  threads take turns, and each is whole; channels of several threads don't run at the same time. Where Python has no GIL a lock in
+- Threads. A call of the library keeps the GIL, since it takes about a microsecond. So calls of one channel from several threads
+  take turns, and each is whole; channels of several threads don't run at the same time. Where Python has no GIL a lock in
   each channel makes its calls take turns.
 - An interrupt (Ctrl-C) never comes amid a call of the library. The channel goes on, but the answer may be lost.
 - After a fork each process has the channel as it was then, and the two have nothing in common from then on.
@@ -292,7 +292,7 @@ class Decoder:
         """With correction of one wrong bit in each code block, or with detection alone."""
         self._library = load(library)
         self._kept = _Decoder(int(bool(correct)), 0, 0, 0, 0)
-        self._held = ctypes.create_string_buffer(DECODER_ROOM)
+        self._carried = ctypes.create_string_buffer(DECODER_ROOM)
         self.corrected = self.rejected = self.overlong = 0
 
     def feed(self, octets: Octets) -> List[bytes]:
@@ -303,13 +303,13 @@ class Decoder:
         for at in range(0, len(whole), PIECE):
             rest = whole[at:at + PIECE]
             while rest:
-                answer = self._library.tcrx_cltu_octets_at(self._kept, rest, len(rest), self._held, DECODER_ROOM)
+                answer = self._library.tcrx_cltu_octets_at(self._kept, rest, len(rest), self._carried, DECODER_ROOM)
                 self._kept, rest = answer.decoder, rest[answer.taken:]
                 self.corrected += answer.corrected
                 self.rejected += answer.rejected
                 self.overlong += answer.overlong
                 if answer.ended:
-                    frames.append(self._held.raw[:self._kept.held])
+                    frames.append(self._carried.raw[:self._kept.carried])
         return frames
 
     def search(self) -> bool:
@@ -582,9 +582,9 @@ class Rack:
 
     def _call(self, name: str, *given: Any) -> Any:
         """A call of the library, in turn with those of each channel."""
-        with ExitStack() as held:
+        with ExitStack() as locked:
             for lock in self._locks:
-                held.enter_context(lock)
+                locked.enter_context(lock)
             return getattr(self._library, name)(self._held, len(self._channels), *given)
 
     def bring(self, octets: Octets) -> Union[Brought, Refused]:

@@ -112,7 +112,7 @@ class Craft:  # pylint: disable=too-many-instance-attributes  # what is known of
         """What is told of senders, as values of JSON."""
         self.begun_channel: Callable[[int, int], None] = lambda vcid, first: None
         """Called with a channel that is set up, and its V(R)."""
-        self.is_held: Callable[[], bool] = lambda: False
+        self.is_behind: Callable[[], bool] = lambda: False
         """Whether the receiver is given nothing for now, since what it answered before is still looked at."""
         self.arrived: Callable[[], None] = lambda: None
         """Called when a frame arrives."""
@@ -167,7 +167,7 @@ class Craft:  # pylint: disable=too-many-instance-attributes  # what is known of
     def step(self) -> None:
         """Writes the lines of what waits, as far as may be."""
         most = MOST_AT_END if self.is_ending else MOST_UNDER_WAY
-        while self.waiting and not self.barred and len(self.engine.pending) < most and not self.is_held():
+        while self.waiting and not self.barred and len(self.engine.pending) < most and not self.is_behind():
             turn = self.waiting.popleft()
             if turn.line == ANEW and not self.is_ending:
                 self.barred = self.is_renewing = True

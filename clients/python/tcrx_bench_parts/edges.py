@@ -16,7 +16,7 @@ from tcrx import NUMBER
 from .craft import Craft, Turn
 from .engine import Engine, Speech
 from .octets import BROWSER, LONGEST_FRONT, begins_request
-from .ports import Connection, Hub, Port, hold_transport
+from .ports import Connection, Hub, Port, stop_transport
 
 MAKER = Speech(
     "tcmake", {"frame": re.compile("frame [0-9a-f]+"), "random": re.compile("random [0-9a-f]+"), "tm": re.compile("tm [0-9a-f]+"),
@@ -63,7 +63,7 @@ class Decoding:
         self.counts: Counter[str] = Counter()
         self.under_way = 0
         self.is_slow = self.closed = False
-        hub.is_held = lambda: self.is_slow
+        hub.is_behind = lambda: self.is_slow
 
     def begin(self) -> Optional[Stream]:
         """A stream with a decoder, if one is left."""
@@ -95,7 +95,7 @@ class Decoding:
         self.under_way += more
         if (self.under_way > (MOST_UNDER_WAY // 4 if self.is_slow else MOST_UNDER_WAY)) != self.is_slow:
             self.is_slow = not self.is_slow
-            self.hub.hold_all()
+            self.hub.stop_all()
 
     def _decoded(self, piece: Piece, answers: List[str]) -> None:
         """Counts what was found in a piece, and hands the candidates on. Raises `ValueError` where it wasn't decoded."""
@@ -210,8 +210,8 @@ class CltuConnection(Connection):
             self.stream = None
         super().connection_lost(exc)
 
-    def hold(self, held: bool) -> None:
-        hold_transport(self, held)
+    def stop(self, stopped: bool) -> None:
+        stop_transport(self, stopped)
 
 
 class Telemetry:

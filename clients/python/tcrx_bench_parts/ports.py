@@ -195,22 +195,22 @@ class Hub:  # pylint: disable=too-many-instance-attributes  # what ports share
         self.closed = False
         self.turn = 0
         """How often something was read, on all ports."""
-        self.is_held: Callable[[], bool] = lambda: False
+        self.is_behind: Callable[[], bool] = lambda: False
         """Whether nothing is to be read for now, as much waits elsewhere."""
-        craft.slow = lambda slow: self.hold_all()
+        craft.slow = lambda slow: self.stop_all()
         self._sweep()
 
     @property
-    def holds(self) -> bool:
+    def is_stopped(self) -> bool:
         """Whether nothing is read that leads to lines for the receiver: while much waits for it, and from the end on."""
-        return self.closed or self.craft.is_slow or self.is_held()
+        return self.closed or self.craft.is_slow or self.is_behind()
 
-    def hold_all(self) -> None:
-        """Has all connections and datagrams held, or read on."""
+    def stop_all(self) -> None:
+        """Has all connections and datagrams read nothing, or read on."""
         # What was read last comes last, so that each has its turn.
         everyone: List[Union[Connection, Datagrams]] = [*self.datagrams, *(connection for port in self.ports for connection in port.open)]
         for each in sorted(everyone, key=lambda each: each.turn):
-            each.hold(self.holds)
+            each.stop(self.is_stopped)
 
     def next_turn(self) -> int:
         """The number of a turn that is taken now."""
@@ -246,7 +246,7 @@ class Hub:  # pylint: disable=too-many-instance-attributes  # what ports share
         for port in self.ports:
             if port.server:
                 port.server.close()
-        self.hold_all()
+        self.stop_all()
         while self.datagrams:
             self.datagrams.pop().close()
 
@@ -317,12 +317,12 @@ class Connection(asyncio.BufferedProtocol):
                 transport.get_extra_info("socket").setsockopt(*option)
             self.opened()
             # After this call, as older versions of asyncio begin to read behind it.
-            self.hub.loop.call_soon(self._hold_new)
+            self.hub.loop.call_soon(self._stop_new)
 
-    def _hold_new(self) -> None:
-        """Has a new connection held where all are."""
-        if self.hub.holds:
-            self.hold(True)
+    def _stop_new(self) -> None:
+        """Has a new connection read nothing where all do."""
+        if self.hub.is_stopped:
+            self.stop(True)
 
     def _refuse(self, why: str) -> None:
         """Counts and closes a connection that isn't taken."""
@@ -382,7 +382,7 @@ class Connection(asyncio.BufferedProtocol):
         self.port.open.discard(self)
         self.hub.craft.changes += 1
 
-    def hold(self, held: bool) -> None:
+    def stop(self, stopped: bool) -> None:
         """Reads nothing for now, or reads on."""
 
     def look(self) -> None:
@@ -457,17 +457,17 @@ class FrameConnection(Connection):
             self.port.note(self.peer, f"the connection ended with {len(self.cutter.kept)} octets of a frame")
         super().connection_lost(exc)
 
-    def hold(self, held: bool) -> None:
-        hold_transport(self, held)
+    def stop(self, stopped: bool) -> None:
+        stop_transport(self, stopped)
 
 
-def hold_transport(connection: Connection, held: bool) -> None:
+def stop_transport(connection: Connection, stopped: bool) -> None:
     """Has a transport read nothing, or read on."""
     if connection.transport.is_closing():
         return
-    if held and connection.transport.is_reading():
+    if stopped and connection.transport.is_reading():
         connection.transport.pause_reading()
-    elif not held and not connection.transport.is_reading():
+    elif not stopped and not connection.transport.is_reading():
         connection.transport.resume_reading()
 
 
@@ -479,7 +479,7 @@ class LineConnection(Connection):
         self.begun = b""
         self.too_long = False
         self.asked = 0
-        self.held = self.ended = False
+        self.stopped = self.ended = False
 
     def data_received(self, data: bytes) -> None:
         """Passes the lines that are whole on."""
@@ -521,7 +521,7 @@ class LineConnection(Connection):
 
     def _balance(self) -> None:
         """Reads no more lines while many answers are to come, or aren't read."""
-        hold_transport(self, self.held or self.asked > MOST_ASKED or self.paused)
+        stop_transport(self, self.stopped or self.asked > MOST_ASKED or self.paused)
         if self.ended and not self.asked and not self.transport.is_closing():
             self.transport.close()
 
@@ -540,8 +540,8 @@ class LineConnection(Connection):
             self.transport.write(self.last_words(f"lines of this connection that were left unanswered at the end: {self.asked}"))
         super().finish()
 
-    def hold(self, held: bool) -> None:
-        self.held = held
+    def stop(self, stopped: bool) -> None:
+        self.stopped = stopped
         self._balance()
 
     def pause_writing(self) -> None:
@@ -637,23 +637,23 @@ def bound(place: Place) -> socket.socket:
 
 
 class Datagrams:
-    """A port that takes a frame in each datagram, or CLTUs, where it is told what to do with them. While it is held the kernel keeps what
+    """A port that takes a frame in each datagram, or CLTUs, where it is given what does that. While it reads nothing the kernel keeps what
     comes, and loses what it has no room for."""
 
     def __init__(self, place: Place, hub: Hub, fill: int, take: Optional[Callable[[Port, str, bytes], None]] = None) -> None:
-        self.port, self.hub, self.fill, self.take, self.held, self.turn = Port(place, hub), hub, fill, take, False, hub.turn
+        self.port, self.hub, self.fill, self.take, self.stopped, self.turn = Port(place, hub), hub, fill, take, False, hub.turn
         self.socket = bound(place)
         self.socket.setsockopt(socket.SOL_SOCKET, socket.SO_RCVBUF, DATAGRAM_BUFFER)
         self.port.address = address_of(self.socket)
         self.port.look = self._count_lost
         hub.ports.append(self.port)
         hub.datagrams.append(self)
-        self.hold(False)
+        self.stop(False)
 
-    def hold(self, held: bool) -> None:
+    def stop(self, stopped: bool) -> None:
         """Reads nothing for now, or reads on."""
-        self.held = held
-        if held:
+        self.stopped = stopped
+        if stopped:
             self.hub.loop.remove_reader(self.socket)
         else:
             self.hub.loop.add_reader(self.socket, self._read)
@@ -668,7 +668,7 @@ class Datagrams:
         """Brings the frames of some datagrams."""
         self.turn = self.hub.next_turn()
         for _ in range(MOST_AT_ONCE):
-            if self.held:
+            if self.stopped:
                 return
             try:
                 octets, sender = self.socket.recvfrom(LONGEST_DATAGRAM)
@@ -687,7 +687,7 @@ class Datagrams:
 
     def close(self) -> None:
         """Reads nothing more."""
-        self.hold(True)
+        self.stop(True)
         self._count_lost()
         self.port.look = lambda: None
         self.socket.close()

@@ -17,21 +17,21 @@ block-more h c o f room =
     let rest = length-drop h f in
     ap (take (c + 1)) (drop-set-add h f c o) ∙ take_more_set (drop h f) c o (omega arith)
 
--- what is held stays
-held-stays : (h c o : ℕ) (f : List ℕ) → take h (set f (h + c) o) ≡ take h f
-held-stays h c o f = take-set-le h f (h + c) o (omega arith)
+-- what was carried stays
+carried-stays : (h c o : ℕ) (f : List ℕ) → take h (set f (h + c) o) ≡ take h f
+carried-stays h c o f = take-set-le h f (h + c) o (omega arith)
 
 block-length : (h c : ℕ) (f : List ℕ) → h + c < length f → length (take c (drop h f)) ≡ c
 block-length h c f room =
     let rest = length-drop h f in
     length-take-le c (drop h f) (omega arith)
 
-pub more-state : (mode : Mode) (o : ℕ) (d n : DecoderRecord) (f g : List ℕ) → d.decoding ≡ 1 → d.count < 7 → d.held + d.count < length f
-    → g ≡ set f (d.held + d.count) o → n ≡ record d { count = d.count + 1 } → reception_of n g ≡ (reception_step mode 1029 (reception_of d f) o).0
+pub more-state : (mode : Mode) (o : ℕ) (d n : DecoderRecord) (f g : List ℕ) → d.decoding ≡ 1 → d.count < 7 → d.carried + d.count < length f
+    → g ≡ set f (d.carried + d.count) o → n ≡ record d { count = d.count + 1 } → reception_of n g ≡ (reception_step mode 1029 (reception_of d f) o).0
 more-state mode o d n f g on less room made next =
-    let long = block-length d.held d.count f room in
-    let short = lt-ltb (length (take d.count (drop d.held f))) 7 (omega arith) in
-    rw (next, made, on, short, held-stays d.held d.count o f, block-more d.held d.count o f room)
+    let long = block-length d.carried d.count f room in
+    let short = lt-ltb (length (take d.count (drop d.carried f))) 7 (omega arith) in
+    rw (next, made, on, short, carried-stays d.carried d.count o f, block-more d.carried d.count o f room)
 
 -- the octets of a block are all there
 full : (h : ℕ) (f : List ℕ) → h + 7 < length f → ltb (length (take 7 (drop h f))) 7 ≡ false
@@ -39,26 +39,26 @@ full h f room =
     let long = block-length h 7 f room in
     le-ltb (length (take 7 (drop h f))) 7 (omega arith)
 
-pub last-state : (mode : Mode) (o : ℕ) (d : DecoderRecord) (f g : List ℕ) → d.decoding ≡ 1 → d.count ≡ 7 → d.held + 7 < length f
-    → g ≡ set f (d.held + d.count) o → reception_step mode 1029 (reception_of d f) o ≡ after_block 1029 (take d.held g) (decoded mode (take 8 (drop d.held g)))
+pub last-state : (mode : Mode) (o : ℕ) (d : DecoderRecord) (f g : List ℕ) → d.decoding ≡ 1 → d.count ≡ 7 → d.carried + 7 < length f
+    → g ≡ set f (d.carried + d.count) o → reception_step mode 1029 (reception_of d f) o ≡ after_block 1029 (take d.carried g) (decoded mode (take 8 (drop d.carried g)))
 last-state mode o d f g on last room made =
-    rw (on, made, last, full d.held f room, held-stays d.held 7 o f, block-more d.held 7 o f room)
+    rw (on, made, last, full d.carried f room, carried-stays d.carried 7 o f, block-more d.carried 7 o f room)
 
-pub last-fate : (mode : Mode) (o : ℕ) (d : DecoderRecord) (f g : List ℕ) → d.decoding ≡ 1 → d.count ≡ 7 → d.held + 7 < length f
-    → g ≡ set f (d.held + d.count) o → fate_of mode 1029 (reception_of d f) o ≡ Some (fate_after mode 1029 (take d.held g) (take 8 (drop d.held g)))
+pub last-fate : (mode : Mode) (o : ℕ) (d : DecoderRecord) (f g : List ℕ) → d.decoding ≡ 1 → d.count ≡ 7 → d.carried + 7 < length f
+    → g ≡ set f (d.carried + d.count) o → fate_of mode 1029 (reception_of d f) o ≡ Some (fate_after mode 1029 (take d.carried g) (take 8 (drop d.carried g)))
 last-fate mode o d f g on last room made =
-    rw (on, made, last, full d.held f room, held-stays d.held 7 o f, block-more d.held 7 o f room)
+    rw (on, made, last, full d.carried f room, carried-stays d.carried 7 o f, block-more d.carried 7 o f room)
 
--- a block that is taken goes behind what is held
-pub taken-state : (d n : DecoderRecord) (f x rest information : List ℕ) (o : Option (List ℕ)) → d.decoding ≡ 1 → d.held + 7 ≤ 1029 → d.held ≤ length f
-    → length information ≡ 7 → o ≡ Some information → n ≡ record d { count = 0; held = d.held + 7 } → x ≡ take d.held f ++ (information ++ rest)
-    → reception_of n x ≡ (after_block 1029 (take d.held f) o).0
+-- a block that is taken goes behind what was carried
+pub taken-state : (d n : DecoderRecord) (f x rest information : List ℕ) (o : Option (List ℕ)) → d.decoding ≡ 1 → d.carried + 7 ≤ 1029 → d.carried ≤ length f
+    → length information ≡ 7 → o ≡ Some information → n ≡ record d { count = 0; carried = d.carried + 7 } → x ≡ take d.carried f ++ (information ++ rest)
+    → reception_of n x ≡ (after_block 1029 (take d.carried f) o).0
 taken-state d n f x rest information o on fits room seven is next whole =
-    let front = length-take-le d.held f room in
-    let both = length-append (take d.held f) information in
-    let small = le-ltb 1029 (length (take d.held f) + 7) (omega arith) in
-    let cut = take_at (take d.held f ++ information) rest (d.held + 7) (omega arith) in
-    rw (next, on, is, small, whole, ← append_assoc (take d.held f) information rest, cut)
+    let front = length-take-le d.carried f room in
+    let both = length-append (take d.carried f) information in
+    let small = le-ltb 1029 (length (take d.carried f) + 7) (omega arith) in
+    let cut = take_at (take d.carried f ++ information) rest (d.carried + 7) (omega arith) in
+    rw (next, on, is, small, whole, ← append_assoc (take d.carried f) information rest, cut)
 
 -- ---- some octets more
 both : (i n : ℕ) (os : List ℕ) → take (i + n) os ≡ take i os ++ take n (drop i os)
@@ -89,5 +89,5 @@ pub block-quiet : (mode : Mode) (room : ℕ) (frame os : List ℕ) → 8 ≤ len
 block-quiet mode room frame (a ∷ b ∷ c ∷ d ∷ e ∷ f ∷ g ∷ h ∷ os) some = refl
 block-quiet mode room frame _ some = absurd (omega arith)
 
-pub begins : (d : DecoderRecord) (f : List ℕ) → d.decoding ≡ 1 → d.count ≡ 0 → reception_of d f ≡ Decoding (take d.held f) []
+pub begins : (d : DecoderRecord) (f : List ℕ) → d.decoding ≡ 1 → d.count ≡ 0 → reception_of d f ≡ Decoding (take d.carried f) []
 begins d f on none = rw (on, none) refl

@@ -22,7 +22,7 @@ decoder_room = 1037
 -- how code blocks are taken by what a record stands for, or the first reason why it stands for no decoder
 abbrev pub decoder_allowed : DecoderRecord → ℕ → Mode → Result Mode Status
 decoder_allowed decoder room mode =
-    if nat_lt 7 decoder.count || nat_lt most_octets decoder.held then Err BadDecoder
+    if nat_lt 7 decoder.count || nat_lt most_octets decoder.carried then Err BadDecoder
     else if nat_lt room decoder_room then Err NoRoom
     else Ok mode
 
@@ -36,11 +36,11 @@ decoder_given decoder room =
 abbrev pub reception_of : DecoderRecord → List ℕ → Reception
 reception_of decoder frame =
     if decoder.decoding == 0 then Searching decoder.last
-    else Decoding (take decoder.held frame) (take decoder.count (drop decoder.held frame))
+    else Decoding (take decoder.carried frame) (take decoder.count (drop decoder.carried frame))
 
 -- the candidate frames that an answer gives
 abbrev pub given_by : DecodedRecord → List ℕ → List (List ℕ)
-given_by answer frame = if answer.ended == 0 then [] else take answer.decoder.held frame ∷ []
+given_by answer frame = if answer.ended == 0 then [] else take answer.decoder.carried frame ∷ []
 
 -- no octet was taken
 abbrev pub none_taken : Status → DecoderRecord → DecodedRecord
@@ -48,4 +48,4 @@ none_taken fault decoder = record { status = code_of fault; decoder = decoder; e
 
 -- it looks for a start sequence, and no octet came before
 abbrev pub searching : DecoderRecord → DecoderRecord
-searching decoder = record { correct = decoder.correct; decoding = 0; last = 0; count = 0; held = 0 }
+searching decoder = record { correct = decoder.correct; decoding = 0; last = 0; count = 0; carried = 0 }

@@ -25,7 +25,7 @@ pub struct DecoderRecord {
     /// How many octets of the next code block have come, 0 to 7.
     pub count: u8,
     /// How many octets the code blocks carried since the start sequence, which stand at the front of the buffer.
-    pub held: u16,
+    pub carried: u16,
 }
 
 /// What octets came to.
@@ -35,7 +35,7 @@ pub struct DecodedRecord {
     pub status: u32,
     /// The decoder after those that were taken; where the call is refused, as it was given.
     pub decoder: DecoderRecord,
-    /// Whether the last of them ended a candidate frame: the first `held` octets of the buffer.
+    /// Whether the last of them ended a candidate frame: the first `carried` octets of the buffer.
     pub ended: u8,
     /// How many were taken.
     pub taken: u64,
@@ -114,7 +114,7 @@ fn searching(decoder: DecoderRecord) -> DecoderRecord
         decoding: 0,
         last: 0,
         count: 0,
-        held: 0,
+        carried: 0,
         ..decoder
     }
 }
@@ -122,13 +122,13 @@ fn searching(decoder: DecoderRecord) -> DecoderRecord
 // After octets, up to and with the first that ends a candidate frame.
 fn take_octets(mode: Mode, decoder: DecoderRecord, octets: &[u8], frame: &mut [u8]) -> DecodedRecord
     requires count { decoder.count < 8 }
-    requires held { decoder.held ≤ most_octets }
+    requires carried { decoder.carried ≤ most_octets }
     requires decoding { decoder.decoding < 2 }
     requires room { decoder_room ≤ length frame.old }
     ensures status { result.status ≡ code_of Status.Done }
     ensures mode { result.decoder.correct ≡ decoder.correct }
     ensures count { result.decoder.count < 8 }
-    ensures held { result.decoder.held ≤ most_octets }
+    ensures carried { result.decoder.carried ≤ most_octets }
     ensures decoding { result.decoder.decoding < 2 }
     ensures length { length frame.new ≡ length frame.old }
     ensures state { reception_of result.decoder frame.new ≡ state_after mode most_octets (reception_of decoder frame.old) (take result.taken octets.now) }
@@ -191,18 +191,18 @@ struct Taken {
 fn take_front(mode: Mode, decoder: DecoderRecord, octets: &[u8], frame: &mut [u8]) -> (Taken, usize)
     requires some { 0 < length octets.now }
     requires count { decoder.count < 8 }
-    requires held { decoder.held ≤ most_octets }
+    requires carried { decoder.carried ≤ most_octets }
     requires decoding { decoder.decoding < 2 }
     requires room { decoder_room ≤ length frame.old }
     ensures mode { result.0.decoder.correct ≡ decoder.correct }
     ensures count { result.0.decoder.count < 8 }
-    ensures held { result.0.decoder.held ≤ most_octets }
+    ensures carried { result.0.decoder.carried ≤ most_octets }
     ensures decoding { result.0.decoder.decoding < 2 }
     ensures length { length frame.new ≡ length frame.old }
     ensures some { 0 < result.1 }
     ensures within { result.1 ≤ length octets.now }
     ensures state { reception_of result.0.decoder frame.new ≡ state_after mode most_octets (reception_of decoder frame.old) (take result.1 octets.now) }
-    ensures given { (if result.0.ended then take result.0.decoder.held frame.new ∷ [] else []) ≡ frames_of mode most_octets (reception_of decoder frame.old) (take result.1 octets.now) }
+    ensures given { (if result.0.ended then take result.0.decoder.carried frame.new ∷ [] else []) ≡ frames_of mode most_octets (reception_of decoder frame.old) (take result.1 octets.now) }
     ensures before { frames_of mode most_octets (reception_of decoder frame.old) (take (result.1 - 1) octets.now) ≡ [] }
     ensures fates { (count : Option Fate → ℕ) → count None ≡ 0 → count result.0.fate ≡ counted_in count mode most_octets (reception_of decoder frame.old) (take result.1 octets.now) }
 {
@@ -217,16 +217,16 @@ fn take_front(mode: Mode, decoder: DecoderRecord, octets: &[u8], frame: &mut [u8
 // After an octet.
 fn take_octet(mode: Mode, decoder: DecoderRecord, octet: u8, frame: &mut [u8]) -> Taken
     requires count { decoder.count < 8 }
-    requires held { decoder.held ≤ most_octets }
+    requires carried { decoder.carried ≤ most_octets }
     requires decoding { decoder.decoding < 2 }
     requires room { decoder_room ≤ length frame.old }
     ensures mode { result.decoder.correct ≡ decoder.correct }
     ensures count { result.decoder.count < 8 }
-    ensures held { result.decoder.held ≤ most_octets }
+    ensures carried { result.decoder.carried ≤ most_octets }
     ensures decoding { result.decoder.decoding < 2 }
     ensures length { length frame.new ≡ length frame.old }
     ensures state { reception_of result.decoder frame.new ≡ (reception_step mode most_octets (reception_of decoder frame.old) octet).0 }
-    ensures given { (if result.ended then take result.decoder.held frame.new ∷ [] else []) ≡ (reception_step mode most_octets (reception_of decoder frame.old) octet).1 }
+    ensures given { (if result.ended then take result.decoder.carried frame.new ∷ [] else []) ≡ (reception_step mode most_octets (reception_of decoder frame.old) octet).1 }
     ensures fate { result.fate ≡ fate_of mode most_octets (reception_of decoder frame.old) octet }
 {
     if decoder.decoding == 0 {
@@ -236,11 +236,11 @@ fn take_octet(mode: Mode, decoder: DecoderRecord, octet: u8, frame: &mut [u8]) -
             ended: false,
         };
     }
-    frame[usize::from(decoder.held) + usize::from(decoder.count)] = octet;
+    frame[usize::from(decoder.carried) + usize::from(decoder.count)] = octet;
     if decoder.count == 7 {
         let mut block = [0; 8];
-        let held = usize::from(decoder.held);
-        block.copy_from_slice(&frame[held..held + 8]);
+        let carried = usize::from(decoder.carried);
+        block.copy_from_slice(&frame[carried..carried + 8]);
         return end_block(mode, decoder, block, frame);
     }
     Taken {
@@ -257,13 +257,13 @@ fn take_octet(mode: Mode, decoder: DecoderRecord, octet: u8, frame: &mut [u8]) -
 fn read_decoder(decoder: DecoderRecord, room: usize) -> Result<Mode, Status>
     ensures mode { MatchResult result (λ mode. decoder_given decoder room ≡ Ok mode) (λ fault. decoder_given decoder room ≡ Err fault) }
     ensures count { IfOk result (λ mode. decoder.count < 8) }
-    ensures held { IfOk result (λ mode. decoder.held ≤ most_octets) }
+    ensures carried { IfOk result (λ mode. decoder.carried ≤ most_octets) }
     ensures decoding { IfOk result (λ mode. decoder.decoding < 2) }
     ensures room { IfOk result (λ mode. decoder_room ≤ room) }
 {
     let correct = flag(decoder.correct)?;
     let _decoding = flag(decoder.decoding)?;
-    if decoder.count > 7 || usize::from(decoder.held) > MOST_OCTETS {
+    if decoder.count > 7 || usize::from(decoder.carried) > MOST_OCTETS {
         return Err(Status::BadDecoder);
     }
     if room < MOST_OCTETS + 8 {
@@ -274,13 +274,13 @@ fn read_decoder(decoder: DecoderRecord, room: usize) -> Result<Mode, Status>
 
 // After an octet while a start sequence is looked for.
 fn search(mode: Mode, decoder: DecoderRecord, octet: u8) -> DecoderRecord
-    ensures { result ≡ (if is_start mode decoder.last octet then record decoder { decoding = 1; count = 0; held = 0 } else record decoder { last = octet }) }
+    ensures { result ≡ (if is_start mode decoder.last octet then record decoder { decoding = 1; count = 0; carried = 0 } else record decoder { last = octet }) }
 {
     if begins(mode, decoder.last, octet) {
         DecoderRecord {
             decoding: 1,
             count: 0,
-            held: 0,
+            carried: 0,
             ..decoder
         }
     } else {
@@ -295,18 +295,18 @@ fn search(mode: Mode, decoder: DecoderRecord, octet: u8) -> DecoderRecord
 #[inline(always)]
 fn end_block(mode: Mode, decoder: DecoderRecord, block: [u8; 8], frame: &mut [u8]) -> Taken
     requires decoding { decoder.decoding ≡ 1 }
-    requires held { decoder.held ≤ most_octets }
+    requires carried { decoder.carried ≤ most_octets }
     requires room { decoder_room ≤ length frame.old }
     ensures mode { result.decoder.correct ≡ decoder.correct }
     ensures count { result.decoder.count ≡ 0 }
-    ensures held { result.decoder.held ≤ most_octets }
+    ensures carried { result.decoder.carried ≤ most_octets }
     ensures decoding { result.decoder.decoding < 2 }
     ensures length { length frame.new ≡ length frame.old }
-    ensures state { reception_of result.decoder frame.new ≡ (after_block most_octets (take decoder.held frame.old) (decoded mode block)).0 }
-    ensures given { (if result.ended then take result.decoder.held frame.new ∷ [] else []) ≡ (after_block most_octets (take decoder.held frame.old) (decoded mode block)).1 }
-    ensures fate { result.fate ≡ Some (fate_after mode most_octets (take decoder.held frame.old) block) }
+    ensures state { reception_of result.decoder frame.new ≡ (after_block most_octets (take decoder.carried frame.old) (decoded mode block)).0 }
+    ensures given { (if result.ended then take result.decoder.carried frame.new ∷ [] else []) ≡ (after_block most_octets (take decoder.carried frame.old) (decoded mode block)).1 }
+    ensures fate { result.fate ≡ Some (fate_after mode most_octets (take decoder.carried frame.old) block) }
 {
-    let held = usize::from(decoder.held);
+    let carried = usize::from(decoder.carried);
     let Judged { fate, information } = judge(block, mode);
     let searching = DecoderRecord {
         decoding: 0,
@@ -318,23 +318,23 @@ fn end_block(mode: Mode, decoder: DecoderRecord, block: [u8; 8], frame: &mut [u8
         None => Taken {
             decoder: searching,
             fate: Some(fate),
-            ended: held > 0,
+            ended: carried > 0,
         },
         Some(information) => {
-            if held + 7 > MOST_OCTETS {
+            if carried + 7 > MOST_OCTETS {
                 return Taken {
                     decoder: searching,
                     fate: Some(Fate::Overlong),
                     ended: false,
                 };
             }
-            let (_, rest) = frame.split_at_mut(held);
-            let (carried, _) = rest.split_at_mut(7);
-            carried.copy_from_slice(&information);
+            let (_, rest) = frame.split_at_mut(carried);
+            let (next, _) = rest.split_at_mut(7);
+            next.copy_from_slice(&information);
             Taken {
                 decoder: DecoderRecord {
                     count: 0,
-                    held: decoder.held + 7,
+                    carried: decoder.carried + 7,
                     ..decoder
                 },
                 fate: Some(fate),

@@ -351,7 +351,7 @@ records! {
         /// The octets of the next code block that have come, 0 to 7.
         count: u8,
         /// The octets that code blocks have carried since the start sequence, 0 to 1,029.
-        held: u16,
+        carried: u16,
     }
     /// What octets of a stream came to.
     Decoded as "tcrx_decoded" {
@@ -359,7 +359,7 @@ records! {
         status: Status,
         /// The decoder after the octets that were taken; where the call is refused, as it was given.
         decoder: Decoder,
-        /// Whether the last of them ended a candidate frame: the first `held` octets of the buffer.
+        /// Whether the last of them ended a candidate frame: the first `carried` octets of the buffer.
         ended: u8,
         /// How many octets were taken.
         taken: u64,

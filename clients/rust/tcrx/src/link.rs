@@ -115,9 +115,9 @@ pub fn write_cltu<'room>(frame: &[u8], room: &'room mut [u8]) -> Result<&'room [
 
 /// What octets of a stream came to.
 #[derive(Clone, Copy, Debug, PartialEq, Eq, Hash)]
-pub struct Fed<'held, 'octets> {
+pub struct Fed<'decoder, 'octets> {
     /// The candidate frame that the last of those that were taken ended, with fill behind it, if it ended one.
-    pub frame: Option<&'held [u8]>,
+    pub frame: Option<&'decoder [u8]>,
     /// The octets behind those that were taken.
     pub rest: &'octets [u8],
     /// How many code blocks ended of which one bit was corrected.
@@ -132,24 +132,25 @@ pub struct Fed<'held, 'octets> {
 #[derive(Clone, Debug)]
 pub struct Decoder {
     kept: sys::Decoder,
-    held: [u8; sys::DECODER_ROOM],
+    carried: [u8; sys::DECODER_ROOM],
 }
 
 impl Decoder {
     /// With correction of one wrong bit in each code block, or with detection alone.
     pub fn new(correct: bool) -> Self {
-        let kept = sys::Decoder { correct: correct.into(), decoding: 0, last: 0, count: 0, held: 0 };
-        Decoder { kept, held: [0; sys::DECODER_ROOM] }
+        let kept = sys::Decoder { correct: correct.into(), decoding: 0, last: 0, count: 0, carried: 0 };
+        Decoder { kept, carried: [0; sys::DECODER_ROOM] }
     }
 
     /// Takes the next octets of the stream, up to and with the first that ends a candidate frame, or all.
-    pub fn feed<'held, 'octets>(&'held mut self, octets: &'octets [u8]) -> Fed<'held, 'octets> {
+    pub fn feed<'decoder, 'octets>(&'decoder mut self, octets: &'octets [u8]) -> Fed<'decoder, 'octets> {
         // SAFETY: both pointers are to as many octets as the counts say, and only one of them is written to.
-        let answer =
-            unsafe { sys::tcrx_cltu_octets_at(self.kept, octets.as_ptr(), octets.len(), self.held.as_mut_ptr(), self.held.len()) };
+        let answer = unsafe {
+            sys::tcrx_cltu_octets_at(self.kept, octets.as_ptr(), octets.len(), self.carried.as_mut_ptr(), self.carried.len())
+        };
         self.kept = answer.decoder;
         Fed {
-            frame: (answer.ended == 1).then(|| &self.held[..self.kept.held.into()]),
+            frame: (answer.ended == 1).then(|| &self.carried[..self.kept.carried.into()]),
             rest: &octets[answer.taken as usize..],
             corrected: answer.corrected,
             rejected: answer.rejected,

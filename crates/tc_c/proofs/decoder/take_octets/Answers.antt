@@ -19,14 +19,14 @@ loop-taken-preserved c =
     let whole : take (length os - i) (drop i os) ≡ drop i os = take_all (length os - i) (drop i os) (omega arith) in
     let long = ap length whole in
     let given : [] ≡ frames_of m 1029 at (take k (drop i os)) =
-    sym (ap (λ (b : Bool). if b then take n.decoder.held f ∷ [] else []) c.if-next.false) ∙ t.given ∙ ap (λ (x : List ℕ). frames_of m 1029 at (take k x)) whole in
+    sym (ap (λ (b : Bool). if b then take n.decoder.carried f ∷ [] else []) c.if-next.false) ∙ t.given ∙ ap (λ (x : List ℕ). frames_of m 1029 at (take k x)) whole in
     let corrected = t.fates corrections_of refl ∙ ap (λ (x : List ℕ). corrected_in m 1029 at (take k x)) whole in
     let rejected = t.fates rejections_of refl ∙ ap (λ (x : List ℕ). rejected_in m 1029 at (take k x)) whole in
     let overlong = t.fates overruns_of refl ∙ ap (λ (x : List ℕ). overlong_in m 1029 at (take k x)) whole in
     record {
       correct = t.mode ∙ inv.correct;
       count = t.count;
-      held = t.held;
+      carried = t.carried;
       decoding = t.decoding;
       room = t.length ∙ inv.room;
       within = omega arith;
@@ -48,8 +48,8 @@ returns-then-next c =
     let t = c.take_front-count.ensures in let inv = l.invariant in let some = t.some in
     let left = length-drop i os in
     let whole : take (length os - i) (drop i os) ≡ drop i os = take_all (length os - i) (drop i os) (omega arith) in
-    let given : take n.decoder.held f ∷ [] ≡ frames_of m 1029 at (take k (drop i os)) =
-    sym (ap (λ (b : Bool). if b then take n.decoder.held f ∷ [] else []) c.if-next.true) ∙ t.given ∙ ap (λ (x : List ℕ). frames_of m 1029 at (take k x)) whole in
+    let given : take n.decoder.carried f ∷ [] ≡ frames_of m 1029 at (take k (drop i os)) =
+    sym (ap (λ (b : Bool). if b then take n.decoder.carried f ∷ [] else []) c.if-next.true) ∙ t.given ∙ ap (λ (x : List ℕ). frames_of m 1029 at (take k x)) whole in
     let corrected = t.fates corrections_of refl ∙ ap (λ (x : List ℕ). corrected_in m 1029 at (take k x)) whole in
     let rejected = t.fates rejections_of refl ∙ ap (λ (x : List ℕ). rejected_in m 1029 at (take k x)) whole in
     let overlong = t.fates overruns_of refl ∙ ap (λ (x : List ℕ). overlong_in m 1029 at (take k x)) whole in
@@ -58,11 +58,11 @@ returns-then-next c =
       status = c.code.ensures;
       mode = t.mode ∙ inv.correct;
       count = t.count;
-      held = t.held;
+      carried = t.carried;
       decoding = t.decoding;
       length = t.length ∙ inv.room;
       state = state-more m 1029 i k os first at (reception_of n.decoder f) inv.state (t.state ∙ ap (λ (x : List ℕ). state_after m 1029 at (take k x)) whole);
-      given = frames-more m 1029 i k os first at (take n.decoder.held f ∷ []) inv.state inv.none given;
+      given = frames-more m 1029 i k os first at (take n.decoder.carried f ∷ []) inv.state inv.none given;
       before = λ _. ap (λ (x : ℕ). frames_of m 1029 first (take x os)) last ∙ sym (frames-more m 1029 i (k - 1) os first at [] inv.state inv.none (sym t.before ∙ ap (λ (x : List ℕ). frames_of m 1029 at (take (k - 1) x)) whole));
       all = λ e. absurd (omega arith);
       flag = omega arith;

@@ -7,7 +7,7 @@ abbrev pub invariant-loop-taken : goal.invariant-loop-taken
 invariant-loop-taken l = record {
   correct : l.now.correct ≡ l.fn.decoder.correct;
   count : l.now.count < 8;
-  held : l.now.held ≤ 1029;
+  carried : l.now.carried ≤ 1029;
   decoding : l.now.decoding < 2;
   room : length l.frame ≡ length l.fn.frame;
   within : l.taken ≤ length l.octets;
