@@ -59,7 +59,7 @@ fn new_channel<C: Form>(
     }
 }
 
-// What a channel answers to the frame at the front of these octets.
+// Has a channel answer the frame at the front of these octets.
 fn offer<C: Form>(rt: &impl Abort, channel: &mut C, octets: &[u8]) -> Result<FrameReply, NoMemory> {
     channel.bring(&read_frame(octets).expect(rt, "a frame"))
 }

@@ -17,7 +17,7 @@ use test_parts::Form;
 /// How many virtual channel ids there are.
 const IDS: u8 = 64;
 
-/// Who makes channels of a form for the spacecraft with this id, and asks them. Nothing is promised of the form.
+/// Makes channels of a form for the spacecraft with this id, and asks them. Nothing is promised of the form.
 #[derive(Drop)]
 pub(crate) struct LoneBackend<C> {
     scid: u16,
@@ -62,7 +62,7 @@ impl<C: Form> Backend for LoneBackend<C> {
     }
 }
 
-/// The virtual channels of one spacecraft, each of the same form, without locks. `None` stands for memory that is wanting.
+/// The virtual channels of one spacecraft, each of the same form, without locks. A call answers `None` where memory runs out.
 #[derive(Drop)]
 pub(crate) struct Lone<C: Form> {
     alloc: Global,
@@ -127,7 +127,7 @@ impl<C: Form> Lone<C> {
     }
 }
 
-// What a channel answers to an operation on it alone.
+// Has a channel answer an operation on it alone.
 fn ask<C: Form>(alloc: Global, channel: &mut C, vcid: u8, operation: &Operation) -> Option<Answer> {
     match operation {
         Operation::Take(_, apid) => match channel.take_packet(alloc, *apid) {
@@ -179,7 +179,7 @@ fn unlocated(fault: LocateFault) -> Option<Answer> {
     refused(Refusal::Unlocated(fault))
 }
 
-// What a channel has come to, then how many packets wait in each queue, and how many units on each chosen MAP.
+// Reports a channel, then how many packets wait in each queue, and how many units on each chosen MAP.
 fn report_channel<C: Form, W: Write>(channel: &C, writer: &mut W) -> io::Result<()> {
     let settings = channel.made_with();
     let vcid = settings.vcid;

@@ -1,4 +1,4 @@
-//! Does the scripts of the folder that it runs in, and tells each that is answered otherwise than
+//! Runs the scripts of the folder that it runs in, and reports each that is answered otherwise than
 //! expected.
 //!
 //! The file `index` has a line for each case, in the order of their names: the name, the spacecraft
@@ -155,7 +155,7 @@ fn agrees_each_way<R: AllocGlobal + Print + Threads + Wait + Sync>(
     Ok(all)
 }
 
-// Whether a script leads to what it is to lead to. Where it doesn't, it is told.
+// Whether a script leads to what it is to lead to. Where it doesn't, that is reported.
 fn agrees<R: AllocGlobal + Print + Threads + Wait + Sync>(
     rt: &R,
     case: &Case,

@@ -1,4 +1,4 @@
-//! What a script leads to.
+//! Runs a script in each way.
 
 ghost use Rattle.std.specs.Prelude.{◌≤◌};
 
@@ -12,14 +12,14 @@ use tc_cli::{parallel_script, run_script};
 use tc_fixed::FixedChannel;
 use tc_station::FreeGate;
 
-/// What a script is answered, and the text of the fault with which it ends.
+/// The answers to a script, and the text of the fault with which it ends.
 #[derive(Debug, Drop)]
 pub(crate) struct Outcome {
     pub(crate) answers: Vec<u8>,
     pub(crate) fault: String,
 }
 
-/// How a script is done.
+/// How a script is run.
 #[derive(Clone, Copy, Debug)]
 pub(crate) enum Command {
     /// Line by line, with an answer for each operation.
@@ -52,7 +52,7 @@ impl fmt::Display for Command {
     }
 }
 
-/// Does a script in memory.
+/// Runs a script in memory.
 pub(crate) fn perform<T: Threads + Wait + Sync>(
     rt: &T,
     alloc: Global,

@@ -8,7 +8,7 @@ use tc_setup::{Configuration, Instruction};
 use tc_text::{Reason, ScriptFault, next_line, parse_line, read_whole};
 use test_parts::Form;
 
-/// Reads a script and does its lines on channels of a form. Writes the answers, and then the final report.
+/// Reads a script and runs its lines on channels of a form. Writes the answers, and then the final report.
 pub(crate) fn replay<C: Form, R: Read, W: Write>(
     alloc: Global,
     scid: u16,
@@ -22,7 +22,7 @@ pub(crate) fn replay<C: Form, R: Read, W: Write>(
     report(alloc, &backend, stage, writer, lines)
 }
 
-// Does the lines, and says how many there are.
+// Runs the lines, and says how many there are.
 fn replay_lines<C: Form, W: Write>(
     alloc: Global,
     backend: &LoneBackend<C>,
@@ -40,7 +40,7 @@ fn replay_lines<C: Form, W: Write>(
     Ok(line)
 }
 
-// Does a line, and writes its answer where it has one.
+// Runs a line, and writes its answer where it has one.
 fn replay_line<C: Form, W: Write>(
     alloc: Global,
     backend: &LoneBackend<C>,

@@ -1,4 +1,4 @@
--- What a seat that has the lock of a book has in its hands.
+-- A seat that has the lock of a book has the book in its hands.
 use Rattle.std.proofs.Common.{◌≡◌, ℕ, List, [], ◌∷◌, ◌++◌, sym, ap, ◌∙◌, get_or}
 use Rattle.atomic_table.specs.Table.{Me, rest}
 use Rattle.logged_lock.specs.declared.views.Log.{Log}

@@ -48,7 +48,7 @@ const PLAIN_FIELD: Field = (None, 1_012, 1_019);
 // 32 and fewer than 64, and the list of a kept journal's events, whose room is doubled, grows in none of the calls.
 const BEFORE: u8 = 20;
 
-// What is done to a channel.
+// Names the calls of a channel.
 #[derive(Clone, Copy)]
 enum Call {
     // A Type-AD frame that is accepted, and one that is discarded.
@@ -67,7 +67,7 @@ enum Call {
 
 // Each call on the first channel.
 static FIRST_CALLS: [Call; 30] = [
-    // What ends no unit.
+    // These end no unit.
     Unlock,
     Again(ONE_PACKET),
     Clcw,

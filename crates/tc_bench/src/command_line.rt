@@ -1,6 +1,6 @@
 //! The command line.
 
-/// What becomes of a channel's journal, and when the channel asks for memory.
+/// Says what becomes of a channel's journal, and when the channel asks for memory.
 #[derive(Clone, Copy)]
 pub(crate) enum Kind {
     /// The journal is kept in memory.
@@ -11,7 +11,7 @@ pub(crate) enum Kind {
     Rooms,
 }
 
-/// What comes to a bare channel in each round, and is taken.
+/// Says what comes to a bare channel in each round, and is taken.
 #[derive(Clone, Copy)]
 pub(crate) enum Load {
     /// A Type-AD frame of 13 octets, which is released, and its packet.
@@ -24,10 +24,10 @@ pub(crate) enum Load {
     Segments,
 }
 
-/// What a command line asks for.
+/// Says what a command line asks for.
 #[derive(Clone, Copy)]
 pub(crate) enum Action<'a> {
-    /// Do the load, and print its scores.
+    /// Run the load, and print its scores.
     Scores,
     /// Make so many rounds of a load on a channel of this form, and print what they add up to.
     Rounds(Kind, Load, u32),
@@ -37,7 +37,7 @@ pub(crate) enum Action<'a> {
     Worst(&'a str, u16),
 }
 
-/// What the words ask for, the program's name first.
+/// Reads what the words ask for, the program's name first.
 pub(crate) fn judge(words: &[String]) -> Option<Action<'_>> {
     match words {
         [] | [_] => Some(Action::Scores),

@@ -11,7 +11,7 @@ use anyhow::{Result, anyhow};
 use tc_channel::{Channel, CountingChannel};
 use tc_fixed::{FixedChannel, Limits, MapLimit, storage_with_limits};
 
-// What a row brings for a key.
+// Says what a row brings for a key.
 #[derive(Clone, Copy)]
 enum Piece {
     // The largest packet that a data field without a segment header has, for the application.
@@ -42,7 +42,7 @@ const ENDED: Piece = Piece::Segment(Kind::Bypassing, LAST, 0);
 
 const BUFFERED: Piece = Piece::Segment(Kind::Next, FIRST, 1_018);
 
-// What fills the queues and the buffer of a plain channel.
+// These rows fill the queues and the buffer of a plain channel.
 fn plain_rows(plan: &Plan) -> [Row; 2] {
     let (queues, packets) = plan.queues;
     let packets = queues.saturating_mul(packets);
@@ -84,7 +84,7 @@ static HOSTILE_ROWS: [Row; 16] = [
     (BEGUN, (63, 1), 1, NOTHING),
 ];
 
-// What fills the queues with these packets and largest units, opens a run on each MAP of each service, fills the buffer, and makes
+// These rows fill the queues with these packets and largest units, open a run on each MAP of each service, fill the buffer, and make
 // units that find no room. Where the last are of runs that are beyond their limits, they end nothing.
 fn filling_rows(plan: &Plan, packet: Piece, ended: Items) -> [Row; 8] {
     let (queues, packets) = plan.queues;
@@ -103,7 +103,7 @@ fn filling_rows(plan: &Plan, packet: Piece, ended: Items) -> [Row; 8] {
     ]
 }
 
-// Makes the channel of a plan, tells the memory that it takes, and brings it these rows, with a line before and after.
+// Makes the channel of a plan, reports the memory that it takes, and brings it these rows, with a line before and after.
 fn print<F: Form, R: AllocGlobal + Print>(rt: &R, plan: &Plan, rows: &[Row]) -> Result<()> {
     let settings = plan.settings(rt.alloc(), 1)?;
     let (name, octets) = F::memory(&settings);
@@ -168,7 +168,7 @@ fn bring_piece<F: Form>(
     }
 }
 
-// Does what a word says for a channel of this form.
+// Runs what a word says for a channel of this form.
 fn fill<F: Form, R: AllocGlobal + Print>(rt: &R, word: &str) -> Result<()> {
     let mut plan = PLAIN;
     match word {
@@ -192,7 +192,7 @@ fn fill<F: Form, R: AllocGlobal + Print>(rt: &R, word: &str) -> Result<()> {
     }
 }
 
-/// Does what this word says.
+/// Runs what this word says.
 pub(crate) fn obey<R: AllocGlobal + Print>(rt: &R, word: &str) -> Result<()> {
     match (word, word.strip_prefix("fixed_")) {
         ("recorded", _) => calls::print::<Channel, R>(rt),

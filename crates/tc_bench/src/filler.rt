@@ -51,7 +51,7 @@ pub(crate) enum Kind {
     Unlock,
 }
 
-// What a frame of this kind is answered by FARM-1's table, with so many items.
+// The answer to a frame of this kind by FARM-1's table, with so many items.
 fn reply_of(kind: Kind, items: Items) -> FrameReply {
     let (event, accepted, (queued, dropped)) = match kind {
         Kind::Next => (1, true, items),

@@ -19,9 +19,9 @@ pub(crate) enum Oldest {
     Unit(u8),
 }
 
-/// What is done to a channel of whatever form.
+/// Has the calls of a channel of whatever form.
 pub(crate) trait Form: Drop {
-    /// What bounds the memory of a channel of these settings, and how many octets it is.
+    /// Names what bounds the memory of a channel of these settings, and counts its octets.
     fn memory(settings: &Settings) -> (&'static str, u64);
 
     /// The channel of these settings.
@@ -82,8 +82,8 @@ impl<J: Journal> Form for ChannelWith<J> {
     }
 }
 
-// What `worst` makes once, for another program to see, is made here by the same functions, but for frames and releases: those come
-// before it, too.
+// The calls that `worst` makes once, for another program to see, are made here by the same functions, but for frames and releases: those
+// come before it, too.
 impl Form for FixedChannel {
     fn memory(settings: &Settings) -> (&'static str, u64) {
         ("storage", storage(settings))

@@ -1,4 +1,4 @@
-//! What comes to a bare channel in each round.
+//! Brings a bare channel its load in each round.
 
 use crate::filler::{BODY, CONTINUING, FIRST, LAST, UNSEGMENTED};
 use crate::sender::SCID;

@@ -1,11 +1,11 @@
 //! `tc_bench`: a fixed load for stations, rounds on a bare channel, and channels that are filled, so that another program can see what
 //! they cost.
 //!
-//! With no argument it does the load and prints scores that each answer changes: a receiver that answers otherwise prints
+//! With no argument it runs the load and prints scores that each answer changes: a receiver that answers otherwise prints
 //! others. With `rounds recorded`, `rounds counting` or `rounds rooms` and a number it makes so many rounds on a bare channel of that
 //! form, of Type-AD frames or of the load that another word names, and prints what their answers add up to.
 //!
-//! With `fill` and `plain`, `one` or `many` it makes a counting channel of that plan, tells the bound of its memory, and fills it, with
+//! With `fill` and `plain`, `one` or `many` it makes a counting channel of that plan, prints the bound of its memory, and fills it, with
 //! `plain_7`, `plain_8` and `plain_63` a plain one of so many queues. With `fill calls` it makes each kind of call once, and again, and
 //! prints a line after each, with `fill recorded` likewise on a channel whose journal is recorded. Each of these words but `recorded` with `fixed_`
 //! before it does so with the channel in rooms. Nothing that it keeps beside the channel grows between two lines. With `fixed_limited`

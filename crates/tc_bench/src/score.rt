@@ -2,7 +2,7 @@
 
 use tc_channel::{Delivery, FrameReply};
 
-/// What the score so far is multiplied by before a word is added: a prime above 2^40.
+/// The score so far is multiplied by this before a word is added: a prime above 2^40.
 const FACTOR: u64 = 1_099_511_628_211;
 
 /// A number that the answers and their order determine, 0 before the first.

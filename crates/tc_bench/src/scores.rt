@@ -12,7 +12,7 @@ use std::sync::Wait;
 use std::thread::Threads;
 use tc_channel::Channel;
 
-// What a score is of: the virtual channels, how many rounds are made on each, and whether a worker for each channel makes them, or one
+// A score is of these: the virtual channels, how many rounds are made on each, and whether a worker for each channel makes them, or one
 // thread makes a round on each in turn.
 type Row = (&'static str, &'static [u8], u32, bool);
 
@@ -22,7 +22,7 @@ static ROWS: [Row; 3] = [
     ("four workers", &[1, 2, 3, 63], 5_000, true),
 ];
 
-/// Does the load of each row, and prints its score.
+/// Runs the load of each row, and prints its score.
 pub(crate) fn print<R: Threads + Wait + Sync + AllocGlobal + Print>(rt: &R) -> Result<()> {
     for (what, vcids, rounds, by_workers) in &ROWS {
         let score = score_of(rt, rt.alloc(), vcids, *rounds, *by_workers)?;
@@ -40,7 +40,7 @@ fn senders(alloc: Global, vcids: &[u8]) -> Result<Vec<Sender>> {
     Ok(senders)
 }
 
-// What each answer in turn tells is added, and what the closed channels tell.
+// Adds what each answer in turn reports, and what the closed channels report.
 fn score_of<R: Threads + Wait + Sync>(
     rt: &R,
     alloc: Global,
@@ -82,7 +82,7 @@ fn in_turn(
     operator_list.close(alloc)
 }
 
-// Adds what closed channels tell.
+// Adds what closed channels report.
 fn add_channels(score: &mut Score, channels: &[Channel]) -> Result<()> {
     for channel in channels {
         let Some(queued) = channel.queued(APID) else {

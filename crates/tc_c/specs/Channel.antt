@@ -1,4 +1,4 @@
--- What a channel answers, as records of numbers.
+-- Says what a channel answers, as records of numbers.
 use Rattle.std.specs.Prelude.{◌≡◌, ◌⊎◌, ◌++◌, ℕ, List, length, drop, Result, Ok, Err}
 use Rattle.tc_link.specs.Bits.{bit}
 use Rattle.tc_link.specs.declared.Link.{Link}

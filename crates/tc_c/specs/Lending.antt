@@ -1,4 +1,4 @@
--- What is lent of a place and of a seat: the channel that is there.
+-- Lent of a place and of a seat is the channel that is there.
 use Rattle.std.specs.Prelude.{◌≡◌, Option, Some, OnSome}
 use Rattle.std.specs.Borrow.{Lends, LendsSo, MutBor, Fml}
 use Rattle.tc_fixed.specs.History.{LimitedHistory}

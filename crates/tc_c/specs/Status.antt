@@ -1,4 +1,4 @@
--- What a call came to, as a number and as a text.
+-- Says what a call came to, as a number and as a text.
 use Rattle.std.specs.Prelude.{ℕ, ◌==◌, List, [], ◌∷◌, Option, Some, None, codes, if◌then◌else◌}
 use Rattle.tc_link.specs.declared.frame.FrameFault.{FrameFault}
 use Rattle.tc_link.specs.declared.frame.FrameFault.TheVariants as frames

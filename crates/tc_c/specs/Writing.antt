@@ -1,4 +1,4 @@
--- What is written of records of numbers, or the first reason why nothing is, in the order given.
+-- Says what is written of records of numbers, or the first reason why nothing is, in the order given.
 use Rattle.std.specs.Prelude.{ℕ, ◌+◌, ◌==◌, ◌||◌, List, length, Some, Result, Ok, Err, nat_lt, if◌then◌else◌}
 use Rattle.tc_link.specs.declared.frame.Header.{Header}
 use Rattle.tc_link.specs.declared.command.Command.{Command}

@@ -17,7 +17,7 @@ use tc_channel::{Delivery, FrameReply, Tick};
 use tc_fixed::{FixedChannel, NothingReleased};
 use tc_link::read_frame;
 
-/// What became of a frame. Flags are 0 or 1, and each number is 0 where the call is refused.
+/// Reports what became of a frame. Flags are 0 or 1, and each number is 0 where the call is refused.
 #[repr(C)]
 #[derive(Clone, Copy)]
 pub struct ReplyRecord {
@@ -34,7 +34,7 @@ pub struct ReplyRecord {
     pub rest: u8,
 }
 
-/// What became of a data field that was released. Each number is 0 where the call is refused.
+/// Reports what became of a data field that was released. Each number is 0 where the call is refused.
 #[repr(C)]
 #[derive(Clone, Copy)]
 pub struct DeliveryRecord {
@@ -95,7 +95,7 @@ fn delivery_refused(fault: Status) -> DeliveryRecord
     }
 }
 
-/// What [`tcrx_channel_frame_at`] runs once with the channel of its seat, and with a count that isn't kept. A step is a packet that is
+/// [`tcrx_channel_frame_at`] runs this once with the channel of its seat, and with a count that isn't kept. A step is a packet that is
 /// cut from the unit that the frame ends, or a queue that is looked at; what is refused takes none.
 pub fn frame_with_steps<C: Tick>(
     channel: &mut FixedChannel,
@@ -132,7 +132,7 @@ pub extern "C" fn tcrx_channel_frame_at(seat: &mut Seat, octets: &[u8]) -> Reply
     }
 }
 
-/// What [`tcrx_channel_release_at`] runs once with the channel of its seat, and with a count that isn't kept. Steps are those of
+/// [`tcrx_channel_release_at`] runs this once with the channel of its seat, and with a count that isn't kept. Steps are those of
 /// [`frame_with_steps`].
 pub fn release_with_steps<C: Tick>(channel: &mut FixedChannel, steps: &mut C) -> DeliveryRecord
     ensures done { buffered_fields_within (limit_of channel.old.limits) channel.old.settings channel.old.journal ≢ [] → (result ≡ delivery_record (release_reply_within (limit_of channel.old.limits) channel.old.settings channel.old.journal)) × (channel.new ≡ with_limited_event channel.old Event.Release) }

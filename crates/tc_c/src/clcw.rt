@@ -19,7 +19,7 @@ pub struct ClcwRecord {
     pub word: u32,
 }
 
-/// What a CLCW says (CCSDS 232.0-B, 4.2), apart from the fields that are fixed. Flags are 0 or 1.
+/// Has what a CLCW says (CCSDS 232.0-B, 4.2), apart from the fields that are fixed. Flags are 0 or 1.
 #[repr(C)]
 #[derive(Clone, Copy)]
 pub struct ClcwFieldsRecord {

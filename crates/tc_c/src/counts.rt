@@ -1,4 +1,4 @@
-//! What a channel that C holds reports: the CLCW, FARM-1 and counts.
+//! Reports of a channel that C holds: the CLCW, FARM-1 and counts.
 
 ghost use Rattle.std.specs.Prelude.{◌≡◌, ◌^◌, ◌-◌, length, min, Some, None, Ok, IfSome, IfNone, IfOk, IfErr};
 ghost use Rattle.tc_channel.specs.Run.{run_within, IsLawfulWithin};

@@ -28,7 +28,7 @@ pub struct DecoderRecord {
     pub carried: u16,
 }
 
-/// What octets came to.
+/// Reports what octets came to.
 #[repr(C)]
 #[derive(Clone, Copy)]
 pub struct DecodedRecord {
@@ -175,7 +175,7 @@ fn take_octets(mode: Mode, decoder: DecoderRecord, octets: &[u8], frame: &mut [u
     }
 }
 
-// What an octet came to, or eight.
+// Reports what an octet came to, or eight.
 #[derive(Clone, Copy)]
 struct Taken {
     // after them

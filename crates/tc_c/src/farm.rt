@@ -35,7 +35,7 @@ pub struct FarmAnswer {
     pub farm: FarmRecord,
 }
 
-/// What FARM-1 made of an arrival, and its record after it.
+/// Reports what FARM-1 made of an arrival, with its record after it.
 #[repr(C)]
 #[derive(Clone, Copy)]
 pub struct StepAnswer {
@@ -84,7 +84,7 @@ pub(crate) fn no_farm(fault: Status) -> FarmAnswer
 
 /// One step of FARM-1, by its state table (CCSDS 232.1-B, 6.3).
 ///
-/// `arrival` is the kind of a frame, 1 to 5 as `tcrx_kind` tells it, or 6 for a buffer release. `number` is the N(S) of an AD
+/// `arrival` is the kind of a frame, 1 to 5 as `tcrx_kind` reports it, or 6 for a buffer release. `number` is the N(S) of an AD
 /// frame and the new V(R) of a Set V(R), and of no matter for all others. `room` is 1 where the buffer has room for an AD
 /// frame, else 0.
 /// A record that no FARM-1 has, another arrival or room, and an arrival for which the table has no entry, that is an expected AD
@@ -237,7 +237,7 @@ fn has_entry(window: &Window, report: &Report, arrival: Arrival) -> bool
     }
 }
 
-// What C asks for: FARM-1 and what comes to it.
+// Reads what C asks for: FARM-1 and what comes to it.
 fn asked(kept: FarmRecord, number: u8, value: u8, room: u8) -> Result<(Farm, Arrival), Status>
     ensures asked { result ≡ asked_of kept number value room }
     ensures width { IfOk result (λ asked. asked.0.width ≡ kept.width) }

@@ -11,7 +11,7 @@ use crate::farm::flag;
 use crate::status::{Status, code, frame_fault, write_fault};
 use tc_link::{Command, Header, Kind, kind, read_frame, written_header};
 
-/// What the primary header of a frame says, apart from its length (CCSDS 232.0-B, 4.1.2). Flags are 0 or 1.
+/// Has what the primary header of a frame says, apart from its length (CCSDS 232.0-B, 4.1.2). Flags are 0 or 1.
 #[repr(C)]
 #[derive(Clone, Copy)]
 pub struct HeaderRecord {
@@ -37,7 +37,7 @@ pub struct FrameRecord {
     pub length: u16,
 }
 
-/// What kind the frame at the front of octets is.
+/// Reports what kind the frame at the front of octets is.
 #[repr(C)]
 #[derive(Clone, Copy)]
 pub struct KindRecord {
@@ -89,7 +89,7 @@ fn reported(header: Header) -> HeaderRecord
     }
 }
 
-/// Tells what kind the frame at the front of the octets is, by its two flags and its data field (CCSDS 232.0-B, 4.1.2.3).
+/// Reports what kind the frame at the front of the octets is, by its two flags and its data field (CCSDS 232.0-B, 4.1.2.3).
 ///
 /// Its answer is what `tcrx_farm_step` takes. Where no frame stands there it is refused as by `tcrx_read_frame`.
 #[unsafe(no_mangle)]

@@ -49,7 +49,7 @@ pub fn each_channel_has_a_farm()
     a_step_leaves_a_farm();
 }
 
-/// The number and the value by which a kind is told are those by which it comes to FARM-1.
+/// The number and the value by which a kind is reported are those by which it comes to FARM-1.
 pub fn each_kind_comes_to_farm_1()
     ensures { (kind : Kind) (room : Bool) → arrival_of (kind_number kind) (kind_value kind) (bit room) ≡ Ok (Frame kind room) }
 {}

@@ -18,7 +18,7 @@ use tc_fecf::{Delimited, delimit, is_fill};
 use tc_link::{LocateFault, each_input_begins_with_one_frame_at_most, read_frame};
 use tc_write::{check_taking, write_without_field};
 
-/// What became of a frame, and of which channel. Flags are 0 or 1, and each number is 0 where the call is refused.
+/// Reports what became of a frame, and of which channel. Flags are 0 or 1, and each number is 0 where the call is refused.
 #[repr(C)]
 #[derive(Clone, Copy)]
 pub struct RackReplyRecord {
@@ -37,7 +37,7 @@ pub struct RackReplyRecord {
     pub vcid: u8,
 }
 
-/// What became of the frame at the front of a candidate, and what follows it. Flags are 0 or 1. Where the call is refused, each number
+/// Reports what became of the frame at the front of a candidate, and what follows it. Flags are 0 or 1. Where the call is refused, each number
 /// is 0, but for the last two of a frame that was found.
 #[repr(C)]
 #[derive(Clone, Copy)]

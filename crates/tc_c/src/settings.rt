@@ -15,7 +15,7 @@ use std::alloc::Global;
 use tc_channel::{LentSettings, MapSetting, QueueSetting};
 use tc_fixed::{FixedChannel, LentLimits, MapLimit};
 
-/// What a channel is made by, apart from its queues. Those come as lists of `QueueSetting` and `MapSetting`.
+/// Has what a channel is made by, apart from its queues. Those come as lists of `QueueSetting` and `MapSetting`.
 #[repr(C)]
 #[derive(Clone, Copy)]
 pub struct SettingsRecord {

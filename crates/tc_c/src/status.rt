@@ -1,4 +1,4 @@
-//! What a call came to.
+//! Reports what a call came to.
 
 ghost use Rattle.std.specs.Prelude.{◌≡◌, ◌<◌};
 ghost use Rattle.tc_c.specs.Status.{code_of, status_of, text_of, frame_status, locate_status, write_status, field_status, settings_status, limits_status};
@@ -8,7 +8,7 @@ use tc_fecf::FieldFault;
 use tc_fixed::LimitsFault;
 use tc_link::{FrameFault, LocateFault, WriteFault};
 
-/// What a call came to: that it is done, or the first reason why it isn't.
+/// Reports what a call came to: that it is done, or the first reason why it isn't.
 ///
 /// Where no frame stands, and where none is written, the names are those of the faults of tc_link.
 #[derive(Clone, Copy, Debug, PartialEq, Eq)]

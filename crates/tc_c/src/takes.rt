@@ -15,7 +15,7 @@ use crate::status::Status;
 use tc_channel::Tick;
 use tc_fixed::{FixedChannel, NoUnitTaken, NothingTaken};
 
-/// What [`tcrx_channel_take_at`] runs once with the channel of its seat, and with a count that isn't kept. A step is a queue that is
+/// [`tcrx_channel_take_at`] runs this once with the channel of its seat, and with a count that isn't kept. A step is a queue that is
 /// looked at.
 pub fn take_with_steps<C: Tick>(
     channel: &mut FixedChannel,
@@ -61,7 +61,7 @@ pub extern "C" fn tcrx_channel_take_at(
     }
 }
 
-/// What [`tcrx_channel_take_unit_at`] runs once with the channel of its seat, and with a count that isn't kept. A step is a queue that is
+/// [`tcrx_channel_take_unit_at`] runs this once with the channel of its seat, and with a count that isn't kept. A step is a queue that is
 /// looked at.
 pub fn take_unit_with_steps<C: Tick>(
     channel: &mut FixedChannel,

@@ -11,7 +11,7 @@ use crate::status::{Status, code};
 use tc_fecf::checksum;
 use tc_tm::{ErrorControl, TmFields, TmHeader, TmReadFault, read_tm};
 
-/// What the primary header of a telemetry frame says of whose frame it is, and which (CCSDS 132.0-B, 4.1.2).
+/// Has what the primary header of a telemetry frame says of whose frame it is, and which (CCSDS 132.0-B, 4.1.2).
 #[repr(C)]
 #[derive(Clone, Copy)]
 pub struct TmHeaderRecord {
@@ -25,7 +25,7 @@ pub struct TmHeaderRecord {
     pub channel_count: u8,
 }
 
-/// What a telemetry frame with an operational control field says.
+/// Has what a telemetry frame with an operational control field says.
 #[repr(C)]
 #[derive(Clone, Copy)]
 pub struct TmFieldsRecord {

@@ -21,7 +21,7 @@ use tc_write::{
     segment_header, write_segment, write_with_field, write_without_field,
 };
 
-/// What the primary header of a packet says, apart from its version and its length (CCSDS 133.0-B, 4.1.3). Flags are 0 or 1.
+/// Has what the primary header of a packet says, apart from its version and its length (CCSDS 133.0-B, 4.1.3). Flags are 0 or 1.
 #[repr(C)]
 #[derive(Clone, Copy)]
 pub struct PacketHeaderRecord {

@@ -79,7 +79,7 @@ inside_all at hs [] place ours inside k d lt = absurd (omega arith)
 inside_all at hs (x ∷ xs) place ours inside zero d lt = same_long (at x) hs place (All-head (λ (operator_list : List AtLock). locks_of operator_list ≡ locks_of (owners_of hs)) (at x) (map at xs) ours) inside
 inside_all at hs (x ∷ xs) place ours inside (suc k) d lt = inside_all at hs xs place (All-tail (λ (operator_list : List AtLock). locks_of operator_list ≡ locks_of (owners_of hs)) (at x) (map at xs) ours) inside k d (omega arith)
 
--- ---- owners that are told of operators
+-- ---- owners that operators are reported to
 
 -- each of these operators is at the lock of the desk at its place
 abbrev pub AreAt : List AtHand → List AtLock → Type 0
@@ -101,7 +101,7 @@ reported_none (h ∷ hs) = refl
 pub all_reported : (hs : List AtHand) (os : List AtLock) → os ≡ [] → reported_row hs os ≡ hs
 all_reported hs os none = ap (λ (l : List AtLock). reported_row hs l) none ∙ reported_none hs
 
--- the last operator is told of first
+-- the last operator is reported first
 pub record IsLastReported (hs : List AtHand) (all os : List AtLock) (o : AtLock) (n : ℕ) (d : AtHand) : Type 0 where
   pub inside : n < length hs
   pub lock : o.lock ≡ (get_or hs n d).owner.lock
@@ -192,7 +192,7 @@ owners-rows : (hs : List AtHand) (rows : List (List AtLock)) → owners_of (repo
 owners-rows hs [] = refl
 owners-rows hs (row ∷ rows) = owners-rows (reported_row hs row) rows ∙ owners-reported hs row
 
--- the list of desks, once their owners were told
+-- the list of desks, once their owners got the reports
 pub written_back : {Z : Type 0} (v : Vec AtHand Z) (start next : List AtHand) (rows : List (List AtLock)) → start ≡ v.items → next ≡ reported_rows start rows → (with_items v next).items ≡ reported_rows v.items rows
 written_back v start next rows from is =
     let one = ap (λ (l : List AtHand). length l) is in

@@ -84,13 +84,13 @@ issued_count own = min own.issued (2 ^ 128 - 1)
 abbrev pub accounts_of : List AtLock → List Own
 accounts_of operators = map (λ (o : AtLock). o.own) operators
 
--- a desk whose lock its owner has: the owner before, the desk as it is, and what the owner was told of operators
+-- a desk whose lock its owner has: the owner before, the desk as it is, and what was reported to the owner of operators
 pub record AtHand : Type 0 where
   pub desk : LockAt Identity
   pub owner : AtLock
   pub now : Moment
   pub reported : List Own
 
--- the same, once the owner was told what these have seen and made, too
+-- the same, once what these have seen and made was reported to the owner, too
 abbrev pub reported_at : AtHand → List Own → AtHand
 reported_at h accounts = record { desk = h.desk; owner = h.owner; now = h.now; reported = h.reported ++ accounts }

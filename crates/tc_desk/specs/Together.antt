@@ -46,7 +46,7 @@ pub record AreClosed (owned_desks : List AtLock) (operator_lists : List (List At
 abbrev pub owners_of : List AtHand → List AtLock
 owners_of list = map (λ (h : AtHand). h.owner) list
 
--- the desk is its owner's, and goes on from what its owner had seen, to which nothing was told
+-- the desk is its owner's, and goes on from what its owner had seen, to which nothing was reported
 abbrev pub IsFresh : AtHand → Type 0
 IsFresh h = (h.reported ≡ []) × IsBeginning h.owner.own.seen h.now × (h.owner.own.seen.head ≡ h.desk.head)
 
@@ -76,11 +76,11 @@ IsClosingRefusal owned_desks operator_lists NoMemory = Unit {0}
 IsClosingRefusal owned_desks operator_lists InUse = Unit {0}
 IsClosingRefusal owned_desks operator_lists Unbalanced = (guard : List AtHand) × AreMoments owned_desks guard × ¬ AreBalanced guard operator_lists
 
--- the owner was told of one operator more
+-- one operator more was reported to the owner
 abbrev pub reported_one : AtHand → AtLock → AtHand
 reported_one h o = reported_at h (o.own ∷ [])
 
--- the owners were told of the operators of one list of operators
+-- the operators of one list of operators were reported to the owners
 abbrev pub reported_row : List AtHand → List AtLock → List AtHand
 reported_row [] operator_list = []
 reported_row (h ∷ hs) [] = h ∷ hs

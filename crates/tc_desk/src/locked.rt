@@ -42,7 +42,7 @@ impl<J: Journal> Model for LockedDesk<J> {
     ghost view = { λ d. d.lock };
 }
 
-/// Who makes operations on a desk behind its lock.
+/// Makes operations on a desk behind its lock.
 #[derive(Drop)]
 pub struct DeskOperator {
     badge: DeskBadge,
@@ -62,7 +62,7 @@ impl Model for DeskOperator {
     ghost invariant = { λ o. IsResting o.badge.views × ((view_in o.badge.views).maker ≡ true) × (padded_value o.count ≡ count_of (view_in o.badge.views).own) };
 }
 
-/// Who makes operators for a lock, and takes the channel out of it. It counts the operators, and makes no events. Threads may share it:
+/// Makes operators for a lock, and takes the channel out of it. It counts the operators, and makes no events. Threads may share it:
 /// a `&` to it offers nothing.
 #[derive(Drop)]
 pub struct DeskOwner {
@@ -226,7 +226,7 @@ impl DeskOwner {
         DeskOperator { badge, count }
     }
 
-    // An owner of this first seat, to which nothing was told, and from which so many were issued.
+    // An owner of this first seat, to which nothing was reported, and from which so many were issued.
     pub(crate) fn of(badge: DeskBadge, issued: u128) -> DeskOwner
         requires first { badge.id ≡ 0 }
         requires resting { IsResting badge.views }

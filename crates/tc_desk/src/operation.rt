@@ -1,4 +1,4 @@
-//! What operators ask a desk for.
+//! Says what operators ask a desk for.
 
 ghost use Rattle.std.specs.Prelude.{◌≡◌};
 ghost use Rattle.tc_desk.specs.Log.{moment_of};

@@ -1,4 +1,4 @@
-//! What lies under the lock of a desk.
+//! Has the channel of a desk under its lock.
 
 ghost use Rattle.std.specs.Prelude.{◌≡◌, Some, IsSome};
 ghost use Rattle.crossbeam_utils.specs.Padded.{padded_value};
@@ -14,7 +14,7 @@ use std::snapshot::Snapshot;
 use tc_channel::{ChannelWith, Event, Journal};
 use tc_status::{DeskOf, Publisher, Watcher};
 
-/// What never changes of a desk, as clauses see it. It takes no memory, and no program can read it.
+/// Has what never changes of a desk, as clauses see it. It takes no memory, and no program can read it.
 #[derive(Drop)]
 pub struct DeskHead {
     publisher: Snapshot<Publisher>,
@@ -35,7 +35,7 @@ impl Head for DeskHead {
 }
 
 impl DeskHead {
-    /// What never changes of this desk.
+    /// Has what never changes of this desk.
     pub(crate) fn of<J: Journal>(desk: &DeskOf<J>) -> DeskHead
         ensures { result ≡ identity_of desk.now }
     {

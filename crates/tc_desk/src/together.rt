@@ -11,7 +11,7 @@ use crate::owned_desk::OwnedDesk;
 use std::alloc::{AllocError, Global};
 use tc_channel::{ChannelWith, Journal};
 
-/// Who has an operator at each of a list of desks.
+/// Has an operator at each of a list of desks.
 pub trait OperatorList: Drop {
     ghost use Rattle.std.specs.Prelude.{◌≡◌, List};
     ghost use Rattle.tc_desk.specs.Log.{AtLock};
@@ -225,7 +225,7 @@ fn give_back<J: Journal>(
     owned_desks
 }
 
-// What is given back of desks that were not closed.
+// Gives back desks that were not closed.
 fn left_open<J: Journal, C: Drop>(
     owned_desks: Vec<OwnedDesk<J>>,
     operator_lists: Vec<C>,

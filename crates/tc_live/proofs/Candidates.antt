@@ -1,4 +1,4 @@
--- What carries more than a frame and its fill, and what becomes of what doesn't.
+-- A candidate carries more than a frame and its fill, or is run as the frame that it carries.
 use Rattle.std.proofs.Common.{◌≡◌, ◌⊎◌, ℕ, Bool, true, false, List, Option, Some, inl, inr, refl, sym, subst, ap, ◌∙◌, arith}
 use Rattle.std.specs.Prelude.{IsTrue, ◌↔◌, not, MatchOption}
 use Rattle.std.proofs.lemmas.Bool.{true≢false}

@@ -1,4 +1,4 @@
--- What was written at the end of the lines.
+-- At the end of the lines the report was written, or not.
 use Rattle.std.proofs.Common.{◌≡◌, ◌⊎◌, ℕ, Bool, false, List, Option, None, Some, IfSome, Result, Ok, Err, inl, inr, sym, subst}
 use Rattle.std.proofs.lemmas.Bool.{both_ways}
 use Rattle.std.proofs.lemmas.List.Sorted.{All-permutation}
@@ -36,8 +36,8 @@ not-reported (Err fault) receiver last (Some octets) a b c answered why (inl wri
 not-reported (Err fault) receiver last (Some octets) a b c answered (inl write) (inr kept) = subst (IsReceptionCutShort receiver octets a c) (sym write) tt
 not-reported (Err fault) receiver last (Some octets) a b c (answers, is, before) (inr (inl memory)) (inr kept) =
     subst (IsReceptionCutShort receiver octets a c) (sym memory) (inr (last, (answers, is, Appends-kept a b c answers before kept)))
-not-reported (Err fault) receiver last (Some octets) a b c (answers, is, before) (inr (inr (unbalanced, untold))) (inr kept) =
-    subst (IsReceptionCutShort receiver octets a c) (sym unbalanced) (last, (answers, is, Appends-kept a b c answers before kept), untold)
+not-reported (Err fault) receiver last (Some octets) a b c (answers, is, before) (inr (inr (unbalanced, unreported))) (inr kept) =
+    subst (IsReceptionCutShort receiver octets a c) (sym unbalanced) (last, (answers, is, Appends-kept a b c answers before kept), unreported)
 
 -- no more lines are answered
 pub lines-cut : (fault : AnsweringFault) (receiver last : Receiving) (known a b : Option (List ℕ))
@@ -48,7 +48,7 @@ lines-cut answering.Read receiver last (Some octets) a b cut = (last, cut)
 lines-cut answering.Write receiver last (Some octets) a b cut = tt
 lines-cut answering.NoMemory receiver last (Some octets) a b cut = inl cut.1
 
--- the channels of a receiver, in another order, aren't all told
+-- the channels of a receiver, in another order, aren't all reported
 pub is-number-unreported : (receiver : Receiving) (reported : Bool) (shown before after : List History) → IsTrue reported ↔ All IsNumberReported shown → reported ≡ false
     → shown ≡ after → IsPermutation before after → before ≡ histories (rack_at receiver) → IsNumberUnreported receiver
 is-number-unreported receiver reported shown before after just not same shuffled is all =

@@ -1,4 +1,4 @@
--- What follows an answer.
+-- An answer is followed by what is handed on.
 use Rattle.std.proofs.Common.{ℕ, true, false, List, ◌++◌, Option, Some, None, refl, inl, inr}
 use Rattle.std.proofs.KnownBytes.{Appends-trans}
 use Rattle.std.specs.Io.KnownBytes.{Appends}

@@ -1,4 +1,4 @@
--- What a line of a script is answered on the channels of a receiver, and what is told of it.
+-- A line of a script is answered on the channels of a receiver, and the answer is reported.
 use Rattle.std.proofs.Common.{◌≡◌, ℕ, Option, ap, subst}
 use Rattle.tc_setup.specs.declared.instruction.Instruction.{Instruction}
 use Rattle.tc_rack.specs.Performing.{IsInstructionAnswered}

@@ -1,4 +1,4 @@
--- What frames must pass before they are brought.
+-- Says what frames must pass before they are brought.
 use Rattle.std.specs.Prelude.{◌≡◌, ◌≢◌, ◌⊎◌, ℕ, false, List, None}
 use Rattle.tc_link.specs.Frame.{IsWhole, fault_of}
 use Rattle.tc_fecf.specs.Candidate.{IsDelimited, is_fill}

@@ -1,4 +1,4 @@
--- What a bad line is answered: docs/reference/tclive.md shows it, under "Output".
+-- Answers to bad lines: docs/reference/tclive.md shows it, under "Output".
 use Rattle.std.specs.Prelude.{ℕ, Bool, true, false, ◌==◌, ◌||◌, ◌&&◌, Option, Some, None, List, [], ◌∷◌, codes, nat_le, slice_index, if◌then◌else◌}
 use Rattle.tc_lines.specs.Number.{word_number}
 use Rattle.tc_lines.specs.Word.{is}

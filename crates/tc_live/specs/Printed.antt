@@ -1,4 +1,4 @@
--- What lines are answered, as text: docs/reference/tclive.md shows it, under "Input" and "Output".
+-- Answers to lines, as text: docs/reference/tclive.md shows it, under "Input" and "Output".
 use Rattle.std.specs.Prelude.{ℕ, List, [], ◌++◌, codes, decimal}
 use Rattle.std.specs.List.{flat_map}
 use Rattle.tc_link.specs.declared.clcw.Link.{Link}

@@ -54,12 +54,12 @@ with_rack rack receiver = record receiver { stage = Operating rack }
 abbrev pub begun : Receiving → Receiving
 begun receiver = with_rack (rack_at receiver) receiver
 
--- an operation's answer is told, and nothing where there is none
+-- an operation's answer is reported, and nothing where there is none
 abbrev pub script_reported : Option Answer → LiveAnswer
 script_reported None = reported.Nothing
 script_reported (Some answer) = reported.Operation answer
 
--- what a line of a script is answered, by what it asks for, and that is told. All but the channels is as before
+-- what a line of a script is answered, by what it asks for, and that is reported. All but the channels is as before
 abbrev pub IsInstructed : Receiving → Instruction → Receiving → LiveAnswer → Type 0
 IsInstructed old instruction new answer =
     (a : Option Answer) × IsInstructionAnswered (IsPerformed old.scid) old.stage instruction new.stage a
@@ -88,7 +88,7 @@ IsCandidateDone old octets new answer =
     ⊎ ((¬ CarriesMore octets) × (((passed : Line) × IsCandidatePassed old.check octets passed × IsPassedDone old passed new answer)
     ⊎ (FailsCandidate old.check octets × (answer ≡ reported.Unchecked) × (new ≡ old))))
 
--- what a refused line leaves: all as it was, or where memory was wanting the channels made for it
+-- what a refused line leaves: all as it was, or where memory ran out the channels made for it
 abbrev pub IsReceiverLeft : Reason → Receiving → Receiving → Type 0
 IsReceiverLeft reason old new = (new ≡ old) ⊎ ((reason ≡ NoMemory) × (new ≡ begun old))
 
@@ -106,12 +106,12 @@ abbrev pub report_reported : ℕ → Option Holding → LiveAnswer
 report_reported vcid None = reported.UnknownChannel
 report_reported vcid (Some holding) = reported.Report vcid holding
 
--- what a channel has come to is told, if there is such a channel
+-- what a channel has come to is reported, if there is such a channel
 abbrev pub IsReportDone : Receiving → ℕ → Receiving → LiveAnswer → Type 0
 IsReportDone old vcid new answer =
     (found : Option Holding) × IsReported (rack_at old) vcid found × (answer ≡ report_reported vcid found) × (new ≡ begun old)
 
--- a delivery begins with a release, whose answer is told
+-- a delivery begins with a release, whose answer is reported
 abbrev pub IsDeliveryBegun : Receiving → ℕ → Receiving → LiveAnswer → Type 0
 IsDeliveryBegun old vcid new answer =
     (a : Answer) × (rack : Racked) × IsAnswerOf (operations.Release vcid) (rack_at old) a rack

@@ -1,4 +1,4 @@
--- What is written of lines and at the end, and why a live receiver ends without a report.
+-- Says what is written of lines and at the end, and why a live receiver ends without a report.
 use Rattle.std.specs.Prelude.{◌≡◌, ◌⊎◌, ◌++◌, ℕ, List, [], Option, All, IsPermutation}
 use Rattle.std.specs.Io.KnownBytes.{Appends, Keeps}
 use Rattle.tc_lines.specs.Answering as lines
@@ -34,7 +34,7 @@ IsFollowedBy (reported.Delivery vcid a) old new answers = IsDeliveryDone old vci
 IsFollowedBy (reported.Collection vcid) old new answers = IsDeliveryDone old vcid new answers
 IsFollowedBy _ old new answers = (answers ≡ []) × (new ≡ old)
 
--- an answer is told, and then what follows it
+-- an answer is reported, and then what follows it
 abbrev pub IsReported : LiveAnswer → Receiving → Receiving → List ℕ → Type 0
 IsReported answer old new text =
     (answers : List Answer) × IsFollowedBy answer old new answers × (text ≡ live_text answer ++ reported_lines answers)

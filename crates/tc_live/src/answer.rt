@@ -1,4 +1,4 @@
-//! What a line is answered.
+//! Answers a line.
 
 ghost use Rattle.std.specs.Prelude.{◌≡◌, Some};
 ghost use Rattle.std.specs.Fmt.{WritesOnOk};
@@ -10,31 +10,31 @@ use tc_channel::{Holding, MapHolding, QueueHolding};
 use tc_link::{Link, State};
 use tc_rack::Answer;
 
-/// What a good line is answered.
+/// Answers a good line.
 #[derive(Debug, Drop)]
 pub enum LiveAnswer {
     /// Nothing: it set up, or had no words.
     Nothing,
-    /// What an operation of a script is answered.
+    /// The answer to an operation of a script.
     Operation(Answer),
-    /// What the release is answered that a delivery begins with. [`Receiver::hand_on`](crate::Receiver::hand_on) ends the delivery.
+    /// The answer to the release that a delivery begins with. [`Receiver::hand_on`](crate::Receiver::hand_on) ends the delivery.
     Delivery { vcid: u8, answer: Answer },
-    /// What is handed on without a release, which [`Receiver::hand_on`](crate::Receiver::hand_on) does.
+    /// All that waits is to be handed on without a release, which [`Receiver::hand_on`](crate::Receiver::hand_on) does.
     Collection { vcid: u8 },
     /// Octets that are no frame with the right frame error control field.
     Unchecked,
     /// A candidate that carries more than a frame and its fill.
     More,
-    /// The flags of the link that a channel's CLCWs tell from now on.
+    /// The flags of the link that a channel's CLCWs report from now on.
     Link { vcid: u8, link: Link },
-    /// What a channel has come to.
+    /// The state of a channel and of its queues.
     Report { vcid: u8, holding: Holding },
     /// There is no such channel.
     UnknownChannel,
 }
 
 impl LiveAnswer {
-    /// What a line of a script is answered, if it is an operation.
+    /// Passes on the answer to a line of a script, if it is an operation.
     pub(crate) fn of_script(answer: Option<Answer>) -> LiveAnswer
         ensures { result ≡ script_reported answer }
     {
@@ -65,7 +65,7 @@ impl LiveAnswer {
         }
     }
 
-    /// What a channel has come to, if there is such a channel.
+    /// Reports a channel, if there is such a channel.
     pub(crate) fn of_report(vcid: u8, found: Option<Holding>) -> LiveAnswer
         ensures { result ≡ report_reported vcid found }
     {

@@ -1,4 +1,4 @@
-//! What frames must pass before they are brought.
+//! Checks frames before they are brought.
 
 ghost use Rattle.std.specs.Prelude.{◌≡◌, ◌↔◌, IfOk, IfErr, IsTrue, MatchOption};
 ghost use Rattle.tc_live.specs.Check.{IsPassed, FailsCheck, IsFieldOff, HasWrongField, IsCandidatePassed, FailsCandidate, CarriesMore};

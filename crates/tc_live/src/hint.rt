@@ -1,4 +1,4 @@
-//! What a bad line is answered: why, and what to write instead.
+//! Answers a bad line: why it is bad, and what to write instead.
 
 ghost use Rattle.std.specs.Prelude.{◌≡◌};
 ghost use Rattle.tc_lines.specs.Word.{words};
@@ -26,7 +26,7 @@ pub(crate) fn word_before(reason: Reason) -> &'static str
     }
 }
 
-/// What to write instead: which commands there are, how the line's command is written, or what its wrong word may be. Nothing follows
+/// Says what to write instead: which commands there are, how the line's command is written, or what its wrong word may be. Nothing follows
 /// any other reason.
 pub(crate) fn hint_for(octets: &[u8], reason: Reason) -> &'static str
     ensures { result.now ≡ line_hint_text (words octets.now) reason }
@@ -167,7 +167,7 @@ impl Number {
     }
 }
 
-// What the first word may be that the line isn't read with.
+// Says what the first word may be that the line isn't read with.
 fn number_hint(octets: &[u8]) -> &'static str
     ensures { result.now ≡ number_hint_text (words octets.now) }
 {

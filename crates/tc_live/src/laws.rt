@@ -1,4 +1,4 @@
-//! What the definitions answer to lines.
+//! Says what the definitions answer to some lines.
 
 ghost use Rattle.std.specs.Prelude.{◌++◌, true, false, codes};
 ghost use Rattle.tc_lines.specs.Answering.{AreAnswered, lines_of};

@@ -59,9 +59,9 @@ impl Receiver {
         }
     }
 
-    /// Does a line, which is given without its line feed, and says what it is answered. A bad line leaves the receiver as it is. Where
-    /// memory is wanting, the line can be done again; at the first operation the channels may have been made. A delivery or a collection is begun;
-    /// [`hand_on`](Receiver::hand_on) ends it.
+    /// Runs a line, which is given without its line feed, and answers it. A bad line leaves the receiver as it is. Where
+    /// memory runs out, the line can be run again; at the first operation the channels may have been made. A delivery or a collection
+    /// is begun; [`hand_on`](Receiver::hand_on) ends it.
     pub fn do_line(&mut self, alloc: Global, octets: &[u8]) -> Result<LiveAnswer, Reason>
         ensures answer { IfOk result (IsLiveLineAnswered self.old octets.now self.new) }
         ensures reason { IfErr result (λ reason. (reason ≡ Reason.NoMemory) ⊎ IsBadLiveLine self.old octets.now reason) }
@@ -125,7 +125,7 @@ impl Receiver {
         self.ends
     }
 
-    // Does a line that passed the check.
+    // Runs a line that passed the check.
     fn perform_passed(&mut self, alloc: Global, passed: Line) -> Result<LiveAnswer, Reason>
         ensures answer { IfOk result (IsPassedDone self.old passed self.new) }
         ensures reason { IfErr result (λ reason. (reason ≡ Reason.NoMemory) ⊎ IsBad (phase_of self.old.stage) (instruction_of passed) reason) }
@@ -134,7 +134,7 @@ impl Receiver {
         self.instruct(alloc, Instruction::of(alloc, passed))
     }
 
-    // Does what a line asks for.
+    // Carries out what a line asks for.
     fn instruct(&mut self, alloc: Global, instruction: Instruction) -> Result<LiveAnswer, Reason>
         ensures done { OnOk result (Does (phase_of self.old.stage) instruction (phase_of self.new.stage)) }
         ensures answer { IfOk result (IsInstructed self.old instruction self.new) }
@@ -178,7 +178,7 @@ impl Receiver {
         }
     }
 
-    // Does the release that a delivery begins with.
+    // Carries out the release that a delivery begins with.
     fn begin_delivery(&mut self, alloc: Global, vcid: u8) -> Result<LiveAnswer, Reason>
         ensures done { OnOk result (Operates (phase_of self.old.stage) (phase_of self.new.stage)) }
         ensures answer { IfOk result (IsDeliveryBegun self.old vcid self.new) }
@@ -235,7 +235,7 @@ impl Receiver {
         begin(&backend, alloc, &mut self.stage)
     }
 
-    // Who makes its channels.
+    // Makes its channels.
     fn backend(&self) -> RackBackend
         ensures { result.scid ≡ self.now.scid }
     {
@@ -291,7 +291,7 @@ impl Receiver {
     }
 }
 
-// Whether each channel tells the number of its events as it is.
+// Whether each channel reports the number of its events as it is.
 fn are_reported(channels: &[CountingChannel]) -> bool
     ensures { IsTrue result ↔ All IsNumberReported channels.now }
 {

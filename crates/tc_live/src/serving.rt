@@ -32,7 +32,7 @@ pub enum ServingFault {
     /// The writer failed.
     #[error("cannot write")]
     Write,
-    /// Memory was wanting before the first line, or for the final report.
+    /// Memory ran out before the first line, or at the final report.
     #[error("no memory")]
     NoMemory,
     /// A channel has had 2^64 - 1 events or more, a number that the final report can't give.
@@ -90,7 +90,7 @@ pub fn answer_lines<R: BufRead, W: Write>(
     }
 }
 
-// Does a line, and writes just the text of its answer and of what follows it, or `bad`, why, and what to write instead.
+// Runs a line, and writes just the text of its answer and of what follows it, or `bad`, why, and what to write instead.
 fn answer_line<W: Write>(
     alloc: Global,
     receiver: &mut Receiver,
@@ -100,13 +100,13 @@ fn answer_line<W: Write>(
     ensures written { OnOk result (Writes (W.contents writer.old) (W.contents writer.new) (IsLineSaid receiver.old octets.now receiver.new)) }
 {
     match receiver.do_line(alloc, octets) {
-        Ok(answer) => tell(receiver, &answer, writer),
+        Ok(answer) => report(receiver, &answer, writer),
         Err(reason) => write_bad(octets, reason, writer),
     }
 }
 
 // Writes an answer, and what follows it.
-fn tell<W: Write>(receiver: &mut Receiver, answer: &LiveAnswer, writer: &mut W) -> io::Result<()>
+fn report<W: Write>(receiver: &mut Receiver, answer: &LiveAnswer, writer: &mut W) -> io::Result<()>
     requires { IsReady answer.now receiver.old }
     ensures { OnOk result (Writes (W.contents writer.old) (W.contents writer.new) (IsReported answer.now receiver.old receiver.new)) }
 {

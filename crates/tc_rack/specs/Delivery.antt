@@ -1,4 +1,4 @@
--- What a delivery hands on once its release is answered: all that waits in the queues of a channel, and then the CLCW.
+-- A delivery hands on, once its release is answered, all that waits in the queues of a channel, and then the CLCW.
 use Rattle.std.specs.Prelude.{◌≡◌, ◌⊎◌, ℕ, List, [], ◌∷◌, ◌++◌, map, codes, Option, Some, None}
 use Rattle.std.specs.List.{flat_map, AllByRecursion}
 use Rattle.std.specs.Io.KnownBytes.{Appends}
@@ -54,13 +54,13 @@ AreEmptied (queue ∷ queues) old answers new =
 abbrev pub AreEmpty : List QueueId → Linked → Type 0
 AreEmpty queues channel = AllByRecursion (λ queue. waiting_in queue channel ≡ []) queues
 
--- each queue of a channel is emptied, then none has anything, and at last the CLCW is told
+-- each queue of a channel is emptied, then none has anything, and at last the CLCW is reported
 abbrev pub IsHandedOn : Linked → List Answer → Linked → Type 0
 IsHandedOn old answers new =
     (taken : List Answer) × AreEmptied (queues_of old.history.settings) old taken new × AreEmpty (queues_of old.history.settings) new
     × (answers ≡ taken ++ reported_word new ∷ [])
 
--- the channel with this id hands on what waits in it; or there is no such channel, and nothing is told
+-- the channel with this id hands on what waits in it; or there is no such channel, and nothing is reported
 abbrev pub IsDeliveryEnded : ℕ → Racked → List Answer → Racked → Type 0
 IsDeliveryEnded vcid old answers new =
     Changes old vcid (λ before after. IsHandedOn before answers after) new ⊎ (¬ HasChannel old.channels vcid × (answers ≡ []) × (new ≡ old))

@@ -1,4 +1,4 @@
--- What an operation is answered, and what it leaves: an equation with the journal of the channel that it names.
+-- Says what an operation is answered, and what it leaves: an equation with the journal of the channel that it names.
 use Rattle.std.specs.Prelude.{◌≡◌, ◌⊎◌, ℕ, List}
 use Rattle.tc_link.specs.Frame.{BeginsWith, header_of}
 use Rattle.tc_link.specs.declared.location.LocateFault.{LocateFault}

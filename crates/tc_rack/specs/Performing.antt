@@ -1,5 +1,5 @@
--- What the lines of a script do in order. What its operations find is made of what is set up, at the first of them: who makes it says
--- what a new one is (`IsNew`), what operations are answered (`Answers`), and what is left where memory is wanting (`Spares`).
+-- The lines of a script are run in order. The channels are made of what is set up, at the first operation: a backend says which are new
+-- (`IsNew`), what operations are answered (`Answers`), and what is left where memory runs out (`Spares`).
 use Rattle.std.specs.Prelude.{◌≡◌, ◌⊎◌, List, Option, Some, None}
 use Rattle.tc_channel.specs.declared.settings.Settings.{Settings}
 use Rattle.tc_setup.specs.declared.instruction.Instruction.{Instruction}
@@ -17,7 +17,7 @@ abbrev pub IsFound : {O : Type 0} → (List Settings → O → Type 0) → Stage
 IsFound IsNew (SettingUp list) found = IsNew list found
 IsFound IsNew (Operating there) found = found ≡ there
 
--- what a refused line leaves: all as it was, or where memory is wanting what the operation found, spared
+-- what a refused line leaves: all as it was, or where memory runs out what the operation found, spared
 abbrev pub IsLeft : {O : Type 0} → (List Settings → O → Type 0) → (O → O → Type 0) → Reason → Stage O → Stage O → Type 0
 IsLeft {O} IsNew Spares reason old new =
     (new ≡ old) ⊎ ((reason ≡ NoMemory) × (found after : O) × IsFound IsNew old found × Spares found after × (new ≡ Operating after))

@@ -1,4 +1,4 @@
--- What operations are answered, as text: docs/reference/scripts.md shows it, under "Answers".
+-- Answers to operations, as text: docs/reference/scripts.md shows it, under "Answers".
 use Rattle.std.specs.Prelude.{ℕ, List, [], ◌++◌, Option, Some, None, codes, decimal}
 use Rattle.tc_link.specs.declared.frame.FrameFault.{FrameFault}
 use Rattle.tc_link.specs.declared.frame.FrameFault.TheVariants.{Short, Version, Spare, LengthSmall, Truncated}

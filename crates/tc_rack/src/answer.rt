@@ -1,4 +1,4 @@
-//! What a script is answered.
+//! Answers the operations of a script.
 
 ghost use Rattle.std.specs.Prelude.{◌≡◌, Some};
 ghost use Rattle.std.specs.Fmt.{WritesOnOk};
@@ -9,7 +9,7 @@ use tc_channel::{Delivery, FrameReply, Octets};
 use tc_link::{FrameFault, LocateFault};
 use tc_text::{Delivered, Digits, UnitDigits, WordDigits};
 
-/// What an operation answers.
+/// Answers an operation.
 #[derive(Debug, Drop)]
 pub enum Answer {
     Frame { vcid: u8, reply: FrameReply },

@@ -19,7 +19,7 @@ pub(crate) fn hand_on<W: Write>(channel: &mut LinkedChannel, writer: &mut W) -> 
     empty_packet_queues(channel, writer)?;
     empty_unit_queues(channel, writer)?;
     let word = channel.clcw();
-    tell(&word, writer)
+    write_answer(&word, writer)
 }
 
 fn empty_packet_queues<W: Write>(channel: &mut LinkedChannel, writer: &mut W) -> io::Result<()>
@@ -58,12 +58,12 @@ fn empty_queue<W: Write>(
     let count = channel.waiting(queue);
     for _ in 0..count {
         let answer = channel.take_from(queue);
-        tell(&answer, writer)?;
+        write_answer(&answer, writer)?;
     }
     Ok(())
 }
 
-fn tell<W: Write>(answer: &Answer, writer: &mut W) -> io::Result<()>
+fn write_answer<W: Write>(answer: &Answer, writer: &mut W) -> io::Result<()>
     ensures { OnOk result (Appends (W.contents writer.old) (W.contents writer.new) (reported_line answer.now)) }
 {
     writeln!(writer, "{answer}")

@@ -167,7 +167,7 @@ impl LinkedChannel {
         self.link = link;
     }
 
-    /// What the channel has come to. The lists of its queues and MAPs are allocated.
+    /// Reports the channel. The lists of its queues and MAPs are allocated.
     pub(crate) fn holding(&self, alloc: Global) -> Result<Holding, NoMemory>
         ensures { IfOk result (λ holding. holding ≡ holding_of self.now.history.settings self.now.history.journal) }
     {

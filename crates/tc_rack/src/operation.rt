@@ -1,8 +1,8 @@
-//! What is asked of the channels.
+//! Asks the channels for operations.
 
 use tc_channel::Octets;
 
-/// What is asked of the channels of a spacecraft.
+/// Asks the channels of a spacecraft for an operation.
 #[derive(Drop)]
 pub enum Operation {
     /// To bring octets.

@@ -1,4 +1,4 @@
-//! What the lines of a script do in order: set up, and then operate on what is made of that at the first operation.
+//! Runs the lines of a script in order: they set up, and then operate on what is made of that at the first operation.
 
 ghost use Rattle.std.specs.Prelude.{◌≡◌, ◌≢◌, ◌⊎◌, [], IfOk, IfErr, OnErr, OnOk};
 ghost use Rattle.tc_setup.specs.Phase.{Does, IsBad, IsBadOperation, Operates, Setup};
@@ -13,39 +13,39 @@ use std::alloc::Global;
 use tc_setup::{Configuration, Instruction};
 use tc_text::Reason;
 
-/// Who makes what operates of what is set up, and does operations on it.
+/// Makes the channels that were set up, in a form of its own, and carries out operations on them.
 pub trait Backend {
     ghost use Rattle.std.specs.Prelude.{List};
     ghost use Rattle.tc_channel.specs.declared.settings.Settings.{Settings};
     ghost use Rattle.tc_rack.specs.declared.answer.Answer.{Answer};
     ghost use Rattle.tc_rack.specs.declared.operation.Operation.{Operation};
 
-    /// What operates.
+    /// The channels in that form.
     type Founded: Drop;
 
-    // it is a new one for channels with these settings
+    // they are new, and have these settings
     ghost is_new: { Self → List Settings → Self.Founded → Type 0 };
 
-    // what it answers an operation, and what that leaves
+    // what they answer an operation, and what that leaves
     ghost answers: { Operation → Self.Founded → Answer → Self.Founded → Type 0 };
 
-    // what an operation leaves for which memory is wanting
+    // what an operation leaves at which memory runs out
     ghost spares: { Self.Founded → Self.Founded → Type 0 };
 
-    /// Makes it.
+    /// Makes them.
     fn found(&self, alloc: Global, list: Configuration) -> Result<Self::Founded, Reason>
         ensures new { IfOk result (is_new self.now list) }
         ensures some { OnOk result (list ≢ []) }
         ensures reason { IfErr result (λ reason. (reason ≡ Reason.NoMemory) ⊎ ((reason ≡ Reason.NoChannel) × (list ≡ []))) };
 
-    /// Does an operation on it.
+    /// Carries out an operation on them.
     fn operate(&self, founded: &mut Self::Founded, operation: Operation) -> Result<Answer, Reason>
         ensures answer { IfOk result (λ answer. answers operation founded.old answer founded.new) }
         ensures reason { IfErr result (λ reason. reason ≡ Reason.NoMemory) }
         ensures refused { OnErr result (spares founded.old founded.new) };
 }
 
-/// Who makes the channels of the spacecraft with this id, for one thread.
+/// Makes the channels of the spacecraft with this id, for one thread.
 #[derive(Clone, Copy, Debug)]
 pub struct RackBackend {
     pub scid: u16,
@@ -82,8 +82,8 @@ impl Backend for RackBackend {
     }
 }
 
-/// Does what a line asks for; an operation has an answer. A line that is refused leaves all as it is, and where memory is wanting for an
-/// operation what its backend says; for the first operation, what operates may have been made.
+/// Carries out what a line asks for; an operation has an answer. A line that is refused leaves all as it is, and where memory runs out at
+/// an operation what its backend says; for the first operation the channels may have been made.
 pub fn perform<F: Backend>(
     backend: &F,
     alloc: Global,
@@ -118,7 +118,7 @@ pub fn perform<F: Backend>(
     }
 }
 
-// Does an operation on what operates, which is made where no operation came before.
+// Carries out an operation on the channels, which are made where no operation came before.
 fn operate<F: Backend>(
     backend: &F,
     alloc: Global,
@@ -137,7 +137,7 @@ fn operate<F: Backend>(
     }
 }
 
-/// Makes what operates, where no operation came before: by a copy of what was set up, which stays where memory is wanting.
+/// Makes the channels, where no operation came before: by a copy of what was set up, which stays where memory runs out.
 #[inline(always)]
 pub fn begin<F: Backend>(
     backend: &F,
@@ -179,7 +179,7 @@ fn begin_anew<F: Backend>(
     }
 }
 
-/// What operates, made of what was set up where no operation came before.
+/// Gives the channels, which are made of what was set up where no operation came before.
 pub fn start<F: Backend>(
     backend: &F,
     alloc: Global,

@@ -48,7 +48,7 @@ impl Rack {
         Ok(Rack { scid, channels })
     }
 
-    /// Does an operation. No more is allocated than by the channel that it names.
+    /// Carries out an operation. No more is allocated than by the channel that it names.
     pub fn operate(&mut self, operation: Operation) -> Result<Answer, NoMemory>
         ensures apart { AreChannelsApart self.old.channels }
         ensures answer { IfOk result (λ answer. IsAnswerOf operation self.old answer self.new) }
@@ -160,7 +160,7 @@ impl Rack {
         true
     }
 
-    /// What a channel has come to, if there is one with this id. The lists of its queues and MAPs are allocated.
+    /// Reports the channel with this id, if there is one. The lists of its queues and MAPs are allocated.
     pub fn report(&self, alloc: Global, vcid: u8) -> Result<Option<Holding>, NoMemory>
         ensures { IfOk result (IsReported self.now vcid) }
     {

@@ -1,4 +1,4 @@
--- What the lines of a script ask for.
+-- Says what the lines of a script ask for.
 use Rattle.std.specs.Prelude.{[]}
 use Rattle.tc_text.specs.declared.line.Line.{Line}
 use Rattle.tc_text.specs.declared.line.Line.TheVariants.{Blank, Channel, Queue, Map, Frame, Release, Take, Unit as TakeUnit, Clcw}

@@ -1,4 +1,4 @@
--- What the lines of a script do to what is set up, and why a line is bad.
+-- Says what the lines of a script do to what is set up, and why a line is bad.
 use Rattle.std.specs.Prelude.{◌≡◌, ◌≢◌, ℕ, List, [], ◌⊎◌}
 use Rattle.tc_channel.specs.declared.settings.Settings.{Settings}
 use Rattle.tc_channel.specs.declared.settings.SettingsFault.{SettingsFault}

@@ -1,4 +1,4 @@
-//! What the lines of a script ask for.
+//! Says what the lines of a script ask for.
 
 ghost use Rattle.std.specs.Prelude.{◌≡◌};
 ghost use Rattle.tc_setup.specs.Instruction.{instruction_of};
@@ -7,7 +7,7 @@ use std::alloc::Global;
 use tc_channel::{Items, MapSetting, Octets, QueueSetting, Settings};
 use tc_text::Line;
 
-/// What a line gives to a channel that is set up.
+/// A line gives this to a channel that is set up.
 #[derive(Clone, Copy, Debug, PartialEq, Eq)]
 pub enum Addition {
     /// A queue for packets.
@@ -16,7 +16,7 @@ pub enum Addition {
     Map(MapSetting),
 }
 
-/// What a line asks for. Here alone the fields of a channel line become settings.
+/// A line asks for this. Here alone the fields of a channel line become settings.
 #[derive(Drop)]
 pub enum Instruction {
     /// Nothing.
@@ -33,12 +33,12 @@ pub enum Instruction {
     Take(u8, u16),
     /// To take the oldest unit of a channel with a MAP.
     Unit(u8, u8),
-    /// To tell the CLCW of a channel.
+    /// To report the CLCW of a channel.
     Clcw(u8),
 }
 
 impl Instruction {
-    /// What a line asks for. The channel of a channel line has no queue and no chosen MAP yet.
+    /// Says what a line asks for. The channel of a channel line has no queue and no chosen MAP yet.
     pub fn of(alloc: Global, line: Line) -> Instruction
         ensures { result ≡ instruction_of line }
     {

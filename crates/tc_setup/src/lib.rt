@@ -1,4 +1,4 @@
-//! What the lines of a script ask for, and the channels that they set up.
+//! Says what the lines of a script ask for, and has the channels that they set up.
 //!
 //! [`Instruction::of`] says what a line asks for. A [`Configuration`] has the settings of the channels so far: each is allowed, and
 //! no two have one id, so that a station can have them as soon as there are some.

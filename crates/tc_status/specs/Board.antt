@@ -34,7 +34,7 @@ no_flag = record { no_rf = false; no_bit_lock = false }
 abbrev pub status_word : History → ℕ
 status_word h = clcw h.settings h.journal no_flag
 
--- the view of a seat that has seen this history and was told no other
+-- the view of a seat that has seen this history, and to which no other was reported
 abbrev pub view : History → View
 view h = record { live = true; seen = h; reported = h }
 
@@ -46,11 +46,11 @@ no_history = record { settings = record { vcid = 0; width = 0; buffer = 0; first
 abbrev pub spent : View
 spent = record { live = false; seen = no_history; reported = no_history }
 
--- the first seat is told what the second has seen
+-- what the second seat has seen is reported to the first
 abbrev pub with_reported : View → View → View
 with_reported v w = record v { reported = w.seen }
 
--- what a live seat has seen, and what it was told, are beginnings of what was published
+-- what a live seat has seen, and what was reported to it, are beginnings of what was published
 abbrev pub IsBehind : History → View → Type 0
 IsBehind published v = v.live ≡ true → IsEarlier v.seen published × IsEarlier v.reported published
 
@@ -72,7 +72,7 @@ pub record IsRead (before : Me Unit View) (found : ℕ) (after : Me Unit View) :
   pub word : found ≡ status_word after.0.seen
   pub later : IsEarlier before.0.seen after.0.seen
 
--- what was seen begins with what was told, which needs to be known no longer
+-- what was seen begins with what was reported, which needs to be known no longer
 pub record IsCompared (before after : Me Unit View) : Type 0 where
   pub seat : after ≡ (view before.0.seen, before.1)
   pub later : IsEarlier before.0.reported before.0.seen

@@ -1,4 +1,4 @@
--- What a contract sees of a desk: its channel, and the board on which that is published.
+-- A contract sees of a desk its channel, and the board on which that is published.
 use Rattle.atomic_table.specs.Seated.{TableId}
 use Rattle.tc_channel.specs.Journal.{History}
 

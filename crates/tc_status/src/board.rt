@@ -5,13 +5,13 @@ use std::alloc::Global;
 use std::marker::{Brand, PhantomData};
 use tc_channel::Past;
 
-/// What is known at a seat. No value of it is ever made: in a clause each `Past` is the settings and the journal of a channel.
+/// Says what is known at a seat. No value of it is ever made: in a clause each `Past` is the settings and the journal of a channel.
 pub struct View {
     /// False of a seat that was joined to another, and of no other.
     pub live: bool,
-    /// What was published from this seat, or seen from it.
+    /// This was published from this seat, or seen from it.
     pub seen: Past,
-    /// What was seen from the seat that was last joined to this one.
+    /// This was seen from the seat that was last joined to this one.
     pub reported: Past,
 }
 
@@ -26,7 +26,7 @@ impl TableRule<(), View, Past> for BoardRule {
     ghost first = { view };
 }
 
-/// What a store publishes. Each call picks it.
+/// Names what a store publishes. Each call picks it.
 pub trait Publication {
     ghost use Rattle.tc_channel.specs.Journal.{History};
 
@@ -60,7 +60,7 @@ impl Play<(), View> for Reads {
     ghost then = { λ _ before found after. IsRead before found after };
 }
 
-/// A load by the publisher, which learns that what it was told is a beginning of what it has published.
+/// A load by the publisher, which learns that what was reported to it is a beginning of what it has published.
 pub struct Compares;
 
 impl Play<(), View> for Compares {
@@ -78,7 +78,7 @@ impl Split<View> for Doubles {
     ghost right = { λ v. v };
 }
 
-/// The publisher is told what a watcher had seen, whose seat is spent.
+/// Reports to the publisher what a watcher had seen, whose seat is spent.
 pub struct Tells;
 
 impl Join<View> for Tells {

@@ -1,4 +1,4 @@
--- What a line says to a live receiver, by its words.
+-- Says what a line asks a live receiver for, by its words.
 use Rattle.std.specs.Prelude.{ℕ, Bool, true, false, ◌==◌, List, [], ◌∷◌, codes, Some, None, Result, Ok, Err, if◌then◌else◌}
 use Rattle.tc_text.specs.Line.{line_of, three_of}
 use Rattle.tc_lines.specs.Number.{word_number}

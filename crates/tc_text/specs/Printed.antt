@@ -1,4 +1,4 @@
--- What answers, reasons and faults are printed as: docs/reference/scripts.md shows them, under "Answers" and "Faults".
+-- Answers, reasons and faults as text: docs/reference/scripts.md shows them, under "Answers" and "Faults".
 use Rattle.std.specs.Prelude.{ℕ, ◌==◌, if◌then◌else◌, List, ◌++◌, length, codes, decimal}
 use Rattle.std.specs.Int.{to_be_bytes, w32}
 use Rattle.tc_channel.specs.declared.reply.Delivery.{Delivery}

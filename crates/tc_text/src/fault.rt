@@ -9,8 +9,8 @@ use std::fmt;
 use tc_channel::SettingsFault;
 use tc_lines::BadNumber;
 
-/// Why a line is bad. Where several apply, the first of this list is told; but a bad option comes right before
-/// what is too late, and want of memory is told as soon as it is met.
+/// Why a line is bad. Where several apply, the first of this list is reported; but a bad option comes right before
+/// what is too late, and out of memory is reported as soon as it is met.
 #[derive(Clone, Copy, Debug, PartialEq, Eq)]
 pub enum Reason {
     /// The first word is no command.
@@ -41,7 +41,7 @@ pub enum Reason {
     DoubleApid,
     /// A queue isn't of 1 to 256 packets.
     BadCapacity,
-    /// Memory was wanting for what the line needs.
+    /// Memory ran out at what the line needs.
     NoMemory,
     /// The word after a channel's numbers is no option.
     BadOption,
@@ -128,7 +128,7 @@ impl From<SettingsFault> for Reason {
 /// Why a script ended early. Lines are numbered from 1; the whole script has the number 0.
 #[derive(Clone, Copy, Debug, PartialEq, Eq)]
 pub enum ScriptFault {
-    /// The line is bad, and nothing of it was done; or memory was wanting there: at 0 for the script as it was read, at the
+    /// The line is bad, and nothing of it was done; or memory ran out there: at 0 for the script as it was read, at the
     /// number of lines for its end. `run_script` has answered the lines before it, `parallel_script` has written nothing.
     Line { line: u32, reason: Reason },
     /// The reader failed. No line was done.

@@ -11,7 +11,7 @@ use std::alloc::Global;
 use tc_channel::Octets;
 use tc_lines::{large_number, next_word, small_number};
 
-/// What a line says.
+/// Says what a line asks for.
 #[derive(Debug, Drop, PartialEq, Eq)]
 pub enum Line {
     /// Nothing: no words, or a comment.

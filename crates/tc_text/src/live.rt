@@ -13,10 +13,10 @@ use tc_channel::Octets;
 use tc_lines::{next_word, small_number};
 use tc_link::Link;
 
-/// What a line says to a live receiver.
+/// Says what a line asks a live receiver for.
 #[derive(Debug, Drop, PartialEq, Eq)]
 pub enum LiveLine {
-    /// What it says in a script.
+    /// A line of a script.
     Script(Line),
     /// The flags of the link from now on, for a virtual channel.
     Link { vcid: u8, link: Link },
@@ -26,7 +26,7 @@ pub enum LiveLine {
     Deliver(u8),
     /// Hands on all that waits in the queues of a virtual channel.
     Collect(u8),
-    /// What a CLTU carried: a frame, and fill behind it.
+    /// A candidate, which a CLTU carried: a frame, and fill behind it.
     Candidate(Octets),
 }
 

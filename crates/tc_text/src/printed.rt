@@ -1,4 +1,4 @@
-//! What answers are made of, as text.
+//! Writes the parts of answers as text.
 
 ghost use Rattle.std.specs.Prelude.{Some};
 ghost use Rattle.tc_text.specs.Printed.{unit_text, word_text, delivery_text};
@@ -38,7 +38,7 @@ impl fmt::Display for WordDigits {
     }
 }
 
-/// What became of a unit: how many of its packets were queued and how many dropped, and whether octets were left.
+/// Writes what became of a unit: how many of its packets were queued and how many dropped, and whether octets were left.
 #[derive(Clone, Copy, Debug)]
 pub struct Delivered(pub Delivery);
 

@@ -13,14 +13,14 @@ use tc_text::SpacecraftId;
 
 fn main(rt: HostRuntime) -> ExitCode {
     match asked_of_tclive(&rt) {
-        Ok(asked) => tell(&rt, serve(&rt, asked)),
+        Ok(asked) => report(&rt, serve(&rt, asked)),
         Err(status) => status,
     }
 }
 
-// The exit status. Why no more lines were answered goes to standard error; and if so, that each frame ended with its frame error control
-// field, on which no answer depends.
-fn tell<R: Eprint>(rt: &R, served: Result<FrameEnds, ServingFault>) -> ExitCode {
+// Reports on standard error why no more lines were answered, or else if each frame ended with its frame error control field, on which
+// no answer depends; and gives the exit status.
+fn report<R: Eprint>(rt: &R, served: Result<FrameEnds, ServingFault>) -> ExitCode {
     match served {
         Ok(ends) => {
             if ends == FrameEnds::EachWithField {

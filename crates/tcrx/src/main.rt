@@ -1,4 +1,4 @@
-//! `tcrx`: a telecommand receiver that does a script from standard input.
+//! `tcrx`: a telecommand receiver that runs a script from standard input.
 #![tactic(auto)]
 
 ghost use Rattle.std.specs.Prelude.{◌≤◌};
@@ -17,13 +17,13 @@ use tc_station::FreeGate;
 
 fn main(rt: HostRuntime) -> ExitCode {
     match asked_of_tcrx(&rt) {
-        Ok(asked) => tell(&rt, obey(&rt, asked)),
+        Ok(asked) => report(&rt, obey(&rt, asked)),
         Err(status) => status,
     }
 }
 
-// The exit status of a script. Why it ended early goes to standard error.
-fn tell<R: Eprint>(rt: &R, done: Result<(), ScriptFault>) -> ExitCode {
+// Reports on standard error why a script ended early, and gives the exit status.
+fn report<R: Eprint>(rt: &R, done: Result<(), ScriptFault>) -> ExitCode {
     match done {
         Ok(()) => ExitCode::SUCCESS,
         Err(fault) => {
@@ -38,7 +38,7 @@ const NO_WRITER: ScriptFault = ScriptFault::Line {
     reason: Reason::NoMemory,
 };
 
-// Does the script of standard input.
+// Runs the script of standard input.
 fn obey<R: AllocGlobal + Input + Print + Eprint + Threads + Wait + Sync>(
     rt: &R,
     asked: ScriptRun,

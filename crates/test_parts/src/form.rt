@@ -9,7 +9,7 @@ use tc_channel::{
 use tc_fixed::{FixedChannel, NoUnitTaken, NothingReleased, NothingTaken};
 use tc_link::{Frame, Report};
 
-/// What is asked of a channel of whatever form.
+/// Has the calls of a channel of whatever form.
 pub trait Form: Drop {
     /// The channel of these settings.
     fn made(alloc: Global, settings: Settings) -> Result<Self, SettingsFault>;
@@ -35,7 +35,7 @@ pub trait Form: Drop {
     /// The CLCW with both link flags 0.
     fn word(&self) -> u32;
 
-    /// What FARM-1 reports.
+    /// The report of FARM-1.
     fn state(&self) -> Report;
 
     /// The settings that it was made with.

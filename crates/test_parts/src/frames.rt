@@ -112,7 +112,7 @@ pub fn is_frame(event: &Event, frame: &[u8]) -> bool {
     }
 }
 
-/// What a channel answers to the frame at the front of these octets, if there is one.
+/// Has a channel answer the frame at the front of these octets, if there is one.
 pub fn offer<J: Journal>(
     channel: &mut ChannelWith<J>,
     octets: &[u8],

@@ -47,7 +47,7 @@ pub fn note(journal: &mut Vec<Event>, event: Event) -> Result<(), AllocError> {
     Ok(())
 }
 
-/// What a call answers. Where it was refused memory, that is told under this name, and the call is made again.
+/// Makes a call. Where it was refused memory, that is printed under this name, and the call is made again.
 pub fn made_again<T, E: Drop + PartialEq, F: Fn() -> Result<T, E>>(
     rt: &impl Print,
     name: &str,

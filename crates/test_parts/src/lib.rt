@@ -1,4 +1,4 @@
-//! What tests of several crates share: frames and replies, settings made of data, the forms of a channel, growths that are refused
+//! Tests of several crates share this: frames and replies, settings made of data, the forms of a channel, growths that are refused
 //! once, and streams that fail.
 #![tactic(auto)]
 

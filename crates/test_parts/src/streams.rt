@@ -66,7 +66,7 @@ impl Watched {
         }
     }
 
-    /// What was written.
+    /// All that was written.
     pub fn kept(&self) -> &[u8] {
         &self.kept
     }

@@ -1,4 +1,4 @@
-//! Each call is made, of a channel of each form; where it answers want of memory, the channel is as it was, and the call is made again.
+//! Each call is made, of a channel of each form; where it answers out of memory, the channel is as it was, and the call is made again.
 
 use super::Step::{
     Ad, Clcw, Field, Frame, Holds, Lends, NoRelease, NoTake, NoTakeUnit, Release, ReleaseOf, Take,

@@ -1,4 +1,4 @@
-//! What a channel and octets report of themselves.
+//! Compares what a channel and octets report of themselves.
 
 use super::*;
 
@@ -16,7 +16,7 @@ fn check_new<C: Form, T: Abort + Print>(rt: &T, alloc: Global) {
 }
 
 #[test]
-fn what_a_new_channel_tells(rt: HostRuntime) {
+fn what_a_new_channel_reports(rt: HostRuntime) {
     check_new::<Channel, HostRuntime>(&rt, rt.alloc());
     check_new::<CountingChannel, HostRuntime>(&rt, rt.alloc());
     check_new::<FixedChannel, HostRuntime>(&rt, rt.alloc());

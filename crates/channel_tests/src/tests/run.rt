@@ -3,7 +3,7 @@
 use super::*;
 use tc_link::Report;
 
-// What is done to a channel, and what it answers.
+// Calls of a channel, with what it answers.
 pub enum Step<'a> {
     // The frame of `ad_frame` with this N(S).
     Ad(u8, FrameReply),
@@ -29,7 +29,7 @@ pub enum Step<'a> {
     Lends(Option<&'a [u8]>, Option<&'a [u8]>),
 }
 
-// What is told of a channel.
+// A channel reports this of itself.
 #[derive(Clone, Copy, Debug, PartialEq, Eq)]
 struct Reported {
     report: Report,
@@ -41,7 +41,7 @@ struct Reported {
     units: Option<usize>,
 }
 
-fn tell<C: Form>(channel: &C) -> Reported {
+fn report_of<C: Form>(channel: &C) -> Reported {
     Reported {
         report: channel.state(),
         word: channel.word(),
@@ -80,7 +80,7 @@ impl<C: Form> Run<C> {
     // A call was refused memory, and the channel is as it was.
     fn check_refused(&self, rt: &(impl Abort + Print), call: &str, reported: &Reported) {
         let _ = println!(rt; "refused: {}::{call}", self.name);
-        assert_eq!(rt; tell(&self.channel), *reported);
+        assert_eq!(rt; report_of(&self.channel), *reported);
     }
 
     // The journal must have one event more.
@@ -89,12 +89,12 @@ impl<C: Form> Run<C> {
     }
 
     fn frame(&mut self, rt: &(impl Abort + Print), octets: &[u8], reply: FrameReply) {
-        let reported = tell(&self.channel);
+        let reported = report_of(&self.channel);
         let mut answer = offer(rt, &mut self.channel, octets);
         if answer.is_err() {
             let event = reply.act.event;
             let _ = println!(rt; "refused: {}::frame, event {event}", self.name);
-            assert_eq!(rt; tell(&self.channel), reported);
+            assert_eq!(rt; report_of(&self.channel), reported);
             answer = offer(rt, &mut self.channel, octets);
         }
         assert_eq!(rt; answer, Ok(reply));
@@ -111,11 +111,11 @@ impl<C: Form> Run<C> {
     }
 
     fn release(&mut self, rt: &(impl Abort + Print), unit: &str, expected: Delivery) {
-        let reported = tell(&self.channel);
+        let reported = report_of(&self.channel);
         let mut answer = self.channel.let_out();
         if answer == Err(ReleaseFault::NoMemory) {
             let _ = println!(rt; "refused: {}::release, {unit}", self.name);
-            assert_eq!(rt; tell(&self.channel), reported);
+            assert_eq!(rt; report_of(&self.channel), reported);
             answer = self.channel.let_out();
         }
         assert_eq!(rt; answer, Ok(expected));
@@ -123,7 +123,7 @@ impl<C: Form> Run<C> {
     }
 
     fn take(&mut self, rt: &(impl Abort + Print), apid: u16, packet: &[u8]) {
-        let reported = tell(&self.channel);
+        let reported = report_of(&self.channel);
         let mut answer = self.channel.take_packet(self.alloc, apid);
         if answer == Err(TakeFault::NoMemory) {
             self.check_refused(rt, "take", &reported);
@@ -135,7 +135,7 @@ impl<C: Form> Run<C> {
     }
 
     fn take_unit(&mut self, rt: &(impl Abort + Print), map: u8, unit: &[u8]) {
-        let reported = tell(&self.channel);
+        let reported = report_of(&self.channel);
         let mut answer = self.channel.take_whole(self.alloc, map);
         if answer == Err(TakeUnitFault::NoMemory) {
             self.check_refused(rt, "take_unit", &reported);

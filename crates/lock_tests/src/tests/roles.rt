@@ -1,4 +1,4 @@
-//! What a thread does with its seat, and two or three threads that do it at the same time.
+//! Has a thread play a role with its seat, and two or three threads at the same time.
 
 ghost use Rattle.std.specs.Thread.{IsSync};
 ghost use Rattle.lock_tests.specs.Book.{IsWriter};
@@ -13,7 +13,7 @@ use std::time::Duration;
 // How many numbers a role of `Write` writes.
 pub(super) const TURNS: u32 = 10_000;
 
-// What a thread does with its seat. Those that do it at the same time have a flag, which isn't set first.
+// Says what a thread does with its seat. Those that do it at the same time have a flag, which isn't set first.
 #[derive(Clone, Copy)]
 pub(super) enum Role {
     // Writes the numbers from this one on, in rising order.

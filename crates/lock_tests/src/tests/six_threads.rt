@@ -12,7 +12,7 @@ use std::rt::Clock;
 use std::sync::Wait;
 use std::thread::{Threads, join_mut};
 
-// Who writes the numbers from its first one on.
+// Writes the numbers from its first one on.
 #[derive(Drop)]
 struct Writer {
     seat: BookSeat,

@@ -1,4 +1,4 @@
-//! What a thread does with a book under its lock.
+//! Has a thread take turns with a book under its lock.
 
 ghost use Rattle.std.specs.Prelude.{◌≡◌, ◌∷◌, ◌++◌, [], MatchBool, ℕ, true};
 ghost use Rattle.logged_lock.specs.Rule.{HasLock};

@@ -12,7 +12,7 @@ use tc_station::{
 };
 use tc_status::Watcher;
 
-// What a script prints of an operation, unless memory was wanting.
+// A script prints this of an operation, unless memory ran out.
 pub(super) type Asked = Result<Answer, NoMemory>;
 
 fn refused(refusal: Refusal) -> Asked {
@@ -69,16 +69,16 @@ fn of_word(vcid: u8, answer: Option<u32>) -> Asked {
     }
 }
 
-// What is told of a channel: its CLCW with both link flags 0, and its number of events; and of who isn't locked how many data fields,
-// packets for APID 5 and units of MAP 3 wait.
+// A channel reports this of itself: its CLCW with both link flags 0, and its number of events; and of who isn't locked how many data
+// fields, packets for APID 5 and units of MAP 3 wait.
 #[derive(Clone, Copy, PartialEq, Eq)]
 pub(super) struct Reported {
     pub(super) word: Option<u32>,
     events: Option<u64>,
-    held: [Option<usize>; 3],
+    waiting: [Option<usize>; 3],
 }
 
-// Who is asked for operations.
+// Is asked for operations.
 pub(super) trait Asking: Drop {
     // Makes the operation of a line on a virtual channel.
     fn ask<R: Wait + Abort>(&mut self, rt: &R, vcid: u8, line: &Line) -> Asked;
@@ -95,7 +95,7 @@ fn reported_of<J: Journal>(channel: &ChannelWith<J>) -> Reported {
     Reported {
         word: Some(channel.clcw(NO_FLAG)),
         events: Some(channel.events()),
-        held: [
+        waiting: [
             Some(channel.buffered()),
             channel.queued(5),
             channel.units(3),
@@ -142,7 +142,7 @@ impl Asking for Channel {
     }
 }
 
-// What the watcher of a desk reads, who was there before its first frame.
+// Compares what the watcher of a desk reads, which was there before its first frame.
 impl Asking for Watched {
     fn ask<R: Wait + Abort>(&mut self, rt: &R, vcid: u8, line: &Line) -> Asked {
         let desk = &mut self.desk;
@@ -319,7 +319,7 @@ impl<J: Journal> Asking for OperatorList<J> {
         Reported {
             word: status_of(&self.station, rt, vcid),
             events: self.operator.count(vcid),
-            held: [None; 3],
+            waiting: [None; 3],
         }
     }
 

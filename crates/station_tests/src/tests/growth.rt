@@ -1,4 +1,4 @@
-//! Each call is made; want of memory must have left what stood before as it was, and then the call is made again.
+//! Each call is made; one that runs out of memory must have left what stood before as it was, and then the call is made again.
 
 ghost use Rattle.std.specs.Prelude.{◌≡◌, ◌≤◌, All, length};
 ghost use Rattle.tc_station.specs.Tally.{IsOurs};

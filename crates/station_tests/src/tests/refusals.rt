@@ -1,4 +1,4 @@
-//! What stations refuse.
+//! Has stations refuse what they must.
 
 use super::asking::OperatorList;
 use super::*;

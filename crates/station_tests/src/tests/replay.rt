@@ -7,7 +7,7 @@ use tc_cli::{Answer, Line, Reason, parse_line};
 use tc_station::StationFault;
 use test_parts::{made_again, room};
 
-// What is done on virtual channel 1 of stations and of channels with these settings: lines of a script, and what each is answered.
+// A row is run on virtual channel 1 of stations and of channels with these settings: lines of a script, and what each is answered.
 pub(super) struct Row<'a> {
     pub(super) name: &'a str,
     pub(super) wanted: &'a Wanted<'a>,
@@ -37,7 +37,7 @@ pub(super) fn new_channel(rt: &impl Abort, alloc: Global, row: &Row, vcid: u8) -
     }
 }
 
-// What is told where the call that is answered so was refused memory.
+// Prints which call was refused memory, by what it is answered then.
 fn call_of(rt: &impl Print, who: &str, answer: &Asked) {
     let _ = match answer {
         Ok(Answer::Frame { vcid: _, reply }) => {
@@ -50,7 +50,7 @@ fn call_of(rt: &impl Print, who: &str, answer: &Asked) {
     };
 }
 
-// Asks for the operation of a line. Where memory was wanting, all is as it was, and it is asked for again. The text of the answer.
+// Asks for the operation of a line. Where memory ran out, all is as it was, and it is asked for again. The text of the answer.
 pub(super) fn ask<A: Asking, R: Wait + Abort + Print>(
     rt: &R,
     alloc: Global,
@@ -76,7 +76,7 @@ fn text_of(rt: &impl Abort, alloc: Global, answer: &Answer) -> String {
     }
 }
 
-// As many of these octets as their header tells a frame has, one more than the number in its ten bits of length.
+// As many of these octets as a frame has by their header, one more than the number in its ten bits of length.
 fn without_fill(octets: &[u8]) -> Option<&[u8]> {
     let high = *octets.get(2)? & 3;
     let low = *octets.get(3)?;
@@ -129,7 +129,7 @@ impl Replay {
         }
     }
 
-    // What the channel with this id that stands alone answers to the operation of a line.
+    // Has the channel with this id that stands alone answer the operation of a line.
     fn ask_alone(&mut self, rt: &(impl Wait + Abort + Print), (vcid, line): (u8, &Line)) -> String {
         if vcid == 1 {
             ask(rt, self.alloc, "Channel", &mut self.first, (vcid, line))
@@ -152,7 +152,7 @@ impl Replay {
         reported
     }
 
-    // Each channel tells the CLCW of the one that stands alone.
+    // Each channel reports the CLCW of the one that stands alone.
     fn check_words<A: Asking, R: Wait + Abort>(&self, rt: &R, asked: &mut A) {
         assert!(rt; asked.reported(rt, 1).word == Some(self.first.clcw(NO_FLAG)));
         if asked.has_two() {
@@ -213,7 +213,7 @@ impl Replay {
         assert!(rt; journal == self.journal.as_slice());
     }
 
-    // The closed channels of a station, in the order of its settings, tell of themselves what those tell that stand alone.
+    // The closed channels of a station, in the order of its settings, report of themselves what those report that stand alone.
     pub(super) fn check_closed<J: Journal>(&self, rt: &impl Abort, channels: &[ChannelWith<J>]) {
         assert_eq!(rt; channels.len(), 2);
         check_same(rt, &channels[0], &self.second);

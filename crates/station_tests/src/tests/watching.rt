@@ -1,4 +1,4 @@
-//! What watchers read.
+//! Compares what watchers read.
 
 ghost use Rattle.std.specs.Prelude.{◌≡◌};
 ghost use Rattle.tc_station.specs.Moments.{IsWatcherOf};

@@ -101,7 +101,7 @@ pub(super) fn new_operator_list(rt: &impl Abort, alloc: Global, n: u16) -> (Stat
     (station, operators)
 }
 
-// Does the lists to their end.
+// Works the lists to their end.
 pub(super) fn do_lists<R: Threads + Wait + Sync + Abort, G: Gate + Sync>(
     rt: &R,
     gate: &G,
@@ -151,8 +151,8 @@ fn workers_of_a_script_meet(rt: HostRuntime) {
     assert!(rt; !gate.has_run_out());
 }
 
-// Who passes for channel 1 says that it is inside, and then waits until it is told something, for so many turns at most. Others wait
-// until it is inside.
+// Whoever passes for channel 1 says that it is inside, and then waits for a report, for so many turns at most. Others wait until it is
+// inside.
 #[derive(Drop)]
 struct Inside {
     turns: u32,
@@ -171,7 +171,7 @@ impl Inside {
         }
     }
 
-    fn tell(&self) {
+    fn report(&self) {
         self.reported.store(true, Ordering::SeqCst);
     }
 
@@ -193,11 +193,11 @@ impl Gate for Inside {
     }
 }
 
-// Tells the gate when channel 2 was unlocked.
-fn tell_of_the_second(station: &Station, watcher: &mut Watcher, gate: &Inside) {
+// Reports to the gate when channel 2 was unlocked.
+fn report_the_second(station: &Station, watcher: &mut Watcher, gate: &Inside) {
     for turn in 0..100_000_000u32 {
         if station.watch(watcher, NO_FLAG) == 0x01080200 {
-            gate.tell();
+            gate.report();
             return;
         }
         if turn % 1024 == 1023 {
@@ -215,15 +215,15 @@ fn a_channel_is_worked_while_the_lock_of_another_is_held(rt: HostRuntime) {
     join(
         &rt,
         || do_lists(&rt, &gate, &station, &mut operators, &lists),
-        || tell_of_the_second(&station, &mut watcher, &gate),
+        || report_the_second(&station, &mut watcher, &gate),
     );
     assert!(rt; gate.was_reported());
 }
 
-// Tells the gate when a watcher of channel 1 was made while someone is inside.
-fn tell_of_a_watcher(rt: &impl Wait, station: &Station, gate: &Inside) {
+// Reports to the gate when a watcher of channel 1 was made while someone is inside.
+fn report_a_watcher(rt: &impl Wait, station: &Station, gate: &Inside) {
     if comes_true(&gate.inside, 100_000_000) && station.watcher(rt, 1).is_ok() {
-        gate.tell();
+        gate.report();
     }
 }
 
@@ -235,7 +235,7 @@ fn who_passes_holds_the_lock(rt: HostRuntime) {
     join(
         &rt,
         || do_lists(&rt, &gate, &station, &mut operators, &lists),
-        || tell_of_a_watcher(&rt, &station, &gate),
+        || report_a_watcher(&rt, &station, &gate),
     );
     assert!(rt; gate.reported.load(Ordering::SeqCst));
     assert!(rt; !gate.was_reported());

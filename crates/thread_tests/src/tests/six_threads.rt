@@ -14,7 +14,7 @@ use tc_link::read_clcw;
 use tc_station::{ReleaseRefused, TakeRefused};
 use tc_status::Watcher;
 
-// What an operator does over and over.
+// Says what an operator does over and over.
 #[derive(Clone, Copy, PartialEq)]
 enum Task {
     // It brings the frames with N(S) 0 to 199.
@@ -213,7 +213,7 @@ fn all_at_once<R: Abort + Threads + Wait + Sync>(
     join_mut(rt, &mut first, &mut second);
 }
 
-// What all operators counted of channel 1.
+// Adds up what all operators counted of channel 1.
 fn counted(rt: &impl Abort, workers: &[Worker]) -> u64 {
     let mut sum: u64 = 0;
     for worker in workers {
@@ -231,7 +231,7 @@ fn take(rt: &impl Abort, channel: &mut Channel, apid: u16) -> Vec<u8> {
     channel.take(apid).expect(rt, "a packet")
 }
 
-// What a channel answers to an event.
+// Has a channel answer an event.
 fn answer_to(rt: &impl Abort, channel: &mut Channel, event: &Event) -> Answer {
     match event {
         Event::Frame(octets) => {
@@ -247,14 +247,14 @@ fn answer_to(rt: &impl Abort, channel: &mut Channel, event: &Event) -> Answer {
     }
 }
 
-// Both tell the same of themselves.
+// Both report the same of themselves.
 fn check_alike(rt: &impl Abort, channel: &Channel, closed: &Channel) {
     assert_eq!(rt; channel.clcw(NO_FLAG), closed.clcw(NO_FLAG));
     assert_eq!(rt; channel.buffered(), closed.buffered());
     assert!(rt; channel.queued(5) == closed.queued(5));
 }
 
-// What a new channel answers to the events of the closed one's journal. It is then as the closed one.
+// Has a new channel answer the events of the closed one's journal. It is then as the closed one.
 fn answers_again(rt: &impl Abort, alloc: Global, closed: &Channel) -> Vec<Answer> {
     let mut channel = Channel::new(alloc, settings(alloc, &CHANNEL).expect(rt, "settings")).expect(
         rt,

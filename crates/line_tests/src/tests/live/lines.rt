@@ -23,7 +23,7 @@ fn the_flags_of_a_link_stand_beside_the_others(rt: HostRuntime) {
 }
 
 #[test]
-fn a_report_tells_what_a_channel_has_come_to(rt: HostRuntime) {
+fn a_report_says_what_a_channel_has_come_to(rt: HostRuntime) {
     check_answers(
         &rt,
         rt.alloc(),

@@ -91,7 +91,7 @@ fn report_growth(rt: HostRuntime) {
     check_script(&rt, script, report, 4, 4);
 }
 
-// Does a script in parallel. Where a growth is refused, that is told at line 0, as the script is read, or from the first to the
+// Runs a script in parallel. Where a growth is refused, that is reported at line 0, as the script is read, or from the first to the
 // last of these lines, and nothing is written.
 fn check_parallel<R: Threads + Wait + Sync + Abort + Print + AllocGlobal>(
     rt: &R,

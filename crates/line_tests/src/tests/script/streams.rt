@@ -26,7 +26,7 @@ impl Read for Endless {
     }
 }
 
-// All is answered, or the failed read is told and nothing is answered. Says whether the script is read before this read fails.
+// All is answered, or the failed read is reported and nothing is answered. Says whether the script is read before this read fails.
 fn is_read<T: Abort + Threads + Wait + Sync + AllocGlobal>(
     rt: &T,
     way: Way,
@@ -64,7 +64,7 @@ fn a_read_fails(rt: HostRuntime) {
     }
 }
 
-// All is written, or the failed write is told, and what was written before is the front of the rest. Says whether all was.
+// All is written, or the failed write is reported, and what was written before is the front of the rest. Says whether all was.
 fn is_written<T: Abort + Threads + Wait + Sync + AllocGlobal>(
     rt: &T,
     way: Way,

@@ -29,7 +29,7 @@ struct Desks {
     second: Desk,
 }
 
-// Who has an operator at each of them.
+// Has an operator at each of them.
 #[derive(Drop)]
 struct Worker {
     first: DeskOperator,

@@ -10,7 +10,7 @@ take_from-answer-requires g c = some-left _ _ _ _ _ _ c.loop.invariant (omega ar
 
 pub loop-preserved : goal.loop-preserved
 loop-preserved g c =
-    one-more-taken _ _ _ _ _ _ _ _ _ c.loop.invariant c.take_from-answer.ensures.taken c.take_from-answer.ensures.rest c.take_from-answer.ensures.settings c.in_ok-tell.ensures
+    one-more-taken _ _ _ _ _ _ _ _ _ c.loop.invariant c.take_from-answer.ensures.taken c.take_from-answer.ensures.rest c.take_from-answer.ensures.settings c.in_ok-write_answer.ensures
 
 pub returns-clause-reported : goal.returns-clause-reported
 returns-clause-reported g c = all-taken _ _ _ _ _ _ c.loop.invariant (omega arith)
