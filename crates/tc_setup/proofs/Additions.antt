@@ -1,16 +1,9 @@
 -- A queue or a chosen MAP more than settings have that a channel can have: what they are then, or their one fault.
-use Rattle.std.proofs.Common.{◌≡◌, ◌≢◌, ℕ, ◌≤◌, true, false, List, [], ◌∷◌, ◌++◌, length, get_or, inl, inr, refl, sym, ◌∙◌, ap, subst, arith}
+use Rattle.tc_setup.proofs.Names.{◌≡◌, ◌≢◌, ℕ, ◌≤◌, true, false, List, [], ◌∷◌, ◌++◌, length, get_or, inl, inr, refl, sym, ◌∙◌, ap, subst, arith, get_or_default, All-push, all_pairs_push, All, AllPairs, Any, QueueSetting, Settings, with_addition}
 use Rattle.std.proofs.lemmas.Grind.{common_steps}
-use Rattle.std.proofs.lemmas.List.{get_or_default}
-use Rattle.std.proofs.lemmas.List.Elements.{All-push}
-use Rattle.std.proofs.lemmas.List.Quantifiers.{all_pairs_push}
-use Rattle.std.specs.Prelude.{All, AllPairs, Any}
 use Rattle.tc_channel.specs.declared.settings.MapSetting.{MapSetting}
-use Rattle.tc_channel.specs.declared.settings.QueueSetting.{QueueSetting}
-use Rattle.tc_channel.specs.declared.settings.Settings.{Settings}
 use Rattle.tc_channel.specs.declared.settings.SettingsFault.TheVariants.{BadApid, DoubleApid, BadCapacity, BadMap, DoubleMap, BadUnits, PlainMap}
 use Rattle.tc_channel.specs.Settings.{IsAllowed, IsFault}
-use Rattle.tc_setup.specs.Configuration.{with_addition}
 use Rattle.tc_setup.specs.declared.instruction.Addition.TheVariants.{Queue, Map}
 
 last-of-all : {X : Type 0} (P : X → Type 0) (xs : List X) (y : X) → All P (xs ++ y ∷ []) → P y

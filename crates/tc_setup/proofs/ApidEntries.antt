@@ -1,13 +1,5 @@
 -- The APIDs of a channel's queues: of no queue, and what an entry says; and those of all channels.
-use Rattle.std.proofs.Common.{◌≡◌, ℕ, zero, suc, ◌<◌, ◌≤◌, Bool, true, false, true≢false, ◌||◌, eqb, List, [], ◌∷◌, ◌++◌, length, get_or, set, replicate, refl, sym, ◌∙◌, ap, subst, arith}
-use Rattle.std.proofs.lemmas.Bool.{eqb-true, eq-eqb}
-use Rattle.std.proofs.lemmas.List.{length-replicate, length-set}
-use Rattle.std.proofs.lemmas.List.Folds.{Any-from_list_any, list_any-from_Any}
-use Rattle.std.specs.List.{AllZip, list_any}
-use Rattle.std.specs.Prelude.{Any}
-use Rattle.tc_channel.specs.declared.settings.QueueSetting.{QueueSetting}
-use Rattle.tc_channel.specs.declared.settings.Settings.{Settings}
-use Rattle.tc_setup.specs.Configuration.{AreApidsOf, AreApidsOfEach}
+use Rattle.tc_setup.proofs.Names.{◌≡◌, ℕ, zero, suc, ◌<◌, ◌≤◌, Bool, true, false, true≢false, ◌||◌, eqb, List, [], ◌∷◌, ◌++◌, length, get_or, set, replicate, refl, sym, ◌∙◌, ap, subst, arith, eqb-true, eq-eqb, length-replicate, length-set, Any-from_list_any, list_any-from_Any, AllZip, list_any, Any, QueueSetting, Settings, AreApidsOf, AreApidsOfEach}
 
 all-alike : (n k : ℕ) → get_or (replicate n false) k false ≡ false
 all-alike zero zero = refl

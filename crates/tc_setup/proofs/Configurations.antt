@@ -1,19 +1,9 @@
 -- Looking for a channel of a configuration, and setting one up besides.
-use Rattle.std.proofs.Common.{◌≡◌, ◌≢◌, ℕ, ◌<◌, ◌≤◌, Bool, true, false, true≢false, eqb, Option, Some, None, List, [], ◌∷◌, ◌++◌, length, map, get_or, set, refl, sym, ap, ◌∙◌, subst, arith}
-use Rattle.std.proofs.lemmas.Bool.{eqb-true, eq-eqb}
+use Rattle.tc_setup.proofs.Names.{◌≡◌, ◌≢◌, ℕ, ◌<◌, ◌≤◌, Bool, true, false, true≢false, eqb, Option, Some, None, List, [], ◌∷◌, ◌++◌, length, map, get_or, set, refl, sym, ap, ◌∙◌, subst, arith, eqb-true, eq-eqb, get_or-map, get_or-set_other, get_or-set_same, get_or_default, length-map, length-set, All-push, All-set, Any-from_list_any, all_pairs_push, list_any, AllPairs, is_some, MatchOption, Settings, IsAllowed, HasSettings, IsAt, IsConfiguration}
 use Rattle.std.proofs.lemmas.Bool.Decides.{Decides-eqb}
-use Rattle.std.proofs.lemmas.List.{get_or-map, get_or-set_other, get_or-set_same, get_or_default, length-map, length-set}
-use Rattle.std.proofs.lemmas.List.Elements.{All-push, All-set}
-use Rattle.std.proofs.lemmas.List.Folds.{Any-from_list_any}
-use Rattle.std.proofs.lemmas.List.Quantifiers.{all_pairs_push}
 use Rattle.std.proofs.lemmas.Map.Made.{IsDistinct-from_AllPairs}
 use Rattle.std.proofs.lemmas.Map.Steps.{length-le_from_distinct_below}
 use Rattle.std.proofs.lemmas.Option.{get_or_from_slice_get, slice_get_within}
-use Rattle.std.specs.List.{list_any}
-use Rattle.std.specs.Prelude.{AllPairs, is_some, MatchOption}
-use Rattle.tc_channel.specs.declared.settings.Settings.{Settings}
-use Rattle.tc_channel.specs.Settings.{IsAllowed}
-use Rattle.tc_setup.specs.Configuration.{HasSettings, IsAt, IsConfiguration}
 
 -- ids have 6 bits, and no two are the same
 pub few : (list : List Settings) → IsConfiguration list → length list ≤ 64

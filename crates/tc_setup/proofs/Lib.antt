@@ -1,3 +1,4 @@
+pub mod Names
 pub mod Additions
 pub mod ApidEntries
 pub mod Configurations

@@ -1,5 +1,4 @@
-use Rattle.std.proofs.Common.{take}
-use Rattle.tc_setup.specs.Configuration.{AreApidsOf}
+use Rattle.tc_setup.proofs.Names.{take, AreApidsOf}
 use Rattle.tc_setup.proofs.apids.apids_of.Given as goal
 
 -- the APIDs of the queues so far

@@ -1,5 +1,4 @@
-use Rattle.std.proofs.Common.{◌≡◌, true, false, inl, inr, refl}
-use Rattle.std.specs.Prelude.{is_some}
+use Rattle.tc_setup.proofs.Names.{◌≡◌, true, false, inl, inr, refl, is_some}
 use Rattle.tc_setup.proofs.ApidEntries.{one-more-table}
 use Rattle.tc_setup.proofs.Configurations.{there-already, not-there, one-more}
 use Rattle.tc_setup.proofs.configuration.Configuration.add_channel.Goals as goal

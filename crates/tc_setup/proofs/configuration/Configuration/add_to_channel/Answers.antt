@@ -1,5 +1,4 @@
-use Rattle.std.proofs.Common.{sym, subst, arith}
-use Rattle.tc_channel.specs.Settings.{IsAllowed}
+use Rattle.tc_setup.proofs.Names.{sym, subst, arith, IsAllowed}
 use Rattle.tc_setup.proofs.ApidEntries.{tables-as-channels, table-at, other-table}
 use Rattle.tc_setup.proofs.Configurations.{other-settings, within}
 use Rattle.tc_setup.proofs.configuration.Configuration.add_to_channel.Goals as goal

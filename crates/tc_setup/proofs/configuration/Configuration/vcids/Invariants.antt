@@ -1,5 +1,4 @@
-use Rattle.std.proofs.Common.{◌≡◌, ◌≤◌, length, take, vec_capacity}
-use Rattle.tc_setup.specs.Configuration.{vcids_of}
+use Rattle.tc_setup.proofs.Names.{◌≡◌, ◌≤◌, length, take, vec_capacity, vcids_of}
 use Rattle.tc_setup.proofs.configuration.Configuration.vcids.Given as goal
 
 abbrev pub invariant-loop-settings : goal.invariant-loop-settings
