@@ -1,17 +1,6 @@
 -- Queues are emptied one after the other, and what is taken is reported.
-use Rattle.std.proofs.Common.{◌≡◌, ◌≢◌, ℕ, ◌+◌, ◌<◌, List, [], ◌∷◌, ◌++◌, length, take, get_or, Option, refl, sym, ap, ◌∙◌, subst, append_assoc, append-nil, arith}
-use Rattle.std.proofs.KnownBytes.{Appends-nil, Appends-trans}
+use Rattle.tc_rack.proofs.Names.{◌≡◌, ◌≢◌, ℕ, ◌+◌, ◌<◌, List, [], ◌∷◌, ◌++◌, length, take, get_or, Option, refl, sym, ap, ◌∙◌, subst, append_assoc, append-nil, arith, Appends-nil, Appends-trans, get_or-map, length-map, take_more, Appends, Answer, QueueId, Packets, Units, Settings, QueueSetting, MapSetting, AreEmptied, AreEmpty, AreTakenFrom, AreAnswersWritten, IsHandedOn, IsTakenFrom, packet_queues, queues_of, reported_line, reported_lines, unit_queues, waiting_in, Linked, reported_word}
 use Rattle.std.proofs.lemmas.Grind.{flat_map-append}
-use Rattle.std.proofs.lemmas.List.{get_or-map, length-map, take_more}
-use Rattle.std.specs.Io.KnownBytes.{Appends}
-use Rattle.tc_rack.specs.declared.answer.Answer.{Answer}
-use Rattle.tc_rack.specs.declared.queue.QueueId.{QueueId}
-use Rattle.tc_rack.specs.declared.queue.QueueId.TheVariants.{Packets, Units}
-use Rattle.tc_channel.specs.declared.settings.Settings.{Settings}
-use Rattle.tc_channel.specs.declared.settings.QueueSetting.{QueueSetting}
-use Rattle.tc_channel.specs.declared.settings.MapSetting.{MapSetting}
-use Rattle.tc_rack.specs.Delivery.{AreEmptied, AreEmpty, AreTakenFrom, AreAnswersWritten, IsHandedOn, IsTakenFrom, packet_queues, queues_of, reported_line, reported_lines, unit_queues, waiting_in}
-use Rattle.tc_rack.specs.Linked.{Linked, reported_word}
 use Rattle.tc_rack.proofs.Waiting.{stays-empty}
 
 -- ---- what is written

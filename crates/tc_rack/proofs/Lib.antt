@@ -1,3 +1,4 @@
+pub mod Names
 mod Places
 mod Written
 mod Waiting

@@ -1,10 +1,8 @@
 -- An operation of a script at the channels that it finds.
-use Rattle.std.proofs.Common.{◌≡◌, ℕ, refl, subst}
+use Rattle.tc_rack.proofs.Names.{◌≡◌, ℕ, refl, subst, Racked, Answer}
 use Rattle.tc_rack.specs.Operation.{IsAnswerOf}
 use Rattle.tc_rack.specs.Performing.{IsFound}
 use Rattle.tc_rack.specs.Progress.{Progress, IsNewRack, IsPerformed, rack_for}
-use Rattle.tc_rack.specs.Rack.{Racked}
-use Rattle.tc_rack.specs.declared.answer.Answer.{Answer}
 use Rattle.tc_rack.specs.declared.operation.Operation.{Operation}
 use Rattle.tc_rack.specs.declared.stage.Stage.TheVariants.{SettingUp, Operating}
 

@@ -1,11 +1,6 @@
 -- The channel that was found at its place, and channels that are made with ids of their own.
-use Rattle.std.proofs.Common.{◌≡◌, ◌≢◌, ℕ, ◌<◌, List, [], ◌∷◌, length, map, get_or, sym, ap, ◌∙◌, subst, arith}
-use Rattle.std.proofs.lemmas.List.{get_or-map, length-map}
+use Rattle.tc_rack.proofs.Names.{◌≡◌, ◌≢◌, ℕ, ◌<◌, List, [], ◌∷◌, length, map, get_or, sym, ap, ◌∙◌, subst, arith, get_or-map, length-map, AllPairs, Settings, Linked, vcid_of, new_linked, IsChannelAt, AreChannelsApart}
 use Rattle.std.proofs.lemmas.Option.{get_or_from_slice_get}
-use Rattle.std.specs.Prelude.{AllPairs}
-use Rattle.tc_channel.specs.declared.settings.Settings.{Settings}
-use Rattle.tc_rack.specs.Linked.{Linked, vcid_of, new_linked}
-use Rattle.tc_rack.specs.Rack.{IsChannelAt, AreChannelsApart}
 
 pub found : (list : List Linked) (vcid place : ℕ) (x : Linked) → (s : Linked) × IsChannelAt list vcid place s → x ≡ get_or list place x → IsChannelAt list vcid place x
 found list vcid place x (s, (at, v)) is = subst (IsChannelAt list vcid place) (sym (is ∙ get_or_from_slice_get list place s x at)) (at, v)

@@ -1,10 +1,7 @@
 -- Something is taken from one of the queues of a channel, and all else waits on.
-use Rattle.std.proofs.Common.{◌≡◌, ◌≢◌, ℕ, ◌+◌, ◌<◌, Bool, true, false, cond, eqb, eq-eqb, ◌&&◌, List, [], ◌∷◌, ◌++◌, length, map, drop, Option, Some, None, refl, sym, ap, ◌∙◌, subst, inl, inr, arith}
-use Rattle.std.specs.Prelude.{nat_lt, option_map, slice_get}
+use Rattle.tc_rack.proofs.Names.{◌≡◌, ◌≢◌, ℕ, ◌+◌, ◌<◌, Bool, true, false, cond, eqb, eq-eqb, ◌&&◌, List, [], ◌∷◌, ◌++◌, length, map, drop, Option, Some, None, refl, sym, ap, ◌∙◌, subst, inl, inr, arith, nat_lt, option_map, slice_get, drop-drop, length-drop, Settings, Answer, QueueId, Packets, Units, IsTakenFrom, none_or, waiting_in, Linked, IsPacketTaken, IsTakeAnswered, IsUnitAnswered, IsUnitTaken}
 use Rattle.std.specs.Option.{option_and_then}
 use Rattle.std.proofs.lemmas.Bool.Decides.{nat_tests}
-use Rattle.std.proofs.lemmas.List.{drop-drop, length-drop}
-use Rattle.tc_channel.specs.declared.settings.Settings.{Settings}
 use Rattle.tc_channel.specs.declared.event.Event.{Event}
 use Rattle.tc_channel.specs.declared.event.Event.TheVariants as events
 use Rattle.tc_channel.specs.ChannelState.{ChannelState, Queue, no_limits, queue_of, waiting}
@@ -13,11 +10,6 @@ use Rattle.tc_channel.specs.Run.{run, taken_from}
 use Rattle.tc_channel.proofs.Given.{found-key}
 use Rattle.tc_channel.proofs.Runs.{run-push}
 use Rattle.tc_channel.proofs.StateQueues.{taken-key}
-use Rattle.tc_rack.specs.declared.answer.Answer.{Answer}
-use Rattle.tc_rack.specs.declared.queue.QueueId.{QueueId}
-use Rattle.tc_rack.specs.declared.queue.QueueId.TheVariants.{Packets, Units}
-use Rattle.tc_rack.specs.Delivery.{IsTakenFrom, none_or, waiting_in}
-use Rattle.tc_rack.specs.Linked.{Linked, IsPacketTaken, IsTakeAnswered, IsUnitAnswered, IsUnitTaken}
 
 -- the queue with a key, after a take
 queue-taken : (key other : ℕ) (qs : List Queue) → queue_of key (map (taken_from other) qs) ≡ option_map (taken_from other) (queue_of key qs)

@@ -1,14 +1,7 @@
 -- A report is written element by element.
-use Rattle.std.proofs.Common.{◌≡◌, ◌<◌, ℕ, ◌+◌, List, [], ◌++◌, Option, All, length, take, get_or, sym, ap, ◌∙◌, subst}
-use Rattle.std.proofs.lemmas.List.{flat_map_more, take_more}
+use Rattle.tc_rack.proofs.Names.{◌≡◌, ◌<◌, ℕ, ◌+◌, List, [], ◌++◌, Option, All, length, take, get_or, sym, ap, ◌∙◌, subst, flat_map_more, take_more, Appends-trans, flat_map, Appends, MapSetting, QueueSetting, IsLawfulHistory, channel_text, final_line, map_line, queue_line}
 use Rattle.std.proofs.lemmas.List.Elements.{All-more}
-use Rattle.std.proofs.KnownBytes.{Appends-trans}
-use Rattle.std.specs.List.{flat_map}
-use Rattle.std.specs.Io.KnownBytes.{Appends}
 use Rattle.tc_channel.specs.Journal.{History}
-use Rattle.tc_channel.specs.declared.settings.MapSetting.{MapSetting}
-use Rattle.tc_channel.specs.declared.settings.QueueSetting.{QueueSetting}
-use Rattle.tc_rack.specs.Report.{IsLawfulHistory, channel_text, final_line, map_line, queue_line}
 
 -- one element more is written
 pub one-more-written : {X : Type 0} (f : X → List ℕ) (xs : List X) (i : ℕ) (d : X) (a b c : Option (List ℕ)) → i < length xs

@@ -1,5 +1,4 @@
-use Rattle.std.proofs.Common.{◌<◌, ◌∙◌, ap, arith, length}
-use Rattle.tc_channel.specs.declared.settings.Settings.{Settings}
+use Rattle.tc_rack.proofs.Names.{◌<◌, ◌∙◌, ap, arith, length, Settings}
 use Rattle.tc_rack.proofs.Delivered.{none-emptied, packets-emptied}
 use Rattle.tc_rack.proofs.delivery.empty_packet_queues.Goals as goal
 

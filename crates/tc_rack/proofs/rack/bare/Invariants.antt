@@ -1,5 +1,4 @@
-use Rattle.std.proofs.Common.{◌≡◌, ◌≤◌, ◌+◌, map, vec_len, vec_capacity}
-use Rattle.tc_rack.specs.Linked.{Linked}
+use Rattle.tc_rack.proofs.Names.{◌≡◌, ◌≤◌, ◌+◌, map, vec_len, vec_capacity, Linked}
 use Rattle.tc_rack.proofs.rack.bare.Given as goal
 
 abbrev pub invariant-loop-channel : goal.invariant-loop-channel

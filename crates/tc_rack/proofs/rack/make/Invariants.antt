@@ -1,5 +1,4 @@
-use Rattle.std.proofs.Common.{◌≡◌, ◌≤◌, ◌+◌, map, vec_len, vec_capacity}
-use Rattle.tc_rack.specs.Linked.{new_linked}
+use Rattle.tc_rack.proofs.Names.{◌≡◌, ◌≤◌, ◌+◌, map, vec_len, vec_capacity, new_linked}
 use Rattle.tc_rack.proofs.rack.make.Given as goal
 
 abbrev pub invariant-loop-settings : goal.invariant-loop-settings

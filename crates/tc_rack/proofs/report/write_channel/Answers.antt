@@ -1,5 +1,4 @@
-use Rattle.std.proofs.Common.{◌∙◌, ap}
-use Rattle.std.proofs.lemmas.Result.{on_ok_weaker}
+use Rattle.tc_rack.proofs.Names.{◌∙◌, ap, on_ok_weaker}
 use Rattle.tc_rack.proofs.Written.{channel-written}
 use Rattle.tc_rack.proofs.report.write_channel.Goals as goal
 

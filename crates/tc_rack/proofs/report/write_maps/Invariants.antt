@@ -1,7 +1,4 @@
-use Rattle.std.proofs.Common.{take}
-use Rattle.std.specs.Io.KnownBytes.{Appends}
-use Rattle.std.specs.List.{flat_map}
-use Rattle.tc_rack.specs.Report.{map_line}
+use Rattle.tc_rack.proofs.Names.{take, Appends, flat_map, map_line}
 use Rattle.tc_rack.proofs.report.write_maps.Given as goal
 
 -- the lines of the chosen MAPs so far are written

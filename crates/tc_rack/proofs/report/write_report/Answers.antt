@@ -1,5 +1,4 @@
-use Rattle.std.proofs.Common.{arith}
-use Rattle.tc_rack.specs.Report.{channel_text}
+use Rattle.tc_rack.proofs.Names.{arith, channel_text}
 use Rattle.tc_rack.proofs.Written.{item-written, lawful-more}
 use Rattle.tc_rack.proofs.report.write_report.Goals as goal
 

@@ -1,6 +1,4 @@
-use Rattle.std.proofs.Common.{take, All}
-use Rattle.std.specs.Io.KnownBytes.{Appends}
-use Rattle.tc_rack.specs.Report.{IsLawfulHistory, report_text}
+use Rattle.tc_rack.proofs.Names.{take, All, Appends, IsLawfulHistory, report_text}
 use Rattle.tc_rack.proofs.report.write_report.Given as goal
 
 -- the lines of the channels so far are written

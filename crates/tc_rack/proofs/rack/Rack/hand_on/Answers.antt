@@ -1,6 +1,4 @@
-use Rattle.std.proofs.Common.{[], inl, inr, refl}
-use Rattle.std.proofs.KnownBytes.{Appends-nil}
-use Rattle.std.proofs.lemmas.Result.{on_ok_weaker}
+use Rattle.tc_rack.proofs.Names.{[], inl, inr, refl, Appends-nil, on_ok_weaker}
 use Rattle.tc_rack.proofs.Places.{found}
 use Rattle.tc_rack.proofs.rack.Rack.hand_on.Goals as goal
 
