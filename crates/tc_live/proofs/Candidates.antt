@@ -1,21 +1,10 @@
 -- A candidate carries more than a frame and its fill, or is run as the frame that it carries.
-use Rattle.std.proofs.Common.{◌≡◌, ◌⊎◌, ℕ, Bool, true, false, List, Option, Some, inl, inr, refl, sym, subst, ap, ◌∙◌, arith}
-use Rattle.std.specs.Prelude.{IsTrue, ◌↔◌, not, MatchOption}
-use Rattle.std.proofs.lemmas.Bool.{true≢false}
+use Rattle.tc_live.proofs.Names.{◌≡◌, ◌⊎◌, ℕ, Bool, true, false, List, Option, Some, inl, inr, refl, sym, subst, ap, ◌∙◌, arith, IsTrue, ◌↔◌, not, MatchOption, true≢false, Racked, Stage, instruction_of, IsBad, phase_of, Receiving, IsCandidateDone, IsPassedDone, IsBadCandidate, LiveAnswer, FrameCheck, FrameEnds}
 use Rattle.tc_fecf.specs.Candidate.{IsDelimited, is_fill}
 use Rattle.tc_fecf.proofs.Delimiting.{one-frame}
-use Rattle.tc_rack.specs.Rack.{Racked}
-use Rattle.tc_rack.specs.declared.stage.Stage.{Stage}
 use Rattle.tc_text.specs.declared.line.Line.{Line}
 use Rattle.tc_text.specs.declared.fault.Reason.{Reason}
-use Rattle.tc_setup.specs.Instruction.{instruction_of}
-use Rattle.tc_setup.specs.Phase.{IsBad}
-use Rattle.tc_rack.specs.Stage.{phase_of}
 use Rattle.tc_live.specs.Check.{CarriesMore, FailsCandidate, IsCandidatePassed}
-use Rattle.tc_live.specs.Receiver.{Receiving, IsCandidateDone, IsPassedDone, IsBadCandidate}
-use Rattle.tc_live.specs.declared.answer.LiveAnswer.{LiveAnswer}
-use Rattle.tc_live.specs.declared.check.FrameCheck.{FrameCheck}
-use Rattle.tc_live.specs.declared.ends.FrameEnds.{FrameEnds}
 
 no-fill : (r : Bool) (rest : List ℕ) → r ≡ is_fill rest → IsTrue (not r) → is_fill rest ≡ false
 no-fill true rest e t = absurd (true≢false (sym t))

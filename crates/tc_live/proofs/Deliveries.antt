@@ -1,18 +1,8 @@
 -- A delivery, begun and ended on the channels of a receiver.
-use Rattle.std.proofs.Common.{◌≡◌, ℕ, List, Option, refl, sym, ap, ◌∙◌, subst}
-use Rattle.tc_rack.specs.declared.answer.Answer.{Answer}
+use Rattle.tc_live.proofs.Names.{◌≡◌, ℕ, List, Option, refl, sym, ap, ◌∙◌, subst, Answer, Stage, Operating, AreAnswersWritten, IsDeliveryEnded, Racked, Receiving, IsDeliveryBegun, IsDeliveryDone, IsCollectionBegun, collection_reported, begun, rack_for, LiveAnswer, FrameCheck, FrameEnds}
 use Rattle.tc_rack.specs.declared.operation.Operation.TheVariants as operations
-use Rattle.tc_rack.specs.declared.stage.Stage.{Stage}
-use Rattle.tc_rack.specs.declared.stage.Stage.TheVariants.{Operating}
-use Rattle.tc_rack.specs.Delivery.{AreAnswersWritten, IsDeliveryEnded}
 use Rattle.tc_rack.specs.Operation.{IsAnswerOf, IsClcwAnswer}
-use Rattle.tc_rack.specs.Rack.{Racked}
-use Rattle.tc_live.specs.Receiver.{Receiving, IsDeliveryBegun, IsDeliveryDone, IsCollectionBegun, collection_reported, begun}
-use Rattle.tc_rack.specs.Progress.{rack_for}
-use Rattle.tc_live.specs.declared.answer.LiveAnswer.{LiveAnswer}
 use Rattle.tc_live.specs.declared.answer.LiveAnswer.TheVariants as reported
-use Rattle.tc_live.specs.declared.check.FrameCheck.{FrameCheck}
-use Rattle.tc_live.specs.declared.ends.FrameEnds.{FrameEnds}
 
 pub release-reported : (old now : Receiving) (check : FrameCheck) (ends : FrameEnds) (scid : ℕ) (stage : Stage Racked) (rack after : Racked) (vcid : ℕ) (a : Answer)
     → now ≡ begun old → ◌≡◌ {A = Receiving} (record { check = check; ends = ends; scid = scid; stage = stage }) now → stage ≡ Operating rack → IsAnswerOf (operations.Release vcid) rack a after

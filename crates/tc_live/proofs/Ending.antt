@@ -1,18 +1,9 @@
 -- At the end of the lines the report was written, or not.
-use Rattle.std.proofs.Common.{◌≡◌, ◌⊎◌, ℕ, Bool, false, List, Option, None, Some, IfSome, Result, Ok, Err, inl, inr, sym, subst}
-use Rattle.std.proofs.lemmas.Bool.{both_ways}
-use Rattle.std.proofs.lemmas.List.Sorted.{All-permutation}
-use Rattle.std.proofs.KnownBytes.{Appends-trans, Appends-kept}
-use Rattle.std.specs.Prelude.{◌↔◌, All, IsPermutation, IsTrue, OnOk, IfOk, IfErr}
-use Rattle.std.specs.Io.KnownBytes.{Keeps}
+use Rattle.tc_live.proofs.Names.{◌≡◌, ◌⊎◌, ℕ, Bool, false, List, Option, None, Some, IfSome, Result, Ok, Err, inl, inr, sym, subst, both_ways, All-permutation, Appends-trans, Appends-kept, ◌↔◌, All, IsPermutation, IsTrue, OnOk, IfOk, IfErr, Keeps, histories, Receiving, rack_at, IsClosingFault, IsReceptionCutShort, IsLineSaid, IsReportWritten, IsNumberUnreported, IsReceptionWritten, fault_at_lines, line_limit, FrameEnds}
 use Rattle.tc_lines.specs.Answering as lines
 use Rattle.tc_lines.specs.declared.answering.ServingFault.{ServingFault as AnsweringFault}
 use Rattle.tc_lines.specs.declared.answering.ServingFault.TheVariants as answering
 use Rattle.tc_channel.specs.Journal.{History, IsNumberReported}
-use Rattle.tc_rack.specs.Rack.{histories}
-use Rattle.tc_live.specs.Receiver.{Receiving, rack_at}
-use Rattle.tc_live.specs.Serving.{IsClosingFault, IsReceptionCutShort, IsLineSaid, IsReportWritten, IsNumberUnreported, IsReceptionWritten, fault_at_lines, line_limit}
-use Rattle.tc_live.specs.declared.ends.FrameEnds.{FrameEnds}
 use Rattle.tc_live.specs.declared.serving.ServingFault.{ServingFault}
 use Rattle.tc_live.specs.declared.serving.ServingFault.TheVariants.{Write}
 

@@ -1,16 +1,8 @@
 -- An answer is followed by what is handed on.
-use Rattle.std.proofs.Common.{ℕ, true, false, List, ◌++◌, Option, Some, None, refl, inl, inr}
-use Rattle.std.proofs.KnownBytes.{Appends-trans}
-use Rattle.std.specs.Io.KnownBytes.{Appends}
+use Rattle.tc_live.proofs.Names.{ℕ, true, false, List, ◌++◌, Option, Some, None, refl, inl, inr, Appends-trans, Appends, AreAnswersWritten, reported_lines, Script, Link as LinkOf, Report, Deliver, Collect, Candidate, live_text, Receiving, IsLiveLineAnswered, IsLineDone, IsReady, IsFollowedBy, IsLineSaid, IsReported, LiveAnswer}
 use Rattle.tc_lines.specs.Answering.{Writes}
-use Rattle.tc_rack.specs.Delivery.{AreAnswersWritten, reported_lines}
 use Rattle.tc_text.specs.declared.live.LiveLine.{LiveLine}
-use Rattle.tc_text.specs.declared.live.LiveLine.TheVariants.{Script, Link as LinkOf, Report, Deliver, Collect, Candidate}
 use Rattle.tc_rack.specs.declared.answer.Answer.TheVariants.{Frame, Release, Take, Unit as UnitOf, Clcw, Refused}
-use Rattle.tc_live.specs.Printed.{live_text}
-use Rattle.tc_live.specs.Receiver.{Receiving, IsLiveLineAnswered, IsLineDone, IsReady}
-use Rattle.tc_live.specs.Serving.{IsFollowedBy, IsLineSaid, IsReported}
-use Rattle.tc_live.specs.declared.answer.LiveAnswer.{LiveAnswer}
 
 -- a delivery that was begun can be ended, and no other answer needs anything
 line-ready : (old new : Receiving) (said : LiveLine) (answer : LiveAnswer) → IsLineDone old said new answer → IsReady answer new

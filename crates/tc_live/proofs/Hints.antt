@@ -1,6 +1,5 @@
 -- Numbers whose words are missing.
-use Rattle.std.proofs.Common.{◌≡◌, List, [], ◌∷◌, None, refl}
-use Rattle.tc_live.specs.Hint.{first_misfit}
+use Rattle.tc_live.proofs.Names.{◌≡◌, List, [], ◌∷◌, None, refl, first_misfit}
 use Rattle.tc_live.specs.declared.hint.Number.{Number}
 
 -- where no words are left, no number has a wrong one

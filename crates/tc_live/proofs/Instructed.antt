@@ -1,13 +1,7 @@
 -- A line of a script is answered on the channels of a receiver, and the answer is reported.
-use Rattle.std.proofs.Common.{◌≡◌, ℕ, Option, ap, subst}
+use Rattle.tc_live.proofs.Names.{◌≡◌, ℕ, Option, ap, subst, Progress, IsPerformed, Answer, Receiving, IsInstructed, script_reported, LiveAnswer, FrameCheck, FrameEnds}
 use Rattle.tc_setup.specs.declared.instruction.Instruction.{Instruction}
 use Rattle.tc_rack.specs.Performing.{IsInstructionAnswered}
-use Rattle.tc_rack.specs.Progress.{Progress, IsPerformed}
-use Rattle.tc_rack.specs.declared.answer.Answer.{Answer}
-use Rattle.tc_live.specs.Receiver.{Receiving, IsInstructed, script_reported}
-use Rattle.tc_live.specs.declared.answer.LiveAnswer.{LiveAnswer}
-use Rattle.tc_live.specs.declared.check.FrameCheck.{FrameCheck}
-use Rattle.tc_live.specs.declared.ends.FrameEnds.{FrameEnds}
 
 pub instructed : (old : Receiving) (check : FrameCheck) (ends : FrameEnds) (scid from : ℕ) (stage new : Progress) (instruction : Instruction) (a : Option Answer) (answer : LiveAnswer)
     → ◌≡◌ {A = Receiving} (record { check = check; ends = ends; scid = scid; stage = stage }) old → from ≡ old.scid

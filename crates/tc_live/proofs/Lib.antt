@@ -1,3 +1,4 @@
+pub mod Names
 mod Deliveries
 mod Ending
 mod Following

@@ -1,7 +1,4 @@
-use Rattle.std.proofs.Common.{take}
-use Rattle.std.specs.Fmt.{HasWritten, IsPlainFormatter}
-use Rattle.std.specs.List.{flat_map}
-use Rattle.tc_live.specs.Printed.{queue_text}
+use Rattle.tc_live.proofs.Names.{take, HasWritten, IsPlainFormatter, flat_map, queue_text}
 use Rattle.tc_live.proofs.answer.write_queues.Given as goal
 
 -- those so far are written

@@ -1,6 +1,5 @@
-use Rattle.std.proofs.Common.{◌≡◌, drop}
+use Rattle.tc_live.proofs.Names.{◌≡◌, drop, first_misfit}
 use Rattle.tc_lines.specs.Word.{words}
-use Rattle.tc_live.specs.Hint.{first_misfit}
 use Rattle.tc_live.proofs.hint.misfit.Given as goal
 
 -- the numbers that are left have the same first misfit in the words that are left

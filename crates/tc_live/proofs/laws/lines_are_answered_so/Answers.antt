@@ -1,5 +1,4 @@
-use Rattle.std.proofs.Common.{◌<◌, ◌≤◌, ℕ, true, false, List, [], ◌∷◌, ◌++◌, refl, sym, inl, inr, lit<, lit≤, arith}
-use Rattle.std.specs.Prelude.{codes, Some, None}
+use Rattle.tc_live.proofs.Names.{◌<◌, ◌≤◌, ℕ, true, false, List, [], ◌∷◌, ◌++◌, refl, sym, inl, inr, lit<, lit≤, arith, codes, Some, None, Script, Link as LinkOf, Racked, SettingUp, Receiving, new_receiver, IsLineSaid}
 use Rattle.std.specs.Fmt.{digits}
 use Rattle.std.proofs.lemmas.List.{append-nil}
 use Rattle.std.proofs.lemmas.List.Elements.{All-nil}
@@ -15,14 +14,9 @@ use Rattle.tc_text.specs.LiveLine.{live_line_of}
 use Rattle.tc_text.specs.Printed.{word_text}
 use Rattle.tc_text.specs.Word.{words}
 use Rattle.tc_text.specs.declared.line.Line.TheVariants as said
-use Rattle.tc_text.specs.declared.live.LiveLine.TheVariants.{Script, Link as LinkOf}
 use Rattle.tc_rack.specs.Linked.{Linked, no_flag}
-use Rattle.tc_rack.specs.Rack.{Racked}
 use Rattle.tc_rack.specs.declared.answer.Answer.TheVariants as answers
-use Rattle.tc_rack.specs.declared.stage.Stage.TheVariants.{SettingUp}
 use Rattle.tc_live.specs.Examples.{plain_channel, receiver_with}
-use Rattle.tc_live.specs.Receiver.{Receiving, new_receiver}
-use Rattle.tc_live.specs.Serving.{IsLineSaid}
 use Rattle.tc_live.specs.declared.answer.LiveAnswer.TheVariants as reported
 use Rattle.tc_live.specs.declared.check.FrameCheck.TheVariants.{Nothing}
 use Rattle.tc_live.specs.declared.ends.FrameEnds.TheVariants.{NoFrame}

@@ -1,10 +1,6 @@
-use Rattle.std.proofs.Common.{◌≡◌, ◌⊎◌}
+use Rattle.tc_live.proofs.Names.{◌≡◌, ◌⊎◌, instruction_of, IsBad, phase_of, IsPassedDone, IsCandidateDone, IsBadCandidate}
 use Rattle.std.proofs.lemmas.Result.{IfErr-weaker, IfOk-weaker}
 use Rattle.tc_text.specs.declared.fault.Reason.TheVariants.{NoMemory}
-use Rattle.tc_setup.specs.Instruction.{instruction_of}
-use Rattle.tc_setup.specs.Phase.{IsBad}
-use Rattle.tc_rack.specs.Stage.{phase_of}
-use Rattle.tc_live.specs.Receiver.{IsPassedDone, IsCandidateDone, IsBadCandidate}
 use Rattle.tc_live.proofs.Candidates.{passed-done, passed-bad}
 use Rattle.tc_live.proofs.receiver.Receiver.candidate.Goals as goal
 

@@ -1,5 +1,4 @@
-use Rattle.std.proofs.Common.{inr, refl, rules}
-use Rattle.std.proofs.lemmas.List.Sorted.{IsNonDecreasingBy-from_sort_by_key}
+use Rattle.tc_live.proofs.Names.{inr, refl, rules, IsNonDecreasingBy-from_sort_by_key}
 use Rattle.tc_rack.specs.Report.{vcid_of}
 use Rattle.tc_live.proofs.Ending.{is-number-unreported}
 use Rattle.tc_live.proofs.receiver.Receiver.into_channels.Goals as goal
