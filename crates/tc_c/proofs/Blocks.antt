@@ -1,7 +1,5 @@
 -- CLTUs, block by block.
-use Rattle.std.proofs.Common.{◌≡◌, ℕ, ◌+◌, ◌*◌, ◌/◌, ◌<◌, ◌≤◌, List, [], ◌∷◌, ◌++◌, length, drop, take, refl, ap, ◌∙◌, arith, length-append}
-use Rattle.tc_cltu.specs.CodeBlock.{code_block}
-use Rattle.tc_cltu.specs.Cltu.{cltu, filled, code_blocks, start_sequence, tail_sequence}
+use Rattle.tc_c.proofs.Names.{◌≡◌, ℕ, ◌+◌, ◌*◌, ◌/◌, ◌<◌, ◌≤◌, List, [], ◌∷◌, ◌++◌, length, drop, take, refl, ap, ◌∙◌, arith, length-append, code_block, cltu, filled, code_blocks, start_sequence, tail_sequence}
 
 pub blocks-length : (os : List ℕ) → length (code_blocks (filled os)) ≡ 8 * ((length os + 6) / 7)
 blocks-length (a ∷ b ∷ c ∷ d ∷ e ∷ f ∷ g ∷ os) = let rest = blocks-length os in omega arith

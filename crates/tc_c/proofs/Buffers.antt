@@ -1,6 +1,5 @@
 -- Two runs of octets in the place of two others leave what follows them.
-use Rattle.std.proofs.Common.{◌≡◌, ◌+◌, ℕ, List, ◌++◌, length, drop, sym}
-use Rattle.std.proofs.Math.Seq.{drop-append-add, drop-append_seam}
+use Rattle.tc_c.proofs.Names.{◌≡◌, ◌+◌, ℕ, List, ◌++◌, length, drop, sym, drop-append-add, drop-append_seam}
 
 after-two : (xs ys rest : List ℕ) → drop (length xs + length ys) (xs ++ (ys ++ rest)) ≡ rest
 after-two xs ys rest = rw (drop-append-add xs (ys ++ rest) (length ys)) (drop-append_seam ys rest)

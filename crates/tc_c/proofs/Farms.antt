@@ -1,22 +1,16 @@
 -- What starts is a FARM-1, and a channel has one after each lawful journal.
-use Rattle.std.proofs.Common.{◌≡◌, ℕ, Bool, true, false, List, [], ◌∷◌, Ok, Err, refl, if◌then◌else◌, arith}
-use Rattle.std.specs.Prelude.{IsSome}
+use Rattle.tc_c.proofs.Names.{◌≡◌, ℕ, Bool, true, false, List, [], ◌∷◌, Ok, Err, refl, if◌then◌else◌, arith, IsSome, Report, header_of, Machine, E10, row_of, entry_at, entry, first_report, BadWidth, IsFarm, is_width, first_farm, left}
 use Rattle.tc_link.specs.declared.farm.Arrival.{Arrival}
 use Rattle.tc_link.specs.declared.farm.Arrival.TheVariants as arrivals
-use Rattle.tc_link.specs.declared.farm.Report.{Report}
 use Rattle.tc_link.specs.declared.farm.State.{State}
 use Rattle.tc_link.specs.declared.farm.State.TheVariants.{S1}
-use Rattle.tc_link.specs.Frame.{header_of}
 use Rattle.tc_link.specs.Command.{kind_of}
-use Rattle.tc_link.specs.Farm.{Machine, E10, row_of, entry_at, entry, first_report}
 use Rattle.tc_channel.specs.declared.settings.Settings.{Settings}
 use Rattle.tc_channel.specs.declared.event.Event.{Event}
 use Rattle.tc_channel.specs.declared.event.Event.TheVariants.{Frame, Release}
 use Rattle.tc_channel.specs.ChannelState.{ChannelState, first_state_within, has_room}
 use Rattle.tc_channel.specs.Settings.{IsAllowed}
 use Rattle.tc_channel.specs.Run.{field_of, HasStep, AreSteps, IsLawfulWithin, step, passed_on, run_from, run_within}
-use Rattle.tc_c.specs.declared.status.Status.TheVariants.{BadWidth}
-use Rattle.tc_c.specs.Farm.{IsFarm, is_width, first_farm, left}
 use Rattle.tc_c.proofs.Records.{wide}
 
 -- what a law of this crate says of steps

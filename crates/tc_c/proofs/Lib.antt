@@ -1,3 +1,4 @@
+pub mod Names
 pub mod Walking
 mod Buffers
 mod Places

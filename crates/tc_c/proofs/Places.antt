@@ -1,8 +1,5 @@
 -- A place with a channel, and the parts of its box, own what the box owns.
-use Rattle.std.proofs.Common.{◌≡◌, refl, [], Option, Some, None, IsSome}
-use mir.Syntax.{impl, tnil, dnil}
-use denote.Signature.{Slot, plain}
-use Rattle.std.proofs.BoxSteps.Form.{Bx}
+use Rattle.tc_c.proofs.Names.{◌≡◌, refl, [], Option, Some, None, IsSome, impl, tnil, dnil, Slot, plain, Bx, channel_row}
 use Rattle.std.specs.contracts.alloc.Global as Heap
 use Rattle.std.specs.contracts.impls.GlobalAllocator.TheImpl.{ghosts, dict}
 use Rattle.std.proofs.alloc.Global.TheLaws as heap
@@ -10,7 +7,6 @@ use Rattle.tc_channel.specs.contracts.unrecorded.Unrecorded as Unrecorded
 use Rattle.tc_fixed.specs.contracts.noted.UnrecordedNoted.TheImpl as journal
 use Rattle.tc_fixed.proofs.channel.FixedChannelWith.TheLaws as channel
 use Rattle.tc_channel.proofs.unrecorded.Unrecorded.TheLaws as unrecorded
-use Rattle.tc_c.specs.Place.{channel_row}
 use Rattle.tc_c.specs.contracts.parts.Parts as Parts
 use Rattle.tc_c.specs.contracts.place.Place as Place
 

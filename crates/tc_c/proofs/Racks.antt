@@ -1,15 +1,9 @@
 -- Seats in an array: the channel in each, and the first one with an id.
-use Rattle.std.proofs.Common.{◌≡◌, ◌≢◌, ◌≤◌, ◌<◌, ◌+◌, ◌∙◌, ℕ, List, length, get_or, set, sym, ap, refl, Option, Some, None, false, arith}
-use lib.Dec.{eqb}
+use Rattle.tc_c.proofs.Names.{◌≡◌, ◌≢◌, ◌≤◌, ◌<◌, ◌+◌, ◌∙◌, ℕ, List, length, get_or, set, sym, ap, refl, Option, Some, None, false, arith, eqb, map-set_same, map-set, get_or-map, length-map, option_map, slice_get, LimitedHistory, channels_in, IsHeldAt, IsFirstWithVcid, IsHeld}
 use Rattle.std.specs.Option.{option_eq}
-use Rattle.std.proofs.Math.Seq.{map-set_same}
 use Rattle.std.proofs.lemmas.Bool.Decides.{nat_tests}
-use Rattle.std.proofs.lemmas.List.{map-set, get_or-map, length-map}
 use Rattle.std.proofs.lemmas.Option.{slice_get_within, slice_get-get_or}
-use Rattle.std.specs.Prelude.{option_map, slice_get}
-use Rattle.tc_fixed.specs.History.{LimitedHistory}
 use Rattle.tc_c.specs.declared.seat.Seat.{Seat}
-use Rattle.tc_c.specs.Rack.{channels_in, IsHeldAt, IsFirstWithVcid, IsHeld}
 
 abbrev channel_of : Seat → Option LimitedHistory
 channel_of seat = seat.place.channel

@@ -1,15 +1,9 @@
 -- A decoder whose octets are in a buffer, from one octet to the next.
-use Rattle.std.proofs.Common.{◌≡◌, ℕ, ◌+◌, ◌<◌, ◌≤◌, false, List, ◌∷◌, [], ◌++◌, Option, Some, length, get_or, take, drop, set, refl, ap, sym, ◌∙◌, arith, append_assoc, length-append}
-use lib.Dec.{ltb}
+use Rattle.tc_c.proofs.Names.{◌≡◌, ℕ, ◌+◌, ◌<◌, ◌≤◌, false, List, ◌∷◌, [], ◌++◌, Option, Some, length, get_or, take, drop, set, refl, ap, sym, ◌∙◌, arith, append_assoc, length-append, ltb, length-drop, length-take-le, take-set-le, drop-set-add, take_more_set, take_at, take-append-drop, take-take, drop-take, decoded, Reception, Decoding, reception_step, after_block, fate_after, fate_of, state_after, frames_of, counted_in, state-append, frames-append, counted-append, reception_of}
 use Rattle.std.proofs.lemmas.Bool.{le-ltb, lt-ltb}
-use Rattle.std.proofs.lemmas.List.{length-drop, length-take-le, take-set-le, drop-set-add, take_more_set, take_at, take-append-drop, take-take, drop-take}
 use Rattle.tc_cltu.specs.declared.block.Mode.{Mode}
-use Rattle.tc_cltu.specs.CodeBlock.{decoded}
-use Rattle.tc_cltu.specs.Reception.{Reception, Decoding, reception_step, after_block, fate_after, fate_of, state_after, frames_of, counted_in}
 use Rattle.tc_cltu.specs.declared.block.Fate.{Fate}
-use Rattle.tc_cltu.proofs.Decoding.{state-append, frames-append, counted-append}
 use Rattle.tc_c.specs.declared.decoder.DecoderRecord.{DecoderRecord}
-use Rattle.tc_c.specs.Decoder.{reception_of}
 
 -- the octet behind those of a block that have come
 block-more : (h c o : ℕ) (f : List ℕ) → h + c < length f → take (c + 1) (drop h (set f (h + c) o)) ≡ take c (drop h f) ++ o ∷ []

@@ -1,13 +1,8 @@
 -- What a record keeps is a FARM-1.
-use Rattle.std.proofs.Common.{rules, arith, ◌≡◌, ℕ, ◌<◌, Bool, true, Result, Ok, Err, refl, if◌then◌else◌}
-use Rattle.std.proofs.lemmas.Grind.{common_steps}
-use Rattle.tc_link.specs.declared.farm.Report.{Report}
-use Rattle.tc_link.specs.Farm.{Machine}
+use Rattle.tc_c.proofs.Names.{rules, arith, ◌≡◌, ℕ, ◌<◌, Bool, true, Result, Ok, Err, refl, if◌then◌else◌, common_steps, Report, Machine, BadWidth, IsFarm, is_width, with_ok, report_of, farm_of, agrees}
 use Rattle.tc_link.specs.Window.{IsWidth}
 use Rattle.tc_c.specs.declared.status.Status.{Status}
-use Rattle.tc_c.specs.declared.status.Status.TheVariants.{BadWidth}
 use Rattle.tc_c.specs.declared.farm.FarmRecord.{FarmRecord}
-use Rattle.tc_c.specs.Farm.{IsFarm, is_width, with_ok, report_of, farm_of, agrees}
 
 pub few : (kept : FarmRecord) (report : Report) → report_of kept ≡ Ok report → report.farm_b < 4
 few kept report e = search (rules, arith) steps 1000000

@@ -1,10 +1,7 @@
 -- A seat's channel, once what was lent of it came back.
-use Rattle.std.proofs.Common.{◌≡◌, ◌<◌, ◌≤◌, ◌∙◌, ℕ, List, length, Option, Some, None, OnSome, IfSome, IfNone, ap, arith}
-use Rattle.tc_link.specs.Frame.{BeginsWith}
+use Rattle.tc_c.proofs.Names.{◌≡◌, ◌≤◌, ◌∙◌, ℕ, List, length, Option, Some, None, OnSome, IfSome, IfNone, ap, BeginsWith, frame_reply_within, LimitedHistory, with_limited_event, limit_of}
 use Rattle.tc_channel.specs.declared.event.Event.TheVariants as Event
-use Rattle.tc_channel.specs.Reply.{frame_reply_within}
-use Rattle.tc_fixed.specs.History.{LimitedHistory, with_limited_event}
-use Rattle.tc_fixed.specs.Limits.{limit_of}
+use Rattle.std.proofs.Common.{◌<◌, arith}
 use Rattle.tc_fixed.specs.Taking.{IsOver}
 use Rattle.tc_c.specs.declared.buffer.WrittenRecord.{WrittenRecord}
 use Rattle.tc_c.specs.declared.channel.ReplyRecord.{ReplyRecord}

@@ -1,6 +1,4 @@
-use Rattle.std.proofs.Common.{◌≡◌, ℕ, List, ◌++◌, take, drop, append_assoc, ap, sym, ◌∙◌, arith}
-use Rattle.tc_cltu.specs.CodeBlock.{code_block}
-use Rattle.tc_cltu.specs.Cltu.{filled, code_blocks}
+use Rattle.tc_c.proofs.Names.{◌≡◌, ℕ, List, ◌++◌, take, drop, append_assoc, ap, sym, ◌∙◌, arith, code_block, filled, code_blocks}
 use Rattle.tc_c.proofs.Blocks.{cltu-length, first-block}
 use Rattle.tc_c.proofs.cltus.write_over.Goals as goal
 

@@ -1,5 +1,4 @@
-use Rattle.std.proofs.Common.{◌≡◌, ◌+◌, ◌*◌, ◌/◌, ◌++◌, length, take}
-use Rattle.tc_cltu.specs.Cltu.{start_sequence, code_blocks, filled}
+use Rattle.tc_c.proofs.Names.{◌≡◌, ◌+◌, ◌*◌, ◌/◌, ◌++◌, length, take, start_sequence, code_blocks, filled}
 use Rattle.tc_c.proofs.cltus.write_over.Given as goal
 
 abbrev pub invariant-loop-rest : goal.invariant-loop-rest

@@ -1,8 +1,4 @@
-use Rattle.std.proofs.Common.{◌≡◌, ℕ, List, Some, length, take, ap, sym, ◌∙◌}
-use Rattle.std.proofs.lemmas.List.{length-take-le}
-use Rattle.tc_cltu.specs.CodeBlock.{decoded}
-use Rattle.tc_cltu.specs.Reception.{Reception, after_block, fate_after, state_after, frames_of, counted_in}
-use Rattle.tc_cltu.proofs.Decoding.{block-state, block-frames, block-counted}
+use Rattle.tc_c.proofs.Names.{◌≡◌, ℕ, List, Some, length, take, ap, sym, ◌∙◌, length-take-le, decoded, Reception, after_block, fate_after, state_after, frames_of, counted_in, block-state, block-frames, block-counted}
 use Rattle.tc_c.proofs.Receiving.{begins, block-quiet}
 use Rattle.tc_c.proofs.decoder.take_front.Goals as goal
 

@@ -1,7 +1,4 @@
-use Rattle.std.proofs.Common.{◌≡◌, ℕ, ◌+◌, List, Some, set, take, drop, refl, ap, sym, ◌∙◌, arith, rules}
-use Rattle.std.proofs.lemmas.Grind.{common_steps}
-use Rattle.tc_cltu.specs.CodeBlock.{decoded}
-use Rattle.tc_cltu.specs.Reception.{Step, after_block, fate_after}
+use Rattle.tc_c.proofs.Names.{◌≡◌, ℕ, ◌+◌, List, Some, set, take, drop, refl, ap, sym, ◌∙◌, arith, rules, common_steps, decoded, Step, after_block, fate_after}
 use Rattle.tc_c.proofs.Receiving.{more-state, last-state, last-fate}
 use Rattle.tc_c.proofs.decoder.take_octet.Goals as goal
 

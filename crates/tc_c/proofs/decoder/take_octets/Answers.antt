@@ -1,8 +1,4 @@
-use Rattle.std.proofs.Common.{◌≡◌, ℕ, ◌+◌, ◌-◌, Bool, List, [], ◌∷◌, length, take, drop, if◌then◌else◌, refl, ap, sym, ◌∙◌, arith}
-use Rattle.std.proofs.lemmas.List.{length-drop, take_all}
-use Rattle.tc_cltu.specs.Reception.{state_after, frames_of, corrections_of, rejections_of, overruns_of, corrected_in, rejected_in, overlong_in}
-use Rattle.tc_cltu.proofs.Decoding.{one-counted}
-use Rattle.tc_c.specs.Decoder.{reception_of}
+use Rattle.tc_c.proofs.Names.{◌≡◌, ℕ, ◌+◌, ◌-◌, Bool, List, [], ◌∷◌, length, take, drop, if◌then◌else◌, refl, ap, sym, ◌∙◌, arith, length-drop, take_all, state_after, frames_of, corrections_of, rejections_of, overruns_of, corrected_in, rejected_in, overlong_in, one-counted, reception_of}
 use Rattle.tc_c.proofs.Receiving.{state-more, frames-more, counted-more}
 use Rattle.tc_c.proofs.decoder.take_octets.Goals as goal
 

@@ -1,6 +1,4 @@
-use Rattle.std.proofs.Common.{◌≡◌, ◌-◌, ◌<◌, ◌≤◌, [], length, take}
-use Rattle.tc_cltu.specs.Reception.{state_after, frames_of, corrected_in, rejected_in, overlong_in}
-use Rattle.tc_c.specs.Decoder.{reception_of}
+use Rattle.tc_c.proofs.Names.{◌≡◌, ◌-◌, ◌<◌, ◌≤◌, [], length, take, state_after, frames_of, corrected_in, rejected_in, overlong_in, reception_of}
 use Rattle.tc_c.proofs.decoder.take_octets.Given as goal
 
 abbrev pub invariant-loop-taken : goal.invariant-loop-taken

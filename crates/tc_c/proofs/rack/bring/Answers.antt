@@ -1,9 +1,5 @@
-use Rattle.std.proofs.Common.{◌≡◌, ◌∙◌, Some, ap, sym, inl}
+use Rattle.tc_c.proofs.Names.{◌≡◌, ◌∙◌, Some, ap, sym, inl, frame_reply_within, with_limited_event, limit_of, channels_in, rack_reply, replied}
 use Rattle.tc_channel.specs.declared.event.Event.TheVariants as Event
-use Rattle.tc_channel.specs.Reply.{frame_reply_within}
-use Rattle.tc_fixed.specs.History.{with_limited_event}
-use Rattle.tc_fixed.specs.Limits.{limit_of}
-use Rattle.tc_c.specs.Rack.{channels_in, rack_reply, replied}
 use Rattle.tc_c.proofs.Racks.{held, changed}
 use Rattle.tc_c.proofs.rack.bring.Goals as goal
 

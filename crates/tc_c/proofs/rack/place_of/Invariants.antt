@@ -1,6 +1,4 @@
-use Rattle.std.proofs.Common.{◌≡◌, ◌≤◌, ℕ}
-use Rattle.tc_fixed.specs.History.{LimitedHistory}
-use Rattle.tc_c.specs.Rack.{channels_in, IsHeldAt}
+use Rattle.tc_c.proofs.Names.{◌≡◌, ◌≤◌, ℕ, LimitedHistory, channels_in, IsHeldAt}
 use Rattle.tc_c.proofs.rack.place_of.Given as goal
 
 -- no channel before this place has the id, and each is as it was

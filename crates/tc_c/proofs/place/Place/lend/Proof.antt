@@ -3,9 +3,7 @@ use Rattle.tc_c.proofs.Walking.{List, [], ◌∷◌, ◌≡◌, refl, sym, Optio
 use base.Fraction.{full_share}
 use base.Fml.{Fml, GName}
 use base.Logic.{sep}
-use mir.Syntax.{named}
-use mir.Raw.{raw as bare}
-use types.Logic.{Logic, sem}
+use Rattle.tc_c.proofs.Names.{named, raw as bare, Logic, sem, mut_ref_to, handle, LimitedHistory, channel_row}
 use types.Kit.{frame, fsplit3, group, keep}
 use seplogic.Ra.Ura.{Ura}
 use Prim.Native.Nat.{ℕ}
@@ -16,14 +14,10 @@ use denote.Follow.{follows, Part, lends_Part}
 use denote.Memory.{cell_at, mem, part_at, part_of, raw_all}
 use denote.Ref.{MutBor, MutRef, mut_vals, mut_Tells}
 use denote.RattleType.{owns}
-use denote.Signature.{mut_ref_to}
 use denote.Steps.{opens}
 use denote.Triple.Walked.{Goes-spent_ref}
 use Rattle.std.proofs.raw_atomic.Walks.{proved}
 use Rattle.std.proofs.VecSteps.Shapes.{after}
-use Rattle.std.proofs.BoxSteps.Form.{handle}
-use Rattle.tc_fixed.specs.History.{LimitedHistory}
-use Rattle.tc_c.specs.Place.{channel_row}
 use Rattle.tc_c.specs.Lending.{with_channel}
 use Rattle.tc_c.proofs.Places.{E, found}
 use Rattle.tc_c.specs.contracts.place.Place as Place
