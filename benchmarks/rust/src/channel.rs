@@ -1,6 +1,6 @@
 //! One virtual channel with its journal.
 use crate::journal::Journal;
-use crate::link::{Act, Arrival, Farm, Frame, Link, Report, Window, clcw_word, kind};
+use crate::link::{Act, Arrival, Farm, Frame, Link, Window, clcw_word, kind};
 use crate::packet::{Packet, Reassembler, Service, cut};
 use std::collections::VecDeque;
 
@@ -172,9 +172,6 @@ impl<J: Journal> Channel<J> {
         Ok(packet)
     }
 
-    pub fn report(&self) -> Report {
-        self.farm.report()
-    }
     pub fn clcw(&self, link: Link) -> u32 {
         clcw_word(&self.farm.report(), self.settings.vcid, link)
     }

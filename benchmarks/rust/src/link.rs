@@ -314,32 +314,3 @@ pub fn clcw_word(report: &Report, vcid: u8, link: Link) -> u32 {
         | u32::from(report.farm_b) << 9
         | u32::from(report.vr)
 }
-
-#[derive(Clone, Copy, Debug, PartialEq, Eq)]
-pub struct ClcwFields {
-    pub status: u8,
-    pub vcid: u8,
-    pub link: Link,
-    pub lockout: bool,
-    pub wait: bool,
-    pub retransmit: bool,
-    pub farm_b: u8,
-    pub vr: u8,
-}
-
-pub fn read_clcw(word: u32) -> Option<ClcwFields> {
-    if word >> 29 != 0 || word >> 24 & 3 != 1 || word >> 16 & 3 != 0 || word >> 8 & 1 != 0 {
-        return None;
-    }
-    let bit = |at: u32| word >> at & 1 == 1;
-    Some(ClcwFields {
-        status: (word >> 26 & 7) as u8,
-        vcid: (word >> 18 & 63) as u8,
-        link: Link { no_rf: bit(15), no_bit_lock: bit(14) },
-        lockout: bit(13),
-        wait: bit(12),
-        retransmit: bit(11),
-        farm_b: (word >> 9 & 3) as u8,
-        vr: word as u8,
-    })
-}

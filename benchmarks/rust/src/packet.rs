@@ -108,12 +108,6 @@ impl Unit<'_> {
     }
 }
 
-impl Default for Reassembler {
-    fn default() -> Self {
-        Self::new()
-    }
-}
-
 impl Reassembler {
     pub fn new() -> Reassembler {
         Reassembler { runs: (0..128).map(|_| None).collect() }

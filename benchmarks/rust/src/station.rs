@@ -51,9 +51,6 @@ impl<J: Journal> Desk<J> {
         self.publish();
         Ok(packet)
     }
-    pub fn channel(&self) -> &Channel<J> {
-        &self.channel
-    }
     pub fn watcher(&self) -> Watcher {
         Watcher { word: Arc::clone(&self.word) }
     }
