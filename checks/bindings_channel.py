@@ -88,25 +88,23 @@ def check_racks() -> None:
 
 
 def check_chain() -> None:
-    """From CLTUs to packets: a frame of each length in a CLTU of its own, then CLTUs of one to four frames, with their sum and without, each
-    with a wrong bit; none is lost. What a CLTU carries beyond as many frames as are taken is told."""
+    """From CLTUs to packets: CLTUs of one to four frames, with their sum and without, each with a wrong bit; none is lost. What a CLTU
+    carries beyond as many frames as are taken is told."""
     limits: Dict[str, Any] = {"limits": {0: 1024}, "width": 10, "buffer": 4, "first": 0, "queues": {5: 8}}
     for fecf in (False, True):
         with Channel(1, **limits) as channel:
             rack, decoder, lost, carried = Rack(42, [channel], fecf=fecf), Decoder(correct=True), 0, 0
-            for length in range(15, 1025):
-                for count in (1, 1 + length % 4):
-                    lengths = [length] if count == 1 else [15 + (length * place) % 240 for place in range(count)]
-                    packets = [write_packet(5, length % 16384, bytes(each - 12 - 2 * fecf)) for each in lengths]
-                    plain = [write_frame(42, 1, 0, b"\xc0" + packet, bypass=True) for packet in packets]
-                    frames = [add_fecf(each) for each in plain] if fecf else plain
-                    stream = bytearray(write_cltu(randomise(b"".join(frames))))
-                    stream[7] ^= 1
-                    for candidate in decoder.feed(stream):
-                        found = rack.bring_candidate(randomise(candidate), most=count)
-                        carried += all(found.frames) and found.more == b""
-                    lost += [channel.take(5) for _ in packets] != [Packet(1, 5, packet) for packet in packets]
-            same((lost, carried, decoder.overlong), (0, 2 * 1010, 0), f"CLTUs that are lost on their way, {fecf}")
+            for turn in range(80):
+                packets = [write_packet(5, turn, bytes(3 + (turn + 1) * (place + 37) % 233)) for place in range(1 + turn % 4)]
+                plain = [write_frame(42, 1, 0, b"\xc0" + packet, bypass=True) for packet in packets]
+                frames = [add_fecf(each) for each in plain] if fecf else plain
+                stream = bytearray(write_cltu(randomise(b"".join(frames))))
+                stream[7] ^= 1
+                for candidate in decoder.feed(stream):
+                    found = rack.bring_candidate(randomise(candidate), most=len(packets))
+                    carried += all(found.frames) and found.more == b""
+                lost += [channel.take(5) for _ in packets] != [Packet(1, 5, packet) for packet in packets]
+            same((lost, carried, decoder.overlong), (0, 80, 0), f"CLTUs that are lost on their way, {fecf}")
             found = rack.bring_candidate(frames[0] * 2, most=1)
             same((len(found.frames), found.more), (1, frames[0]), "a frame more than is taken")
             found = rack.bring_candidate(frames[0] + b"\x40" * 8, most=3)
@@ -238,16 +236,14 @@ def check_refused() -> None:
     tell(texts[0] == "the width of the window isn't even and 2 to 254" and all(texts), f"why settings are refused: {texts}")
     same(str(raises(BadSettings, lambda: storage(1, **changed({"width": 9})), "the storage of an odd window")), texts[0], "the same text")
     tell(storage(1, **SETTINGS) > 65542, "a storage")
-    limited: Tuple[Dict[str, Any], ...] = (
-        {"limits": {}, "others": 65543}, {"limits": {64: 9}, "others": 9}, {"limits": {2: 0}}, {"limits": {}},
-        {"limits": {2: 9}, "others": 9, "plain": True, "maps": {}})
+    limited: Tuple[Dict[str, Any], ...] = ({"limits": {}, "others": 65543}, {"limits": {2: 0}}, {"limits": {}})
     for change in limited:
         why = [str(raises(BadSettings, partial(call, 1, **changed(change)), f"{change}")) for call in (Channel, storage)]
         tell(why[0] == why[1] and "limit" in why[0], f"why limits are refused: {why}")
     same(storage(1, width=10, buffer=8, first=0, queues=dict.fromkeys((5, 6, 7, 8), 8), limits={0: 1024}), 49624, "the storage within limits")
     # 1,051 for the buffer, 5,120 and 2 * 64 * 65,542 for open runs, 64 for each queue, 65,574 for each packet, and 4,096 for the table.
     many: Dict[str, Any] = {"width": 10, "buffer": 1, "first": 0, "queues": dict.fromkeys(range(256), 256)}
-    same((storage(1, **many), storage(1, **many, limits={}, others=65542)), (4305873691,) * 2, "a storage of more octets than 32 bits count")
+    same(storage(1, **many), 4305873691, "a storage of more octets than 32 bits count")
     raises(ValueError, lambda: Channel(1, **changed({"limits": {2: 2**32}})), "a limit that C's type doesn't have")
     raises(ValueError, lambda: Channel(256, **SETTINGS), "a number that C's type doesn't have")
     raises(ValueError, lambda: Channel(1, **changed({"queues": {70000: 1}})), "an APID that C's type doesn't have")
@@ -396,8 +392,11 @@ def name_in_c(kind: Type[ctypes.Structure]) -> str:
     return "tcrx_" + "_".join(word.lower() for word in re.findall(r"[A-Z][a-z]*", kind.__name__))
 
 
-def check_places(kinds: List[Type[ctypes.Structure]]) -> None:
+def check_places() -> None:
     """Each record's size, and the place and the size of each field, by a C program."""
+    kinds = [kind for kind in vars(tcrx_channel).values() if isinstance(kind, type) and issubclass(kind, ctypes.Structure)
+             and kind is not ctypes.Structure]
+    tell(len(kinds) > 10, f"{len(kinds)} records")
     lines = ['#include "tcrx.h"', "#include <stdio.h>", "int main(void) {"]
     wanted: List[str] = []
     for kind in kinds:
@@ -412,26 +411,6 @@ def check_places(kinds: List[Type[ctypes.Structure]]) -> None:
         subprocess.run([os.environ.get("CC", "cc"), f"-I{HEADER.parent}", "said.c", "-o", "said"], cwd=folder, check=True)
         said = subprocess.run([Path(folder) / "said"], capture_output=True, text=True, check=True).stdout
     same(said.split("\n")[:-1], wanted, "sizes and places")
-
-
-def check_declarations() -> None:
-    """Each record by a C program, and each function's types by the header's text."""
-    kinds = [kind for kind in vars(tcrx_channel).values() if isinstance(kind, type) and issubclass(kind, ctypes.Structure)
-             and kind is not ctypes.Structure]
-    tell(len(kinds) > 10, f"{len(kinds)} records")
-    check_places(kinds)
-    in_python: Dict[str, Any] = {"tcrx_status": ctypes.c_uint32, "uint8_t": ctypes.c_uint8, "uint16_t": ctypes.c_uint16,
-                                 "uint32_t": ctypes.c_uint32, "size_t": ctypes.c_size_t, "const uint8_t *": ctypes.c_char_p, "uint8_t *": ctypes.c_void_p}
-    for kind in kinds:
-        in_python[name_in_c(kind)] = kind
-        in_python[f"{name_in_c(kind)} *"] = in_python[f"const {name_in_c(kind)} *"] = ctypes.POINTER(kind)
-    exports = HEADER.read_text() + HEADER.with_name("tcrx_at.h").read_text()
-    for call, declared in tcrx_channel.CALLS.items():
-        found = re.search(rf"^(\w+) {call}\(([^)]*)\);", exports, re.M)
-        tell(found, f"the headers have no {call}")
-        if found:
-            types = [re.sub(r"\w+$", "", " ".join(each.split())).strip() for each in found[2].split(",")]
-            same(declared, (in_python[found[1]], [in_python[each] for each in types]), f"the declaration of {call}")
 
 
 def check_found(library: str) -> None:
@@ -465,7 +444,7 @@ def main() -> int:
     os.environ["TCRX_LIB_DIR"] = str(Path(library).parent)
     same(tcrx_channel.find_library(), library, "the library that is found")
     same((tcrx.Channel, tcrx.Rack, hasattr(tcrx, "Channel")), (Channel, Rack, True), "the channel and the rack of tcrx")
-    check_declarations()
+    check_places()
     check_values()
     check_racks()
     check_chain()

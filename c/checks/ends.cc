@@ -168,11 +168,7 @@ void check_views() {
     tell(written.status() == tcrx::Status::no_room && written.error().needed == 8, "a frame into no room");
     const Bytes sent = first_packet();
     const tcrx::Result<tcrx::Frame> read = tcrx::read_frame(sent);
-    tell(read->header.scid == 42 && read->header.vcid == 1 && read->octets.size() == sent.size(), "a frame that is read");
-    tell(read->field().size() == 8 && read->field()[7] == 0xaa && read->field().data() == sent.data() + 5, "its data field");
-    const tcrx::Result<tcrx::Packet> packet = tcrx::read_packet(read->field().part(1));
-    tell(packet->apid == 5 && packet->telecommand && !packet->secondary && packet->sequence == 3 && packet->octets.size() == 7,
-         "a packet that is read");
+    tell(read->field().size() == 8 && read->field().data() == sent.data() + 5, "the data field of a frame");
     tell(tcrx::Octets(sent).part(99).empty() && tcrx::Octets(sent).part(1, 2).size() == 2, "parts of a view");
     (void)channel.frame(sent);
     (void)channel.release();
@@ -383,21 +379,17 @@ void check_settings() {
         const tcrx::Status made = tcrx::Channel::make(tried, its_queues, its_maps).status();
         return tcrx::storage(tried, its_queues, its_maps).status() == made ? made : tcrx::Status::no_status;
     };
-    const auto within = [](const tcrx::Limits &limits, bool segmented = true) {
-        const tcrx::Settings tried = {1, 10, 4, 0, segmented};
-        const tcrx::Maps its_maps = segmented ? tcrx::Maps(maps) : tcrx::Maps();
-        const tcrx::Status made = tcrx::Channel::make(tried, queues, its_maps, limits).status();
-        return tcrx::storage(tried, queues, its_maps, limits).status() == made ? made : tcrx::Status::no_status;
+    const auto within = [](const tcrx::Limits &limits) {
+        const tcrx::Status made = tcrx::Channel::make(settings, queues, maps, limits).status();
+        return tcrx::storage(settings, queues, maps, limits).status() == made ? made : tcrx::Status::no_status;
     };
-    const tcrx::Limit of_two[] = {{2, 6}}, high_limit[] = {{64, 6}}, twice_limited[] = {{2, 6}, {2, 6}}, no_limit[] = {{2, 0}};
+    const tcrx::Limit of_two[] = {{2, 6}}, no_limit[] = {{2, 0}};
     using tcrx::Status;
     tell(status({1, 9, 4, 0}, {}, {}) == Status::bad_width && status({1, 10, 4, 0, false}, {}, maps) == Status::plain_map, "bad settings");
     tell(status(settings, {nullptr, 1}, {}) == Status::null && status(settings, {}, {}) == Status::done, "queues nowhere");
     tell(tcrx::storage(settings, queues, maps).value() > 65542, "a storage");
-    tell(within({65543, {}}) == Status::bad_others && within({0, high_limit}) == Status::bad_limit_map, "bad limits");
-    tell(within({0, twice_limited}) == Status::double_limit && within({0, no_limit}) == Status::bad_limit, "bad limits, 2");
-    tell(within({6, of_two}, false) == Status::plain_limit && within({0, {}}) == Status::unlisted_map, "bad limits, 3");
-    tell(within({0, of_two}) == Status::done && within({6, {}}, false) == Status::done, "good limits");
+    tell(within({65543, {}}) == Status::bad_others && within({0, no_limit}) == Status::bad_limit, "bad limits");
+    tell(within({0, {}}) == Status::unlisted_map && within({0, of_two}) == Status::done, "a limit of each MAP");
     tell(within({0, {nullptr, 1}}) == Status::null, "limits nowhere");
     const tcrx::Settings eight = {1, 10, 8, 0};
     const tcrx::Queue four[] = {{5, 8}, {6, 8}, {7, 8}, {8, 8}};
@@ -409,7 +401,6 @@ void check_settings() {
         many.push_back({apid, 256});
     }
     tell(tcrx::storage({1, 10, 1, 0}, many).value() == 4305873691, "a storage of more octets than 32 bits count");
-    tell(tcrx::storage({1, 10, 1, 0}, many, {}, {65542, {}}).value() == 4305873691, "the same storage by its limits");
     tell(std::string(tcrx::text(Status::empty).c_str()) == "nothing waits there", "a text");
     tell(tcrx::text(static_cast<Status>(99)).c_str()[0] == '\0', "the text of no status");
     const tcrx::Result<tcrx::Farm> farm = tcrx::start_farm(10, 7);

@@ -4,9 +4,9 @@
 The headers must compile as each version of C and C++ that they are for, with all warnings as errors, and so must the lines of code
 that c/README.md shows. Its static assertions must refuse each record with two neighbouring fields swapped, and each with one field more
 in front. The version must be the same as a number and as a text. Where doxygen is installed it must read the header's comments
-without a warning, and where cppcheck is installed it must find nothing that c/checks/cppcheck.suppressions doesn't answer.
+without a warning.
 
-usage: c/checks/sources.py     from any folder; the last line says how many checks passed, and names what is not installed
+usage: c/checks/sources.py     from any folder; the last line says how many checks passed, and that doxygen isn't installed
 """
 
 import re
@@ -97,36 +97,16 @@ def comments() -> list[tuple[str, str]]:
     return [("the comments, by doxygen", said)]
 
 
-def cppcheck(language: str, version: str, files: list[str]) -> str:
-    """What cppcheck says of files; nothing where they are good."""
-    command = ["cppcheck", f"--language={language}", f"--std={version}", "--enable=warning,style,performance,portability"]
-    command += ["--inconclusive", "--quiet", "--error-exitcode=1", "--suppressions-list=c/checks/cppcheck.suppressions"]
-    command += ["--template={file}:{line}: {severity}: {message} [{id}]", "-Ic", "-DSEALED=1000", *files]
-    done = subprocess.run(command, cwd=TOP, capture_output=True, text=True, check=False)
-    return done.stdout + done.stderr or ("" if done.returncode == 0 else f"status {done.returncode}")
-
-
-def faults() -> list[tuple[str, str]]:
-    """What cppcheck says of each file, in C and in C++."""
-    said = []
-    for language, version, pattern in (("c", "c99", "*.c"), ("c++", "c++17", "*.cc")):
-        files = sorted(str(path.relative_to(TOP)) for path in (TOP / "c").rglob(pattern))
-        said.append((f"{len(files)} files, by cppcheck", cppcheck(language, version, files) if files else "there are none"))
-    return said
-
-
 def main() -> int:
     """Makes each check, and says what was found."""
     said = versions() + shown_code() + layouts() + same_version()
-    tools = {"doxygen": comments, "cppcheck": faults}
-    skipped = [tool for tool in tools if shutil.which(tool) is None]
-    for tool, check in tools.items():
-        said += check() if tool not in skipped else []
+    has_doxygen = shutil.which("doxygen") is not None
+    said += comments() if has_doxygen else []
     for what, fault in said:
         if fault:
             print(f"{what}: {fault}")
     failed = sum(bool(fault) for _, fault in said)
-    print(f"sources: {len(said) - failed} passed, {failed} failed" + "".join(f", skipped: {tool}" for tool in skipped))
+    print(f"sources: {len(said) - failed} passed, {failed} failed" + ("" if has_doxygen else ", skipped: doxygen"))
     return 1 if failed else 0
 
 

@@ -1,7 +1,6 @@
-//! The declarations against the header: a C program says the size of each record, the place and size of each field, and each number,
-//! and the names are those that the header has.
+//! The declarations against the header: a C program says the size of each record, the place and size of each field, and each number.
+//! That all of the header is declared is seen by what writes the declarations (tools/c_interface --check).
 
-use std::collections::BTreeSet;
 use std::fmt::Write;
 use std::path::PathBuf;
 use std::process::Command;
@@ -55,33 +54,4 @@ fn said_here() -> String {
 fn records_and_numbers_are_those_of_c() {
     assert_eq!(said_here(), said_in_c());
     assert!(HOLDS_NONE.held == 0 && HOLDS_NONE.place.is_null());
-}
-
-/// The words that follow one text and come before another, in each line that has both.
-fn names<'text>(text: &'text str, begins: &str, ends: &str) -> BTreeSet<&'text str> {
-    let found = text.lines().filter_map(|line| line.split_once(begins)?.1.split_once(ends)).map(|(name, _)| name);
-    found.filter(|name| name.chars().all(|each| each.is_ascii_alphanumeric() || each == '_')).collect()
-}
-
-#[test]
-fn each_name_of_the_header_is_declared() {
-    let [header, exports] =
-        ["tcrx.h", "tcrx_at.h"].map(|name| fs::read_to_string(folder_of_header().join(name)).expect("a header"));
-    let declared = fs::read_to_string(PathBuf::from(env!("CARGO_MANIFEST_DIR")).join("src/lib.rs")).expect("the declarations");
-    let records: BTreeSet<&str> = LAYOUTS.iter().map(|(record, _, _)| *record).collect();
-    assert_eq!(records, names(&header, "} ", ";").into_iter().filter(|name| name.starts_with("tcrx_")).collect());
-    let numbers: BTreeSet<&str> = NUMBERS.iter().map(|(name, _)| *name).collect();
-    assert_eq!(numbers, header.lines().filter_map(constant).collect());
-    let calls: BTreeSet<&str> =
-        declared.lines().filter_map(|line| line.trim().strip_prefix("pub fn ")?.split('(').next()).collect();
-    let declarations = header.lines().chain(exports.lines()).filter(|line| line.starts_with("tcrx_"));
-    assert_eq!(calls, declarations.filter_map(|line| line.split('(').next()?.rsplit(' ').next()).collect());
-    assert!(calls.len() > 20 && records.len() > 15 && numbers.len() > 40);
-}
-
-/// The name of a constant of an enumeration behind `TCRX_`.
-fn constant(line: &str) -> Option<&str> {
-    let (name, number) = line.trim().trim_start_matches("enum { ").strip_prefix("TCRX_")?.split_once(" = ")?;
-    let is_number = number.starts_with(|each: char| each.is_ascii_digit());
-    is_number.then_some(name)
 }

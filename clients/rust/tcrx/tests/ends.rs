@@ -67,17 +67,9 @@ fn two_channels_in_two_threads() {
 
 #[test]
 fn refused_settings_say_why() {
-    let twice = [QUEUES[0], QUEUES[0]];
-    let map_twice = [MAPS[0], MAPS[0]];
     let tried = [
-        (Settings { vcid: 64, ..SETTINGS }, SettingsError::BadVcid),
         (Settings { width: 9, ..SETTINGS }, SettingsError::BadWidth),
-        (Settings { buffer: 0, ..SETTINGS }, SettingsError::BadBuffer),
-        (Settings { queues: &[Queue { apid: 2047, capacity: 1 }], ..SETTINGS }, SettingsError::BadApid),
-        (Settings { queues: &twice, ..SETTINGS }, SettingsError::DoubleApid),
-        (Settings { queues: &[Queue { apid: 5, capacity: 257 }], ..SETTINGS }, SettingsError::BadCapacity),
-        (Settings { maps: &[Map { map: 64, capacity: 1 }], ..SETTINGS }, SettingsError::BadMap),
-        (Settings { maps: &map_twice, ..SETTINGS }, SettingsError::DoubleMap),
+        (Settings { queues: &[QUEUES[0], QUEUES[0]], ..SETTINGS }, SettingsError::DoubleApid),
         (Settings { maps: &[Map { map: 2, capacity: 0 }], ..SETTINGS }, SettingsError::BadUnits),
         (Settings { segmented: false, ..SETTINGS }, SettingsError::PlainMap),
     ];
@@ -95,19 +87,14 @@ fn refused_settings_say_why() {
 
 #[test]
 fn refused_limits_say_why() {
-    let plain = Settings { segmented: false, maps: &[], ..SETTINGS };
-    let (two, high) = (Limit { map: 2, octets: 9 }, Limit { map: 64, octets: 9 });
     let tried = [
-        (SETTINGS, Limits { others: 65_543, maps: &[] }, SettingsError::BadOthers),
-        (SETTINGS, Limits { others: 9, maps: &[high] }, SettingsError::BadLimitMap),
-        (SETTINGS, Limits { others: 9, maps: &[two, two] }, SettingsError::DoubleLimit),
-        (SETTINGS, Limits { others: 9, maps: &[Limit { map: 2, octets: 0 }] }, SettingsError::BadLimit),
-        (plain, Limits { others: 9, maps: &[two] }, SettingsError::PlainLimit),
-        (SETTINGS, Limits::default(), SettingsError::UnlistedMap),
+        (Limits { others: 65_543, maps: &[] }, SettingsError::BadOthers),
+        (Limits { others: 9, maps: &[Limit { map: 2, octets: 0 }] }, SettingsError::BadLimit),
+        (Limits::default(), SettingsError::UnlistedMap),
     ];
-    for (settings, limits, error) in tried {
-        assert_eq!(Channel::with_limits(&settings, &limits).err(), Some(error));
-        assert_eq!(settings.storage_with_limits(&limits), Err(error));
+    for (limits, error) in tried {
+        assert_eq!(Channel::with_limits(&SETTINGS, &limits).err(), Some(error));
+        assert_eq!(SETTINGS.storage_with_limits(&limits), Err(error));
         assert!(!error.to_string().starts_with("status"), "{error}");
     }
     let queues = [5, 6, 7, 8].map(|apid| Queue { apid, capacity: 8 });
@@ -130,6 +117,7 @@ fn a_storage_of_more_octets_than_32_bits_count() {
 fn refused_takes_say_what_they_need() {
     let mut channel = Channel::new(&SETTINGS).expect("settings");
     let mut room = [0; 6];
+    assert_eq!((Frame::read(&[]), channel.frame(&[])), (Err(FrameError::Short), Err(BringError::Short)));
     assert_eq!(channel.release(), Err(ReleaseError::Empty));
     assert_eq!(channel.take(5, &mut room), Err(TakeError::Empty));
     assert_eq!(channel.take(6, &mut room), Err(TakeError::NoQueue));
@@ -145,37 +133,19 @@ fn refused_takes_say_what_they_need() {
 
 #[test]
 fn single_calls() {
-    let field = [0xc0, 0x10, 0x05, 0xc0, 0x00, 0x00, 0x00, 0xaa];
-    let octets = frame(7, false, &field);
-    let read = Frame::read(&octets).expect("a frame");
-    assert_eq!(read.header(), Header { scid: 42, vcid: 1, ns: 7, bypass: false, control: false });
-    assert_eq!((read.field(), read.octets(), read.kind()), (&field[..], &octets[..], Kind { arrival: Arrival::Ad, number: 7 }));
-    let packet = Packet::read(&read.field()[1..]).expect("a packet");
-    assert_eq!(
-        (packet.apid, packet.telecommand, packet.secondary, packet.sequence, packet.octets),
-        (5, true, false, 3, &PACKET[..])
-    );
-    assert_eq!(Packet::read(&[]), None);
-    let header = Header { scid: 1024, ..Header::default() };
-    assert_eq!(header.write(&field, &mut [0; 64]), Err(WriteError::BadField));
+    let expected = |number| Kind { arrival: Arrival::Ad, number };
     assert_eq!(Header::default().write(&[], &mut [0; 64]), Err(WriteError::EmptyData));
-    assert_eq!(Header::default().write(&[0; 1020], &mut [0; 2000]), Err(WriteError::TooLong));
-    assert_eq!(Header::default().write(&field, &mut [0; 12]), Err(WriteError::NoRoom { needed: 13 }));
-    let step = Farm::new(10, 7).expect("a width").step(read.kind(), true).expect("a step");
+    assert_eq!(Header::default().write(&[0; 8], &mut [0; 12]), Err(WriteError::NoRoom { needed: 13 }));
+    let step = Farm::new(10, 7).expect("a width").step(expected(7), true).expect("a step");
     assert_eq!((step.event, step.accepted, step.farm.vr, step.farm.state), (Event::E1, true, 8, State::Open));
-    let waits = step.farm.step(Kind { arrival: Arrival::Ad, number: 8 }, false).expect("a step").farm;
+    let waits = step.farm.step(expected(8), false).expect("a step").farm;
     assert_eq!((waits.state, waits.wait, waits.retransmit), (State::Wait, true, true));
-    assert_eq!(waits.step(Kind { arrival: Arrival::Ad, number: 8 }, true), Err(FarmError::NoEntry));
+    assert_eq!(waits.step(expected(8), true), Err(FarmError::NoEntry));
     let released = waits.step(Kind { arrival: Arrival::Release, number: 0 }, true).expect("a step");
     assert_eq!((released.event, released.farm.state), (Event::E10, State::Open));
     assert_eq!(Farm::new(9, 0), Err(FarmError::BadWidth));
-    assert_eq!(Farm { farm_b: 4, ..waits }.clcw(1, false, false), Err(FarmError::BadFarmB));
-    assert_eq!(Farm { state: State::Open, ..waits }.clcw(1, false, false), Err(FarmError::FlagsDisagree));
     assert_eq!(waits.clcw(64, false, false), Err(FarmError::BadVcid));
-    assert_eq!(Clcw::read(u32::MAX), None);
-    let clcw = Clcw::read(0x0104_fe7b).expect("a CLCW");
-    assert_eq!((clcw.vcid(), clcw.no_rf(), clcw.no_bit_lock(), clcw.lockout(), clcw.wait()), (1, true, true, true, true));
-    assert_eq!((clcw.retransmit(), clcw.farm_b(), clcw.vr(), clcw.status_field()), (true, 3, 0x7b, 0));
+    assert_eq!((Clcw::read(u32::MAX), Packet::read(&[])), (None, None));
     let channel = Channel::new(&SETTINGS).expect("settings");
     assert!(channel.clcw(Link { no_rf: false, no_bit_lock: true }).no_bit_lock());
 }
@@ -425,23 +395,4 @@ fn reports_field_by_field() {
         assert_eq!(channel.clcw(Link { no_rf, no_bit_lock }).word(), word);
         assert_eq!(channel.report().clcw(1, no_rf, no_bit_lock).map(Clcw::word), Ok(word));
     }
-}
-
-#[test]
-fn a_frame_is_refused_by_a_channel_as_it_reads() {
-    let settings = Settings { vcid: 1, width: 10, buffer: 1, first_vr: 0, segmented: true, queues: &[], maps: &[] };
-    let mut channel = Channel::new(&settings).expect("settings");
-    let header = [0x00, 0x2a, 0x04, 0x06, 0x00];
-    let tried: [(&[u8], FrameError, BringError); 5] = [
-        (&header[..4], FrameError::Short, BringError::Short),
-        (&[0x40, 0x2a, 0x04, 0x06, 0x00, 0xc0, 0xaa], FrameError::BadVersion, BringError::BadVersion),
-        (&[0x04, 0x2a, 0x04, 0x06, 0x00, 0xc0, 0xaa], FrameError::Spare, BringError::Spare),
-        (&[0x00, 0x2a, 0x04, 0x04, 0x00, 0xc0, 0xaa], FrameError::LengthSmall, BringError::LengthSmall),
-        (&header, FrameError::Truncated, BringError::Truncated),
-    ];
-    for (octets, read, brought) in tried {
-        assert_eq!(Frame::read(octets), Err(read));
-        assert_eq!(channel.frame(octets), Err(brought));
-    }
-    assert_eq!(channel.events(), 0);
 }
