@@ -9,43 +9,27 @@ import socket
 import subprocess
 import sys
 import tempfile
-import time
 from itertools import zip_longest
 from pathlib import Path
-from typing import Any, Callable, Dict, List, Tuple
+from typing import Any, Callable, Dict, List, Sequence, Tuple
 
 from client_parts import word
-from comparing import PATIENCE, TOP, attempt, begun, close, need, run, same, tell
+from comparing import PATIENCE, TOP, attempt, begun, close, need, run, same, tell, until
 
 PROGRAM = TOP / "clients/python/tcrx_bench.py"
+# The programs of this tree, which must be built.
+TCLIVE, TCRX, TCMAKE = (TOP / f"crates/{name}/out/{name}" for name in ("tclive", "tcrx", "tcmake"))
 SETUP = "channel 1 10 8 0\nqueue 1 5 16\n"
 
 
-def programs(words: List[str]) -> List[Path]:
-    """tclive, tcrx and tcmake: those that were named, or those of this tree, which must be built."""
-    names = ("tclive", "tcrx", "tcmake")
-    if words:
-        return [Path(word).resolve() for _, word in zip(names, words)]
-    need(*names)
-    return [TOP / f"crates/{name}/out/{name}" for name in names]
-
-
-class Programs:  # pylint: disable=too-few-public-methods  # a record
-    """The programs that are tried: those that were named, or those of this tree."""
-
-    def __init__(self, words: List[str]) -> None:
-        found = programs(words)
-        self.tclive = found[0]
-        self.tcrx, self.tcmake = found[1:] if len(found) == 3 else (TOP / "tcrx", TOP / "tcmake")
-
-
-def attempt_all(checks: List[Callable[[Path, Path], None]]) -> int:
-    """Does each check, or those that the variable ONLY names, over a tclive and a folder; the status."""
-    tclive, only = programs(sys.argv[1:])[0], os.environ.get("ONLY", "").split()
+def attempt_all(checks: Sequence[Callable[[Path], None]]) -> int:
+    """Does each check, or those that the variable ONLY names, over a folder; the status."""
+    need("tclive", "tcrx", "tcmake")
+    only = os.environ.get("ONLY", "").split()
     with tempfile.TemporaryDirectory() as folder:
         for check in checks:
             if not only or check.__name__ in only:
-                attempt(check, tclive, Path(folder))
+                attempt(check, Path(folder))
     return close()
 
 
@@ -82,22 +66,17 @@ sys.exit(child.wait())
 """
 
 
-def stand_in(tclive: Path, work: Path, step: str) -> Path:
+def stand_in(work: Path, step: str) -> Path:
     """A tclive with a statement that is run for each line, before it: it may use `is_frame` and `frames`, and set `answer`."""
-    program = Path(tempfile.mkdtemp(dir=work)) / "stand-in"
-    program.write_text(STAND_IN.format(tclive=str(tclive), step=step))
+    return written(work, STAND_IN.format(tclive=str(TCLIVE), step=step))
+
+
+def written(work: Path, text: str) -> Path:
+    """A program of this text, in a folder of its own."""
+    program = Path(tempfile.mkdtemp(dir=work)) / "program"
+    program.write_text(text)
     program.chmod(0o755)
     return program
-
-
-def until(true: Callable[[], object], seconds: float = PATIENCE) -> bool:
-    """Waits until something is true; whether it came to be."""
-    end = time.monotonic() + seconds
-    while not true():
-        if time.monotonic() > end:
-            return False
-        time.sleep(0.01)
-    return True
 
 
 def read_on(link: socket.socket, octets: bytearray) -> None:
@@ -136,7 +115,7 @@ def free_port(kind: int = socket.SOCK_STREAM) -> int:
 class Bench:
     """A bench that runs, from its start to its end. Its ports are free ones."""
 
-    def __init__(self, tclive: Path, work: Path, *words: str, setup: str = SETUP, scid: int = 42, python: str = sys.executable,
+    def __init__(self, work: Path, *words: str, tclive: Path = TCLIVE, setup: str = SETUP, python: str = sys.executable,
                  limit: str = "-f unlimited", stdin: int = subprocess.DEVNULL) -> None:
         self.folder = Path(tempfile.mkdtemp(dir=work))
         self.log = self.folder / "log"
@@ -144,7 +123,7 @@ class Bench:
         (self.folder / "setup").write_text(setup)
         log = [] if "--log" in words else ["--log", str(self.log)]
         # With a limit: -f of the kibibytes that a file may have, -n of the files that may be open.
-        given = ["bash", "-c", f'ulimit {limit}; exec "$0" "$@"', python, str(PROGRAM), "--scid", str(scid), "--program", str(tclive),
+        given = ["bash", "-c", f'ulimit {limit}; exec "$0" "$@"', python, str(PROGRAM), "--scid", "42", "--program", str(tclive),
                  *(["--setup", str(self.folder / "setup")] if setup else []), *log, *words]
         # pylint: disable-next=consider-using-with  # it is ended in `ended`, or by the check
         self.child = subprocess.Popen(given, stdin=stdin, stdout=subprocess.PIPE, stderr=self.errors)
@@ -165,6 +144,13 @@ class Bench:
         link.settimeout(PATIENCE)
         link.bind((source, 0))
         link.connect(("127.0.0.1", self.ports[kind]))
+        return link
+
+    def reader(self, kind: str = "packets-tcp") -> socket.socket:
+        """A connection to a port that sends, once it is one of those that are counted there."""
+        open_before = self.port(kind)["open"]
+        link = self.connect(kind)
+        until(lambda: self.port(kind)["open"] > open_before)
         return link
 
     def datagram(self, octets: bytes, source: str = "127.0.0.1") -> None:
@@ -255,9 +241,9 @@ def words_sent(log: Path) -> List[str]:
     return found
 
 
-def run_tcrx(tcrx: Path, script: str, scid: int = 42) -> str:
+def run_tcrx(script: str) -> str:
     """What `tcrx run` prints for a script."""
-    ran = run(tcrx, "run", "--scid", scid, given=script)
+    ran = run(TCRX, "run", "--scid", "42", given=script)
     return ran.stdout + ran.stderr
 
 
@@ -268,14 +254,25 @@ def same_lines(answer: str, wanted: str, what: str) -> None:
     tell(not found and wanted, f"{what}: {found or 'nothing to compare'}")
 
 
-def replay(bench: Bench, tclive: Path) -> subprocess.CompletedProcess[str]:
+def replay(bench: Bench, *words: str, tclive: Path = TCLIVE) -> subprocess.CompletedProcess[str]:
     """A run of --replay over a log."""
-    return run(sys.executable, PROGRAM, "--replay", bench.log, "--program", tclive)
+    return run(sys.executable, PROGRAM, "--replay", bench.log, "--program", tclive, *words)
 
 
-def replays(bench: Bench, tclive: Path, tcrx: Path, what: str) -> None:
-    """Compares the answers of a log with those of `tcrx`, and of `tclive` by the bench itself."""
-    same_lines(run_tcrx(tcrx, script_of(bench.log)), answers_of(bench.log), f"{what}: the log by tcrx")
-    ran = replay(bench, tclive)
-    same((ran.returncode, ran.stderr), (0, ""), f"{what}: the log by --replay")
-    tell(re.fullmatch(r"\d+ answers and the final report are those of the log\n", ran.stdout), f"{what}: --replay prints {ran.stdout!r}")
+def is_replayed(bench: Bench, what: str) -> None:
+    """Compares the answers of a log with those of `tclive` by the bench itself."""
+    ran = replay(bench)
+    good = (ran.returncode, ran.stderr) == (0, "") and re.fullmatch(r"\d+ answers and the final report are those of the log\n", ran.stdout)
+    tell(good, f"{what}: the log by --replay: {ran}")
+
+
+def replays(bench: Bench, what: str) -> None:
+    """Compares the answers of a log with those of `tcrx`, and by --replay."""
+    same_lines(run_tcrx(script_of(bench.log)), answers_of(bench.log), f"{what}: the log by tcrx")
+    is_replayed(bench, what)
+
+
+def ends(bench: Bench, what: str) -> None:
+    """Ends a bench, whose status must be 0, and compares the answers of its log."""
+    same(bench.end()[0], 0, f"{what}: status")
+    replays(bench, what)

@@ -5,6 +5,7 @@ import os
 import signal
 import subprocess
 import sys
+import time
 from collections import Counter
 from pathlib import Path
 from typing import Any, Callable, Dict, Iterator, List, Mapping, NamedTuple, Optional
@@ -80,6 +81,16 @@ def in_time(what: str, holds: Callable[[], object]) -> None:
     """Compares something that a second is in, three times at most. The last line says so."""
     timed[what] = next((tried for tried in (1, 2, 3) if holds()), 0)
     tell(timed[what], f"{what}: not in three tries")
+
+
+def until(true: Callable[[], object], seconds: float = PATIENCE) -> bool:
+    """Waits until something is true; whether it came to be."""
+    end = time.monotonic() + seconds
+    while not true():
+        if time.monotonic() > end:
+            return False
+        time.sleep(0.01)
+    return True
 
 
 def run(*words: object, given: str = "", names: Optional[Mapping[str, str]] = None, **more: Any) -> subprocess.CompletedProcess[str]:
