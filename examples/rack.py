@@ -1,0 +1,47 @@
+"""A spacecraft's receiver in Python: two virtual channels behind one call. Frames end with their frame error control field; a channel's
+packets are for one application."""
+from contextlib import ExitStack
+
+from tcrx import Brought, Channel, Rack
+from tcrx_channel import add_fecf, write_packet, write_segments
+
+SPACECRAFT = 42
+APPLICATIONS = {1: 5, 2: 7}
+
+
+# pylint: disable-next=too-many-arguments  # they are what a frame has
+def send(rack: Rack, vcid: int, application: int, octet: int, *, ns: int = 0, bypass: bool = False, turned: int = 0) -> None:
+    """A ground test's end: an octet in a packet, in a frame, with its field, of which a bit may be turned on the way."""
+    packet = write_packet(application, 0, bytes([octet]))
+    frames = write_segments(packet, scid=SPACECRAFT, vcid=vcid, ns=ns, map=0, bypass=bypass)
+    sent = bytearray(add_fecf(frames[0]))
+    sent[12] ^= turned
+    brought = rack.bring(sent)
+    print(f"channel {brought.channel}: {brought.event.name}" if isinstance(brought, Brought) else "refused")
+
+
+def serve(channel: Channel, application: int) -> None:
+    """Releases all data fields, takes all packets, and prints the CLCW."""
+    while channel.release():
+        pass
+    for packet in channel.packets(application):
+        print("packet", packet.hex())
+    print(f"clcw {channel.clcw().word:08x}")
+
+
+def main() -> None:
+    """Makes the channels, which are freed at the end of the block."""
+    with ExitStack() as made:
+        channels = [made.enter_context(Channel(vcid, width=10, buffer=4, first=0, queues={application: 8}, limits={0: 256}))
+                    for vcid, application in APPLICATIONS.items()]
+        rack = Rack(SPACECRAFT, channels, fecf=True)
+        send(rack, 1, 5, 0xaa)
+        send(rack, 2, 7, 0xbb, bypass=True)
+        send(rack, 1, 5, 0xcc, ns=1, turned=1)
+        send(rack, 3, 5, 0xdd)
+        for channel in channels:
+            serve(channel, APPLICATIONS[channel.vcid])
+
+
+if __name__ == "__main__":
+    main()
