@@ -42,6 +42,8 @@ from tcrx_bench_parts.web import Visitor, Web  # noqa: E402
 
 # Seconds between two writes of the log; that readers have at the end; and after which it is said that the program isn't up yet.
 LOG_PAUSE, LAST_READ, SLOW_START = 0.2, 1.0, 3.0
+# What is said of a frame whose frame error control field was data.
+TOOK_SUM = "a frame ends with its frame error control field, which is data here; --fecf takes it off"
 # What part of `--patience` what has arrived has at the end to be answered; the rest is for what is under way then.
 LAST_ANSWERS = 0.9
 
@@ -260,7 +262,7 @@ class Bench:  # pylint: disable=too-many-instance-attributes  # it is made of th
             self._say_clcw()
         if self.options.link_timeout:
             self.link_watch = LinkWatch(self.craft, self.options.link_timeout)
-        self.craft.renew = self._renew
+        self.craft.renew, self.craft.took_sum = self._renew, self._say_took_sum
         if self.telemetry:
             self.telemetry.begin()
         self._write_log()
@@ -298,6 +300,11 @@ class Bench:  # pylint: disable=too-many-instance-attributes  # it is made of th
             self.craft.go_on()
         if self.link_watch and self.link_watch.lost:
             self.craft.set_link(True)
+
+    def _say_took_sum(self, source: str) -> None:
+        """Says that --fecf may be missing."""
+        self.notes.say(f"{source}: {TOOK_SUM}")
+        self.craft.note_text(source, TOOK_SUM)
 
     def _say_clcw(self) -> None:
         """Has a CLCW made, if somebody is there for it."""

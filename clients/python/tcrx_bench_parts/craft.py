@@ -15,6 +15,7 @@ from tcrx import Clcw, why_bad, without_hint
 
 from .engine import Engine
 from .journal import SET_UP, Journal, printable
+from .octets import ends_with_sum
 
 # Frames and lines that are under way, and at the end, where they are to be answered soon; turns that wait, and events that are kept.
 MOST_UNDER_WAY, MOST_AT_END, MOST_WAITING, LAST_EVENTS = 256, 16, 2048, 200
@@ -116,6 +117,8 @@ class Craft:  # pylint: disable=too-many-instance-attributes  # what is known of
         """Whether the receiver is given nothing for now, since what it answered before is still looked at."""
         self.arrived: Callable[[], None] = lambda: None
         """Called when a frame arrives."""
+        self.took_sum: Callable[[str], None] = lambda source: None
+        """Called where the first frame of a channel ends with its frame error control field, and that was data."""
         self.slow: Callable[[bool], None] = lambda slow: None
         """Called when more waits than should, and when that is over."""
         self.is_slow = False
@@ -242,6 +245,8 @@ class Craft:  # pylint: disable=too-many-instance-attributes  # what is known of
         event = words[2]
         self.frames += 1
         channel.events[event] += 1
+        if channel.last is None and not self.fecf and ends_with_sum(turn.octets):
+            self.took_sum(turn.source)
         channel.last = turn.octets[4], event
         self.active = channel.vcid
         self._note_event(turn, answer, answers[-1][-8:] if answers[-1].startswith("clcw ") else "")

@@ -26,6 +26,11 @@ def without_sum(octets: bytes) -> bytes:
     return bytes(shorter)
 
 
+def ends_with_sum(octets: bytes) -> bool:
+    """Whether the frame at the front of octets ends with the right frame error control field."""
+    return not crc_hqx(octets[:((octets[2] & 3) << 8 | octets[3]) + 1], 0xFFFF)
+
+
 def has_request(octets: bytes) -> bool:
     """Whether a line of these octets begins as a browser does."""
     return REQUEST.search(octets) is not None
