@@ -1,18 +1,5 @@
 -- A channel that a station gives out has the settings of its place, and is a merge of what its operators made.
-use Rattle.std.proofs.Common.{◌≡◌, ℕ, zero, suc, List, [], ◌∷◌, map, Some, refl, sym, ap, subst, ◌∙◌, arith}
-use Rattle.std.specs.Prelude.{slice_get}
-use Rattle.std.proofs.lemmas.Option.{slice_get_within}
-use Rattle.logged_lock.specs.Log.{IsMergeOf}
-use Rattle.tc_channel.specs.declared.event.Event.{Event}
-use Rattle.tc_channel.specs.declared.settings.Settings.{Settings}
-use Rattle.tc_channel.specs.ChannelState.{no_limits}
-use Rattle.tc_channel.specs.Journal.{History}
-use Rattle.tc_desk.specs.Log.{AtLock, Identity, accounts_of}
-use Rattle.tc_desk.specs.Together.{column, heads_of}
-use Rattle.tc_station.specs.Roster.{Roster, settings_in}
-use Rattle.tc_station.specs.Tally.{AtStation}
-use Rattle.tc_station.specs.Together.{AreClosedTogether, operator_lists_of}
-use Rattle.tc_station.proofs.ClosedSince.{owned_desk-there}
+use Rattle.tc_apart.proofs.Names.{AreClosedTogether, AtLock, AtStation, Event, History, Identity, IsMergeOf, List, Roster, Settings, Some, [], accounts_of, ap, arith, column, heads_of, map, no_limits, operator_lists_of, owned_desk-there, refl, settings_in, slice_get, slice_get_within, subst, suc, sym, zero, ℕ, ◌∙◌, ◌∷◌, ◌≡◌}
 
 setting-there : (owned_desks : List AtLock) (n : ℕ) (owned_desk : AtLock) → slice_get owned_desks n ≡ Some owned_desk → slice_get (map (λ (h : Identity). h.settings) (heads_of owned_desks)) n ≡ Some owned_desk.own.seen.head.settings
 setting-there [] n owned_desk e = absurd cc

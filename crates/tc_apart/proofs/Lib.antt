@@ -1,3 +1,4 @@
+pub mod Names
 pub mod OneChannel
 mod GivenOut
 mod Merged

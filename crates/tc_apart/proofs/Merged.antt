@@ -1,14 +1,5 @@
 -- A journal is determined by what each has made of it, with its places.
-use Rattle.std.proofs.Common.{◌≡◌, ℕ, zero, suc, ◌+◌, Bool, true, false, List, [], ◌∷◌, length, Some, refl, sym, ap, subst, ◌∙◌, arith}
-use Rattle.std.specs.Prelude.{slice_get, ◌==◌, if◌then◌else◌}
-use Rattle.logged_lock.specs.Log.{IsMergeOf, made_by, owned}
-use Rattle.tc_channel.specs.declared.event.Event.{Event}
-use Rattle.tc_channel.specs.Journal.{History}
-use Rattle.tc_desk.specs.Log.{Own, accounts_of}
-use Rattle.tc_desk.specs.Together.{column}
-use Rattle.tc_station.specs.Roster.{Roster, settings_in}
-use Rattle.tc_station.specs.Tally.{AtStation}
-use Rattle.tc_station.specs.Together.{AreClosedTogether, operator_lists_of}
+use Rattle.tc_apart.proofs.Names.{AreClosedTogether, AtStation, Bool, Event, History, IsMergeOf, List, Own, Roster, Some, [], accounts_of, ap, arith, column, false, if◌then◌else◌, length, made_by, operator_lists_of, owned, refl, settings_in, slice_get, subst, suc, sym, true, zero, ℕ, ◌+◌, ◌==◌, ◌∙◌, ◌∷◌, ◌≡◌}
 use Rattle.tc_apart.proofs.GivenOut.{given-out}
 
 same-self : (k : ℕ) → (k == k) ≡ true

@@ -1,19 +1,8 @@
 -- Operations on several channels, seen from one of them.
-use Rattle.std.proofs.Common.{◌≡◌, ◌≢◌, ℕ, zero, suc, ◌<◌, Bool, true, false, List, [], ◌∷◌, length, map, filter, take, get_or, Some, refl, sym, ap, subst, ◌∙◌, ◌⊎◌, inl, inr, arith}
-use Rattle.std.specs.Prelude.{slice_get, slice_set, ◌==◌}
-use Rattle.std.proofs.lemmas.Bool.{eqb-false, eqb-true}
-use Rattle.std.proofs.lemmas.Option.{get_or_from_slice_get, slice_get_within}
-use Rattle.tc_link.specs.Frame.{BeginsWith}
-use Rattle.tc_channel.specs.Reply.{take_reply, unit_reply}
-use Rattle.std.specs.Option.{option_and_then}
-use Rattle.tc_rack.specs.Linked.{Linked, IsFrameAnswered, IsPacketRefused, IsReleaseAnswered, IsUnitRefused, IsTakeAnswered, IsUnitAnswered, reported_word, vcid_of}
-use Rattle.tc_rack.specs.Operation.{IsAnswerOf, IsChannelAnswer, IsClcwAnswer, IsFrameAnswer}
-use Rattle.tc_rack.specs.Rack.{Racked, AreChannelsApart, HasChannel, IsOf}
-use Rattle.tc_rack.specs.declared.answer.Answer.{Answer}
+use Rattle.tc_apart.proofs.Names.{Answer, Answered, AreChannelsApart, ArePerformed, BeginsWith, Bool, Clcw, HasChannel, IsAnswerOf, IsChannelAnswer, IsClcwAnswer, IsFrameAnswer, IsFrameAnswered, IsOf, IsReleaseAnswered, IsTakeAnswered, IsUnitAnswered, Linked, List, Operation, Racked, Some, [], answers_frame, ap, arith, eqb-false, eqb-true, false, filter, get_or_from_slice_get, inl, inr, is_on, is_own, map, operation_of, option_and_then, refl, reported_word, slice_get, slice_get_within, slice_set, subst, suc, sym, true, vcid_of, zero, ℕ, ◌==◌, ◌∙◌, ◌∷◌, ◌≡◌, ◌≢◌, ◌⊎◌, cases_order, cases_eq, Option, None, waiting_packets, waiting_units, later, NoQueue, NoMap, Empty}
+use Rattle.tc_channel.specs.declared.event.Event.TheVariants as events
 use Rattle.tc_rack.specs.declared.answer.Answer.TheVariants as answers
-use Rattle.tc_rack.specs.declared.operation.Operation.{Operation}
-use Rattle.tc_rack.specs.declared.operation.Operation.TheVariants.{Frame, Release, Take, Unit as TakeUnit, Clcw}
-use Rattle.tc_apart.specs.Apart.{Answered, ArePerformed, answers_frame, is_on, is_own, operation_of}
+use Rattle.tc_rack.specs.declared.operation.Operation.TheVariants.{Frame, Release, Take, Unit as TakeUnit}
 
 set-same : (xs : List Linked) (q : ℕ) (a b : Linked) → slice_get xs q ≡ Some b → slice_get (slice_set xs q a) q ≡ Some a
 set-same [] q a b e = absurd cc
@@ -21,14 +10,9 @@ set-same (x ∷ xs) zero a b e = refl
 set-same (x ∷ xs) (suc q) a b e = set-same xs q a b e
 
 set-other : (xs : List Linked) (q r : ℕ) (a : Linked) → r ≢ q → slice_get (slice_set xs q a) r ≡ slice_get xs r
-set-other [] q r a apart = refl
 set-other (x ∷ xs) zero zero a apart = absurd (apart refl)
-set-other (x ∷ xs) zero (suc r) a apart = refl
-set-other (x ∷ xs) (suc q) zero a apart = refl
 set-other (x ∷ xs) (suc q) (suc r) a apart = set-other xs q r a (λ e. apart (ap suc e))
-
-same-place : (p q : ℕ) → (p ≡ q) ⊎ (p ≢ q)
-same-place p q = grind arith
+set-other _ q r a apart = refl
 
 -- the channel with the id has this place, and no other has the id
 record IsOnlyAt (channels : List Linked) (vcid p : ℕ) (c : Linked) : Type 0 where
@@ -40,45 +24,43 @@ only-of-apart : (channels : List Linked) (vcid p : ℕ) (c : Linked) → AreChan
 only-of-apart channels vcid p c apart at named = record {
   at = at;
   named = named;
-  only = λ q d here is. by q d here is (order q p);
-} where
-  order : (q p : ℕ) → (q ≡ p) ⊎ ((q < p) ⊎ (p < q))
-  order q p = grind arith
-
-  by : (q : ℕ) (d : Linked) → slice_get channels q ≡ Some d → vcid_of d ≡ vcid → (q ≡ p) ⊎ ((q < p) ⊎ (p < q)) → q ≡ p
-  by q d here is (inl same) = same
-  by q d here is (inr (inl below)) = absurd (apart q p c below (slice_get_within channels p c at)
-      (ap vcid_of (get_or_from_slice_get channels q d c here) ∙ is ∙ sym named ∙ sym (ap vcid_of (get_or_from_slice_get channels p c c at))))
-  by q d here is (inr (inr above)) = absurd (apart p q c above (slice_get_within channels q d here)
-      (ap vcid_of (get_or_from_slice_get channels p c c at) ∙ named ∙ sym is ∙ sym (ap vcid_of (get_or_from_slice_get channels q d c here))))
+  only = λ q d here is.
+      let one = ap vcid_of (get_or_from_slice_get channels p c c at) ∙ named in
+      let other = ap vcid_of (get_or_from_slice_get channels q d c here) ∙ is in
+      elim (cases_order q p) [
+        | inl same ↦ same
+        | inr (inl below) ↦ absurd (apart q p c below (slice_get_within channels p c at) (other ∙ sym one))
+        | inr (inr above) ↦ absurd (apart p q c above (slice_get_within channels q d here) (one ∙ sym other))
+      ];
+}
 
 -- one channel of those changes, and keeps its id
 still-only : (channels : List Linked) (vcid p q : ℕ) (c before after : Linked) → IsOnlyAt channels vcid p c → slice_get channels q ≡ Some before → vcid_of after ≡ vcid_of before
     → (r : ℕ) (d : Linked) → slice_get (slice_set channels q after) r ≡ Some d → vcid_of d ≡ vcid → r ≡ p
-still-only channels vcid p q c before after o was kept r d e named = one (same-place r q) where
-  one : (r ≡ q) ⊎ (r ≢ q) → r ≡ p
-  one (inl same) =
+still-only channels vcid p q c before after o was kept r d e named = elim (cases_eq r q) [
+  | inl same ↦
       let is : Some after ≡ Some d = sym (set-same channels q after before was) ∙ ap (slice_get (slice_set channels q after)) (sym same) ∙ e in
       let its : after ≡ d = cc in
       same ∙ o.only q before was (sym kept ∙ ap vcid_of its ∙ named)
-  one (inr apart) = o.only r d (sym (set-other channels q r after apart) ∙ e) named
+  | inr apart ↦ o.only r d (sym (set-other channels q r after apart) ∙ e) named
+]
 
 changed : (channels : List Linked) (vcid p q : ℕ) (c before after : Linked) → IsOnlyAt channels vcid p c → slice_get channels q ≡ Some before → vcid_of after ≡ vcid_of before
     → (d : Linked) × IsOnlyAt (slice_set channels q after) vcid p d × ((vcid_of before ≡ vcid → (before ≡ c) × (d ≡ after)) × (vcid_of before ≢ vcid → d ≡ c))
-changed channels vcid p q c before after o was kept = by (same-place p q) where
-  by : (p ≡ q) ⊎ (p ≢ q) → (d : Linked) × IsOnlyAt (slice_set channels q after) vcid p d × ((vcid_of before ≡ vcid → (before ≡ c) × (d ≡ after)) × (vcid_of before ≢ vcid → d ≡ c))
-  by (inl same) =
+changed channels vcid p q c before after o was kept = elim (cases_eq p q) [
+  | inl same ↦
       let is : Some before ≡ Some c = sym was ∙ ap (slice_get channels) (sym same) ∙ o.at in
       let its : before ≡ c = cc in (
         after,
         record { at = ap (slice_get (slice_set channels q after)) same ∙ set-same channels q after before was; named = kept ∙ ap vcid_of its ∙ o.named; only = still-only channels vcid p q c before after o was kept },
         (λ own. (its, refl), λ other. absurd (other (ap vcid_of its ∙ o.named))),
       )
-  by (inr apart) = (
+  | inr apart ↦ (
     c,
     record { at = set-other channels q p after apart ∙ o.at; named = o.named; only = still-only channels vcid p q c before after o was kept },
     (λ own. absurd (apart (sym (o.only q before was own))), λ other. refl),
   )
+]
 
 -- what an operation on the channel is answered by it, and makes of it
 abbrev IsAnsweredOn : Operation → Linked → Answer → Linked → Type 0
@@ -95,18 +77,6 @@ record IsStep (operation : Operation) (answer : Answer) (new : Racked) (vcid p :
   own : is_on vcid operation answer ≡ true → IsAnsweredOn operation c answer later
   others : is_on vcid operation answer ≡ false → later ≡ c
 
-release-id : (old new : Linked) (answer : Answer) → IsReleaseAnswered old answer new → vcid_of new ≡ vcid_of old
-release-id old new answer (inl done) = ap vcid_of done.2
-release-id old new answer (inr none) = ap vcid_of none.2
-
-take-id : (apid : ℕ) (old new : Linked) (answer : Answer) → IsTakeAnswered apid old answer new → vcid_of new ≡ vcid_of old
-take-id apid old new answer (inl done) = ap vcid_of done.3
-take-id apid old new answer (inr none) = ap vcid_of none.1
-
-unit-id : (map_id : ℕ) (old new : Linked) (answer : Answer) → IsUnitAnswered map_id old answer new → vcid_of new ≡ vcid_of old
-unit-id map_id old new answer (inl done) = ap vcid_of done.3
-unit-id map_id old new answer (inr none) = ap vcid_of none.1
-
 -- nothing has changed
 stays : (operation : Operation) (answer : Answer) (old new : Racked) (vcid p : ℕ) (c : Linked) → IsOnlyAt old.channels vcid p c → new ≡ old → (is_on vcid operation answer ≡ true → IsAnsweredOn operation c answer c) → IsStep operation answer new vcid p c
 stays operation answer old new vcid p c o same own = record { later = c; at = subst (λ (r : Racked). IsOnlyAt r.channels vcid p c) (sym same) o; own = own; others = λ e. refl }
@@ -118,47 +88,38 @@ not-unknown channels vcid p c o none = none (p, c, slice_get_within channels p c
 answered : (own vcid p : ℕ) (operation : Operation) (Answers : Linked → Answer → Linked → Type 0) (old new : Racked) (answer : Answer) (c : Linked)
     → ((x y : Linked) → Answers x answer y → vcid_of y ≡ vcid_of x) → is_on vcid operation answer ≡ (own == vcid) → ((x y : Linked) → Answers x answer y → IsAnsweredOn operation x answer y)
     → IsOnlyAt old.channels vcid p c → IsChannelAnswer own Answers old answer new → IsStep operation answer new vcid p c
-answered own vcid p operation Answers old new answer c kept on says o (inl change) =
-    let q = change.0 in
-    let before = change.1 in
-    let after = change.2 in
-    let at = change.3 in
-    let s = changed old.channels vcid p q c before after o at.0 (kept before after change.4) in
+answered own vcid p operation Answers old new answer c kept on says o (inl (q, before, after, at, done, left)) =
+    let s = changed old.channels vcid p q c before after o at.0 (kept before after done) in
     record {
       later = s.0;
-      at = subst (λ (r : Racked). IsOnlyAt r.channels vcid p s.0) (sym change.5) s.1;
+      at = subst (λ (r : Racked). IsOnlyAt r.channels vcid p s.0) (sym left) s.1;
       own = λ e.
           let is = s.2.0 (at.1 ∙ eqb-true own vcid (sym on ∙ e)) in
-          subst (λ (x : Linked). IsAnsweredOn operation x answer s.0) is.0 (subst (λ (y : Linked). IsAnsweredOn operation before answer y) (sym is.1) (says before after change.4));
+          subst (λ (x : Linked). IsAnsweredOn operation x answer s.0) is.0 (subst (λ (y : Linked). IsAnsweredOn operation before answer y) (sym is.1) (says before after done));
       others = λ e. s.2.1 (λ same. eqb-false own vcid (sym on ∙ e) (sym at.1 ∙ same));
     }
 answered own vcid p operation Answers old new answer c kept on says o (inr unknown) = stays operation answer old new vcid p c o unknown.1
     (λ e. absurd (not-unknown old.channels vcid p c o (subst (λ v. ¬ HasChannel old.channels v) (eqb-true own vcid (sym on ∙ e)) unknown.0.0)))
 
 framed : (octets : List ℕ) (old new : Racked) (answer : Answer) (vcid p : ℕ) (c : Linked) → IsOnlyAt old.channels vcid p c → IsFrameAnswer octets old answer new → IsStep (Frame octets) answer new vcid p c
-framed octets old new answer vcid p c o (inl brought) =
-    let frame = brought.0 in
-    let change = brought.3 in
-    let before = change.1 in
-    let after = change.2 in
-    let is = change.4 in
-    let s = changed old.channels vcid p change.0 c before after o change.3.0 (ap vcid_of is.1) in
+framed octets old new answer vcid p c o (inl (frame, begins, ours, (q, before, after, at, is, left))) =
+    let s = changed old.channels vcid p q c before after o at.0 (ap vcid_of is.1) in
     let on : is_on vcid (Frame octets) answer ≡ (vcid_of before == vcid) = ap (answers_frame vcid) is.0 in
     record {
       later = s.0;
-      at = subst (λ (r : Racked). IsOnlyAt r.channels vcid p s.0) (sym change.5) s.1;
+      at = subst (λ (r : Racked). IsOnlyAt r.channels vcid p s.0) (sym left) s.1;
       own = λ e.
           let its = s.2.0 (eqb-true (vcid_of before) vcid (sym on ∙ e)) in
-          (frame, brought.1, subst (λ (x : Linked). IsFrameAnswered frame x answer s.0) its.0 (subst (λ (y : Linked). IsFrameAnswered frame before answer y) (sym its.1) is));
+          (frame, begins, subst (λ (x : Linked). IsFrameAnswered frame x answer s.0) its.0 (subst (λ (y : Linked). IsFrameAnswered frame before answer y) (sym its.1) is));
       others = λ e. s.2.1 (eqb-false (vcid_of before) vcid (sym on ∙ e));
     }
 framed octets old new answer vcid p c o (inr fault) = stays (Frame octets) answer old new vcid p c o fault.3 (λ e. absurd (let q : answers_frame vcid answer ≡ false = ap (answers_frame vcid) fault.2 in cc))
 
 step : (operation : Operation) (answer : Answer) (old new : Racked) (vcid p : ℕ) (c : Linked) → IsOnlyAt old.channels vcid p c → IsAnswerOf operation old answer new → IsStep operation answer new vcid p c
 step (Frame octets) answer old new vcid p c o is = framed octets old new answer vcid p c o is
-step (Release own) answer old new vcid p c o is = answered own vcid p (Release own) IsReleaseAnswered old new answer c (λ x y h. release-id x y answer h) refl (λ x y h. h) o is
-step (Take own apid) answer old new vcid p c o is = answered own vcid p (Take own apid) (IsTakeAnswered apid) old new answer c (λ x y h. take-id apid x y answer h) refl (λ x y h. h) o is
-step (TakeUnit own map_id) answer old new vcid p c o is = answered own vcid p (TakeUnit own map_id) (IsUnitAnswered map_id) old new answer c (λ x y h. unit-id map_id x y answer h) refl (λ x y h. h) o is
+step (Release own) answer old new vcid p c o is = answered own vcid p (Release own) IsReleaseAnswered old new answer c (λ x y h. grind arith) refl (λ x y h. h) o is
+step (Take own apid) answer old new vcid p c o is = answered own vcid p (Take own apid) (IsTakeAnswered apid) old new answer c (λ x y h. grind arith) refl (λ x y h. h) o is
+step (TakeUnit own map_id) answer old new vcid p c o is = answered own vcid p (TakeUnit own map_id) (IsUnitAnswered map_id) old new answer c (λ x y h. grind arith) refl (λ x y h. h) o is
 step (Clcw own) answer old new vcid p c o is = stays (Clcw own) answer old new vcid p c o is.1 (λ e. word (eqb-true own vcid e) is.0) where
   word : own ≡ vcid → IsClcwAnswer own old answer → (answer ≡ reported_word c) × (c ≡ c)
   word same (inl reported) =
@@ -193,46 +154,27 @@ seen-from (d ∷ done) old new vcid p c o is =
 abbrev pub IsOneAtMost : Type 0
 IsOneAtMost = (octets one other : List ℕ) → BeginsWith octets one → BeginsWith octets other → one ≡ other
 
-packet-refused : (apid : ℕ) (old : Linked) (a b : Answer) → IsPacketRefused apid old a → IsPacketRefused apid old b → a ≡ b
-packet-refused apid old a b (inl p) (inl q) = p.1 ∙ sym q.1
-packet-refused apid old a b (inr p) (inr q) = p.1 ∙ sym q.1
-packet-refused apid old a b (inl p) (inr q) = absurd (let e = sym p.0 ∙ q.0 in cc)
-packet-refused apid old a b (inr p) (inl q) = absurd (let e = sym p.0 ∙ q.0 in cc)
-
-no-packet : (apid : ℕ) (old : Linked) (packet : List ℕ) (b : Answer) → take_reply old.history.settings old.history.journal apid ≡ Some packet → IsPacketRefused apid old b → ⊥
-no-packet apid old packet b taken (inl none) = let e = sym taken ∙ ap (option_and_then (λ (packets : List (List ℕ)). slice_get packets 0)) none.0 in cc
-no-packet apid old packet b taken (inr empty) = let e = sym taken ∙ ap (option_and_then (λ (packets : List (List ℕ)). slice_get packets 0)) empty.0 in cc
-
-unit-refused : (map_id : ℕ) (old : Linked) (a b : Answer) → IsUnitRefused map_id old a → IsUnitRefused map_id old b → a ≡ b
-unit-refused map_id old a b (inl p) (inl q) = p.1 ∙ sym q.1
-unit-refused map_id old a b (inr p) (inr q) = p.1 ∙ sym q.1
-unit-refused map_id old a b (inl p) (inr q) = absurd (let e = sym p.0 ∙ q.0 in cc)
-unit-refused map_id old a b (inr p) (inl q) = absurd (let e = sym p.0 ∙ q.0 in cc)
-
-no-unit : (map_id : ℕ) (old : Linked) (unit : List ℕ) (b : Answer) → unit_reply old.history.settings old.history.journal map_id ≡ Some unit → IsUnitRefused map_id old b → ⊥
-no-unit map_id old unit b taken (inl none) = let e = sym taken ∙ ap (option_and_then (λ (units : List (List ℕ)). slice_get units 0)) none.0 in cc
-no-unit map_id old unit b taken (inr empty) = let e = sym taken ∙ ap (option_and_then (λ (units : List (List ℕ)). slice_get units 0)) empty.0 in cc
-
 -- the answer and what is left are determined
 abbrev AreSame : Answer → Answer → Linked → Linked → Type 0
 AreSame a b x y = (a ≡ b) × (x ≡ y)
 
+-- the oldest of what waits is taken, where there is any
+abbrev IsOldestTaken : Option (List (List ℕ)) → (List ℕ → Answer) → Answer → Linked → Linked → Answer → Linked → Type 0
+IsOldestTaken waiting reported without next old answer new =
+    ((item : List ℕ) × (option_and_then (λ items. slice_get items 0) waiting ≡ Some item) × (answer ≡ reported item) × (new ≡ next))
+    ⊎ ((((waiting ≡ None) × (answer ≡ without)) ⊎ ((waiting ≡ Some []) × (answer ≡ answers.Refused Empty))) × (new ≡ old))
+
+oldest : (waiting : Option (List (List ℕ))) (reported : List ℕ → Answer) (without : Answer) (next old x y : Linked) (a b : Answer)
+    → IsOldestTaken waiting reported without next old a x → IsOldestTaken waiting reported without next old b y → AreSame a b x y
+oldest waiting reported without next old x y a b p q = grind arith
+
 determined : IsOneAtMost → (operation : Operation) (old x y : Linked) (a b : Answer) → IsAnsweredOn operation old a x → IsAnsweredOn operation old b y → AreSame a b x y
-determined alone (Frame octets) old x y a b p q = framed-alike (alone octets p.0 q.0 p.1 q.1) p.2 q.2 where
-  framed-alike : p.0 ≡ q.0 → IsFrameAnswered p.0 old a x → IsFrameAnswered q.0 old b y → AreSame a b x y
-  framed-alike same h k = let g = subst (λ (f : List ℕ). IsFrameAnswered f old a x) same h in (g.0 ∙ sym k.0, g.1 ∙ sym k.1)
-determined alone (Release vcid) old x y a b (inl p) (inl q) = (p.1 ∙ sym q.1, p.2 ∙ sym q.2)
-determined alone (Release vcid) old x y a b (inr p) (inr q) = (p.1 ∙ sym q.1, p.2 ∙ sym q.2)
-determined alone (Release vcid) old x y a b (inl p) (inr q) = absurd (p.0 q.0)
-determined alone (Release vcid) old x y a b (inr p) (inl q) = absurd (q.0 p.0)
-determined alone (Take vcid apid) old x y a b (inl p) (inl q) = let same : Some p.0 ≡ Some q.0 = sym p.1 ∙ q.1 in let is : p.0 ≡ q.0 = cc in (p.2 ∙ ap (answers.Take (vcid_of old) apid) is ∙ sym q.2, p.3 ∙ sym q.3)
-determined alone (Take vcid apid) old x y a b (inr p) (inr q) = (packet-refused apid old a b p.0 q.0, p.1 ∙ sym q.1)
-determined alone (Take vcid apid) old x y a b (inl p) (inr q) = absurd (no-packet apid old p.0 b p.1 q.0)
-determined alone (Take vcid apid) old x y a b (inr p) (inl q) = absurd (no-packet apid old q.0 a q.1 p.0)
-determined alone (TakeUnit vcid map_id) old x y a b (inl p) (inl q) = let same : Some p.0 ≡ Some q.0 = sym p.1 ∙ q.1 in let is : p.0 ≡ q.0 = cc in (p.2 ∙ ap (answers.Unit (vcid_of old) map_id) is ∙ sym q.2, p.3 ∙ sym q.3)
-determined alone (TakeUnit vcid map_id) old x y a b (inr p) (inr q) = (unit-refused map_id old a b p.0 q.0, p.1 ∙ sym q.1)
-determined alone (TakeUnit vcid map_id) old x y a b (inl p) (inr q) = absurd (no-unit map_id old p.0 b p.1 q.0)
-determined alone (TakeUnit vcid map_id) old x y a b (inr p) (inl q) = absurd (no-unit map_id old q.0 a q.1 p.0)
+determined alone (Frame octets) old x y a b (f, begins, h) (g, other, k) = let same = subst (λ (f : List ℕ). IsFrameAnswered f old a x) (alone octets f g begins other) h in (same.0 ∙ sym k.0, same.1 ∙ sym k.1)
+determined alone (Release vcid) old x y a b p q = grind arith
+determined alone (Take vcid apid) old x y a b p q =
+    oldest (waiting_packets old.history.settings old.history.journal apid) (λ packet. answers.Take (vcid_of old) apid packet) (answers.Refused NoQueue) (later (events.Take apid) old) old x y a b p q
+determined alone (TakeUnit vcid map_id) old x y a b p q =
+    oldest (waiting_units old.history.settings old.history.journal map_id) (λ unit. answers.Unit (vcid_of old) map_id unit) (answers.Refused NoMap) (later (events.TakeUnit map_id) old) old x y a b p q
 determined alone (Clcw vcid) old x y a b p q = (p.0 ∙ sym q.0, p.1 ∙ sym q.1)
 
 same-answered : (d e : Answered) → d.operation ≡ e.operation → d.answer ≡ e.answer → d ≡ e

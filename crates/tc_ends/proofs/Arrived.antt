@@ -1,21 +1,5 @@
 -- A CLTU with few wrong bits is the arrival of its frame, and what comes in CLTUs is to a receiver what the session is.
-use Rattle.std.proofs.Common.{◌≡◌, ℕ, zero, suc, ◌+◌, ◌<◌, ◌≤◌, Bool, true, false, List, [], ◌∷◌, ◌++◌, length, map, take, Option, None, refl, sym, ap, subst, ◌∙◌, inl, inr, arith, append_assoc}
-use Rattle.std.proofs.lemmas.Bool.Decides.{nat_tests}
-use Rattle.std.proofs.lemmas.List.{append-nil, length-append}
-use Rattle.tc_link.specs.Frame.{IsWhole}
-use Rattle.tc_fecf.specs.Candidate.{is_fill}
-use Rattle.tc_fecf.proofs.Delimiting.{one-frame}
-use Rattle.tc_fecf.proofs.Plain.{frame_with_field-alike}
-use Rattle.tc_cltu.specs.Cltu.{cltu_fault_of, fill, filled, most_octets}
-use Rattle.tc_cltu.specs.CodeBlock.{decoded}
-use Rattle.tc_cltu.specs.Reception.{Reception, Searching, Decoding, Step, after_block, frames_of, is_start, reception_step, state_after}
-use Rattle.tc_cltu.specs.declared.block.Mode.{Mode}
-use Rattle.tc_cltu.proofs.Decoding.{after-fits, filled-fits, filled-front, some-octets}
-use Rattle.tc_cltu.proofs.Taking.{taken}
-use Rattle.tc_channel.specs.declared.event.Event.{Event}
-use Rattle.tc_channel.specs.declared.event.Event.TheVariants.{Frame, Release, Take, TakeUnit}
-use Rattle.tc_loop.specs.Loop.{Loop, Action, Send, Arrive, Hear, Other, Idle, events}
-use Rattle.tc_ends.specs.Arrivals.{AltersNothing, AreBrought, AreCarried, AreEventsAt, AreEventsOf, AreNearBlocks, Asks, Brings, CarryWell, Coming, IsCarried, IsNearCltu, Octets, enclosed, events_at, state_behind}
+use Rattle.tc_ends.proofs.Names.{Action, AltersNothing, AreBrought, AreCarried, AreEventsAt, AreEventsOf, AreNearBlocks, Asks, Bool, Brings, CarryWell, Coming, Decoding, Event, Frame, IsCarried, IsNearCltu, IsWhole, List, Loop, Mode, None, Octets, Option, Reception, Searching, Step, [], after-fits, after_block, ap, append-nil, append_assoc, arith, cltu_fault_of, decoded, enclosed, events, events_at, false, fill, filled, filled-fits, filled-front, frame_with_field-alike, frames_of, inl, inr, is_fill, is_start, length, length-append, map, most_octets, nat_tests, one-frame, reception_step, refl, some-octets, state_after, state_behind, subst, suc, sym, take, taken, true, ℕ, ◌++◌, ◌+◌, ◌<◌, ◌∙◌, ◌∷◌, ◌≡◌, ◌≤◌}
 
 -- the state after octets, and the candidate frames that they end
 abbrev Both : Mode → ℕ → Reception → List ℕ → Step
@@ -87,14 +71,8 @@ no-fault : (frame : List ℕ) → 6 ≤ length frame → length frame ≤ 1024 �
 no-fault frame least most = grind (arith, nat_tests)
 
 fills : (k : ℕ) → k < 7 → is_fill (take k fill) ≡ true
-fills zero low = refl
-fills (suc zero) low = refl
-fills (suc (suc zero)) low = refl
-fills (suc (suc (suc zero))) low = refl
-fills (suc (suc (suc (suc zero)))) low = refl
-fills (suc (suc (suc (suc (suc zero))))) low = refl
-fills (suc (suc (suc (suc (suc (suc zero)))))) low = refl
 fills (suc (suc (suc (suc (suc (suc (suc k))))))) low = absurd (omega arith)
+fills _ low = refl
 
 enclosed-alike : (field : Bool) (one other : List ℕ) → IsWhole one → IsWhole other → enclosed field one ≡ enclosed field other → one ≡ other
 enclosed-alike true one other w v same = frame_with_field-alike one other w v same
@@ -120,29 +98,21 @@ near-now mode last frame octets whole near =
     let most = whole.most in
     ap (Both mode most_octets (Searching last)) (sym (append-nil octets)) ∙ near-both mode last frame octets [] (no-fault frame least most) near
 
-abbrev Near : Mode → Bool → ℕ → List ℕ → List ℕ → Type 0 → Type 0
-Near mode field last frame octets Says = IsWhole frame → IsWhole (enclosed field frame) → IsNearCltu mode last (enclosed field frame) octets → Says
-
-pub near-searches : (mode : Mode) (field : Bool) (last : ℕ) (frame octets : List ℕ) → Near mode field last frame octets (state_behind mode (Searching last) (Octets octets) ≡ Searching 0)
+pub near-searches : (mode : Mode) (field : Bool) (last : ℕ) (frame octets : List ℕ) → IsWhole frame → IsWhole (enclosed field frame) → IsNearCltu mode last (enclosed field frame) octets
+    → state_after mode most_octets (Searching last) octets ≡ Searching 0
 near-searches mode field last frame octets whole own near = ap (λ (s : Step). s.0) (near-now mode last (enclosed field frame) octets own near)
 
-pub near-arrives : (mode : Mode) (field : Bool) (last : ℕ) (frame octets : List ℕ) → Near mode field last frame octets (AreEventsAt mode field (Searching last) (Octets octets) (Frame frame ∷ []))
+pub near-arrives : (mode : Mode) (field : Bool) (last : ℕ) (frame octets : List ℕ) → IsWhole frame → IsWhole (enclosed field frame) → IsNearCltu mode last (enclosed field frame) octets
+    → AreEventsAt mode field (Searching last) (Octets octets) (Frame frame ∷ [])
 near-arrives mode field last frame octets whole own near =
     let one : AreBrought field (filled (enclosed field frame) ∷ []) (frame ∷ []) = inl (frame, [], its-own field frame whole own, refl, refl) in
     (frame ∷ [], subst (λ candidates. AreBrought field candidates (frame ∷ [])) (sym (ap (λ (s : Step). s.1) (near-now mode last (enclosed field frame) octets own near))) one, refl)
 
 pub near-alone : (mode : Mode) (field : Bool) (last : ℕ) (frame octets : List ℕ)
-    → Near mode field last frame octets ((now : List Event) → AreEventsAt mode field (Searching last) (Octets octets) now → now ≡ Frame frame ∷ [])
+    → IsWhole frame → IsWhole (enclosed field frame) → IsNearCltu mode last (enclosed field frame) octets → (now : List Event) → AreEventsAt mode field (Searching last) (Octets octets) now → now ≡ Frame frame ∷ []
 near-alone mode field last frame octets whole own near now are =
     let is = ap (λ (s : Step). s.1) (near-now mode last (enclosed field frame) octets own near) in
     are.2 ∙ ap (map Frame) (just-its-own field frame are.0 whole own (subst (λ candidates. AreBrought field candidates are.0) is are.1))
-
-events-first : (l : Loop) (action : Action) (session : List Action) → events l (action ∷ session) ≡ events_at l.frames action ++ events l session
-events-first l (Send i) session = refl
-events-first l (Arrive i s) session = refl
-events-first l (Hear m) session = refl
-events-first l (Other e) session = refl
-events-first l Idle session = refl
 
 -- where detection lets nothing through that was altered, the events of the receiver are those of the session
 pub events-came : (mode : Mode) (field : Bool) (l : Loop) (state : Reception) (session : List Action) (coming : List Coming) (came : List Event)
@@ -151,9 +121,7 @@ events-came mode field l state [] [] came so are = are
 events-came mode field l state (action ∷ session) (c ∷ coming) came so are =
     are.3 ∙ ap (λ (x : List Event). x ++ are.1) (so.0 are.0 are.2)
     ∙ ap (λ (x : List Event). events_at l.frames action ++ x) (events-came mode field l (state_behind mode state c) session coming are.1 so.1 are.4)
-    ∙ sym (events-first l action session)
-events-came mode field l state [] (c ∷ coming) came so are = absurd so
-events-came mode field l state (action ∷ session) [] came so are = absurd so
+events-came mode field l state _ _ came so are = absurd so
 
 -- what carries events well alters none, and loses none
 record IsWell (mode : Mode) (field : Bool) (events : List Event) (c : Coming) : Type 0 where
@@ -169,10 +137,7 @@ well-octets mode field (Frame frame ∷ []) octets is = record {
   come = near-arrives mode field 0 frame octets is.0 is.1 is.2;
   alone = near-alone mode field 0 frame octets is.0 is.1 is.2;
 }
-well-octets mode field (Frame frame ∷ e ∷ more) octets is = absurd is
-well-octets mode field (Release ∷ more) octets is = absurd is
-well-octets mode field (Take apid ∷ more) octets is = absurd is
-well-octets mode field (TakeUnit map_id ∷ more) octets is = absurd is
+well-octets mode field _ octets is = absurd is
 
 well : (mode : Mode) (field : Bool) (events : List Event) (c : Coming) → IsCarried mode field events c → IsWell mode field events c
 well mode field events (Octets octets) is = well-octets mode field events octets is
@@ -184,8 +149,7 @@ carried-unaltered mode field frames [] [] are = tt
 carried-unaltered mode field frames (action ∷ session) (c ∷ coming) are =
     let w = well mode field (events_at frames action) c are.0 in
     (w.alone, subst (λ state. AltersNothing mode field frames state session coming) (sym w.searches) (carried-unaltered mode field frames session coming are.1))
-carried-unaltered mode field frames [] (c ∷ coming) are = absurd are
-carried-unaltered mode field frames (action ∷ session) [] are = absurd are
+carried-unaltered mode field frames _ _ are = absurd are
 
 pub carried-whole : (mode : Mode) (field : Bool) (l : Loop) (session : List Action) (coming : List Coming) → AreCarried mode field l.frames session coming
     → AreEventsOf mode field (Searching 0) coming (events l session)
@@ -193,6 +157,5 @@ carried-whole mode field l [] [] are = refl
 carried-whole mode field l (action ∷ session) (c ∷ coming) are =
     let w = well mode field (events_at l.frames action) c are.0 in
     let rest = subst (λ state. AreEventsOf mode field state coming (events l session)) (sym w.searches) (carried-whole mode field l session coming are.1) in
-    (events_at l.frames action, events l session, w.come, events-first l action session, rest)
-carried-whole mode field l [] (c ∷ coming) are = absurd are
-carried-whole mode field l (action ∷ session) [] are = absurd are
+    (events_at l.frames action, events l session, w.come, refl, rest)
+carried-whole mode field l _ _ are = absurd are

@@ -1,14 +1,6 @@
 -- Each unit can be carried: its segments, octet by octet.
-use Rattle.tc_channel.proofs.Names.{◌≡◌, ℕ, zero, suc, ◌+◌, ◌*◌, ◌%◌, ◌<◌, ◌≤◌, Bool, true, false, eqb, ◌&&◌, List, [], ◌∷◌, ◌++◌, length, map, get_or, refl, sym, ap, ◌∙◌, inl, inr, arith, eq-eqb, eqb_tells, nat_tests, AllByRecursion, Service, Ad, Bd, Passed, Part, same_service}
-use Rattle.std.proofs.Common.{◌/◌}
-use Rattle.tc_channel.proofs.Lists.{all-append}
-use Rattle.tc_channel.proofs.Streams.{same_map}
-use Rattle.tc_packet.specs.declared.segment.Segment.{Segment}
-use Rattle.tc_packet.specs.declared.segment.Part.TheVariants.{First, Continuing, Last, Unsegmented}
-use Rattle.tc_packet.specs.Segment.{header_of, body_of}
-use Rattle.tc_write.specs.Parts.{segments_needed, part_at, piece_at}
-use Rattle.tc_write.specs.Segments.{AreSegments}
-use Rattle.tc_ends.specs.Ends.{CarrySent, CarryUnits, IsSendable, is_same_stream, map_in, sent_on, stream_in}
+use Rattle.tc_ends.proofs.Names.{Ad, AllByRecursion, AreSegments, Bd, Bool, CarrySent, CarryUnits, Continuing, First, IsSendable, Last, List, Part, Passed, Segment, Service, Unsegmented, [], all-append, ap, arith, body_of, eq-eqb, eqb, eqb_tells, false, get_or, inl, inr, is_same_stream, length, map, map_in, nat_tests, part_at, piece_at, refl, same_map, segments_needed, sent_on, stream_in, suc, sym, true, zero, ℕ, ◌%◌, ◌*◌, ◌++◌, ◌+◌, ◌/◌, ◌<◌, ◌∙◌, ◌∷◌, ◌≡◌, ◌≤◌, fields_passed, on_map}
+use Rattle.tc_packet.specs.Segment.{header_of}
 
 abbrev flags : Part → ℕ
 flags Continuing = 0
@@ -133,3 +125,13 @@ can-carry limits b service m size units small one some can = (
     sendable : (other : Service) (id : ℕ) (t : Bool) → is_same_stream service m other id ≡ t → AllByRecursion (IsSendable limits b id) (sent_on service m units other id)
     sendable other id true h = rw (h, same_map service other id m h) can
     sendable other id false h = rw h tt
+
+-- the stream of Type-AD of a MAP
+pub stream-of-ad : (b : Bool) (m : ℕ) (ps : List Passed) → stream_in b Ad m ps ≡ on_map b m (fields_passed Ad ps)
+stream-of-ad b m [] = refl
+stream-of-ad b m (p ∷ ps) = by p.service refl (eqb (map_in b p.field) m) refl (stream-of-ad b m ps) where
+  by : (sv : Service) → p.service ≡ sv → (t : Bool) → eqb (map_in b p.field) m ≡ t → stream_in b Ad m ps ≡ on_map b m (fields_passed Ad ps)
+      → stream_in b Ad m (p ∷ ps) ≡ on_map b m (fields_passed Ad (p ∷ ps))
+  by Ad e true h ih = rw (e, h) (ap (λ (x : List (List ℕ)). p.field ∷ x) ih)
+  by Ad e false h ih = rw (e, h) ih
+  by Bd e t h ih = rw e ih

@@ -1,8 +1,6 @@
 -- Any units of packets can be what a sender's numbered data fields carry.
-use Rattle.tc_channel.proofs.Names.{◌≡◌, ◌≢◌, ◌⊎◌, ℕ, zero, suc, ◌<◌, ◌≤◌, Bool, true, false, eqb, List, [], ◌∷◌, length, get_or, refl, sym, ap, ◌∙◌, inl, inr, eq-eqb, eqb_tells, ne_eqb, AllByRecursion}
-use Rattle.tc_channel.specs.Through.{sent_from}
-use Rattle.tc_ends.specs.Ends.{AreAllPackets, CarryUnits, IsSendable, SendsPackets, all_joined, on_map, only_on}
-use Rattle.tc_ends.proofs.Can.{AreOn, all-on, all_fields, carry-all, no-units}
+use Rattle.tc_ends.proofs.Names.{AllByRecursion, AreAllPackets, Bool, CarryUnits, IsSendable, List, SendsPackets, [], all_joined, ap, eqb, eqb_tells, false, get_or, inl, inr, length, on_map, only_on, refl, sent_from, suc, sym, true, zero, ℕ, ◌<◌, ◌∙◌, ◌∷◌, ◌≡◌, ◌≤◌, fields_passed, Passed, CarrySent, sent_on, Ad, stream_in, subst}
+use Rattle.tc_ends.proofs.Can.{AreOn, can-carry, stream-of-ad}
 
 pub shift : (sent : ℕ → List ℕ) (k n : ℕ) → sent_from sent (suc k) n ≡ sent_from (λ i. sent (suc i)) k n
 shift sent k zero = refl
@@ -26,26 +24,17 @@ can-send limits b m size units small one some packets can = (
   λ i. get_or fields i [],
   length fields,
   record {
-    carry = λ id. carry id (eqb_tells id m);
-    sendable = λ id. sendable id (eqb_tells id m);
-    packets = λ id. all id (eqb id m) refl;
+    carry = λ id. subst (CarryUnits b id (all_joined (only_on m units id))) (stream-of-ad b id passed.0 ∙ ap (on_map b id) (sym (as-list fields))) (subst (λ (x : List (List ℕ)). CarryUnits b id x (stream_in b Ad id passed.0)) (on id) (passed.1.carry Ad id));
+    sendable = λ id. subst (AllByRecursion (IsSendable limits b id)) (on id) (passed.1.sendable Ad id);
+    packets = λ id. elim (eqb_tells id m) [ inl e ↦ rw e.0 packets | inr e ↦ rw e.0 tt ];
   },
 )
   where
+    passed : (passed : List Passed) × CarrySent limits b (sent_on Ad m (all_joined units)) passed
+    passed = can-carry limits b Ad m size (all_joined units) small one some can
+
     fields : List (List ℕ)
-    fields = all_fields b m size (all_joined units)
+    fields = fields_passed Ad passed.0
 
-    carry : (id : ℕ) → (((eqb id m ≡ true) × (id ≡ m)) ⊎ ((eqb id m ≡ false) × (id ≢ m)))
-        → CarryUnits b id (all_joined (only_on m units id)) (on_map b id (sent_from (λ i. get_or fields i []) 0 (length fields)))
-    carry id (inl e) =
-        rw (e.0, as-list fields, map-own b m id fields (all-on b m size (all_joined units) small one) (eq-eqb m id (sym e.1)), e.1) (carry-all b m size (all_joined units) small some)
-    carry id (inr e) =
-        rw (e.0, as-list fields) (no-units b id (on_map b id fields) (map-none b m id fields (all-on b m size (all_joined units) small one) (ne_eqb m id (λ same. e.1 (sym same)))))
-
-    sendable : (id : ℕ) → (((eqb id m ≡ true) × (id ≡ m)) ⊎ ((eqb id m ≡ false) × (id ≢ m))) → AllByRecursion (IsSendable limits b id) (all_joined (only_on m units id))
-    sendable id (inl e) = rw (e.0, e.1) can
-    sendable id (inr e) = rw e.0 tt
-
-    all : (id : ℕ) (t : Bool) → eqb id m ≡ t → AreAllPackets (only_on m units id)
-    all id true h = rw h packets
-    all id false h = rw h tt
+    on : (id : ℕ) → sent_on Ad m (all_joined units) Ad id ≡ all_joined (only_on m units id)
+    on id = elim (eqb_tells id m) [ inl e ↦ rw e.0 refl | inr e ↦ rw e.0 refl ]

@@ -1,9 +1,5 @@
 -- The units of a chosen MAP.
-use Rattle.tc_channel.proofs.Names.{◌≡◌, ◌≢◌, ◌⊎◌, ℕ, Bool, true, false, eqb, ◌&&◌, List, [], ◌∷◌, ◌++◌, filter, Option, Some, None, refl, sym, ap, ◌∙◌, inl, inr, eqb_tells, eq-eqb, ne_eqb, Service, Passed, map_of, same_service, as_list, units_offered}
-use Rattle.tc_channel.specs.declared.settings.Settings.{Settings}
-use Rattle.tc_channel.specs.Account.{unit_on}
-use Rattle.tc_channel.specs.Through.{all_made, unit_made, units_ended, units_made, is_chosen_by}
-use Rattle.tc_ends.specs.Ends.{CarrySent, Sent, is_chosen_map}
+use Rattle.tc_ends.proofs.Names.{Bool, CarrySent, List, None, Option, Passed, Sent, Service, Settings, Some, [], all_made, ap, as_list, eq-eqb, eqb, eqb_tells, false, filter, inl, inr, is_chosen_by, is_chosen_map, map_of, ne_eqb, refl, same_service, sym, true, unit_made, unit_on, units_ended, units_made, units_offered, ℕ, ◌&&◌, ◌++◌, ◌∙◌, ◌∷◌, ◌≡◌, ◌≢◌, ◌⊎◌}
 use Rattle.tc_ends.proofs.Segmented.{Makes}
 use Rattle.tc_ends.proofs.Streams.{headed-carried}
 use Rattle.tc_ends.proofs.Made.{made-append, no-parts, same-self}

@@ -1,12 +1,5 @@
 -- What data fields make for an application, and of the units of a chosen MAP.
-use Rattle.tc_channel.proofs.Names.{◌≡◌, ℕ, Bool, cond, true, false, eqb, map, map-append, ◌&&◌, List, [], ◌∷◌, ◌++◌, filter, Option, Some, None, refl, sym, ap, subst, ◌∙◌, append_assoc, arith, append-nil, filter-append, Service, Bd, Ad, Passed, same_service, as_list, is_for, packets_offered, packets_of}
-use Rattle.std.proofs.lemmas.Grind.{flat_map-append}
-use Rattle.std.specs.List.{flat_map}
-use Rattle.tc_channel.specs.declared.settings.Settings.{Settings}
-use Rattle.tc_channel.specs.Settings.{HasMapsByHeaders}
-use Rattle.tc_channel.specs.Through.{all_made, unit_made, packets_ended, packets_made, is_chosen_by}
-use Rattle.tc_channel.proofs.Streams.{same_map}
-use Rattle.tc_ends.specs.Ends.{AreAllPackets, AreMerged, CarrySent, OnStream, PacketsSent, all_joined, is_chosen_map, is_from, is_in, is_same_stream, joined_on, map_in, packet_on, packets_for, packets_sent_on, packets_to, stream_unit, unless_chosen}
+use Rattle.tc_ends.proofs.Names.{Ad, AreAllPackets, AreMerged, Bd, Bool, CarrySent, HasMapsByHeaders, List, None, OnStream, Option, PacketsSent, Passed, Service, Settings, Some, [], all_joined, all_made, ap, append-nil, append_assoc, arith, as_list, cond, eqb, false, filter, filter-append, flat_map, flat_map-append, is_chosen_by, is_chosen_map, is_for, is_from, is_in, is_same_stream, joined_on, map, map-append, map_in, packet_on, packets_ended, packets_for, packets_made, packets_of, packets_offered, packets_sent_on, packets_to, refl, same_map, same_service, stream_unit, subst, sym, true, unit_made, unless_chosen, ℕ, ◌&&◌, ◌++◌, ◌∙◌, ◌∷◌, ◌≡◌}
 use Rattle.tc_ends.proofs.Segmented.{Makes}
 use Rattle.tc_ends.proofs.Cut.{cut-of-joined}
 use Rattle.tc_ends.proofs.Streams.{units-carried}

@@ -1,29 +1,5 @@
 -- The session that meets all premises at once: that of `learnt_by_9`, whose frames come in CLTUs.
-use Rattle.std.proofs.Common.{◌≡◌, ℕ, zero, suc, ◌<◌, ◌≤◌, false, true, List, [], ◌∷◌, ◌++◌, Some, refl, subst, sym, arith}
-use Rattle.tc_channel.proofs.Names.{get_or}
-use Rattle.std.specs.List.{AllByRecursion}
-unfoldable use Rattle.tc_link.specs.Window.{some_of_first}
-unfoldable use Rattle.tc_fecf.specs.Checksum.{octet_bits}
-use Rattle.tc_cltu.specs.Cltu.{filled}
-use Rattle.tc_cltu.specs.CodeBlock.{IsInformation, errors}
-unfoldable use Rattle.tc_cltu.specs.CodeBlock.{block_times_x, decoded}
-use Rattle.tc_cltu.specs.declared.block.Mode.TheVariants.{Correct}
-use Rattle.tc_cltu.proofs.Starting.{first-far, start-far, start-same}
-use Rattle.tc_packet.specs.SpacePacket.{IsPacket}
-use Rattle.tc_channel.specs.ChannelState.{Queue, first_state_within, queue_of}
-unfoldable use Rattle.tc_channel.specs.ChannelState.{no_limits}
-use Rattle.tc_channel.specs.Given.{packets_given}
-unfoldable use Rattle.tc_channel.specs.Run.{passed_on, run_within}
-use Rattle.tc_loop.specs.Examples.{learnt_by_9}
-use Rattle.tc_loop.specs.Loop.{Action, Send, events, receiver}
-use Rattle.tc_loop.specs.Start.{era, era_session}
-use Rattle.tc_loop.proofs.Moments.{so-at}
-use Rattle.tc_loop.proofs.Starts.{octets-by, whole-0, whole-1, whole-2}
-use Rattle.tc_write.specs.Frames.{IsMadeFrame, header_later}
-use Rattle.tc_write.specs.Parts.{piece_at, segment_at}
-use Rattle.tc_ends.specs.Arrivals.{AreCarried, AreNearBlocks, IsNearCltu}
-use Rattle.tc_ends.specs.Ends.{AreFrom, AreNumbered, CanBeSent, SendsOnly}
-use Rattle.tc_ends.specs.Examples.{enclosing, first_frame, first_header, in_cltus, of_before, of_first_frame, of_set_v_r, one_unit, packet}
+use Rattle.tc_ends.proofs.Names.{Action, AllByRecursion, AreCarried, AreFrom, AreNearBlocks, AreNumbered, CanBeSent, Correct, IsInformation, IsMadeFrame, IsNearCltu, IsPacket, List, Queue, Send, SendsOnly, Some, [], arith, block_times_x, decoded, enclosing, era, era_session, errors, events, false, filled, first-far, first_frame, first_header, first_state_within, get_or, header_later, in_cltus, learnt_by_9, no_limits, octet_bits, octets-by, of_before, of_first_frame, of_set_v_r, one_unit, packet, packets_given, passed_on, piece_at, queue_of, receiver, refl, run_within, segment_at, so-at, some_of_first, start-far, start-same, subst, suc, sym, true, whole-0, whole-1, whole-2, zero, ℕ, ◌++◌, ◌<◌, ◌∷◌, ◌≡◌, ◌≤◌}
 
 is-packet : IsPacket packet
 is-packet = record { least = omega arith; most = omega arith; version = refl; named = refl }

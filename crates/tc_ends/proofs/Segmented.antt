@@ -1,16 +1,6 @@
 -- The segments of a unit end it once, behind whatever came before.
-use Rattle.std.proofs.Common.{◌≡◌, ℕ, ◌+◌, ◌≤◌, List, [], ◌∷◌, ◌++◌, length, get_or, refl, sym, ap, ◌∙◌, inl, inr, append_assoc, arith}
-use Rattle.std.specs.List.{AllByRecursion}
-use Rattle.std.proofs.lemmas.Bool.Decides.{nat_tests}
-use Rattle.std.proofs.lemmas.Grind.{common_steps}
-use Rattle.std.proofs.lemmas.List.{length-append}
-use Rattle.tc_packet.specs.declared.segment.Segment.{Segment}
-use Rattle.tc_packet.specs.declared.segment.Part.TheVariants.{First, Continuing, Unsegmented}
+use Rattle.tc_ends.proofs.Names.{AllByRecursion, AreSegments, Continuing, EndAtLast, First, IsPart, List, MakeUnit, Segment, Unsegmented, [], ap, append_assoc, arith, common_steps, get_or, inl, inr, length, length-append, nat_tests, part_at, refl, segments_needed, sym, units_ended_by, ℕ, ◌++◌, ◌+◌, ◌∙◌, ◌∷◌, ◌≡◌, ◌≤◌, get_or_at, nil_from_length}
 use Rattle.tc_packet.specs.Segment.{header_of}
-use Rattle.tc_packet.specs.Reassembly.{IsPart}
-use Rattle.tc_write.specs.Parts.{segments_needed, part_at}
-use Rattle.tc_write.specs.Segments.{AreSegments, MakeUnit}
-use Rattle.tc_ends.specs.Ends.{EndAtLast, units_ended_by}
 
 -- continuing segments end no unit
 none-ended : (before after : List (List ℕ)) → AllByRecursion (IsPart Continuing) after → units_ended_by before after ≡ []
@@ -27,21 +17,13 @@ part-first place count is = grind (arith, nat_tests, common_steps)
 part-only : (place count : ℕ) → part_at place count ≡ Unsegmented → count ≡ 1
 part-only place count is = grind (arith, nat_tests, common_steps)
 
-get-at : (xs ys : List (List ℕ)) (y : List ℕ) → get_or (xs ++ y ∷ ys) (length xs) [] ≡ y
-get-at [] ys y = refl
-get-at (x ∷ xs) ys y = get-at xs ys y
-
 -- a field at a place among segments has the part of that place
 part-there : (map size : ℕ) (unit : List ℕ) (fields xs ys : List (List ℕ)) (y : List ℕ) → AreSegments map size unit fields → fields ≡ xs ++ y ∷ ys
     → (header_of y).part ≡ part_at (length xs) (segments_needed size (length unit))
 part-there map size unit fields xs ys y s parts =
     let len : length fields ≡ length xs + length (y ∷ ys) = ap length parts ∙ length-append xs (y ∷ ys) in
-    let there : get_or fields (length xs) [] ≡ y = ap (λ (z : List (List ℕ)). get_or z (length xs) []) parts ∙ get-at xs ys y in
+    let there : get_or fields (length xs) [] ≡ y = ap (λ (z : List (List ℕ)). get_or z (length xs) []) parts ∙ get_or_at xs y ys [] (length xs) refl in
     ap (λ (z : List ℕ). (header_of z).part) (sym there) ∙ ap (λ (h : Segment). h.part) (s.each (length xs) (omega arith)).0
-
-no-length : (xs : List (List ℕ)) → length xs ≡ 0 → xs ≡ []
-no-length [] h = refl
-no-length (x ∷ xs) h = absurd (omega arith)
 
 -- what tc_write's law says
 abbrev pub Makes : Type 0
@@ -49,37 +31,35 @@ Makes = (map size : ℕ) (unit : List ℕ) (fields : List (List ℕ)) → 1 ≤ 
 
 pub ends-once : Makes → (map size : ℕ) (unit : List ℕ) (before fields : List (List ℕ)) → 1 ≤ size → 1 ≤ length unit → length unit ≤ 65542
     → AreSegments map size unit fields → EndAtLast before fields unit
-ends-once make map size unit before fields some more most s = by (make map size unit fields some more most s) where
-  count : ℕ
-  count = segments_needed size (length unit)
-
-  by : MakeUnit fields unit → EndAtLast before fields unit
-  by m = elim m.unit_ends [
-    | inl u ↦
-        let part = part-there map size unit fields m.before [] m.last s m.parts in
-        let one : count ≡ 1 = part-only (length m.before) count (sym part ∙ u.whole) in
-        let len : length fields ≡ length m.before + 1 = ap length m.parts ∙ length-append m.before (m.last ∷ []) in
-        let same = s.count in
-        let alone : m.before ≡ [] = no-length m.before (omega arith) in
-        record { first = []; last = m.last; parts = m.parts ∙ ap (λ (x : List (List ℕ)). x ++ m.last ∷ []) alone; none = refl; ends = inl u }
-    | inr u ↦
-        let r = u.opened in
-        let whole : fields ≡ r.before ++ r.first ∷ (r.after ++ m.last ∷ []) =
-        m.parts ∙ ap (λ (x : List (List ℕ)). x ++ m.last ∷ []) r.parts ∙ append_assoc r.before (r.first ∷ r.after) (m.last ∷ []) in
-        let part = part-there map size unit fields r.before (r.after ++ m.last ∷ []) r.first s whole in
-        let at_front : r.before ≡ [] = no-length r.before (part-first (length r.before) count (sym part ∙ r.opens)) in
-        let run : m.before ≡ r.first ∷ r.after = r.parts ∙ ap (λ (x : List (List ℕ)). x ++ r.first ∷ r.after) at_front in
-        record {
-          first = r.first ∷ r.after;
-          last = m.last;
-          parts = m.parts ∙ ap (λ (x : List (List ℕ)). x ++ m.last ∷ []) run;
-          none = none-first before r.after r.first r.opens r.goes_on;
-          ends = inr (record {
-            run = u.run;
-            opened = record { before = before; first = r.first; after = r.after; parts = refl; opens = r.opens; goes_on = r.goes_on; joins = r.joins; limit = r.limit };
-            closes = u.closes;
-            joins = u.joins;
-            limit = u.limit;
-          });
-        }
-  ]
+ends-once make map size unit before fields some more most s =
+    let count = segments_needed size (length unit) in
+    let m = make map size unit fields some more most s in
+    elim m.unit_ends [
+      | inl u ↦
+          let part = part-there map size unit fields m.before [] m.last s m.parts in
+          let one : count ≡ 1 = part-only (length m.before) count (sym part ∙ u.whole) in
+          let len : length fields ≡ length m.before + 1 = ap length m.parts ∙ length-append m.before (m.last ∷ []) in
+          let same = s.count in
+          let alone : m.before ≡ [] = nil_from_length m.before (omega arith) in
+          record { first = []; last = m.last; parts = m.parts ∙ ap (λ (x : List (List ℕ)). x ++ m.last ∷ []) alone; none = refl; ends = inl u }
+      | inr u ↦
+          let r = u.opened in
+          let whole : fields ≡ r.before ++ r.first ∷ (r.after ++ m.last ∷ []) =
+          m.parts ∙ ap (λ (x : List (List ℕ)). x ++ m.last ∷ []) r.parts ∙ append_assoc r.before (r.first ∷ r.after) (m.last ∷ []) in
+          let part = part-there map size unit fields r.before (r.after ++ m.last ∷ []) r.first s whole in
+          let at_front : r.before ≡ [] = nil_from_length r.before (part-first (length r.before) count (sym part ∙ r.opens)) in
+          let run : m.before ≡ r.first ∷ r.after = r.parts ∙ ap (λ (x : List (List ℕ)). x ++ r.first ∷ r.after) at_front in
+          record {
+            first = r.first ∷ r.after;
+            last = m.last;
+            parts = m.parts ∙ ap (λ (x : List (List ℕ)). x ++ m.last ∷ []) run;
+            none = none-first before r.after r.first r.opens r.goes_on;
+            ends = inr (record {
+              run = u.run;
+              opened = record { before = before; first = r.first; after = r.after; parts = refl; opens = r.opens; goes_on = r.goes_on; joins = r.joins; limit = r.limit };
+              closes = u.closes;
+              joins = u.joins;
+              limit = u.limit;
+            });
+          }
+    ]

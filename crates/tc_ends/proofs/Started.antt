@@ -1,22 +1,6 @@
 -- From a sender's packets, over the start of an era, to what takes give.
-use Rattle.tc_channel.proofs.Names.{◌≡◌, ℕ, zero, suc, ◌≤◌, List, [], ◌∷◌, ◌++◌, length, map, Some, refl, sym, ap, subst, ◌∙◌, inl, inr, arith, AllByRecursion, queue_of, Queue, run_within}
-use Rattle.std.specs.Prelude.{Bool, true}
-use Rattle.std.proofs.lemmas.List.{length-drop}
-use Rattle.tc_link.specs.declared.frame.Header.{Header}
-use Rattle.tc_channel.specs.Run.{field_of}
-use Rattle.tc_channel.specs.declared.event.Event.{Event}
-use Rattle.tc_channel.specs.Through.{released_since, sent_from}
-use Rattle.tc_channel.proofs.Given.{released-within}
-use Rattle.tc_loop.specs.Loop.{Loop, Action, IsLoop, accepted, begun, journal, receiver, sent}
-use Rattle.tc_loop.specs.Start.{Start, IsStart, era, era_session}
-use Rattle.tc_loop.proofs.Counted.{begins, comes, known-so}
-use Rattle.tc_loop.proofs.Started.{is-loop, journal-whole}
-use Rattle.tc_loop.proofs.Onward.{whole}
-use Rattle.tc_cltu.specs.Reception.{Reception}
-use Rattle.tc_cltu.specs.declared.block.Mode.{Mode}
-use Rattle.tc_ends.specs.Arrivals.{AltersNothing, AreEventsOf, Coming}
+use Rattle.tc_ends.proofs.Names.{Action, AllByRecursion, AltersNothing, AreEventsOf, AreFrom, AreGivenOf, AreNumbered, Bool, CanBeSent, Coming, Event, Header, IsLoop, IsStart, List, Loop, Mode, Queue, Reception, SendsOnly, Some, Start, UnitSent, [], accepted, ap, arith, begins, begun, comes, era, era_session, field_of, inl, inr, is-loop, journal, journal-whole, known-so, length, length-drop, map, queue_of, receiver, refl, released-within, released_since, run_within, sent, sent_from, subst, suc, sym, units_on, whole, zero, ℕ, ◌++◌, ◌∙◌, ◌∷◌, ◌≡◌, ◌≤◌}
 use Rattle.tc_ends.proofs.Arrived.{events-came}
-use Rattle.tc_ends.specs.Ends.{AreFrom, AreGivenOf, AreNumbered, CanBeSent, SendsOnly, UnitSent, units_on}
 use Rattle.tc_ends.proofs.CanSend.{shift}
 use Rattle.tc_ends.proofs.Numbered.{numbered-sends}
 use Rattle.tc_ends.proofs.Segmented.{Makes}
@@ -50,7 +34,7 @@ pub packets-of-loop : Makes → (l : Loop) (session : List Action) (header : Hea
     → queue_of apid (receiver l session).queues ≡ Some q → AreGivenOf l.limits l.settings apid l.before (journal l session) (length frames) (units_on units)
 packets-of-loop make l session header units frames apid q k can numbered are only has =
     let sends = numbered-sends l.limits l.settings.segmented header units frames (sent l) can numbered (fields-of l.frames frames are) in
-    given-of-sent make l.limits l.settings (journal l session) l.before _ l.first (sent l) apid (length frames) (units_on units) q k.lawful k.era (comes l session k) k.allowed.by_headers sends
+    given-of-sent l.limits l.settings (journal l session) l.before (sent l) (length frames) make _ l.first apid (units_on units) q k.lawful k.era (comes l session k) k.allowed.by_headers sends
     (released-few l session (length frames) k only) has
 
 pub packets-of-start : Makes → (s : Start) (header : Header) (units : List UnitSent) (frames : List (List ℕ)) (apid : ℕ) (q : Queue) → IsStart s

@@ -1,16 +1,6 @@
 -- From the packets of a sender to what takes give.
-use Rattle.tc_channel.proofs.Names.{◌≡◌, ℕ, zero, suc, ◌+◌, ◌-◌, ◌≤◌, append_assoc, Bool, cond, true, false, eqb, List, [], ◌∷◌, ◌++◌, length, map, filter, drop, Some, refl, sym, ap, subst, ◌∙◌, inl, inr, arith, append-nil, filter-append, map-append, Service, Ad, Bd, Passed, stream, first_state_within, queue_of, Queue, run_within, IsLawfulWithin, packets_given}
-use Rattle.std.specs.List.{AllByRecursion}
-use Rattle.tc_packet.specs.Reassembly.{same_service}
-use Rattle.tc_channel.specs.declared.event.Event.{Event}
-use Rattle.tc_channel.specs.declared.settings.Settings.{Settings}
-use Rattle.tc_channel.specs.Account.{unit_on}
-use Rattle.tc_channel.specs.Settings.{HasMapsByHeaders}
-use Rattle.tc_channel.specs.Era.{IsEraWithin, ComesFromWithin}
-use Rattle.tc_channel.specs.Given.{fields_passed, units_given}
-use Rattle.tc_channel.specs.Through.{IsPartOf, all_made, packets_ended, packets_made, released_since, sent_from, units_ended, units_made}
-use Rattle.tc_channel.proofs.Through.{packets-given-of-made, passed-as-sent, units-given-of-made}
-use Rattle.tc_ends.specs.Ends.{AreGivenOf, CarryUnits, IsSendable, SendsPackets, all_joined, behind_ad, is_chosen_map, is_in, map_in, on_map, packets_for, packets_in_era, passed_before, passed_in, stream_in, stream_unit, unless_chosen, until_ad}
+use Rattle.tc_ends.proofs.Names.{Ad, AllByRecursion, AreGivenOf, Bd, Bool, CarryUnits, ComesFromWithin, Event, HasMapsByHeaders, IsEraWithin, IsLawfulWithin, IsPartOf, IsSendable, List, Passed, Queue, SendsPackets, Service, Settings, Some, [], all_joined, all_made, ap, append-nil, append_assoc, arith, behind_ad, cond, drop, eqb, false, fields_passed, filter, filter-append, first_state_within, inl, inr, is_chosen_map, is_in, length, map, map-append, map_in, on_map, packets-given-of-made, packets_ended, packets_for, packets_given, packets_in_era, packets_made, passed-as-sent, passed_before, passed_in, queue_of, refl, released_since, run_within, same_service, sent_from, stream, stream_in, stream_unit, subst, suc, sym, true, unit_on, units-given-of-made, units_ended, units_given, units_made, unless_chosen, until_ad, zero, ℕ, ◌++◌, ◌+◌, ◌-◌, ◌∙◌, ◌∷◌, ◌≡◌, ◌≤◌}
+use Rattle.tc_ends.proofs.Can.{stream-of-ad}
 use Rattle.tc_ends.proofs.Segmented.{Makes}
 use Rattle.tc_ends.proofs.Streams.{headed-carried, stream_unit_by, units-carried}
 use Rattle.tc_ends.proofs.Chosen.{units-on}
@@ -36,15 +26,6 @@ by_ad fields = map {B = Passed} (λ field. record { service = Ad; field = field 
 stream-append : (b : Bool) (service : Service) (m : ℕ) (xs ys : List Passed) → stream_in b service m (xs ++ ys) ≡ stream_in b service m xs ++ stream_in b service m ys
 stream-append b service m xs ys =
     ap (map (λ (p : Passed). p.field)) (filter-append (is_in b service m) xs ys) ∙ map-append (λ (p : Passed). p.field) (filter (is_in b service m) xs) (filter (is_in b service m) ys)
-
-stream-of-ad : (b : Bool) (m : ℕ) (ps : List Passed) → stream_in b Ad m ps ≡ on_map b m (fields_passed Ad ps)
-stream-of-ad b m [] = refl
-stream-of-ad b m (p ∷ ps) = by p.service refl (eqb (map_in b p.field) m) refl (stream-of-ad b m ps) where
-  by : (sv : Service) → p.service ≡ sv → (t : Bool) → eqb (map_in b p.field) m ≡ t → stream_in b Ad m ps ≡ on_map b m (fields_passed Ad ps)
-      → stream_in b Ad m (p ∷ ps) ≡ on_map b m (fields_passed Ad (p ∷ ps))
-  by Ad e true h ih = rw (e, h) (ap (λ (x : List (List ℕ)). p.field ∷ x) ih)
-  by Ad e false h ih = rw (e, h) ih
-  by Bd e t h ih = rw e ih
 
 ad-back : (fields : List (List ℕ)) → fields_passed Ad (by_ad fields) ≡ fields
 ad-back [] = refl
@@ -98,103 +79,70 @@ made-parts ended limits s before journal =
     ap (all_made ended []) (sym (until-behind (length (run_within limits s before).accepted) (run_within limits s journal).passed))
     ∙ made-append ended [] (passed_before limits s before journal) (passed_in limits s before journal)
 
-pub given-of-sent : Makes → (limits : ℕ → ℕ) (s : Settings) (journal before later : List Event) (x : ℕ) (sent : ℕ → List ℕ) (apid n : ℕ) (units : ℕ → List (List (List ℕ))) (q : Queue)
-    → IsLawfulWithin limits s journal → IsEraWithin limits s journal before later x → ComesFromWithin limits s before later x sent → HasMapsByHeaders s → SendsPackets limits s.segmented sent n units
-    → released_since limits s before journal ≤ n → queue_of apid (run_within limits s journal).queues ≡ Some q → AreGivenOf limits s apid before journal n units
-given-of-sent make limits s journal before later x sent apid n units q lawful era comes free sends less has = record {
-  merged = ended old (new ++ rest);
-  merge = made-merged limits s apid old (new ++ rest) (packets_in_era limits s apid before journal units) free on;
-  given = subst (IsPartOf given) is (part-more given made (ended (old ++ new) rest) (packets-given-of-made limits s journal apid q has));
-  whole = λ same.
-      let here : r ≡ n = same in
-      let none : n - r ≡ 0 = omega arith in
-      parts ∙ ap (λ (x : List Passed). older ++ ended old x) (sym (append-nil new) ∙ ap (λ (k : ℕ). new ++ by_ad (sent_from sent r k)) (sym none));
-}
-  where
-    old : List Passed
-    old = passed_before limits s before journal
+module _ (limits : ℕ → ℕ) (s : Settings) (journal before : List Event) (sent : ℕ → List ℕ) (n : ℕ) where
+  abbrev old : List Passed
+  old = passed_before limits s before journal
 
-    new : List Passed
-    new = passed_in limits s before journal
+  abbrev new : List Passed
+  new = passed_in limits s before journal
 
-    r : ℕ
-    r = released_since limits s before journal
+  -- those that are still to come
+  abbrev rest : List Passed
+  rest = by_ad (sent_from sent (released_since limits s before journal) (n - released_since limits s before journal))
 
-    rest : List Passed
-    rest = by_ad (sent_from sent r (n - r))
+  pub given-of-sent : Makes → (later : List Event) (x : ℕ) (apid : ℕ) (units : ℕ → List (List (List ℕ))) (q : Queue)
+      → IsLawfulWithin limits s journal → IsEraWithin limits s journal before later x → ComesFromWithin limits s before later x sent → HasMapsByHeaders s → SendsPackets limits s.segmented sent n units
+      → released_since limits s before journal ≤ n → queue_of apid (run_within limits s journal).queues ≡ Some q → AreGivenOf limits s apid before journal n units
+  given-of-sent make later x apid units q lawful era comes free sends less has =
+      let ended = packets_ended limits s apid in
+      let made = packets_made limits s apid (run_within limits s journal).passed in
+      let older = packets_made limits s apid old in
+      let parts : made ≡ older ++ all_made ended old new = made-parts ended limits s before journal in
+      let is : made ++ all_made ended (old ++ new) rest ≡ older ++ all_made ended old (new ++ rest) =
+      ap (λ (x : List (List ℕ)). x ++ all_made ended (old ++ new) rest) parts ∙ append_assoc older (all_made ended old new) (all_made ended (old ++ new) rest)
+      ∙ ap (λ (x : List (List ℕ)). older ++ x) (sym (made-append ended old new rest)) in
+      record {
+        merged = all_made ended old (new ++ rest);
+        merge = made-merged limits s apid old (new ++ rest) (packets_in_era limits s apid before journal units) free on;
+        given = subst (IsPartOf (packets_given s apid (first_state_within limits s) journal)) is
+            (part-more (packets_given s apid (first_state_within limits s) journal) made (all_made ended (old ++ new) rest) (packets-given-of-made limits s journal apid q has));
+        whole = λ same.
+            let none : n - released_since limits s before journal ≡ 0 = omega arith in
+            parts ∙ ap (λ (x : List Passed). older ++ all_made ended old x) (sym (append-nil new) ∙ ap (λ (k : ℕ). new ++ by_ad (sent_from sent (released_since limits s before journal) k)) (sym none));
+      }
+    where
+      on : (service : Service) (id : ℕ) → unless_chosen s id (packets_for apid (all_made (stream_unit limits s service id) old (new ++ rest))) ≡ packets_in_era limits s apid before journal units service id
+      on Ad id =
+          let stream_is = stream-sent s.segmented sent (released_since limits s before journal) n new (ad-fields limits s journal before later x sent lawful era comes) less id in
+          ap (unless_chosen s id)
+          (ap (packets_for apid) (units-carried make limits s Ad id (all_joined (units id)) old (new ++ rest) (sends.sendable id) (subst (CarryUnits s.segmented id (all_joined (units id))) (sym stream_is) (sends.carry id)))
+          ∙ cut-all apid (units id) (sends.packets id))
+      on Bd id =
+          let bd = all_made (stream_unit limits s Bd id) old new in
+          ap (λ (x : List (List ℕ)). unless_chosen s id (packets_for apid x))
+          (made-append (stream_unit limits s Bd id) old new rest ∙ ap (λ (x : List (List ℕ)). bd ++ x) (none-by-bd s.segmented limits s id (sent_from sent (released_since limits s before journal) (n - released_since limits s before journal)) (old ++ new)) ∙ append-nil bd)
 
-    ended : List Passed → List Passed → List (List ℕ)
-    ended = all_made (packets_ended limits s apid)
-
-    given : List (List ℕ)
-    given = packets_given s apid (first_state_within limits s) journal
-
-    made : List (List ℕ)
-    made = packets_made limits s apid (run_within limits s journal).passed
-
-    older : List (List ℕ)
-    older = packets_made limits s apid old
-
-    parts : made ≡ older ++ ended old new
-    parts = made-parts (packets_ended limits s apid) limits s before journal
-
-    is : made ++ ended (old ++ new) rest ≡ older ++ ended old (new ++ rest)
-    is = ap (λ (x : List (List ℕ)). x ++ ended (old ++ new) rest) parts ∙ append_assoc older (ended old new) (ended (old ++ new) rest)
-        ∙ ap (λ (x : List (List ℕ)). older ++ x) (sym (made-append (packets_ended limits s apid) old new rest))
-
-    on : (service : Service) (id : ℕ) → unless_chosen s id (packets_for apid (all_made (stream_unit limits s service id) old (new ++ rest))) ≡ packets_in_era limits s apid before journal units service id
-    on Ad id =
-        let stream_is = stream-sent s.segmented sent r n new (ad-fields limits s journal before later x sent lawful era comes) less id in
-        ap (unless_chosen s id)
-        (ap (packets_for apid) (units-carried make limits s Ad id (all_joined (units id)) old (new ++ rest) (sends.sendable id) (subst (CarryUnits s.segmented id (all_joined (units id))) (sym stream_is) (sends.carry id)))
-        ∙ cut-all apid (units id) (sends.packets id))
-    on Bd id =
-        let bd = all_made (stream_unit limits s Bd id) old new in
-        ap (λ (x : List (List ℕ)). unless_chosen s id (packets_for apid x))
-        (made-append (stream_unit limits s Bd id) old new rest ∙ ap (λ (x : List (List ℕ)). bd ++ x) (none-by-bd s.segmented limits s id (sent_from sent r (n - r)) (old ++ new)) ∙ append-nil bd)
-
--- the same of the units of a chosen MAP
-pub units-of-sent : Makes → (limits : ℕ → ℕ) (s : Settings) (journal before later : List Event) (x : ℕ) (sent : ℕ → List ℕ) (n : ℕ) (units : List (List ℕ)) (map_id : ℕ) (q : Queue)
-    → IsLawfulWithin limits s journal → IsEraWithin limits s journal before later x → ComesFromWithin limits s before later x sent
-    → s.segmented ≡ true → is_chosen_map s map_id ≡ true → CarryUnits true map_id units (on_map true map_id (sent_from sent 0 n)) → AllByRecursion (IsSendable limits true map_id) units
-    → all_made (unit_on limits s Bd map_id) (passed_before limits s before journal) (passed_in limits s before journal) ≡ []
-    → released_since limits s before journal ≤ n → queue_of map_id (run_within limits s journal).units ≡ Some q
-    → IsPartOf (units_given s map_id (first_state_within limits s) journal) (units_made limits s map_id (passed_before limits s before journal) ++ units)
-units-of-sent make limits s journal before later x sent n units map_id q lawful era comes headed chosen carry can none_bd less has =
-    subst (IsPartOf given) is (part-more given made (all_made (units_ended limits s map_id) (old ++ new) rest) (units-given-of-made limits s journal map_id q has))
-  where
-    given : List (List ℕ)
-    given = units_given s map_id (first_state_within limits s) journal
-
-    old : List Passed
-    old = passed_before limits s before journal
-
-    new : List Passed
-    new = passed_in limits s before journal
-
-    made : List (List ℕ)
-    made = units_made limits s map_id (run_within limits s journal).passed
-
-    r : ℕ
-    r = released_since limits s before journal
-
-    rest : List Passed
-    rest = by_ad (sent_from sent r (n - r))
-
-    by_bypass : (other : Service) → same_service Ad other ≡ false → all_made (unit_on limits s other map_id) old (new ++ rest) ≡ []
-    by_bypass Bd apart = made-append (unit_on limits s Bd map_id) old new rest
-        ∙ ap (λ (x : List (List ℕ)). all_made (unit_on limits s Bd map_id) old new ++ x) (none-by-bd true limits s map_id (sent_from sent r (n - r)) (old ++ new))
-        ∙ append-nil (all_made (unit_on limits s Bd map_id) old new) ∙ none_bd
-    by_bypass Ad apart = absurd cc
-
-    stream_is : stream Ad map_id (new ++ rest) ≡ on_map true map_id (sent_from sent 0 n)
-    stream_is = stream-sent true sent r n new (ad-fields limits s journal before later x sent lawful era comes) less map_id
-
-    parts : all_made (units_ended limits s map_id) old new ++ all_made (units_ended limits s map_id) (old ++ new) rest ≡ units
-    parts = sym (made-append (units_ended limits s map_id) old new rest) ∙ units-on limits s Ad map_id chosen (new ++ rest) old by_bypass
-        ∙ headed-carried make limits s Ad map_id units old (new ++ rest) headed can (subst (CarryUnits true map_id units) (sym stream_is) carry)
-
-    is : made ++ all_made (units_ended limits s map_id) (old ++ new) rest ≡ units_made limits s map_id old ++ units
-    is = ap (λ (x : List (List ℕ)). x ++ all_made (units_ended limits s map_id) (old ++ new) rest) (made-parts (units_ended limits s map_id) limits s before journal)
-        ∙ append_assoc (units_made limits s map_id old) (all_made (units_ended limits s map_id) old new) (all_made (units_ended limits s map_id) (old ++ new) rest)
-        ∙ ap (λ (x : List (List ℕ)). units_made limits s map_id old ++ x) parts
+  -- the same of the units of a chosen MAP
+  pub units-of-sent : Makes → (later : List Event) (x : ℕ) (units : List (List ℕ)) (map_id : ℕ) (q : Queue)
+      → IsLawfulWithin limits s journal → IsEraWithin limits s journal before later x → ComesFromWithin limits s before later x sent
+      → s.segmented ≡ true → is_chosen_map s map_id ≡ true → CarryUnits true map_id units (on_map true map_id (sent_from sent 0 n)) → AllByRecursion (IsSendable limits true map_id) units
+      → all_made (unit_on limits s Bd map_id) (passed_before limits s before journal) (passed_in limits s before journal) ≡ []
+      → released_since limits s before journal ≤ n → queue_of map_id (run_within limits s journal).units ≡ Some q
+      → IsPartOf (units_given s map_id (first_state_within limits s) journal) (units_made limits s map_id (passed_before limits s before journal) ++ units)
+  units-of-sent make later x units map_id q lawful era comes headed chosen carry can none_bd less has =
+      let ended = units_ended limits s map_id in
+      let stream_is : stream Ad map_id (new ++ rest) ≡ on_map true map_id (sent_from sent 0 n) =
+      stream-sent true sent (released_since limits s before journal) n new (ad-fields limits s journal before later x sent lawful era comes) less map_id in
+      let parts : all_made ended old new ++ all_made ended (old ++ new) rest ≡ units = sym (made-append ended old new rest) ∙ units-on limits s Ad map_id chosen (new ++ rest) old by_bypass
+      ∙ headed-carried make limits s Ad map_id units old (new ++ rest) headed can (subst (CarryUnits true map_id units) (sym stream_is) carry) in
+      let is : units_made limits s map_id (run_within limits s journal).passed ++ all_made ended (old ++ new) rest ≡ units_made limits s map_id old ++ units =
+      ap (λ (x : List (List ℕ)). x ++ all_made ended (old ++ new) rest) (made-parts ended limits s before journal)
+      ∙ append_assoc (units_made limits s map_id old) (all_made ended old new) (all_made ended (old ++ new) rest) ∙ ap (λ (x : List (List ℕ)). units_made limits s map_id old ++ x) parts in
+      subst (IsPartOf (units_given s map_id (first_state_within limits s) journal)) is
+      (part-more (units_given s map_id (first_state_within limits s) journal) (units_made limits s map_id (run_within limits s journal).passed) (all_made ended (old ++ new) rest) (units-given-of-made limits s journal map_id q has))
+    where
+      by_bypass : (other : Service) → same_service Ad other ≡ false → all_made (unit_on limits s other map_id) old (new ++ rest) ≡ []
+      by_bypass Bd apart = made-append (unit_on limits s Bd map_id) old new rest
+          ∙ ap (λ (x : List (List ℕ)). all_made (unit_on limits s Bd map_id) old new ++ x) (none-by-bd true limits s map_id (sent_from sent (released_since limits s before journal) (n - released_since limits s before journal)) (old ++ new))
+          ∙ append-nil (all_made (unit_on limits s Bd map_id) old new) ∙ none_bd
+      by_bypass Ad apart = absurd cc

@@ -9,7 +9,7 @@ use Rattle.tc_cltu.specs.Reception.{Reception, frames_of, is_start, state_after}
 use Rattle.tc_cltu.specs.declared.block.Mode.{Mode}
 use Rattle.tc_channel.specs.declared.event.Event.{Event}
 use Rattle.tc_channel.specs.declared.event.Event.TheVariants.{Frame}
-use Rattle.tc_loop.specs.Loop.{Action, Send, Arrive, Hear, Other, Idle}
+use Rattle.tc_loop.specs.Loop.{Action, events_at}
 
 -- code blocks that come where these octets were sent, seven in each: no block has more wrong bits than the mode takes
 abbrev pub AreNearBlocks : Mode → List ℕ → List ℕ → Type 0
@@ -69,14 +69,6 @@ abbrev pub AreEventsOf : Mode → Bool → Reception → List Coming → List Ev
 AreEventsOf mode field state [] events = events ≡ []
 AreEventsOf mode field state (c ∷ coming) events =
     (now : List Event) × (later : List Event) × AreEventsAt mode field state c now × (events ≡ now ++ later) × AreEventsOf mode field (state_behind mode state c) coming later
-
--- what an action of a session is to the receiver, where these are the sender's frames
-abbrev pub events_at : (ℕ → List ℕ) → Action → List Event
-events_at frames (Send i) = []
-events_at frames (Arrive i s) = Frame (frames i) ∷ []
-events_at frames (Hear m) = []
-events_at frames (Other e) = e ∷ []
-events_at frames Idle = []
 
 -- detection lets nothing through that was altered: what comes at each moment of a session is to the receiver what the session's action is. So a
 -- CLTU that is refused is a loss, and octets that bring nothing may come at any moment at which nothing arrives

@@ -1,4 +1,5 @@
 //! Laws from a sender's packets to a receiver's.
+#![tactic(auto, using(crate::proofs::Closing::laws))]
 
 ghost use Rattle.std.specs.Prelude.{Bool, List, ℕ, [], ◌∷◌, ◌++◌, ◌≡◌, ◌≤◌, ◌<◌, ◌+◌, ◌%◌, length, map, slice_index_or, true, false, Some};
 ghost use Rattle.std.specs.List.{AllByRecursion};

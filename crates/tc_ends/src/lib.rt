@@ -1,25 +1,7 @@
 //! Packet to packet: from the packets that a sender sends to the packets and units that takes give at the receiver, over the conditions of
 //! `what_was_sent_is_accepted_once_and_in_order` of tc_channel, or over a loop of tc_loop.
 //!
-//! All are laws, functions that do nothing:
-//! [`the_segments_of_a_unit_end_it_once`],
-//! [`joined_packets_are_cut_into_them`],
-//! [`packets_that_are_sent_are_made`],
-//! [`packets_of_one_stream_are_its_own`],
-//! [`units_that_are_sent_are_made`],
-//! [`packets_that_are_sent_plainly_are_made`],
-//! [`written_frames_carry_the_segments`],
-//! [`packets_that_are_sent_are_given`],
-//! [`all_units_can_be_carried`],
-//! [`packets_of_a_loop_are_given`],
-//! [`all_packets_can_be_sent`],
-//! [`units_that_are_sent_are_given`],
-//! [`numbered_frames_send_packets`],
-//! [`packets_from_a_start_are_given`],
-//! [`a_cltu_with_few_wrong_bits_brings_its_frame`],
-//! [`packets_in_cltus_are_given`],
-//! [`cltus_with_few_wrong_bits_bring_a_session`] and
-//! [`all_premises_are_met_at_once`].
+//! All are laws, functions that do nothing.
 #![tactic(auto)]
 
 mod laws;

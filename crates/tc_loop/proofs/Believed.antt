@@ -1,14 +1,5 @@
 -- A CLCW whose number none of before can have was made after Set V(R) was obeyed.
-use Rattle.std.proofs.Common.{◌≡◌, ◌≢◌, ℕ, zero, suc, ◌+◌, ◌%◌, ◌<◌, ◌≤◌, Bool, true, false, cond, List, [], ◌∷◌, ◌++◌, length, map, take, drop, Some, refl, sym, ap, ◌∙◌, ◌⊎◌, inl, inr, arith}
-use Rattle.std.specs.Prelude.{slice_get, nat_lt, max}
-use Rattle.std.proofs.lemmas.Bool.Decides.{nat_tests}
-use Rattle.std.proofs.lemmas.Option.{slice_get_within}
-use Rattle.std.proofs.lemmas.List.{length-map, length-take-le, take-append-drop, take-append-le, take-take}
-use Rattle.tc_link.specs.Clcw.{fields_of}
-use Rattle.tc_channel.specs.declared.event.Event.TheVariants.{Frame}
-unfoldable use Rattle.tc_channel.specs.Reply.{clcw_within}
-use Rattle.tc_loop.specs.Loop.{Loop, Action, Send, Arrive, Hear, Other, Idle, accepted, begun, begun_from, events, journal, known, reported, IsLoop, KeepOrder}
-use Rattle.tc_loop.specs.Start.{Start, IsObeyed, NamesAnother, action_before, era_before, session_before}
+use Rattle.tc_loop.proofs.Names.{take-map, slice_get-map, option_map, Action, Arrive, Bool, Frame, Hear, Idle, IsLoop, IsObeyed, KeepOrder, List, Loop, NamesAnother, Other, Send, Some, Start, [], accepted, action_before, ap, arith, begun, begun_from, clcw_within, cond, drop, era_before, events, false, fields_of, inl, inr, journal, known, length, length-map, length-take-le, map, max, nat_lt, nat_tests, refl, reported, session_before, slice_get, slice_get_within, suc, sym, take, take-append-drop, take-append-le, take-take, true, zero, ℕ, ◌%◌, ◌++◌, ◌+◌, ◌<◌, ◌∙◌, ◌∷◌, ◌≡◌, ◌≤◌, cases_lt}
 use Rattle.tc_loop.proofs.Actions.{begun-append}
 use Rattle.tc_loop.proofs.Counted.{counts, known-so, reported-so}
 use Rattle.tc_loop.proofs.Window.{holds}
@@ -17,10 +8,7 @@ use Rattle.tc_loop.proofs.Longer.{IsNext, get-last, get-take, known-at, longer-q
 begun-least : (n : ℕ) (xs : List Action) → n ≤ begun_from n xs
 begun-least n [] = omega arith
 begun-least n (Send i ∷ xs) = let more = begun-least (max n (i + 1)) xs in omega arith
-begun-least n (Arrive i s ∷ xs) = begun-least n xs
-begun-least n (Hear m ∷ xs) = begun-least n xs
-begun-least n (Other e ∷ xs) = begun-least n xs
-begun-least n (Idle ∷ xs) = begun-least n xs
+begun-least n (_ ∷ xs) = begun-least n xs
 
 begun-grows : (xs : List Action) (m n : ℕ) → m ≤ n → begun xs m ≤ begun xs n
 begun-grows xs m n low =
@@ -28,17 +16,6 @@ begun-grows xs m n low =
     let is : begun xs n ≡ begun_from (begun xs m) (drop m ys) = ap (begun_from 0) (sym (take-append-drop m ys)) ∙ begun-append 0 (take m ys) (drop m ys) ∙ ap (λ zs. begun_from (begun_from 0 zs) (drop m ys)) (take-take m n xs low) in
     let more = begun-least (begun xs m) (drop m ys) in
     omega arith
-
-take-map : (f : Action → Action) (n : ℕ) (xs : List Action) → take n (map f xs) ≡ map f (take n xs)
-take-map f zero [] = refl
-take-map f zero (x ∷ xs) = refl
-take-map f (suc n) [] = refl
-take-map f (suc n) (x ∷ xs) = ap (λ ys. f x ∷ ys) (take-map f n xs)
-
-get-map : (f : Action → Action) (xs : List Action) (t : ℕ) (a : Action) → slice_get xs t ≡ Some a → slice_get (map f xs) t ≡ Some (f a)
-get-map f [] t a e = absurd cc
-get-map f (x ∷ xs) zero a e = let q : x ≡ a = cc in rw q refl
-get-map f (x ∷ xs) (suc t) a e = get-map f xs t a e
 
 map-get : (f : Action → Action) (xs : List Action) (t : ℕ) (b : Action) → slice_get (map f xs) t ≡ Some b → (a : Action) × (slice_get xs t ≡ Some a) × (f a ≡ b)
 map-get f [] t b e = absurd cc
@@ -53,16 +30,9 @@ get-within (x ∷ xs) (suc n) (suc t) a e low = get-within xs n t a e (omega ari
 
 heard-before : (s : Start) (m : ℕ) (a : Action) → action_before s a ≡ Hear m → a ≡ Hear m
 heard-before s m (Hear n) e = e
-heard-before s m (Send j) e = absurd (by (nat_lt j s.directive) e) where
-  by : (b : Bool) → cond b (Send j) Idle ≢ Hear m
-  by true e = cc
-  by false e = cc
-heard-before s m (Arrive j r) e = absurd (by (nat_lt j s.directive) e) where
-  by : (b : Bool) → cond b (Arrive j r) (Other (Frame (s.loop.frames j))) ≢ Hear m
-  by true e = cc
-  by false e = cc
-heard-before s m (Other f) e = absurd cc
-heard-before s m Idle e = absurd cc
+heard-before s m (Send j) e = grind (arith, nat_tests)
+heard-before s m (Arrive j r) e = grind (arith, nat_tests)
+heard-before s m _ e = absurd cc
 
 module _ (s : Start) (first window : ℕ) (frames : ℕ → List ℕ) (own : (i : ℕ) → i < s.directive → frames i ≡ s.loop.frames i) where
   abbrev o : Loop
@@ -78,9 +48,8 @@ module _ (s : Start) (first window : ℕ) (frames : ℕ → List ℕ) (own : (i 
     by : (b : Bool) → nat_lt j s.directive ≡ b → events o (cond b (Arrive j r) (Other (Frame (s.loop.frames j))) ∷ map (action_before s) xs) ≡ Frame (s.loop.frames j) ∷ events o (map (action_before s) xs)
     by true low = ap (λ octets. Frame octets ∷ events o (map (action_before s) xs)) (own j (grind (arith, nat_tests)))
     by false high = refl
-  same-events (Hear m ∷ xs) = same-events xs
   same-events (Other e ∷ xs) = ap (λ es. e ∷ es) (same-events xs)
-  same-events (Idle ∷ xs) = same-events xs
+  same-events (_ ∷ xs) = same-events xs
 
   same-reported : (m : ℕ) → m ≤ s.obeyed → reported o (session_before s) m ≡ reported s.loop s.session m
   same-reported m low =
@@ -97,7 +66,7 @@ module _ (s : Start) (first window : ℕ) (frames : ℕ → List ℕ) (own : (i 
     -- what it hears tells no less than it knew when it asked
     early : asked ≤ s.believed → s.believed < s.obeyed → known o (session_before s) asked ≤ accepted o (take made (session_before s))
     early since low =
-        let at = get-map (action_before s) (take s.obeyed s.session) s.believed (Hear made) (get-within s.session s.obeyed s.believed (Hear made) here low) in
+        let at : slice_get (session_before s) s.believed ≡ Some (Hear made) = slice_get-map (action_before s) (take s.obeyed s.session) s.believed ∙ ap (option_map (action_before s)) (get-within s.session s.obeyed s.believed (Hear made) here low) in
         (holds o (session_before s) (λ t. accepted o (take t (session_before s))) (λ t. known o (session_before s) t) (λ t. begun (session_before s) t) k.window (counts o (session_before s) k) asked).back s.believed made since at
 
     late : asked ≤ s.obeyed → made ≤ s.obeyed → s.obeyed ≤ s.believed → known o (session_before s) asked ≤ accepted o (take made (session_before s))
@@ -120,20 +89,13 @@ module _ (s : Start) (first window : ℕ) (frames : ℕ → List ℕ) (own : (i 
         let same_accepted : accepted o (take made more) ≡ accepted o (take made was) = ap (accepted o) (take-append-le made was (Hear made ∷ []) (omega arith)) in
         omega arith
 
-    apart : (i d : ℕ) → (i < d) ⊎ (d ≤ i)
-    apart i d = grind arith
-
-    least : asked ≤ s.obeyed → asked ≤ s.believed → made ≤ s.obeyed → (s.believed < s.obeyed) ⊎ (s.obeyed ≤ s.believed) → known o (session_before s) asked ≤ accepted o (take made (session_before s))
-    least before since low (inl sooner) = early since sooner
-    least before since low (inr after) = late before low after
-
     pub made-after : asked ≤ s.obeyed → asked ≤ s.believed → NamesAnother s first window frames asked → reported s.loop s.session made ≡ s.loop.first → s.obeyed < made
-    made-after before since another says = by (apart s.obeyed made) where
-      by : (s.obeyed < made) ⊎ (made ≤ s.obeyed) → s.obeyed < made
-      by (inl after) = after
-      by (inr low) = absurd (
+    made-after before since another says = elim (cases_lt s.obeyed made) [
+      | inl after ↦ after
+      | inr low ↦ absurd (
           let count = accepted o (take made (session_before s)) in
           let among = (known-so o (session_before s) made k).among in
           let more = begun-grows (session_before s) made s.obeyed low in
           let learnt : (first + count) % 256 ≡ s.loop.first = sym (reported-so o (session_before s) made k) ∙ same-reported made low ∙ says in
-          another count (least before since low (apart s.believed s.obeyed)) (omega arith) learnt)
+          another count (elim (cases_lt s.believed s.obeyed) [ inl sooner ↦ early since sooner | inr after ↦ late before low after ]) (omega arith) learnt)
+    ]

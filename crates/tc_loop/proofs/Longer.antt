@@ -1,18 +1,5 @@
 -- A session that is longer by one action.
-use Rattle.std.proofs.Common.{◌≡◌, ℕ, zero, suc, ◌+◌, ◌<◌, ◌≤◌, List, [], ◌∷◌, ◌++◌, length, take, drop, Some, None, refl, sym, ap, subst, ◌∙◌, ◌⊎◌, inl, inr, arith}
-use Rattle.std.specs.Prelude.{slice_get}
-use Rattle.std.proofs.Math.Seq.{take-append_seam}
-use Rattle.std.proofs.lemmas.Option.{slice_get_within}
-use Rattle.std.proofs.lemmas.List.{append-nil, take-append-drop, take-append-le}
-use Rattle.tc_channel.specs.declared.settings.Settings.{Settings}
-use Rattle.tc_channel.specs.declared.event.Event.{Event}
-use Rattle.tc_channel.specs.Run.{HasStep}
-unfoldable use Rattle.tc_channel.specs.Run.{run_within, IsLawfulWithin}
-unfoldable use Rattle.tc_channel.specs.Reply.{clcw_within}
-use Rattle.tc_channel.specs.Era.{NoneSetsWithin, set_by}
-use Rattle.tc_link.specs.Clcw.{fields_of}
-use Rattle.tc_channel.proofs.Runs.{lawful-push}
-use Rattle.tc_loop.specs.Loop.{Loop, Action, Send, Arrive, Hear, Other, Idle, KeepOrder, events, journal, receiver, known, known_from, heard, reported, IsSession, IsLoop, IsOther}
+use Rattle.tc_loop.proofs.Names.{take_at, Action, Arrive, Event, HasStep, Hear, Idle, IsLawfulWithin, IsLoop, IsOther, IsSession, KeepOrder, List, Loop, None, NoneSetsWithin, Other, Send, Settings, Some, [], ap, append-nil, arith, clcw_within, drop, events, fields_of, heard, inl, inr, journal, known, known_from, lawful-push, length, receiver, refl, reported, run_within, set_by, slice_get, slice_get_within, subst, suc, sym, take, take-append-drop, take-append-le, zero, ℕ, ◌++◌, ◌+◌, ◌<◌, ◌∙◌, ◌∷◌, ◌≡◌, ◌≤◌, ◌⊎◌}
 use Rattle.tc_loop.proofs.Actions.{events-append}
 use Rattle.tc_loop.proofs.Counted.{journal-append, get-append, take-append}
 
@@ -35,9 +22,6 @@ pub get-last : {A : Type 0} (xs : List A) (a : A) → slice_get (xs ++ a ∷ [])
 get-last [] a = refl
 get-last (x ∷ xs) a = get-last xs a
 
-pub take-first : {A : Type 0} (xs ys : List A) (t : ℕ) → t ≡ length xs → take t (xs ++ ys) ≡ xs
-take-first xs ys t e = subst (λ n. take n (xs ++ ys) ≡ xs) (sym e) (take-append_seam xs ys)
-
 pub get-take : {A : Type 0} (xs : List A) (n t : ℕ) (b : A) → slice_get (take n xs) t ≡ Some b → slice_get xs t ≡ Some b
 get-take xs n t b e = subst (λ ys. slice_get ys t ≡ Some b) (take-append-drop n xs) (get-append (take n xs) (drop n xs) t b e)
 
@@ -47,13 +31,10 @@ reported-same l session more m low = ap (λ ys. (fields_of (clcw_within l.limits
 known-same : (l : Loop) (session more : List Action) (a : ℕ) (rest : List Action) → ((t m : ℕ) → slice_get rest t ≡ Some (Hear m) → m ≤ length session)
     → known_from l (session ++ more) a rest ≡ known_from l session a rest
 known-same l session more a [] each = refl
-known-same l session more a (Send i ∷ rest) each = known-same l session more a rest (λ t m e. each (suc t) m e)
-known-same l session more a (Arrive i s ∷ rest) each = known-same l session more a rest (λ t m e. each (suc t) m e)
-known-same l session more a (Other e ∷ rest) each = known-same l session more a rest (λ t m e. each (suc t) m e)
-known-same l session more a (Idle ∷ rest) each = known-same l session more a rest (λ t m e. each (suc t) m e)
 known-same l session more a (Hear m ∷ rest) each =
     ap (λ b. known_from l (session ++ more) (heard l.first l.window a b) rest) (reported-same l session more m (each 0 m refl))
     ∙ known-same l session more (heard l.first l.window a (reported l session m)) rest (λ t n e. each (suc t) n e)
+known-same l session more a (x ∷ rest) each = known-same l session more a rest (λ t m e. each (suc t) m e)
 
 -- what the sender knew it knows in a longer session, too
 pub known-at : (l : Loop) (session more : List Action) (t : ℕ) → IsSession l session → t ≤ length session → known l (session ++ more) t ≡ known l session t
@@ -61,9 +42,7 @@ known-at l session more t k low =
     ap (known_from l (session ++ more) 0) (take-append-le t session more low)
     ∙ known-same l session more 0 (take t session) (λ u m e.
     let here = get-take session t u (Hear m) e in
-    let made = k.links.hears u m here in
-    let within = slice_get_within session u (Hear m) here in
-    omega arith)
+    omega (arith, k.links.hears u m here, slice_get_within session u (Hear m) here))
 
 -- the action can come next
 abbrev pub IsNext : Loop → List Action → Action → Type 0
@@ -78,14 +57,12 @@ in-order-next l session action k n = record {
   arrives = λ t i s here. elim (get-end session action t (Arrive i s) here) [
     | inl p ↦ let from = k.arrives t i s p.0 in (from.0, get-append session (action ∷ []) s (Send i) from.1)
     | inr p ↦
-        let at = p.0 in
         let from = (subst (IsNext l session) p.1 n).0 in
-        let within = slice_get_within session s (Send i) from in
-        (omega arith, get-append session (action ∷ []) s (Send i) from)
+        (omega (arith, p.0, slice_get_within session s (Send i) from), get-append session (action ∷ []) s (Send i) from)
   ];
   hears = λ t m here. elim (get-end session action t (Hear m) here) [
     | inl p ↦ k.hears t m p.0
-    | inr p ↦ let at = p.0 in let low = (subst (IsNext l session) p.1 n).0 in omega arith
+    | inr p ↦ omega (arith, p.0, (subst (IsNext l session) p.1 n).0)
   ];
   frames_in_order = λ t u i j s r order here later. elim (get-end session action u (Arrive j r) later) [
     | inl p ↦ let low = p.1 in k.frames_in_order t u i j s r order (get-before session action t (Arrive i s) here (omega arith)) p.0
@@ -117,49 +94,30 @@ none-push : (limits : ℕ → ℕ) (s : Settings) (before es : List Event) (e : 
 none-push limits s before es e none one = λ i f here. elim (get-end es e i f here) [
   | inl p ↦ subst (λ gs. set_by s (run_within limits s (before ++ gs)) f ≡ None) (sym (take-append es (e ∷ []) i f p.0)) (none i f p.0)
   | inr p ↦
-      let at : take i (es ++ e ∷ []) ≡ es = take-first es (e ∷ []) i p.0 in
-      subst (λ gs. set_by s (run_within limits s (before ++ gs)) f ≡ None) (sym at) (subst (λ g. set_by s (run_within limits s (before ++ es)) g ≡ None) p.1 one)
+      subst (λ gs. set_by s (run_within limits s (before ++ gs)) f ≡ None) (sym (take_at es (e ∷ []) i (sym p.0))) (subst (λ g. set_by s (run_within limits s (before ++ es)) g ≡ None) p.1 one)
 ]
 
-quiet-events : (l : Loop) (session : List Action) (action : Action) → events l (action ∷ []) ≡ [] → events l (session ++ action ∷ []) ≡ events l session
-quiet-events l session action none = events-append l session (action ∷ []) ∙ ap (λ es. events l session ++ es) none ∙ append-nil (events l session)
-
--- the journal of a session that is longer by an action that is no event, or by one that is
-record IsJournaled (l : Loop) (later : List Action) : Type 0 where
-  lawful : IsLawfulWithin l.limits l.settings (journal l later)
-  none_sets : NoneSetsWithin l.limits l.settings l.before (events l later)
-
-journaled-quiet : (l : Loop) (session : List Action) (action : Action) → IsLoop l session → events l (action ∷ []) ≡ [] → IsJournaled l (session ++ action ∷ [])
-journaled-quiet l session action k none =
-    let same = quiet-events l session action none in
-    record {
-      lawful = subst (λ es. IsLawfulWithin l.limits l.settings (l.before ++ es)) (sym same) k.lawful;
-      none_sets = subst (λ es. NoneSetsWithin l.limits l.settings l.before es) (sym same) k.era.last;
-    }
-
-journaled-event : (l : Loop) (session : List Action) (action : Action) (e : Event) → IsLoop l session → events l (action ∷ []) ≡ e ∷ [] → HasStep l.settings (receiver l session) e → set_by l.settings (receiver l session) e ≡ None → IsJournaled l (session ++ action ∷ [])
-journaled-event l session action e k one has none =
-    let same : events l (session ++ action ∷ []) ≡ events l session ++ e ∷ [] = events-append l session (action ∷ []) ∙ ap (λ es. events l session ++ es) one in
-    let whole : journal l (session ++ action ∷ []) ≡ journal l session ++ e ∷ [] = journal-append l session (action ∷ []) ∙ ap (λ es. journal l session ++ es) one in
-    record {
-      lawful = subst (IsLawfulWithin l.limits l.settings) (sym whole) (lawful-push l.limits l.settings (journal l session) e k.lawful has);
-      none_sets = subst (NoneSetsWithin l.limits l.settings l.before) (sym same) (none-push l.limits l.settings l.before (events l session) e k.era.last none);
-    }
-
-longer : (l : Loop) (session : List Action) (action : Action) → IsLoop l session → IsNext l session action → IsJournaled l (session ++ action ∷ []) → IsLoop l (session ++ action ∷ [])
-longer l session action k n j = record {
+longer : (l : Loop) (session : List Action) (action : Action) → IsLoop l session → IsNext l session action → IsLawfulWithin l.limits l.settings (journal l (session ++ action ∷ []))
+    → NoneSetsWithin l.limits l.settings l.before (events l (session ++ action ∷ [])) → IsLoop l (session ++ action ∷ [])
+longer l session action k n lawful none = record {
   window = k.window;
   numbered = k.numbered;
   allowed = k.allowed;
-  lawful = j.lawful;
-  era = record { parts = refl; starts = k.era.starts; last = j.none_sets };
+  lawful = lawful;
+  era = record { parts = refl; starts = k.era.starts; last = none };
   possible = possible-next l session action k.possible n;
 }
 
--- a loop goes on by what can come next
+-- a loop goes on by what can come next: an action that is no event, or one that is
 pub longer-quiet : (l : Loop) (session : List Action) (action : Action) → IsLoop l session → IsNext l session action → events l (action ∷ []) ≡ [] → IsLoop l (session ++ action ∷ [])
-longer-quiet l session action k n none = longer l session action k n (journaled-quiet l session action k none)
+longer-quiet l session action k n none =
+    let same = sym (events-append l session (action ∷ []) ∙ ap (λ es. events l session ++ es) none ∙ append-nil (events l session)) in
+    longer l session action k n (subst (λ es. IsLawfulWithin l.limits l.settings (l.before ++ es)) same k.lawful) (subst (λ es. NoneSetsWithin l.limits l.settings l.before es) same k.era.last)
 
 pub longer-event : (l : Loop) (session : List Action) (action : Action) (e : Event) → IsLoop l session → IsNext l session action → events l (action ∷ []) ≡ e ∷ [] → HasStep l.settings (receiver l session) e
     → set_by l.settings (receiver l session) e ≡ None → IsLoop l (session ++ action ∷ [])
-longer-event l session action e k n one has none = longer l session action k n (journaled-event l session action e k one has none)
+longer-event l session action e k n one has none =
+    let same = sym (events-append l session (action ∷ []) ∙ ap (λ es. events l session ++ es) one) in
+    let whole = sym (journal-append l session (action ∷ []) ∙ ap (λ es. journal l session ++ es) one) in
+    longer l session action k n (subst (IsLawfulWithin l.limits l.settings) whole (lawful-push l.limits l.settings (journal l session) e k.lawful has))
+    (subst (NoneSetsWithin l.limits l.settings l.before) same (none-push l.limits l.settings l.before (events l session) e k.era.last none))

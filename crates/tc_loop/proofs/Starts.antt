@@ -1,44 +1,20 @@
 -- The starts that were worked out by hand: one meets each premise.
-use Rattle.std.proofs.Common.{◌≡◌, ◌≢◌, ℕ, zero, suc, ◌+◌, ◌%◌, ◌<◌, ◌≤◌, Bool, true, false, List, [], ◌∷◌, drop, take, Some, None, refl, subst, ◌⊎◌, inl, inr, arith}
-use Rattle.std.specs.Prelude.{All, AllPairs, nat_lt, slice_get, ◌&&◌}
-use Rattle.std.proofs.lemmas.Bool.Decides.{nat_tests}
-use Rattle.tc_link.specs.Frame.{IsOctets, IsWhole, header_of}
-use Rattle.tc_link.proofs.Frames.{octets-append, octets-cons}
-use Rattle.tc_channel.specs.ChannelState.{ChannelState}
-unfoldable use Rattle.tc_channel.specs.ChannelState.{no_limits}
-use Rattle.tc_channel.specs.Era.{NoneSetsWithin, set_by}
+use Rattle.tc_loop.proofs.Names.{Action, All, Arrive, Bool, ChannelState, Frame, Hear, Idle, IsAllowed, IsLawfulWithin, IsLoop, IsNumbered, IsOctets, IsOther, IsStart, IsWhole, KeepOrder, List, NamesAnother, None, NoneSetsWithin, Other, QueueSetting, Release, Send, Some, Take, [], arith, around, begun, clcw_within, drop, era, era_before, events, false, header_of, inl, inr, journal, known, known_since, learnt_by_9, nat_lt, nat_tests, no_limits, octets-append, octets-cons, passed_on, receiver, refl, run_within, session_before, set_by, slice_get, smallest, some_of_first, subst, suc, take, trap, true, zero, ℕ, ◌%◌, ◌&&◌, ◌+◌, ◌<◌, ◌∷◌, ◌≡◌, ◌≤◌, ◌⊎◌, All-cons, All-nil}
 use Rattle.tc_channel.specs.Examples as example
-use Rattle.tc_channel.specs.Settings.{IsAllowed}
-use Rattle.tc_channel.specs.declared.settings.MapSetting.{MapSetting}
-use Rattle.tc_channel.specs.declared.settings.QueueSetting.{QueueSetting}
-unfoldable use Rattle.tc_channel.specs.Run.{run_within, passed_on, IsLawfulWithin}
-unfoldable use Rattle.tc_channel.specs.Reply.{clcw_within}
-unfoldable use Rattle.tc_link.specs.Window.{some_of_first}
-use Rattle.tc_channel.specs.declared.event.Event.TheVariants.{Frame, Release, Take}
-use Rattle.tc_loop.specs.Loop.{Action, Send, Arrive, Hear, Other, Idle, begun, events, journal, known, receiver, smallest, IsLoop, IsNumbered, IsOther, KeepOrder}
-use Rattle.tc_loop.specs.Start.{IsStart, NamesAnother, era, era_before, known_since, session_before}
-use Rattle.tc_loop.specs.Examples.{around, learnt_by_9, trap}
-use Rattle.tc_loop.proofs.Begun.{octets}
-use Rattle.tc_loop.proofs.Moments.{so-at}
+use Rattle.tc_loop.proofs.Begun.{smallest-whole}
+use Rattle.tc_loop.proofs.Actions.{so-at}
 
 -- numbers that are octets
 abbrev pub small : List ℕ → Bool
 small [] = true
 small (x ∷ xs) = nat_lt x 256 && small xs
 
-octets-none : IsOctets []
-octets-none zero = omega arith
-octets-none (suc i) = omega arith
-
 pub octets-by : (xs : List ℕ) → small xs ≡ true → IsOctets xs
-octets-by [] all = octets-none
-octets-by (x ∷ xs) all = by (nat_lt x 256) refl all (octets-by xs) where
-  by : (t : Bool) → nat_lt x 256 ≡ t → (t && small xs) ≡ true → (small xs ≡ true → IsOctets xs) → IsOctets (x ∷ xs)
-  by true less rest more = octets-cons x xs (grind (arith, nat_tests)) (more rest)
-  by false less rest more = absurd cc
+octets-by [] all = λ i. omega arith
+octets-by (x ∷ xs) all = octets-cons x xs (grind (arith, nat_tests)) (octets-by xs (grind (arith, nat_tests)))
 
 pub whole-0 : IsWhole (around 9 0)
-whole-0 = record { each = octets 0 0; least = omega arith; most = omega arith; version = refl; spare = refl; named = refl }
+whole-0 = smallest-whole 0 0
 
 pub whole-1 : IsWhole (around 9 1)
 whole-1 = record { each = octets-by (around 9 1) refl; least = omega arith; most = omega arith; version = refl; spare = refl; named = refl }
@@ -69,18 +45,7 @@ lawful =
     ((whole-0, refl), ((whole-1, refl), ((whole-1, refl), ((whole-2 0, refl), (omega arith, (omega arith, ((0, record { key = 5; capacity = 1; admitted = packet ∷ []; taken = 0 }, omega arith, refl, (refl, omega arith)), tt)))))))
 
 one-item : {A : Type 0} (P : A → Type 0) (a : A) → P a → All P (a ∷ [])
-one-item P a h zero d within = h
-one-item P a h (suc k) d within = absurd (omega arith)
-
-no-item : {A : Type 0} (P : A → Type 0) → All P []
-no-item P k d within = absurd (omega arith)
-
-one-apart : {A : Type 0} (R : A → A → Type 0) (a : A) → AllPairs R (a ∷ [])
-one-apart R a i zero d before within = absurd (omega arith)
-one-apart R a i (suc j) d before within = absurd (omega arith)
-
-none-apart : {A : Type 0} (R : A → A → Type 0) → AllPairs R []
-none-apart R i j d before within = absurd (omega arith)
+one-item P a h = All-cons P a [] h (All-nil P)
 
 pub allowed-2 : IsAllowed (example.buffer_of 2)
 allowed-2 = record {
@@ -89,11 +54,11 @@ allowed-2 = record {
   buffer = (omega arith, omega arith);
   first = omega arith;
   apids = one-item (λ (q : QueueSetting). q.apid ≤ 2046) (record { apid = 5; capacity = 1 }) (omega arith);
-  apart = one-apart (λ (p q : QueueSetting). p.apid ≢ q.apid) (record { apid = 5; capacity = 1 });
+  apart = λ i j d before within. absurd (omega arith);
   capacities = one-item (λ (q : QueueSetting). (1 ≤ q.capacity) × (q.capacity ≤ 256)) (record { apid = 5; capacity = 1 }) (omega arith, omega arith);
-  maps = no-item (λ (m : MapSetting). m.map ≤ 63);
-  maps_apart = none-apart (λ (m n : MapSetting). m.map ≢ n.map);
-  unit_capacities = no-item (λ (m : MapSetting). (1 ≤ m.capacity) × (m.capacity ≤ 256));
+  maps = λ k d within. absurd (omega arith);
+  maps_apart = λ i j d before within. absurd (omega arith);
+  unit_capacities = λ k d within. absurd (omega arith);
   by_headers = λ plain. absurd cc;
 }
 
@@ -176,9 +141,6 @@ before-in-order = record {
   reports_in_order = λ t u m n order e f. let p = at-before t (Hear m) e in let q = at-before u (Hear n) f in grind arith;
 }
 
-before-numbered : (i : ℕ) → IsNumbered (era_before learnt_by_9 0 5 (smallest 0)) i
-before-numbered i = record { whole = record { each = octets 0 i; least = omega arith; most = omega arith; version = refl; spare = refl; named = refl }; bypass = refl; control = refl; ns = refl }
-
 before-sends : (t i : ℕ) → IsBefore t (Send i) → (known (era_before learnt_by_9 0 5 (smallest 0)) (session_before learnt_by_9) t ≤ i) × (i < known (era_before learnt_by_9 0 5 (smallest 0)) (session_before learnt_by_9) t + 5)
 before-sends t i p = rw (p.0, p.1) (omega arith, omega arith)
 
@@ -194,7 +156,7 @@ before-last (suc i) e h = absurd cc
 pub before-loop : IsLoop (era_before learnt_by_9 0 5 (smallest 0)) (session_before learnt_by_9)
 before-loop = record {
   window = omega arith;
-  numbered = before-numbered;
+  numbered = λ i. record { whole = smallest-whole 0 i; bypass = refl; control = refl; ns = refl };
   allowed = allowed-2;
   lawful = before-lawful;
   era = record { parts = refl; starts = inl (refl, refl); last = before-last };

@@ -1,9 +1,5 @@
 -- What one event adds to the accepted frames.
-use Rattle.tc_channel.proofs.Names.{◌≡◌, ℕ, false, List, [], ◌∷◌, ◌++◌, drop, refl, ◌⊎◌, inl, inr, State, S1, Row, E1, accepts, ChannelState, has_room, step, row_of, after_frame, header_of, passed_on}
-use Rattle.tc_channel.specs.declared.settings.Settings.{Settings}
-use Rattle.tc_channel.proofs.Eras.{number-at_E1, flags-at_E1, accepted-kept, only_S1}
-use Rattle.tc_channel.specs.declared.event.Event.{Event}
-use Rattle.tc_channel.specs.declared.event.Event.TheVariants.{Frame, Release, Take, TakeUnit}
+use Rattle.tc_loop.proofs.Names.{ChannelState, E1, Event, Frame, List, Row, S1, Settings, State, [], accepted-kept, accepts, after_frame, drop, false, flags-at_E1, has_room, header_of, inl, inr, number-at_E1, only_S1, passed_on, refl, row_of, step, ℕ, ◌++◌, ◌∷◌, ◌≡◌, ◌⊎◌}
 
 -- the frame is of Type-AD, has the number V(R), and is accepted
 pub record IsTaken (octets : List ℕ) (b later : ChannelState) : Type 0 where
@@ -29,6 +25,4 @@ step-takes c b (Frame octets) = elim (frame-takes c b octets (row_of c b octets)
   | inl same ↦ inl same
   | inr taken ↦ inr (octets, refl, taken)
 ]
-step-takes c b Release = inl refl
-step-takes c b (Take apid) = inl refl
-step-takes c b (TakeUnit map_id) = inl refl
+step-takes c b _ = inl refl

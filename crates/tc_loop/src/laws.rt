@@ -1,4 +1,5 @@
 //! Laws of a loop of a sender and a receiver, over links that lose, repeat and delay what they carry, but keep its order.
+#![tactic(auto, using(crate::proofs::Closing::laws))]
 
 ghost use Rattle.std.specs.Prelude.{List, ℕ, Bool, [], ◌++◌, ◌≡◌, ◌≢◌, ◌≤◌, ◌<◌, ◌+◌, ◌/◌, ◌%◌, ◌↔◌, IsTrue, Some, length, slice_get, take, if◌then◌else◌};
 ghost use Rattle.tc_link.specs.Frame.{header_of};

@@ -1,11 +1,4 @@
-use Rattle.tc_channel.specs.Run.{run_within}
-use Rattle.tc_channel.specs.Through.{passed_since, released_since, sent_from}
-use Rattle.tc_loop.specs.Loop.{journal, sent}
-use Rattle.tc_loop.specs.Start.{era}
-use Rattle.tc_loop.proofs.Given.{passed-on}
-use Rattle.std.specs.Prelude.{◌≡◌, ◌++◌, length}
-use Rattle.tc_ends.specs.Ends.{AreGivenOf, units_on}
-use Rattle.tc_ends.proofs.Started.{packets-in-cltus, packets-of-loop}
+use Rattle.tc_apart.proofs.Names.{AreGivenOf, era, journal, length, packets-in-cltus, packets-of-loop, passed-on, passed_since, released_since, run_within, sent, sent_from, units_on, ◌++◌, ◌≡◌}
 use Rattle.tc_apart.proofs.GivenOut.{of-channel, settings-given}
 use Rattle.tc_apart.proofs.threads.a_station_gives_out_what_a_loop_sent.Goals as goal
 

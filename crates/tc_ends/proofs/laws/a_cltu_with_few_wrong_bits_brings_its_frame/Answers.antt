@@ -1,8 +1,5 @@
-use Rattle.tc_ends.proofs.Arrived.{near-alone, near-arrives, near-searches}
+use Rattle.tc_ends.proofs.Arrived.{near-alone, near-searches}
 use Rattle.tc_ends.proofs.laws.a_cltu_with_few_wrong_bits_brings_its_frame.Goals as goal
-
-pub returns-clause-arrives : goal.returns-clause-arrives
-returns-clause-arrives c = near-arrives
 
 pub returns-clause-alone : goal.returns-clause-alone
 returns-clause-alone c = near-alone

@@ -1,8 +1,4 @@
-use Rattle.std.proofs.Common.{false, refl}
-use Rattle.tc_cltu.specs.declared.block.Mode.TheVariants.{Correct}
-use Rattle.tc_loop.specs.Examples.{learnt_by_9}
-use Rattle.tc_loop.proofs.Starts.{each-premise}
-use Rattle.tc_ends.specs.Examples.{in_cltus}
+use Rattle.tc_ends.proofs.Names.{Correct, each-premise, false, in_cltus, learnt_by_9, refl}
 use Rattle.tc_ends.proofs.Arrived.{carried-unaltered, carried-whole}
 use Rattle.tc_ends.proofs.Premises as met
 use Rattle.tc_ends.proofs.laws.all_premises_are_met_at_once.Goals as goal

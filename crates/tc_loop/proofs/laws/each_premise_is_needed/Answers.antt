@@ -1,7 +1,4 @@
-use Rattle.std.proofs.Common.{refl}
-unfoldable use Rattle.tc_channel.specs.Run.{run_within}
-unfoldable use Rattle.tc_channel.specs.Reply.{clcw_within}
-unfoldable use Rattle.tc_link.specs.Window.{some_of_first}
+use Rattle.tc_loop.proofs.Names.{clcw_within, refl, run_within, some_of_first}
 use Rattle.tc_loop.proofs.laws.each_premise_is_needed.Goals as goal
 
 pub returns : goal.returns

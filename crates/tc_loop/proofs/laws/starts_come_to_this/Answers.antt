@@ -1,8 +1,4 @@
-use Rattle.std.proofs.Common.{refl}
-unfoldable use Rattle.tc_channel.specs.ChannelState.{no_limits}
-unfoldable use Rattle.tc_channel.specs.Run.{run_within, passed_on}
-unfoldable use Rattle.tc_channel.specs.Reply.{clcw_within}
-unfoldable use Rattle.tc_link.specs.Window.{some_of_first}
+use Rattle.tc_loop.proofs.Names.{clcw_within, no_limits, passed_on, refl, run_within, some_of_first}
 use Rattle.tc_loop.proofs.Starts.{another, before-loop, each-premise, trap-not-another}
 use Rattle.tc_loop.proofs.laws.starts_come_to_this.Goals as goal
 

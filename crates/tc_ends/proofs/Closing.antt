@@ -1,0 +1,8 @@
+-- The lemmas that close laws without an answer.
+use Rattle.tc_ends.proofs.Arrived.{carried-unaltered, carried-whole, near-arrives}
+use Rattle.tc_ends.proofs.Cut.{cut-of-joined}
+use Rattle.tc_ends.proofs.Numbered.{numbered-on, numbered-sends}
+use Rattle.tc_ends.proofs.Plain.{plain-arrive}
+use Rattle.tc_ends.proofs.Written.{written-segments}
+
+pub ruleset laws = (carried-unaltered, carried-whole, near-arrives, cut-of-joined, numbered-on, numbered-sends, plain-arrive, written-segments)

@@ -1,0 +1,50 @@
+-- The types, definitions and lemmas that most proofs speak of, imported from one file.
+pub use Rattle.std.proofs.lemmas.Bool.{eqb-true, le-leb}
+pub use Rattle.std.proofs.lemmas.Grind.{flat_map-append}
+pub use Rattle.std.proofs.lemmas.List.{get_or-append_right, get_or_append_left, get_or_at}
+pub use Rattle.std.specs.List.{flat_map}
+pub use Rattle.tc_channel.proofs.Given.{released-within}
+pub use Rattle.tc_channel.proofs.Lists.{all-append}
+pub use Rattle.tc_channel.proofs.Names.{Ad, AllByRecursion, Bd, Bool, IsWhole, List, None, Option, Part, Passed, Queue, Service, Some, [], ap, append-nil, append_assoc, arith, as_list, at_most, common_steps, cond, drop, eq-eqb, eqb, eqb_tells, false, filter, filter-append, first_state_within, get_or, get_or-map, inl, inr, is_for, is_of, joined, length, length-append, length-drop, length-map, length-take, map, map-append, map_of, nat_tests, ne_eqb, packets_given, packets_of, packets_offered, queue_of, refl, rest_of, same_service, stream, subst, suc, sym, take, true, units_given, units_offered, zero, ℕ, ◌%◌, ◌&&◌, ◌*◌, ◌++◌, ◌+◌, ◌-◌, ◌<◌, ◌∙◌, ◌∷◌, ◌≡◌, ◌≢◌, ◌≤◌, ◌⊎◌}
+unfoldable pub use Rattle.tc_channel.proofs.Names.{IsLawfulWithin, no_limits, passed_on, run_within}
+pub use Rattle.tc_channel.proofs.Streams.{same_map, stream-other, stream-same}
+pub use Rattle.tc_channel.proofs.Through.{packets-given-of-made, units-given-of-made}
+pub use Rattle.tc_channel.specs.Account.{unit_on}
+pub use Rattle.tc_channel.specs.Given.{fields_passed}
+pub use Rattle.tc_channel.specs.Settings.{HasMapsByHeaders}
+pub use Rattle.tc_channel.specs.Through.{IsPartOf, all_made, is_chosen_by, packets_ended, packets_made, unit_made, units_ended, units_made}
+pub use Rattle.tc_cltu.proofs.Decoding.{after-fits, filled-fits, filled-front, some-octets}
+pub use Rattle.tc_cltu.proofs.Starting.{first-far, start-far, start-same}
+pub use Rattle.tc_cltu.proofs.Taking.{taken}
+pub use Rattle.tc_cltu.specs.Cltu.{cltu_fault_of, fill, filled, most_octets}
+pub use Rattle.tc_cltu.specs.CodeBlock.{IsInformation, errors}
+unfoldable pub use Rattle.tc_cltu.specs.CodeBlock.{block_times_x, decoded}
+pub use Rattle.tc_cltu.specs.Reception.{Decoding, Reception, Searching, Step, after_block, frames_of, is_start, reception_step, state_after}
+pub use Rattle.tc_cltu.specs.declared.block.Mode.{Mode}
+pub use Rattle.tc_cltu.specs.declared.block.Mode.TheVariants.{Correct}
+pub use Rattle.tc_ends.specs.Arrivals.{AltersNothing, AreBrought, AreCarried, AreEventsAt, AreEventsOf, AreNearBlocks, Asks, Brings, CarryWell, Coming, IsCarried, IsNearCltu, Octets, enclosed, state_behind}
+pub use Rattle.tc_ends.specs.Ends.{AreAllPackets, AreFramesOf, AreFrom, AreGivenOf, AreMerged, AreNumbered, AreWritten, CanBeSent, CarrySent, CarryUnits, EndAtLast, IsSendable, OnStream, PacketsSent, SendsOnly, SendsPackets, Sent, UnitSent, all_joined, behind_ad, fields_in_order, is_chosen_map, is_from, is_in, is_same_stream, joined_on, map_in, on_map, only_on, packet_on, packets_for, packets_in_era, packets_sent_on, packets_to, passed_before, passed_in, sent_on, stream_in, stream_unit, units_ended_by, units_on, unless_chosen, until_ad}
+pub use Rattle.tc_ends.specs.Examples.{enclosing, first_frame, first_header, in_cltus, of_before, of_first_frame, of_set_v_r, one_unit, packet}
+pub use Rattle.tc_fecf.proofs.Delimiting.{one-frame}
+pub use Rattle.tc_fecf.proofs.Plain.{frame_with_field-alike}
+pub use Rattle.tc_fecf.specs.Candidate.{is_fill}
+unfoldable pub use Rattle.tc_fecf.specs.Checksum.{octet_bits}
+pub use Rattle.tc_link.specs.declared.frame.Header.{Header}
+pub use Rattle.tc_loop.proofs.Counted.{begins, comes, known-so}
+pub use Rattle.tc_loop.proofs.Actions.{so-at}
+pub use Rattle.tc_loop.proofs.Names.{events_at, drop_all, take_at, cases_lt, nil_from_length, Action, Arrive, ComesFromWithin, Hear, Idle, IsEraWithin, IsLoop, IsStart, Loop, Other, Send, Start, accepted, begun, era, era_session, events, field_of, journal, learnt_by_9, passed-as-sent, receiver, released_since, sent, sent_from, ◌/◌, Event, Frame, Release, Settings, Take, TakeUnit}
+unfoldable pub use Rattle.tc_loop.proofs.Names.{some_of_first}
+pub use Rattle.tc_loop.proofs.Onward.{whole}
+pub use Rattle.tc_loop.proofs.Started.{is-loop, journal-whole}
+pub use Rattle.tc_loop.proofs.Starts.{each-premise, octets-by, whole-0, whole-1, whole-2}
+pub use Rattle.tc_packet.proofs.Cuts.{only-cut}
+pub use Rattle.tc_packet.proofs.Streams.{is-unit}
+pub use Rattle.tc_packet.specs.Reassembly.{IsPart, unit_at}
+pub use Rattle.tc_packet.specs.Segment.{body_of}
+pub use Rattle.tc_packet.specs.SpacePacket.{IsPacket}
+pub use Rattle.tc_packet.specs.declared.segment.Part.TheVariants.{Continuing, First, Last, Unsegmented}
+pub use Rattle.tc_packet.specs.declared.segment.Segment.{Segment}
+pub use Rattle.tc_write.specs.Frames.{Carries, IsMadeFrame, header_later}
+pub use Rattle.tc_write.specs.Parts.{part_at, piece_at, segment_at, segments_needed}
+pub use Rattle.tc_write.specs.Segments.{AreSegments, MakeUnit}
+pub use Rattle.std.proofs.lemmas.List.Elements.{recursion_from_All, All-from_get_or}
