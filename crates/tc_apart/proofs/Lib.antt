@@ -2,3 +2,4 @@ pub mod Names
 pub mod OneChannel
 mod GivenOut
 mod Merged
+mod Spelled

@@ -5,7 +5,9 @@
 #![tactic(auto)]
 
 mod laws;
+mod making;
 mod threads;
 
 pub use laws::{channels_do_not_touch_each_other, channels_of_a_station_do_not_touch_each_other};
+pub use making::tcmake_writes_numbered_frames;
 pub use threads::a_station_gives_out_what_a_loop_sent;

@@ -1,0 +1,21 @@
+//! From a sender's packets to the frames that tcmake writes.
+
+ghost use Rattle.std.specs.Prelude.{Bool, List, ℕ, [], ◌∷◌, ◌≡◌, ◌<◌, ◌⊎◌, Option, true, false, codes};
+ghost use Rattle.tc_lines.specs.Answering.{Writes, lines_of};
+ghost use Rattle.tc_make.specs.Serving.{AreWritten};
+ghost use Rattle.tc_make.specs.declared.ending.Ending.{Ending};
+ghost use Rattle.tc_make.specs.declared.line.Stream.{Stream};
+ghost use Rattle.tc_ends.specs.Ends.{UnitSent};
+ghost use Rattle.tc_ends.specs.Examples as example;
+ghost use Rattle.tc_apart.specs.Making.{AskFor, AreSpelled, HasBadLine};
+
+/// Where lines ask `tcmake` for a sender's units in their order, as `answer_lines` of tc_make answers them (`AreWritten`), it writes the frames of
+/// `numbered_frames_send_packets` (tc_ends), or says of a line that it is bad (`written`). Two lines, worked out by hand, ask for a unit, with segment
+/// headers (`asked`) and without (`asked_plainly`).
+pub fn tcmake_writes_numbered_frames()
+    ensures written { (ending : Ending) (segmented : Bool) (stream : Stream) (units : List UnitSent) (octets : List ℕ) (before after : Option (List ℕ)) → stream.ns < 256
+        → AskFor segmented stream units (lines_of octets) → AreWritten ending octets before after
+        → Writes before after (λ text. AreSpelled ending segmented stream units text ⊎ HasBadLine text) }
+    ensures asked { AskFor true (record { scid = 42; vcid = 1; ns = 9 }) example.one_unit (lines_of (codes "segments 42 1 9 0 249 1005c0000000aa\n")) }
+    ensures asked_plainly { AskFor false (record { scid = 42; vcid = 1; ns = 9 }) example.one_unit (lines_of (codes "ad 42 1 9 plain 1005c0000000aa\n")) }
+{}
