@@ -45,8 +45,7 @@ tail-ends mode room (f ∷ fs) tail end rest some seven none =
 filled-some : (frame : List ℕ) → 0 < length frame → 0 < length (filled frame)
 filled-some frame some =
     let f = filled-front frame in
-    let e : length (filled frame) ≡ length frame + length (take f.0 fill) = ap length f.2 ∙ length-append frame (take f.0 fill) in
-    omega arith
+    omega (arith, ap length f.2 ∙ length-append frame (take f.0 fill))
 
 near-both : (mode : Mode) (last : ℕ) (frame octets rest : List ℕ) → cltu_fault_of frame ≡ None → IsNearCltu mode last frame octets
     → Both mode most_octets (Searching last) (octets ++ rest) ≡ behind mode most_octets (Searching 0, filled frame ∷ []) rest

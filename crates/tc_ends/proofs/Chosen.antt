@@ -1,19 +1,15 @@
 -- The units of a chosen MAP.
-use Rattle.tc_ends.proofs.Names.{Bool, CarrySent, List, None, Option, Passed, Sent, Service, Settings, Some, [], all_made, ap, as_list, eq-eqb, eqb, eqb_tells, false, filter, inl, inr, is_chosen_by, is_chosen_map, map_of, ne_eqb, refl, same_service, sym, true, unit_made, unit_on, units_ended, units_made, units_offered, ℕ, ◌&&◌, ◌++◌, ◌∙◌, ◌∷◌, ◌≡◌, ◌≢◌, ◌⊎◌}
+use Rattle.tc_ends.proofs.Names.{Bool, CarrySent, List, None, Option, Passed, Sent, Service, Settings, Some, [], all_made, ap, as_list, eq-eqb, eqb, eqb_tells, false, filter, inl, inr, is_chosen_by, is_chosen_map, map_of, ne_eqb, refl, same_service, sym, true, unit_made, unit_on, units_ended, units_made, units_offered, ℕ, ◌&&◌, ◌++◌, ◌∙◌, ◌∷◌, ◌≡◌, ◌≢◌, ◌⊎◌, cond, arith}
 use Rattle.tc_ends.proofs.Segmented.{Makes}
 use Rattle.tc_ends.proofs.Streams.{headed-carried}
 use Rattle.tc_ends.proofs.Made.{made-append, no-parts, same-self}
 
 -- a filter that looks at no item
-all-or-none : (t : Bool) (xs : List (List ℕ)) → t ≡ true → filter (λ (unit : List ℕ). t) xs ≡ xs
-all-or-none true [] h = refl
-all-or-none true (x ∷ xs) h = ap (λ (ys : List (List ℕ)). x ∷ ys) (all-or-none true xs refl)
-all-or-none false xs h = absurd cc
-
-none-left : (t : Bool) (xs : List (List ℕ)) → t ≡ false → filter (λ (unit : List ℕ). t) xs ≡ []
-none-left false [] h = refl
-none-left false (x ∷ xs) h = none-left false xs refl
-none-left true xs h = absurd cc
+all-or-none : (t : Bool) (xs : List (List ℕ)) → filter (λ (unit : List ℕ). t) xs ≡ cond t xs []
+all-or-none true [] = refl
+all-or-none true (x ∷ xs) = ap (λ (ys : List (List ℕ)). x ∷ ys) (all-or-none true xs)
+all-or-none false [] = refl
+all-or-none false (x ∷ xs) = all-or-none false xs
 
 of-chosen : (o : Option (List ℕ)) → units_offered o true ≡ as_list o
 of-chosen None = refl
@@ -37,7 +33,7 @@ units-on limits s service map_id chosen (p ∷ ps) before others =
     kept : map_of p.field ≡ map_id → units_ended limits s map_id before p ≡ as_list made
     kept e =
         let is_chosen : is_chosen_by s p.field ≡ true = rw e chosen in
-        all-or-none (eqb map_id (map_of p.field)) (units_offered made (is_chosen_by s p.field)) (eq-eqb map_id (map_of p.field) (sym e))
+        all-or-none (eqb map_id (map_of p.field)) (units_offered made (is_chosen_by s p.field)) ∙ ap (λ (t : Bool). cond t (units_offered made (is_chosen_by s p.field)) []) (eq-eqb map_id (map_of p.field) (sym e))
         ∙ ap (units_offered made) is_chosen ∙ of-chosen made
 
     by : (((eqb (map_of p.field) map_id ≡ true) × (map_of p.field ≡ map_id)) ⊎ ((eqb (map_of p.field) map_id ≡ false) × (map_of p.field ≢ map_id)))
@@ -51,13 +47,10 @@ units-on limits s service map_id chosen (p ∷ ps) before others =
         rw (kept e.1, none, other) ih
     by (inr e) t own ih =
         let none : units_ended limits s map_id before p ≡ [] =
-        none-left (eqb map_id (map_of p.field)) (units_offered made (is_chosen_by s p.field)) (ne_eqb map_id (map_of p.field) (λ same. e.1 (sym same))) in
-        let other : (same_service service p.service && eqb (map_of p.field) map_id) ≡ false = rw (own, e.0) (last t) in
+        all-or-none (eqb map_id (map_of p.field)) (units_offered made (is_chosen_by s p.field))
+        ∙ ap (λ (t : Bool). cond t (units_offered made (is_chosen_by s p.field)) []) (ne_eqb map_id (map_of p.field) (λ same. e.1 (sym same))) in
+        let other : (same_service service p.service && eqb (map_of p.field) map_id) ≡ false = grind arith in
         rw (none, other) ih
-      where
-        last : (t : Bool) → (t && false) ≡ false
-        last true = refl
-        last false = refl
 
 pub units-arrive : Makes → (limits : ℕ → ℕ) (s : Settings) (service : Service) (map_id : ℕ) (sent : Sent) (before passed : List Passed) → s.segmented ≡ true → is_chosen_map s map_id ≡ true
     → CarrySent limits true sent passed → ((other : Service) → same_service service other ≡ false → sent other map_id ≡ [])

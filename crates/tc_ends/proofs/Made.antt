@@ -1,5 +1,5 @@
 -- What data fields make for an application, and of the units of a chosen MAP.
-use Rattle.tc_ends.proofs.Names.{Ad, AreAllPackets, AreMerged, Bd, Bool, CarrySent, HasMapsByHeaders, List, None, OnStream, Option, PacketsSent, Passed, Service, Settings, Some, [], all_joined, all_made, ap, append-nil, append_assoc, arith, as_list, cond, eqb, false, filter, filter-append, flat_map, flat_map-append, is_chosen_by, is_chosen_map, is_for, is_from, is_in, is_same_stream, joined_on, map, map-append, map_in, packet_on, packets_ended, packets_for, packets_made, packets_of, packets_offered, packets_sent_on, packets_to, refl, same_map, same_service, stream_unit, subst, sym, true, unit_made, unless_chosen, ℕ, ◌&&◌, ◌++◌, ◌∙◌, ◌∷◌, ◌≡◌}
+use Rattle.tc_ends.proofs.Names.{Ad, AreAllPackets, AreMerged, Bd, Bool, CarrySent, HasMapsByHeaders, List, None, OnStream, Option, PacketsSent, Passed, Service, Settings, Some, [], all_joined, all_made, ap, append-nil, append_assoc, arith, as_list, cond, eqb, false, filter, filter-append, flat_map, flat_map-append, is_chosen_by, is_chosen_map, is_for, is_from, is_in, is_same_stream, joined_on, map, map-append, map_in, packet_on, packets_ended, packets_for, packets_made, packets_of, packets_offered, packets_sent_on, packets_to, refl, same_map, same_service, stream_unit, subst, sym, true, unit_made, unless_chosen, ℕ, ◌&&◌, ◌++◌, ◌∙◌, ◌∷◌, ◌≡◌, cases_Bool, inl, inr}
 use Rattle.tc_ends.proofs.Segmented.{Makes}
 use Rattle.tc_ends.proofs.Cut.{cut-of-joined}
 use Rattle.tc_ends.proofs.Streams.{units-carried}
@@ -70,49 +70,36 @@ chosen-by s field map_id c free is h = by s.segmented refl is where
       let neither : (is_chosen_by s field ≡ false) × (is_chosen_map s map_id ≡ false) = rw (free plain) (refl, refl) in
       neither.0 ∙ sym neither.1 ∙ h
 
+offered : (apid : ℕ) (o : Option (List ℕ)) (units : List (List ℕ)) (c : Bool) → filter (is_for apid) (packets_offered o c) ++ cond c [] (packets_for apid units) ≡ cond c [] (packets_for apid (as_list o ++ units))
+offered apid o units true = append-nil (filter (is_for apid) (packets_offered o true)) ∙ of-chosen apid o
+offered apid o units false = ap (λ (x : List (List ℕ)). x ++ packets_for apid units) (of-one apid o) ∙ sym (for-append apid (as_list o) units)
+
 came-each : (limits : ℕ → ℕ) (s : Settings) (apid : ℕ) (service : Service) (map_id : ℕ) (chosen : Bool) → HasMapsByHeaders s → is_chosen_map s map_id ≡ chosen → (before ps : List Passed)
     → map packet_on (filter (is_from service map_id) (came limits s apid before ps)) ≡ cond chosen [] (packets_for apid (all_made (stream_unit limits s service map_id) before ps))
 came-each limits s apid service map_id true free is before [] = refl
 came-each limits s apid service map_id false free is before [] = refl
 came-each limits s apid service map_id chosen free is before (p ∷ ps) =
-    parts ∙ by (is_in s.segmented service map_id p) refl chosen is (came-each limits s apid service map_id chosen free is (before ++ p ∷ []) ps)
-  where
-    now : List (List ℕ)
-    now = packets_ended limits s apid before p
-
-    later : List OnStream
-    later = came limits s apid (before ++ p ∷ []) ps
-
-    units : List (List ℕ)
-    units = all_made (stream_unit limits s service map_id) (before ++ p ∷ []) ps
-
-    made : Option (List ℕ)
-    made = unit_made limits s before p
-
-    own : List OnStream
-    own = tagged p.service (map_in s.segmented p.field) now
-
-    parts : map packet_on (filter (is_from service map_id) (own ++ later)) ≡ map packet_on (filter (is_from service map_id) own) ++ map packet_on (filter (is_from service map_id) later)
-    parts = ap (map packet_on) (filter-append (is_from service map_id) own later) ∙ map-append packet_on (filter (is_from service map_id) own) (filter (is_from service map_id) later)
-
-    by : (t : Bool) → is_in s.segmented service map_id p ≡ t → (c : Bool) → is_chosen_map s map_id ≡ c → map packet_on (filter (is_from service map_id) later) ≡ cond c [] (packets_for apid units)
-        → map packet_on (filter (is_from service map_id) own) ++ map packet_on (filter (is_from service map_id) later) ≡ cond c [] (packets_for apid (all_made (stream_unit limits s service map_id) before (p ∷ ps)))
-    by true same c h ih =
-        let chosen_is = chosen-by s p.field map_id c free (same_map service p.service (map_in s.segmented p.field) map_id same) h in
-        let first : map packet_on (filter (is_from service map_id) own) ≡ filter (is_for apid) (packets_offered made c) =
-        ap (map packet_on) (tag-kept service map_id p.service (map_in s.segmented p.field) now same) ∙ tag-off p.service (map_in s.segmented p.field) now ∙ ap (λ (x : Bool). filter (is_for apid) (packets_offered made x)) chosen_is in
-        let unit_is : stream_unit limits s service map_id before p ≡ as_list made = rw same refl in
-        ap (λ (x : List (List ℕ)). x ++ map packet_on (filter (is_from service map_id) later)) first ∙ ap (λ (x : List (List ℕ)). filter (is_for apid) (packets_offered made c) ++ x) ih ∙ last c unit_is
-      where
-        last : (c : Bool) → stream_unit limits s service map_id before p ≡ as_list made
-            → filter (is_for apid) (packets_offered made c) ++ cond c [] (packets_for apid units) ≡ cond c [] (packets_for apid (all_made (stream_unit limits s service map_id) before (p ∷ ps)))
-        last true unit_is = append-nil (filter (is_for apid) (packets_offered made true)) ∙ of-chosen apid made
-        last false unit_is =
-            ap (λ (x : List (List ℕ)). x ++ packets_for apid units) (of-one apid made) ∙ sym (for-append apid (as_list made) units) ∙ ap (λ (x : List (List ℕ)). packets_for apid (x ++ units)) (sym unit_is)
-    by false apart c h ih =
-        let none : map packet_on (filter (is_from service map_id) own) ≡ [] = ap (map packet_on) (tag-dropped service map_id p.service (map_in s.segmented p.field) now apart) in
-        let unit_is : stream_unit limits s service map_id before p ≡ [] = rw apart refl in
-        ap (λ (x : List (List ℕ)). x ++ map packet_on (filter (is_from service map_id) later)) none ∙ ih ∙ ap (λ (x : List (List ℕ)). cond c [] (packets_for apid (x ++ units))) (sym unit_is)
+    let id = map_in s.segmented p.field in
+    let now = packets_ended limits s apid before p in
+    let later = map packet_on (filter (is_from service map_id) (came limits s apid (before ++ p ∷ []) ps)) in
+    let units = all_made (stream_unit limits s service map_id) (before ++ p ∷ []) ps in
+    let made = unit_made limits s before p in
+    let own = tagged p.service id now in
+    let rest = came-each limits s apid service map_id chosen free is (before ++ p ∷ []) ps in
+    ap (map packet_on) (filter-append (is_from service map_id) own (came limits s apid (before ++ p ∷ []) ps))
+    ∙ map-append packet_on (filter (is_from service map_id) own) (filter (is_from service map_id) (came limits s apid (before ++ p ∷ []) ps))
+    ∙ elim (cases_Bool (is_in s.segmented service map_id p)) [
+      | inl same ↦
+          let chosen_is = chosen-by s p.field map_id chosen free (same_map service p.service id map_id same) is in
+          let first : map packet_on (filter (is_from service map_id) own) ≡ filter (is_for apid) (packets_offered made chosen) =
+          ap (map packet_on) (tag-kept service map_id p.service id now same) ∙ tag-off p.service id now ∙ ap (λ (x : Bool). filter (is_for apid) (packets_offered made x)) chosen_is in
+          let unit_is : stream_unit limits s service map_id before p ≡ as_list made = rw same refl in
+          ap (λ (x : List (List ℕ)). x ++ later) first ∙ ap (λ (x : List (List ℕ)). filter (is_for apid) (packets_offered made chosen) ++ x) rest ∙ offered apid made units chosen
+          ∙ ap (λ (x : List (List ℕ)). cond chosen [] (packets_for apid (x ++ units))) (sym unit_is)
+      | inr apart ↦
+          let unit_is : stream_unit limits s service map_id before p ≡ [] = rw apart refl in
+          ap (λ (x : List OnStream). map packet_on x ++ later) (tag-dropped service map_id p.service id now apart) ∙ rest ∙ ap (λ (x : List (List ℕ)). cond chosen [] (packets_for apid (x ++ units))) (sym unit_is)
+    ]
 
 -- what data fields make for an application came on streams
 pub made-merged : (limits : ℕ → ℕ) (s : Settings) (apid : ℕ) (before ps : List Passed) (on : Service → ℕ → List (List ℕ)) → HasMapsByHeaders s
@@ -131,21 +118,16 @@ of_test t kept b = map packet_on (cond b (t ∷ kept) kept)
 all-kept : (service : Service) (map_id : ℕ) (came : List OnStream) → ((other : Service) (id : ℕ) → is_same_stream service map_id other id ≡ false → map packet_on (filter (is_from other id) came) ≡ [])
     → filter (is_from service map_id) came ≡ came
 all-kept service map_id [] none = refl
-all-kept service map_id (t ∷ came) none = by (is_from service map_id t) refl (all-kept service map_id came rest) where
-  behind : (other : Service) (id : ℕ) (b : Bool) → is_from other id t ≡ b → map packet_on (filter (is_from other id) (t ∷ came)) ≡ [] → of_test t (filter (is_from other id) came) b ≡ []
-  behind other id b e h = subst (λ (b : Bool). of_test t (filter (is_from other id) came) b ≡ []) e h
-
-  rest : (other : Service) (id : ℕ) → is_same_stream service map_id other id ≡ false → map packet_on (filter (is_from other id) came) ≡ []
-  rest other id apart = at (is_from other id t) (behind other id (is_from other id t) refl (none other id apart)) where
-    at : (b : Bool) → of_test t (filter (is_from other id) came) b ≡ [] → map packet_on (filter (is_from other id) came) ≡ []
-    at true h = let q : t.packet ∷ map packet_on (filter (is_from other id) came) ≡ [] = h in absurd cc
-    at false h = h
-
-  by : (b : Bool) → is_from service map_id t ≡ b → filter (is_from service map_id) came ≡ came → filter (is_from service map_id) (t ∷ came) ≡ t ∷ came
-  by true e ih = rw e (ap (λ (x : List OnStream). t ∷ x) ih)
-  by false e ih =
-      let h : t.packet ∷ map packet_on (filter (is_from t.service t.map_id) came) ≡ [] = behind t.service t.map_id true (same-self t.service t.map_id) (none t.service t.map_id e) in
-      absurd cc
+all-kept service map_id (t ∷ came) none =
+    let at = λ (other : Service) (id : ℕ) (b : Bool) (e : is_from other id t ≡ b) (h : map packet_on (filter (is_from other id) (t ∷ came)) ≡ []). subst (λ (b : Bool). of_test t (filter (is_from other id) came) b ≡ []) e h in
+    let rest = all-kept service map_id came (λ other id apart. elim (cases_Bool (is_from other id t)) [
+      | inl e ↦ absurd (let q : t.packet ∷ map packet_on (filter (is_from other id) came) ≡ [] = at other id true e (none other id apart) in cc)
+      | inr e ↦ at other id false e (none other id apart)
+    ]) in
+    elim (cases_Bool (is_from service map_id t)) [
+      | inl e ↦ rw e (ap (λ (x : List OnStream). t ∷ x) rest)
+      | inr e ↦ absurd (let q : t.packet ∷ map packet_on (filter (is_from t.service t.map_id) came) ≡ [] = at t.service t.map_id true (same-self t.service t.map_id) (none t.service t.map_id e) in cc)
+    ]
 
 pub merged-alone : (packets : List (List ℕ)) (on : Service → ℕ → List (List ℕ)) (service : Service) (map_id : ℕ) → AreMerged packets on
     → ((other : Service) (id : ℕ) → is_same_stream service map_id other id ≡ false → on other id ≡ []) → packets ≡ on service map_id

@@ -1,5 +1,5 @@
 -- The types, definitions and lemmas that most proofs speak of, imported from one file.
-pub use Rattle.std.proofs.lemmas.Bool.{eqb-true, le-leb}
+pub use Rattle.std.proofs.lemmas.Bool.{eqb-true, le-leb, cases_Bool}
 pub use Rattle.std.proofs.lemmas.Grind.{flat_map-append}
 pub use Rattle.std.proofs.lemmas.List.{get_or-append_right, get_or_append_left, get_or_at}
 pub use Rattle.std.specs.List.{flat_map}

@@ -1,5 +1,5 @@
 -- The segments of a unit end it once, behind whatever came before.
-use Rattle.tc_ends.proofs.Names.{AllByRecursion, AreSegments, Continuing, EndAtLast, First, IsPart, List, MakeUnit, Segment, Unsegmented, [], ap, append_assoc, arith, common_steps, get_or, inl, inr, length, length-append, nat_tests, part_at, refl, segments_needed, sym, units_ended_by, ℕ, ◌++◌, ◌+◌, ◌∙◌, ◌∷◌, ◌≡◌, ◌≤◌, get_or_at, nil_from_length}
+use Rattle.tc_ends.proofs.Names.{AllByRecursion, AreSegments, Continuing, EndAtLast, First, IsPart, List, MakeUnit, Segment, Unsegmented, [], ap, append_assoc, arith, common_steps, get_or, inl, inr, length, length-append, nat_tests, part_at, refl, segments_needed, sym, units_ended_by, ℕ, ◌++◌, ◌∙◌, ◌∷◌, ◌≡◌, ◌≤◌, get_or_at, nil_from_length}
 use Rattle.tc_packet.specs.Segment.{header_of}
 
 -- continuing segments end no unit
@@ -21,9 +21,8 @@ part-only place count is = grind (arith, nat_tests, common_steps)
 part-there : (map size : ℕ) (unit : List ℕ) (fields xs ys : List (List ℕ)) (y : List ℕ) → AreSegments map size unit fields → fields ≡ xs ++ y ∷ ys
     → (header_of y).part ≡ part_at (length xs) (segments_needed size (length unit))
 part-there map size unit fields xs ys y s parts =
-    let len : length fields ≡ length xs + length (y ∷ ys) = ap length parts ∙ length-append xs (y ∷ ys) in
     let there : get_or fields (length xs) [] ≡ y = ap (λ (z : List (List ℕ)). get_or z (length xs) []) parts ∙ get_or_at xs y ys [] (length xs) refl in
-    ap (λ (z : List ℕ). (header_of z).part) (sym there) ∙ ap (λ (h : Segment). h.part) (s.each (length xs) (omega arith)).0
+    ap (λ (z : List ℕ). (header_of z).part) (sym there) ∙ ap (λ (h : Segment). h.part) (s.each (length xs) (omega (arith, ap length parts ∙ length-append xs (y ∷ ys)))).0
 
 -- what tc_write's law says
 abbrev pub Makes : Type 0
@@ -38,9 +37,7 @@ ends-once make map size unit before fields some more most s =
       | inl u ↦
           let part = part-there map size unit fields m.before [] m.last s m.parts in
           let one : count ≡ 1 = part-only (length m.before) count (sym part ∙ u.whole) in
-          let len : length fields ≡ length m.before + 1 = ap length m.parts ∙ length-append m.before (m.last ∷ []) in
-          let same = s.count in
-          let alone : m.before ≡ [] = nil_from_length m.before (omega arith) in
+          let alone : m.before ≡ [] = nil_from_length m.before (omega (arith, s.count, ap length m.parts ∙ length-append m.before (m.last ∷ []))) in
           record { first = []; last = m.last; parts = m.parts ∙ ap (λ (x : List (List ℕ)). x ++ m.last ∷ []) alone; none = refl; ends = inl u }
       | inr u ↦
           let r = u.opened in

@@ -59,9 +59,7 @@ module _ (s : Start) (first window : ℕ) (frames : ℕ → List ℕ) (own : (i 
 
   module _ (k : IsLoop o (session_before s)) (order : KeepOrder s.session) (asked made : ℕ) (obeyed : IsObeyed s s.obeyed) (here : slice_get s.session s.believed ≡ Some (Hear made)) where
     long : length (session_before s) ≡ s.obeyed
-    long =
-        let within = slice_get_within s.session s.obeyed (Arrive s.directive obeyed.0) obeyed.1 in
-        length-map (take s.obeyed s.session) (action_before s) ∙ length-take-le s.obeyed s.session (omega arith)
+    long = length-map (take s.obeyed s.session) (action_before s) ∙ length-take-le s.obeyed s.session (omega (arith, slice_get_within s.session s.obeyed (Arrive s.directive obeyed.0) obeyed.1))
 
     -- what it hears tells no less than it knew when it asked
     early : asked ≤ s.believed → s.believed < s.obeyed → known o (session_before s) asked ≤ accepted o (take made (session_before s))
@@ -80,8 +78,7 @@ module _ (s : Start) (first window : ℕ) (frames : ℕ → List ℕ) (own : (i 
               let from = map-get (action_before s) (take s.obeyed s.session) t (Hear m) at in
               let before : slice_get (take s.obeyed s.session) t ≡ Some (Hear m) = from.1 ∙ ap (λ (a : Action). Some a) (heard-before s m from.0 from.2) in
               let within = slice_get_within was t (Hear m) at in
-              let behind = order.reports_in_order t s.believed m made (omega arith) (get-take s.session s.obeyed t (Hear m) before) here in
-              omega arith,
+              omega (arith, order.reports_in_order t s.believed m made (omega arith) (get-take s.session s.obeyed t (Hear m) before) here),
         ) in
         let loop : IsLoop o more = longer-quiet o was (Hear made) k can refl in
         let h = (holds o more (λ t. accepted o (take t more)) (λ t. known o more t) (λ t. begun more t) loop.window (counts o more loop) asked).back (length was) made (omega arith) (get-last was (Hear made)) in
@@ -94,8 +91,7 @@ module _ (s : Start) (first window : ℕ) (frames : ℕ → List ℕ) (own : (i 
       | inl after ↦ after
       | inr low ↦ absurd (
           let count = accepted o (take made (session_before s)) in
-          let among = (known-so o (session_before s) made k).among in
           let more = begun-grows (session_before s) made s.obeyed low in
           let learnt : (first + count) % 256 ≡ s.loop.first = sym (reported-so o (session_before s) made k) ∙ same-reported made low ∙ says in
-          another count (elim (cases_lt s.believed s.obeyed) [ inl sooner ↦ early since sooner | inr after ↦ late before low after ]) (omega arith) learnt)
+          another count (elim (cases_lt s.believed s.obeyed) [ inl sooner ↦ early since sooner | inr after ↦ late before low after ]) (omega (arith, (known-so o (session_before s) made k).among)) learnt)
     ]

@@ -42,8 +42,7 @@ emptied l (suc n) session k e =
     let left : length (buffer (receiver l one)) ≡ n = ap (λ (a : ChannelState). length (buffer a)) is ∙ release-buffer b n e in
     let count : accepted l one ≡ accepted l session = ever-same l session one (ap (λ (a : ChannelState). a.accepted) is ∙ release-accepted b) in
     let (kept, empty, all, many) = emptied l n one loop left in
-    let long = length_push session (Other Release) in
-    subst (IsEmptied l session (suc n)) (append_assoc session (Other Release ∷ []) (releases n)) (kept, empty, all ∙ count, omega arith)
+    subst (IsEmptied l session (suc n)) (append_assoc session (Other Release ∷ []) (releases n)) (kept, empty, all ∙ count, omega (arith, length_push session (Other Release)))
 
 -- the sender hears a CLCW that was made right now
 
@@ -63,8 +62,6 @@ learnt l session k =
     let long : length later ≡ suc n = omega (arith, length_push session (Hear n)) in
     let so = known-so l session n k in
     let low : known l session n ≤ accepted l session = subst (λ xs. known l session n ≤ accepted l xs) (whole session) so.below in
-    let among = so.among in
-    let within = so.within in
     let near : accepted l (take n session) ≤ known l session n + l.window = omega arith in
     let high : accepted l session ≤ known l session n + l.window = subst (λ xs. accepted l xs ≤ known l session n + l.window) (whole session) near in
     let before : known l later n ≡ known l session n = known-at l session (Hear n ∷ []) n k.possible (omega arith) in
@@ -168,5 +165,4 @@ by-rounds l zero session k some half free = record { loop = k; more = omega arit
 by-rounds l (suc n) session k some half free =
     let one = goes-on l session k some half free in
     let rest = by-rounds l n (session ++ round l session) one.loop some half free in
-    let first = one.one_more in
     record { loop = rest.loop; more = rest.more ∙ (omega arith) }

@@ -125,9 +125,7 @@ module _ (s : Start) (k : IsStart s) where
     | inr own ↦ own
     | inl old ↦ absurd (
         let first = k.obeyed in
-        let behind = k.links.frames_in_order s.obeyed t s.directive j first.0 r later first.1 here in
-        let before = k.stops r first.0 j (k.links.arrives t j r here).1 old (k.links.arrives s.obeyed s.directive first.0 first.1).1 in
-        omega arith)
+        omega (arith, k.links.frames_in_order s.obeyed t s.directive j first.0 r later first.1 here, k.stops r first.0 j (k.links.arrives t j r here).1 old (k.links.arrives s.obeyed s.directive first.0 first.1).1))
   ]
 
   -- and none of the era before Set V(R) is obeyed for the last time
@@ -136,12 +134,10 @@ module _ (s : Start) (k : IsStart s) where
     | inr old ↦ old
     | inl own ↦ absurd (
         let last = k.again.1 in
-        let behind = k.links.frames_in_order t s.again j s.directive r last.0 earlier here last.1 in
         let is : s.directive + 1 + (j - (s.directive + 1)) ≡ j = omega arith in
         let sent : slice_get s.session r ≡ Some (Send j) = (k.links.arrives t j r here).1 in
         let since = (k.sends r (j - (s.directive + 1)) (subst (λ n. slice_get s.session r ≡ Some (Send n)) (sym is) sent)).0 in
-        let asked = k.asks last.0 (k.links.arrives s.again s.directive last.0 last.1).1 in
-        omega arith)
+        omega (arith, k.links.frames_in_order t s.again j s.directive r last.0 earlier here last.1, k.asks last.0 (k.links.arrives s.again s.directive last.0 last.1).1))
   ]
 
   vr-obeyed : (t : ℕ) → IsObeyed s t → (receiver s.loop (take (suc t) s.session)).report.vr ≡ s.loop.first
@@ -154,9 +150,7 @@ module _ (s : Start) (k : IsStart s) where
     by : (o : Option Action) → slice_get s.session t ≡ o → (receiver s.loop (take (suc t) s.session)).report.vr ≡ s.loop.first
     by None none = ap (λ xs. (receiver s.loop xs).report.vr) (take-none s.session t none) ∙ vr
     by (Some (Arrive j r)) here =
-        let low = none-of-before t j r after here in
-        let high = none-of-era t j r before here in
-        let same : j ≡ s.directive = omega arith in
+        let same : j ≡ s.directive = omega (arith, none-of-before t j r after here, none-of-era t j r before here) in
         let kind = subst (λ n. kind_of (header_of (s.loop.frames n)) (field_of (s.loop.frames n)) ≡ Bc (SetVr s.loop.first)) (sym same) k.directive in
         ap (λ (c : ChannelState). c.report.vr) (one-at s.loop s.session t (Arrive j r) here)
         ∙ directive-vr s.loop.settings (receiver s.loop (take t s.session)) (s.loop.frames j) s.loop.first kind (inr vr)
@@ -181,7 +175,6 @@ module _ (s : Start) (k : IsStart s) where
   made-later : (t m : ℕ) → s.believed ≤ t → slice_get s.session t ≡ Some (Hear m) → s.obeyed < m
   made-later t m since here =
       let made = k.believes in
-      let first = made.2 in
       elim (cases_eq s.believed t) [
         | inl now ↦
             let is : Some (Hear made.0) ≡ Some (Hear m) = sym made.1 ∙ ap (slice_get s.session) now ∙ here in
@@ -271,11 +264,8 @@ module _ (s : Start) (k : IsStart s) where
     aside t e a late at (inl own) = (k.others t e (at ∙ ap (λ (b : Action). Some b) own)).0
     aside t e a late at (inr old) =
         let j = old.0 in
-        let high = old.3 in
         let here : slice_get s.session t ≡ Some (Arrive j old.1) = at ∙ ap (λ (b : Action). Some b) old.2 in
-        let first = k.again.0 in
-        let low = none-of-before t j old.1 (omega arith) here in
-        let same : j ≡ s.directive = omega arith in
+        let same : j ≡ s.directive = omega (arith, none-of-before t j old.1 (omega arith) here) in
         let kind = subst (λ n. kind_of (header_of (s.loop.frames n)) (field_of (s.loop.frames n)) ≡ Bc (SetVr s.loop.first)) (sym same) k.directive in
         subst IsOther (sym old.4) (directive-other (s.loop.frames j) s.loop.first kind)
 
