@@ -6,7 +6,7 @@ use Rattle.std.specs.Option.{option_and_then}
 use Rattle.tc_channel.specs.Copying.{copied_out}
 use Rattle.tc_channel.specs.declared.reply.NotCopied.{NotCopied}
 use Rattle.tc_channel.specs.declared.reply.NotCopied.TheVariants.{NoRoom}
-use Rattle.tc_fixed.specs.Taking.{IsOver, fault_of, unit_fault_of}
+use Rattle.tc_fixed.specs.Taking.{IsOver, packet_fault_of, unit_fault_of}
 use Rattle.tc_fixed.specs.declared.faults.NothingTaken.{NothingTaken}
 use Rattle.tc_fixed.specs.declared.faults.NothingTaken.TheVariants as taking
 use Rattle.tc_fixed.specs.declared.faults.NoUnitTaken.{NoUnitTaken}
@@ -31,11 +31,11 @@ pub record Says (room : ℕ) (waiting : Option (List (List ℕ))) (answer : Resu
   pub empty : IsErrOf answer taking.Empty ↔ (waiting ≡ Some [])
   pub no_room : (needed : ℕ) → IsErrOf answer (taking.NoRoom needed) ↔ IsOver room needed (oldest waiting)
 
-by-packet : (room : ℕ) (waiting : Option (List (List ℕ))) → Says room waiting (answer_by fault_of (copied_out room waiting))
+by-packet : (room : ℕ) (waiting : Option (List (List ℕ))) → Says room waiting (answer_by packet_fault_of (copied_out room waiting))
 by-packet room None = record { no_queue = (λ e. refl, λ e. refl); empty = (λ e. absurd cc, λ e. absurd cc); no_room = λ needed. (λ e. absurd cc, λ over. absurd over) }
 by-packet room (Some []) = record { no_queue = (λ e. absurd cc, λ e. absurd cc); empty = (λ e. refl, λ e. refl); no_room = λ needed. (λ e. absurd cc, λ over. absurd over) }
 by-packet room (Some (item ∷ later)) = by (nat_lt room (length item)) refl where
-  by : (t : Bool) → nat_lt room (length item) ≡ t → Says room (Some (item ∷ later)) (answer_by fault_of (cond t (Err (NoRoom (length item))) (Ok (length item))))
+  by : (t : Bool) → nat_lt room (length item) ≡ t → Says room (Some (item ∷ later)) (answer_by packet_fault_of (cond t (Err (NoRoom (length item))) (Ok (length item))))
   by true is =
       let less : room < length item = grind (arith, nat_tests) in
       record { no_queue = (λ e. absurd cc, λ e. absurd cc); empty = (λ e. absurd cc, λ e. absurd cc); no_room = λ needed. (λ e. (less, let same : length item ≡ needed = cc in sym same), λ over. rw over.1 refl) }
@@ -43,7 +43,7 @@ by-packet room (Some (item ∷ later)) = by (nat_lt room (length item)) refl whe
       let most : length item ≤ room = grind (arith, nat_tests) in
       record { no_queue = (λ e. absurd cc, λ e. absurd cc); empty = (λ e. absurd cc, λ e. absurd cc); no_room = λ needed. (λ e. absurd cc, λ over. absurd (omega (arith, over.0, most))) }
 
-pub packet-says : (room : ℕ) (waiting : Option (List (List ℕ))) (reply : Result ℕ NotCopied) (answer : Result ℕ NothingTaken) → reply ≡ copied_out room waiting → answer ≡ answer_by fault_of reply → Says room waiting answer
+pub packet-says : (room : ℕ) (waiting : Option (List (List ℕ))) (reply : Result ℕ NotCopied) (answer : Result ℕ NothingTaken) → reply ≡ copied_out room waiting → answer ≡ answer_by packet_fault_of reply → Says room waiting answer
 packet-says room waiting reply answer reply_is is = rw (is, reply_is) (by-packet room waiting)
 
 -- the same of a unit queue

@@ -13,10 +13,10 @@ IsOver room needed None = ⊥
 IsOver room needed (Some item) = (room < length item) × (needed ≡ length item)
 
 -- the fault of a packet queue, and of a unit queue, where both are taken from alike
-abbrev pub fault_of : NotCopied → NothingTaken
-fault_of NoQueue = taking.NoQueue
-fault_of Empty = taking.Empty
-fault_of (NoRoom needed) = taking.NoRoom needed
+abbrev pub packet_fault_of : NotCopied → NothingTaken
+packet_fault_of NoQueue = taking.NoQueue
+packet_fault_of Empty = taking.Empty
+packet_fault_of (NoRoom needed) = taking.NoRoom needed
 
 abbrev pub unit_fault_of : NotCopied → NoUnitTaken
 unit_fault_of NoQueue = unit_taking.NoMap

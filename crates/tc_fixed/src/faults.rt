@@ -38,9 +38,9 @@ pub enum NoUnitTaken {
 
 /// The same fault, of a packet queue.
 impl From<NotCopied> for NothingTaken {
-    ghost use Rattle.tc_fixed.specs.Taking.{fault_of};
+    ghost use Rattle.tc_fixed.specs.Taking.{packet_fault_of};
 
-    ghost from_gives = { λ fault e. e ≡ fault_of fault };
+    ghost from_gives = { λ fault e. e ≡ packet_fault_of fault };
 
     fn from(fault: NotCopied) -> NothingTaken {
         match fault {
