@@ -284,7 +284,9 @@ new-sound scid list m new = record {
       let none = no-event d.own made (was-there (λ (x : AtLock). x.own.made ≡ []) m.operator.desks k d at new.nothing) in
       let head : slice_get m.station.heads k ≡ Some d.own.seen.head =
       ap (λ (l : List Identity). slice_get l k) (sym new.knows) ∙ mapped-at (λ (x : AtLock). x.own.seen.head) m.operator.desks k d at in
-      ((new.watchers.1 k d.own.seen.head w head here).1, (w.seen.journal, ap (λ (l : List Event). l ++ w.seen.journal) none));
+      let one = new.watchers.1 k w here in
+      let same : one.0 ≡ d.own.seen.head = same_Some one.0 d.own.seen.head (sym one.1 ∙ head) in
+      (one.3 ∙ ap (λ (h : Identity). h.settings) same, (w.seen.journal, ap (λ (l : List Event). l ++ w.seen.journal) none));
 }
 
 pub new-rack : (scid : ℕ) (list : List Settings) (m : Staffed) → IsNewlyStaffed scid list m → AreAlone m.operator.desks → rack_of m ≡ new_rack scid list

@@ -45,6 +45,12 @@ impl<T: Wait> Backend for StationBackend<'_, T> {
         staffed: &mut StaffedStation,
         operation: Operation,
     ) -> Result<Answer, Reason> {
-        staffed.operate(self.rt, operation)
+        match operation {
+            Operation::Frame(octets) => staffed.bring(self.rt, octets.as_slice()),
+            Operation::Release(vcid) => staffed.release(self.rt, vcid),
+            Operation::Take(vcid, apid) => staffed.take(self.rt, vcid, apid),
+            Operation::Unit(vcid, map) => staffed.unit(self.rt, vcid, map),
+            Operation::Clcw(vcid) => Ok(staffed.clcw(vcid)),
+        }
     }
 }

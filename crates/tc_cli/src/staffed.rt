@@ -1,20 +1,20 @@
 //! A station with its operator and its watchers, and what the operations of a script are answered.
 
-ghost use Rattle.std.specs.Prelude.{◌≡◌, ◌<◌, ℕ, Contains, length, IfOk, IfErr, IfSome, MatchOption, OnOk, OnErr};
+ghost use Rattle.std.specs.Prelude.{◌≡◌, ◌<◌, length, IfOk, IfErr, OnOk, OnErr};
 ghost use Rattle.tc_rack.specs.Linked.{IsReleaseAnswered, IsTakeAnswered, IsUnitAnswered};
-ghost use Rattle.tc_cli.specs.Staffed.{AllHaveMet, AreAsCounted, HasMetAt, IsBringAnswer, IsDeskAnswer, IsStaffedAnswer, IsStaffedCall, IsNewlyStaffed, IsWordAnswer};
+ghost use Rattle.tc_cli.specs.Staffed.{AllHaveMet, AreAsCounted, HasMetAt, IsBringAnswer, IsDeskAnswer, IsStaffedCall, IsNewlyStaffed, IsWordAnswer};
 ghost use Rattle.tc_station.specs.Roster.{IsPlace, settings_in};
 ghost use Rattle.tc_cli.specs.Watched.{IsOrdered};
 ghost use Rattle.tc_station.specs.Tally.{HasMadeNothing, IsOurs, KnowsDesks};
 
-use crate::watchers::{NO_FLAGS, place_of, watch_each};
+use crate::watchers::{NO_FLAGS, watch_each};
 use std::alloc::Global;
 use std::marker::Model;
 use std::sync::Wait;
 use tc_channel::{NoMemory, Octets, ReleaseFault, TakeFault, TakeUnitFault, Unrecorded};
 use tc_desk::{Framing, Operation as DeskOperation, Release, Taking, UnitTaking};
-use tc_rack::{Answer, Operation, Refusal};
-use tc_station::{CountingStation, Operator, OperatorsFault};
+use tc_rack::{Answer, Refusal};
+use tc_station::{CountingStation, Located, Operator, OperatorsFault};
 use tc_status::Watcher;
 use tc_text::Reason;
 
@@ -101,114 +101,102 @@ impl StaffedStation {
         self.station.meet(rt, &mut self.operator, watcher, vcid);
     }
 
-    /// Does an operation.
-    pub(crate) fn operate(&mut self, rt: &impl Wait, operation: Operation) -> Result<Answer, Reason>
-        ensures answer { IfOk result (λ answer. IsStaffedAnswer operation self.old answer self.new) }
-        ensures reason { IfErr result (λ reason. reason ≡ Reason.NoMemory) }
-        ensures refused { OnErr result (AreAsCounted self.old self.new) }
-    {
-        match operation {
-            Operation::Frame(octets) => self.bring(rt, octets.as_slice()),
-            Operation::Release(vcid) => self.release(rt, vcid),
-            Operation::Take(vcid, apid) => self.take(rt, vcid, apid),
-            Operation::Unit(vcid, map) => self.unit(rt, vcid, map),
-            Operation::Clcw(vcid) => Ok(self.clcw(vcid)),
-        }
-    }
-
-    // The operation on the channel with this id, whose watcher meets it before and behind. None: no such channel.
-    fn operate_at<O: DeskOperation<Unrecorded>>(
+    // The operation on the channel at this place, which has this id. Its watcher meets it before and behind.
+    fn operate_met<O: DeskOperation<Unrecorded>>(
         &mut self,
         rt: &impl Wait,
+        place: usize,
         vcid: u8,
         operation: &O,
-    ) -> Option<Result<O::Answer, O::Fault>>
-        ensures call { MatchOption result (¬ Contains self.old.station.vcids vcid × (self.new ≡ self.old)) (λ r. (place : ℕ) × IsPlace self.old.station vcid place
-            × IsStaffedCall place vcid (O.event operation.now) (O.answers operation.now) (O.refuses operation.now) self.old r self.new) }
-        ensures counted { IfSome result (λ r. OnErr r (AreAsCounted self.old self.new)) }
+    ) -> Result<O::Answer, O::Fault>
+        requires { IsPlace self.old.station vcid place }
+        ensures call { IsStaffedCall place vcid (O.event operation.now) (O.answers operation.now) (O.refuses operation.now) self.old result self.new }
+        ensures counted { OnErr result (AreAsCounted self.old self.new) }
     {
-        let place = place_of(&self.vcids, vcid)?;
         let watcher = &mut self.watchers[place];
         let station = &self.station;
-        Some(station.operate_met(rt, &mut self.operator, watcher, vcid, operation))
+        station.operate_met(rt, &mut self.operator, watcher, place, operation)
     }
 
-    // Brings octets to the channel that their frame names.
-    fn bring(&mut self, rt: &impl Wait, octets: &[u8]) -> Result<Answer, Reason>
+    /// Brings octets to the channel that their frame names.
+    pub(crate) fn bring(&mut self, rt: &impl Wait, octets: &[u8]) -> Result<Answer, Reason>
         ensures answer { IfOk result (λ answer. IsBringAnswer octets.now self.old answer self.new) }
         ensures reason { IfErr result (λ reason. reason ≡ Reason.NoMemory) }
         ensures counted { OnErr result (AreAsCounted self.old self.new) }
     {
-        let located = match self.station.locate(octets) {
-            Ok(located) => located,
+        let (place, Located { vcid, frame }) = match self.station.place_frame(octets) {
+            Ok(placed) => placed,
             Err(fault) => return Ok(Answer::Refused(Refusal::Unlocated(fault))),
         };
-        let vcid = located.vcid;
-        let frame = &located.frame;
-        match self.operate_at(rt, vcid, &Framing { frame }) {
-            Some(Ok(reply)) => Ok(Answer::Frame { vcid, reply }),
-            Some(Err(NoMemory)) => Err(Reason::NoMemory),
-            None => unreachable!(),
+        match self.operate_met(rt, place, vcid, &Framing { frame: &frame }) {
+            Ok(reply) => Ok(Answer::Frame { vcid, reply }),
+            Err(NoMemory) => Err(Reason::NoMemory),
         }
     }
 
-    // Releases the oldest data field of a channel's buffer.
-    fn release(&mut self, rt: &impl Wait, vcid: u8) -> Result<Answer, Reason>
+    /// Releases the oldest data field of a channel's buffer.
+    pub(crate) fn release(&mut self, rt: &impl Wait, vcid: u8) -> Result<Answer, Reason>
         ensures answer { IfOk result (λ answer. IsDeskAnswer vcid IsReleaseAnswered self.old answer self.new) }
         ensures reason { IfErr result (λ reason. reason ≡ Reason.NoMemory) }
         ensures counted { OnErr result (AreAsCounted self.old self.new) }
     {
-        match self.operate_at(rt, vcid, &Release) {
-            Some(Ok(delivery)) => Ok(Answer::Release { vcid, delivery }),
-            Some(Err(ReleaseFault::Empty)) => Ok(Answer::Refused(Refusal::Empty)),
-            Some(Err(ReleaseFault::NoMemory)) => Err(Reason::NoMemory),
-            None => Ok(Answer::Refused(Refusal::UnknownChannel)),
+        let Some(place) = self.station.place_of(vcid) else {
+            return Ok(Answer::Refused(Refusal::UnknownChannel));
+        };
+        match self.operate_met(rt, place, vcid, &Release) {
+            Ok(delivery) => Ok(Answer::Release { vcid, delivery }),
+            Err(ReleaseFault::Empty) => Ok(Answer::Refused(Refusal::Empty)),
+            Err(ReleaseFault::NoMemory) => Err(Reason::NoMemory),
         }
     }
 
-    // Takes the oldest packet of a channel's queue.
-    fn take(&mut self, rt: &impl Wait, vcid: u8, apid: u16) -> Result<Answer, Reason>
+    /// Takes the oldest packet of a channel's queue.
+    pub(crate) fn take(&mut self, rt: &impl Wait, vcid: u8, apid: u16) -> Result<Answer, Reason>
         ensures answer { IfOk result (λ answer. IsDeskAnswer vcid (IsTakeAnswered apid) self.old answer self.new) }
         ensures reason { IfErr result (λ reason. reason ≡ Reason.NoMemory) }
         ensures counted { OnErr result (AreAsCounted self.old self.new) }
     {
-        match self.operate_at(rt, vcid, &Taking { apid }) {
-            Some(Ok(packet)) => Ok(Answer::Take {
+        let Some(place) = self.station.place_of(vcid) else {
+            return Ok(Answer::Refused(Refusal::UnknownChannel));
+        };
+        match self.operate_met(rt, place, vcid, &Taking { apid }) {
+            Ok(packet) => Ok(Answer::Take {
                 vcid,
                 apid,
                 packet: Octets::from(packet),
             }),
-            Some(Err(TakeFault::NoQueue)) => Ok(Answer::Refused(Refusal::NoQueue)),
-            Some(Err(TakeFault::Empty)) => Ok(Answer::Refused(Refusal::Empty)),
-            Some(Err(TakeFault::NoMemory)) => Err(Reason::NoMemory),
-            None => Ok(Answer::Refused(Refusal::UnknownChannel)),
+            Err(TakeFault::NoQueue) => Ok(Answer::Refused(Refusal::NoQueue)),
+            Err(TakeFault::Empty) => Ok(Answer::Refused(Refusal::Empty)),
+            Err(TakeFault::NoMemory) => Err(Reason::NoMemory),
         }
     }
 
-    // Takes the oldest unit of a channel's chosen MAP.
-    fn unit(&mut self, rt: &impl Wait, vcid: u8, map: u8) -> Result<Answer, Reason>
+    /// Takes the oldest unit of a channel's chosen MAP.
+    pub(crate) fn unit(&mut self, rt: &impl Wait, vcid: u8, map: u8) -> Result<Answer, Reason>
         ensures answer { IfOk result (λ answer. IsDeskAnswer vcid (IsUnitAnswered map) self.old answer self.new) }
         ensures reason { IfErr result (λ reason. reason ≡ Reason.NoMemory) }
         ensures counted { OnErr result (AreAsCounted self.old self.new) }
     {
-        match self.operate_at(rt, vcid, &UnitTaking { map }) {
-            Some(Ok(unit)) => Ok(Answer::Unit {
+        let Some(place) = self.station.place_of(vcid) else {
+            return Ok(Answer::Refused(Refusal::UnknownChannel));
+        };
+        match self.operate_met(rt, place, vcid, &UnitTaking { map }) {
+            Ok(unit) => Ok(Answer::Unit {
                 vcid,
                 map,
                 unit: Octets::from(unit),
             }),
-            Some(Err(TakeUnitFault::NoMap)) => Ok(Answer::Refused(Refusal::NoMap)),
-            Some(Err(TakeUnitFault::Empty)) => Ok(Answer::Refused(Refusal::Empty)),
-            Some(Err(TakeUnitFault::NoMemory)) => Err(Reason::NoMemory),
-            None => Ok(Answer::Refused(Refusal::UnknownChannel)),
+            Err(TakeUnitFault::NoMap) => Ok(Answer::Refused(Refusal::NoMap)),
+            Err(TakeUnitFault::Empty) => Ok(Answer::Refused(Refusal::Empty)),
+            Err(TakeUnitFault::NoMemory) => Err(Reason::NoMemory),
         }
     }
 
-    // Reports a channel's CLCW, by its watcher, without the channel's lock.
-    fn clcw(&mut self, vcid: u8) -> Answer
+    /// Reports a channel's CLCW, by its watcher, without the channel's lock.
+    pub(crate) fn clcw(&mut self, vcid: u8) -> Answer
         ensures answer { IsWordAnswer vcid self.old result self.new }
     {
-        let Some(place) = place_of(&self.vcids, vcid) else {
+        let Some(place) = self.station.place_of(vcid) else {
             return Answer::Refused(Refusal::UnknownChannel);
         };
         let watcher = &mut self.watchers[place];

@@ -1,6 +1,6 @@
 //! A watcher for each channel of a station.
 
-ghost use Rattle.std.specs.Prelude.{◌≡◌, ◌==◌, ◌<◌, Contains, length, position, IfOk, IfErr, MatchOption};
+ghost use Rattle.std.specs.Prelude.{◌≡◌, Contains, IfOk, IfErr};
 ghost use Rattle.tc_cli.specs.Watched.{AreWatchersOf, IsOrdered};
 ghost use Rattle.tc_station.specs.Moments.{IsWatcherOf};
 
@@ -48,12 +48,4 @@ fn watch_one(rt: &impl Wait, station: &CountingStation, vcid: u8) -> Result<Watc
         Err(WatcherFault::NoMemory) => Err(Reason::NoMemory),
         Err(WatcherFault::UnknownChannel) => unreachable!(),
     }
-}
-
-/// The place of an id.
-pub(crate) fn place_of(vcids: &[u8], vcid: u8) -> Option<usize>
-    ensures place { result ≡ position (λ v. v == vcid) vcids.now }
-    ensures found { MatchOption result (¬ Contains vcids.now vcid) (λ place. place < length vcids.now) }
-{
-    vcids.iter().position(|v| *v == vcid)
 }

@@ -1,5 +1,5 @@
 -- What a call at one desk makes of the operator's list of desks.
-use Rattle.tc_station.proofs.Names.{◌≡◌, ℕ, ◌+◌, ◌<◌, List, [], ◌∷◌, length, map, get_or, set, Option, Some, Result, Ok, Err, refl, sym, ap, ◌∙◌, subst, arith, ◌==◌, position, slice_get, slice_index, eqb-true, map-map, get_or-map, length-map, length-append, position-Some, slice_get_read, TableId, Event, Settings, Moment, Own, AtLock, count_of, IsCall, made, heads_of, locks_of, settings_of_desks, vcids_of, AtStation, IsOurs, IsPlace, Roster, at_station, counts_of, tallied, tally, raised, raised_at, IsCallAt, IsCounted, IsErrAnd, MatchResult, OnOk, OnErr, map-set, set-get_or, looked}
+use Rattle.tc_station.proofs.Names.{◌≡◌, ℕ, ◌+◌, ◌<◌, List, [], ◌∷◌, length, map, get_or, set, Option, Some, Result, Ok, Err, refl, sym, ap, ◌∙◌, subst, arith, ◌==◌, position, slice_get, slice_index, eqb-true, map-map, get_or-map, length-map, length-append, position-Some, slice_get_read, TableId, Event, Settings, Moment, Own, AtLock, count_of, IsCall, made, heads_of, locks_of, settings_of_desks, vcids_of, AtStation, IsOurs, IsPlace, KnowsTheSame, Roster, at_station, counts_of, tallied, tally, raised, raised_at, IsCallAt, IsCounted, IsErrAnd, MatchResult, OnOk, OnErr, map-set, set-get_or, looked}
 use Rattle.tc_station.proofs.Counts.{raised-is}
 
 -- a list of what is read of each desk, with one desk in another's place
@@ -49,20 +49,39 @@ id-of vcids desks place vcid there ids is at =
 abbrev pub at_owned_desks : ℕ → List ℕ → ℕ → List AtLock → Roster
 at_owned_desks scid vcids issued owned_desks = record { scid = scid; vcids = vcids; issued = issued; locks = locks_of owned_desks; heads = heads_of owned_desks }
 
--- the operator's desk at the place of a channel, where a call is made
-module _ {R F : Type 0} (e : Event) (ok : Moment → R → Type 0) (err : Moment → F → Type 0) (station : Roster) (o : AtStation) (vcids : List ℕ) (desks : List AtLock) (place vcid : ℕ) (there next : AtLock) (r : Result R F)
-    (view : at_station vcids desks ≡ o) (ids : vcids_of (settings_of_desks desks) ≡ vcids) (ours : IsOurs station o) (place_is : IsPlace station vcid place)
-    (is : there ≡ get_or desks place there) (c : IsCall e ok err there r next) where
+-- the operator's desk of a place, where a call is made
+module _ {R F : Type 0} (e : Event) (ok : Moment → R → Type 0) (err : Moment → F → Type 0) (station : Roster) (o : AtStation) (vcids : List ℕ) (desks : List AtLock) (place : ℕ) (there next : AtLock) (r : Result R F)
+    (view : at_station vcids desks ≡ o) (ids : vcids_of (settings_of_desks desks) ≡ vcids) (ours : IsOurs station o) (is : there ≡ get_or desks place there) (c : IsCall e ok err there r next) where
   abbrev changed : AtStation
   changed = at_station vcids (set desks place next)
-
-  abbrev at : position (λ v. v == vcid) vcids ≡ Some place
-  at = ap (λ vs. position (λ v. v == vcid) vs) (ap (λ (x : AtStation). x.vcids) view ∙ ours.0) ∙ place_is
 
   pub ids-kept : vcids_of (settings_of_desks (set desks place next)) ≡ vcids
   ids-kept = ap vcids_of (same-set (λ (d : AtLock). d.own.seen.head.settings) desks place there next is (ap (λ h. h.settings) (head-kept e ok err there next r c))) ∙ ids
 
-  abbrev pub call-at : IsCallAt place vcid e ok err o r changed
+  refusal-kept : (q : Result R F) → IsCall e ok err there q next → OnErr q (tally changed ≡ tally (at_station vcids desks))
+  refusal-kept (Ok a) d = tt
+  refusal-kept (Err f) d = ap (λ cs. record { vcids = vcids; counts = cs }) (same-set (λ (x : AtLock). count_of x.own) desks place there next is (ap (λ (x : Own). count_of x) d.answer.1))
+
+  pub refused : OnErr r (tally changed ≡ tally o)
+  refused = subst (λ (x : AtStation). OnErr r (tally changed ≡ tally x)) view (refusal-kept r c)
+
+  pub ours-kept : IsOurs station changed
+  ours-kept = (ap (λ (x : AtStation). x.vcids) view ∙ ours.0, same-set (λ (d : AtLock). d.lock) desks place there next is c.lock ∙ (ap (λ (x : AtStation). locks_of x.desks) view ∙ ours.1))
+
+  pub heads-kept : KnowsTheSame o changed
+  heads-kept = same-set (λ (d : AtLock). d.own.seen.head) desks place there next is (head-kept e ok err there next r c) ∙ ap (λ (x : AtStation). heads_of x.desks) view
+
+-- the same, where the place is that of a channel
+module _ {R F : Type 0} (e : Event) (ok : Moment → R → Type 0) (err : Moment → F → Type 0) (station : Roster) (o : AtStation) (vcids : List ℕ) (desks : List AtLock) (place vcid : ℕ) (there next : AtLock) (r : Result R F)
+    (view : at_station vcids desks ≡ o) (ids : vcids_of (settings_of_desks desks) ≡ vcids) (ours : IsOurs station o) (place_is : IsPlace station vcid place)
+    (is : there ≡ get_or desks place there) (c : IsCall e ok err there r next) where
+  abbrev changed_at : AtStation
+  changed_at = at_station vcids (set desks place next)
+
+  abbrev at : position (λ v. v == vcid) vcids ≡ Some place
+  at = ap (λ vs. position (λ v. v == vcid) vs) (ap (λ (x : AtStation). x.vcids) view ∙ ours.0) ∙ place_is
+
+  abbrev pub call-at : IsCallAt place vcid e ok err o r changed_at
   call-at = record {
     there = there;
     next = next;
@@ -73,38 +92,38 @@ module _ {R F : Type 0} (e : Event) (ok : Moment → R → Type 0) (err : Moment
     vcids = ap (λ (x : AtStation). x.vcids) view;
   }
 
-  counted : (q : Result R F) → IsCall e ok err there q next → OnOk q (tally changed ≡ tallied vcid (tally (at_station vcids desks)))
+  counted : (q : Result R F) → IsCall e ok err there q next → OnOk q (tally changed_at ≡ tallied vcid (tally (at_station vcids desks)))
   counted (Ok a) d = ap (λ cs. record { vcids = vcids; counts = cs }) (counts-made e d.now vcids desks place vcid there next is (id-of vcids desks place vcid there ids is at).0 at d.answer.1)
   counted (Err f) d = tt
 
-  refused : (q : Result R F) → IsCall e ok err there q next → OnErr q (tally changed ≡ tally (at_station vcids desks))
-  refused (Ok a) d = tt
-  refused (Err f) d = ap (λ cs. record { vcids = vcids; counts = cs }) (same-set (λ (x : AtLock). count_of x.own) desks place there next is (ap (λ (x : Own). count_of x) d.answer.1))
-
-  heads-kept : heads_of (set desks place next) ≡ heads_of o.desks
-  heads-kept = same-set (λ (d : AtLock). d.own.seen.head) desks place there next is (head-kept e ok err there next r c) ∙ ap (λ (x : AtStation). heads_of x.desks) view
-
-  pub called : IsCounted station place vcid e ok err o r changed
+  pub called : IsCounted station place vcid e ok err o r changed_at
   called = record {
     call = call-at;
-    counted = subst (λ (x : AtStation). OnOk r (tally changed ≡ tallied vcid (tally x))) view (counted r c);
-    refused = subst (λ (x : AtStation). OnErr r (tally changed ≡ tally x)) view (refused r c);
-    ours = (ap (λ (x : AtStation). x.vcids) view ∙ ours.0, same-set (λ (d : AtLock). d.lock) desks place there next is c.lock ∙ (ap (λ (x : AtStation). locks_of x.desks) view ∙ ours.1));
-    knows = heads-kept;
+    counted = subst (λ (x : AtStation). OnOk r (tally changed_at ≡ tallied vcid (tally x))) view (counted r c);
+    refused = refused e ok err station o vcids desks place there next r view ids ours is c;
+    ours = ours-kept e ok err station o vcids desks place there next r view ids ours is c;
+    knows = heads-kept e ok err station o vcids desks place there next r view ids ours is c;
   }
 
 -- the operator's desk of a place and the station's have one lock
+pub same-lock-at : (station : Roster) (o : AtStation) (vcids owned : List ℕ) (scid issued : ℕ) (desks owned_desks : List AtLock) (place : ℕ) (there owned_desk : AtLock)
+    → at_station vcids desks ≡ o → IsOurs station o → at_owned_desks scid owned issued owned_desks ≡ station → place < length desks → place < length owned_desks
+    → there ≡ get_or desks place there → owned_desk ≡ get_or owned_desks place owned_desk → there.lock ≡ owned_desk.lock
+same-lock-at station o vcids owned scid issued desks owned_desks place there owned_desk view ours seen inside inside_owned is owned_desk_is =
+    let lock : AtLock → TableId = λ d. d.lock in
+    let mine = get_or-map lock desks place there owned_desk.lock inside in
+    let theirs = get_or-map lock owned_desks place owned_desk owned_desk.lock inside_owned in
+    let same : locks_of desks ≡ locks_of owned_desks = ap (λ (x : AtStation). locks_of x.desks) view ∙ (ours.1 ∙ sym (ap (λ (x : Roster). x.locks) seen)) in
+    ap lock is ∙ (sym mine ∙ (ap (λ (l : List TableId). get_or l place owned_desk.lock) same ∙ (theirs ∙ ap lock (sym owned_desk_is))))
+
+-- the same at the place of a channel
 pub same-lock : (station : Roster) (o : AtStation) (vcids owned : List ℕ) (scid issued : ℕ) (desks owned_desks : List AtLock) (place vcid : ℕ) (there owned_desk : AtLock)
     → at_station vcids desks ≡ o → vcids_of (settings_of_desks desks) ≡ vcids → IsOurs station o → at_owned_desks scid owned issued owned_desks ≡ station → vcids_of (settings_of_desks owned_desks) ≡ owned → IsPlace station vcid place
     → there ≡ get_or desks place there → owned_desk ≡ get_or owned_desks place owned_desk → there.lock ≡ owned_desk.lock
 same-lock station o vcids owned scid issued desks owned_desks place vcid there owned_desk view ids ours seen owned_desk_ids place_is is owned_desk_is =
-    let lock : AtLock → TableId = λ d. d.lock in
     let at : position (λ v. v == vcid) vcids ≡ Some place = ap (λ vs. position (λ v. v == vcid) vs) (ap (λ (x : AtStation). x.vcids) view ∙ ours.0) ∙ place_is in
     let at_owned_desk : position (λ v. v == vcid) owned ≡ Some place = ap (λ (x : Roster). position (λ v. v == vcid) x.vcids) seen ∙ place_is in
-    let mine = get_or-map lock desks place there owned_desk.lock (id-of vcids desks place vcid there ids is at).0 in
-    let theirs = get_or-map lock owned_desks place owned_desk owned_desk.lock (id-of owned owned_desks place vcid owned_desk owned_desk_ids owned_desk_is at_owned_desk).0 in
-    let same : locks_of desks ≡ locks_of owned_desks = ap (λ (x : AtStation). locks_of x.desks) view ∙ (ours.1 ∙ sym (ap (λ (x : Roster). x.locks) seen)) in
-    ap lock is ∙ (sym mine ∙ (ap (λ (l : List TableId). get_or l place owned_desk.lock) same ∙ (theirs ∙ ap lock (sym owned_desk_is))))
+    same-lock-at station o vcids owned scid issued desks owned_desks place there owned_desk view ours seen (id-of vcids desks place vcid there ids is at).0 (id-of owned owned_desks place vcid owned_desk owned_desk_ids owned_desk_is at_owned_desk).0 is owned_desk_is
 
 -- the same call at the same moment, with another answer
 answered-so : {R F S G : Type 0} (place vcid : ℕ) (e : Event) (ok : Moment → R → Type 0) (err : Moment → F → Type 0) (ok2 : Moment → S → Type 0) (err2 : Moment → G → Type 0) (before after : AtStation) (r : Result R F) (r2 : Result S G)

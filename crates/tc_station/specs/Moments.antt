@@ -1,6 +1,6 @@
 -- What the calls of a station answer: the reply at some moment of a channel with the id that was asked for. Of an operator's call,
 -- `Call` says that it is a moment of the very channel behind this lock.
-use Rattle.std.specs.Prelude.{◌≡◌, ◌≢◌, [], ℕ, List, Contains, Some}
+use Rattle.std.specs.Prelude.{◌≡◌, ◌≢◌, [], ℕ, List, Contains, Some, slice_get}
 use Rattle.tc_channel.specs.declared.settings.Settings.{Settings}
 use Rattle.tc_channel.specs.declared.event.Event.{Event}
 use Rattle.tc_channel.specs.declared.event.Event.TheVariants.{Frame}
@@ -48,6 +48,10 @@ IsUnitTakenAtStation station vcid map_id unit =
 -- the watcher has seen a moment of a channel
 abbrev pub IsWatched : Roster → ℕ → History → Type 0
 IsWatched station vcid seen = Contains station.vcids vcid × (seen.settings.vcid ≡ vcid) × IsAllowed seen.settings × IsLawful seen.settings seen.journal
+
+-- the watcher reads the board of the desk at this place, and has seen a moment of a channel with its settings
+abbrev pub IsWatcherAt : Roster → ℕ → Watching → Type 0
+IsWatcherAt station place watcher = (head : Identity) × (slice_get station.heads place ≡ Some head) × (watcher.board ≡ head.board) × (watcher.seen.settings ≡ head.settings)
 
 -- the watcher reads the board of this very channel, and has seen a moment of a channel with its settings
 abbrev pub IsWatcherOf : Roster → ℕ → Watching → Type 0

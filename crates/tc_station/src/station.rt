@@ -1,6 +1,6 @@
 //! The station: a lock for each channel.
 
-ghost use Rattle.std.specs.Prelude.{◌≡◌, ◌≤◌, ◌<◌, ◌+◌, ◌↔◌, ℕ, [], false, All, Any, IsTrue, length, map, replicate, vec_len, vec_capacity, IfOk, IfErr, IsErrOf, OnOk, OnErr, MatchOption, MatchResult};
+ghost use Rattle.std.specs.Prelude.{◌≡◌, ◌≤◌, ◌<◌, ◌+◌, ◌↔◌, ℕ, [], false, All, Any, Contains, IsTrue, length, map, replicate, vec_len, vec_capacity, IfOk, IfErr, IsErrOf, OnOk, OnErr, MatchOption, MatchResult};
 ghost use Rattle.tc_channel.specs.Settings.{IsAllowed};
 ghost use Rattle.tc_channel.specs.Run.{IsLawful};
 ghost use Rattle.tc_channel.specs.Reply.{BeginsWithBypassData, clcw};
@@ -95,7 +95,7 @@ impl<J: Journal> Model for StationOf<J> {
 
 impl<J: Journal> StationOf<J> {
     ghost use Rattle.tc_station.specs.Location.{IsLocated, IsPlaced, IsLocateFault, IsBringFault};
-    ghost use Rattle.tc_station.specs.Moments.{AtSomeMomentOf, IsBrought, IsBroughtWatched, IsReleasedAtStation, IsTakenAtStation, IsUnitTakenAtStation, IsWatched, IsWatcherOf};
+    ghost use Rattle.tc_station.specs.Moments.{AtSomeMomentOf, IsBrought, IsBroughtWatched, IsReleasedAtStation, IsTakenAtStation, IsUnitTakenAtStation, IsWatched, IsWatcherAt, IsWatcherOf};
     ghost use Rattle.tc_station.specs.Faults.{IsReleaseRefused, IsTakeRefused, IsTakeUnitRefused, IsWatcherFault};
     ghost use Rattle.tc_station.specs.Together.{AreClosedTogether, IsNotClosedTogether, IsCauseAtStation};
     ghost use Rattle.tc_desk.specs.Log.{Moment};
@@ -123,8 +123,8 @@ impl<J: Journal> StationOf<J> {
         Ok(located)
     }
 
-    // The same, with the place of the channel.
-    fn place_frame<'a>(&self, octets: &'a [u8]) -> Result<(usize, Located<'a>), LocateFault>
+    /// The same, with the place of the channel among the station's.
+    pub fn place_frame<'a>(&self, octets: &'a [u8]) -> Result<(usize, Located<'a>), LocateFault>
         ensures { MatchResult result (λ placed. IsPlaced self.now octets.now placed.0 placed.1.vcid placed.1.frame) (IsLocateFault self.now octets.now) }
     {
         let frame = read_frame(octets).map_err(LocateFault::Frame)?;
@@ -137,6 +137,13 @@ impl<J: Journal> StationOf<J> {
             return Err(LocateFault::UnknownChannel);
         };
         Ok((place, Located { vcid, frame }))
+    }
+
+    /// The place of the channel with this id among the station's.
+    pub fn place_of(&self, vcid: u8) -> Option<usize>
+        ensures { MatchOption result (¬ Contains self.now.vcids vcid) (IsPlace self.now vcid) }
+    {
+        self.vcids.place_of(vcid)
     }
 
     /// Issues operators: at most 65,535 over the station's life. Each takes a list of ids and one of its operators at the desks. All memory is
@@ -314,29 +321,26 @@ impl<J: Journal> StationOf<J> {
         Ok((Brought { vcid, reply }, watcher))
     }
 
-    /// The operation on the channel of the watcher, which meets the channel before it and behind it, all under one hold of the
-    /// channel's lock. So the watcher had seen no more than what was there, and then it has seen all that the operator has.
+    /// The operation on the channel at this place, whose watcher meets it before the operation and behind it, all under one hold of
+    /// the channel's lock. So the watcher had seen no more than what was there, and then it has seen all that the operator has.
     pub fn operate_met<O: Operation<J>, R: Wait>(
         &self,
         rt: &R,
         operator: &mut Operator,
         watcher: &mut Watcher,
-        vcid: u8,
+        place: usize,
         operation: &O,
     ) -> Result<O::Answer, O::Fault>
         requires ours { IsOurs self.now operator.old }
         requires knows { KnowsDesks self.now operator.old }
-        requires watcher { IsWatcherOf self.now vcid watcher.old }
-        ensures call { (place : ℕ) × IsPlace self.now vcid place × IsMetCallAt place vcid (O.event operation.now) (O.answers operation.now) (O.refuses operation.now) watcher.old operator.old result watcher.new operator.new }
-        ensures counted { OnOk result (tally operator.new ≡ tallied vcid (tally operator.old)) }
+        requires watcher { IsWatcherAt self.now place watcher.old }
+        ensures call { (vcid : ℕ) → IsPlace self.now vcid place → IsMetCallAt place vcid (O.event operation.now) (O.answers operation.now) (O.refuses operation.now) watcher.old operator.old result watcher.new operator.new }
+        ensures counted { (vcid : ℕ) → IsPlace self.now vcid place → OnOk result (tally operator.new ≡ tallied vcid (tally operator.old)) }
         ensures refused { OnErr result (tally operator.new ≡ tally operator.old) }
         ensures ours { IsOurs self.now operator.new }
         ensures knows { KnowsDesks self.now operator.new }
-        ensures watcher { IsWatcherOf self.now vcid watcher.new }
+        ensures watcher { IsWatcherAt self.now place watcher.new }
     {
-        let Some(place) = self.vcids.place_of(vcid) else {
-            unreachable!()
-        };
         let owned_desk = &self.desks[place];
         operator.desks[place].operate_met(owned_desk.desk(), rt, watcher, operation)
     }

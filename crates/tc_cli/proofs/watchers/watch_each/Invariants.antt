@@ -5,7 +5,7 @@ use Rattle.tc_cli.proofs.watchers.watch_each.Given as goal
 -- a watcher for each of the channels so far
 abbrev pub invariant-loop-vcid : goal.invariant-loop-vcid
 invariant-loop-vcid g l = record {
-  each : AreWatching l.station.heads l.watchers.items;
+  each : AreWatching l.station l.watchers.items;
   count : vec_len l.watchers ≡ l.vcid-index;
   room : length l.vcids ≤ vec_capacity l.watchers;
 }

@@ -1,5 +1,6 @@
 use Rattle.std.proofs.Common.{◌<◌, length, set, subst, sym}
 use Rattle.tc_cli.specs.Staffed.{Staffed, HasMetAt}
+use Rattle.tc_station.proofs.Meetings.{at-place}
 use Rattle.tc_cli.proofs.Watching.{has-met, meets-at, watcher-set}
 use Rattle.tc_cli.proofs.staffed.StaffedStation.meet_at.Goals as goal
 
@@ -19,7 +20,8 @@ invariant_of-self g c =
       c.meet.ensures.knows,
       i.3,
       i.4,
-      watcher-set c.self.inside.station c.self.inside.watchers.items c.index-vcid.result.now c.args.place c.index_mut-watcher.result.now c.meet.new.watcher i.5 at.0 at.1 c.meet.ensures.watcher,
+      watcher-set c.self.inside.station c.self.inside.watchers.items c.args.place c.index_mut-watcher.result.now c.meet.new.watcher i.5 at.1
+          (at-place c.self.inside.station c.args.place c.index-vcid.result.now c.meet.new.watcher at.0 c.meet.ensures.watcher),
     )
 
 pub returns-clause-met : goal.returns-clause-met

@@ -1,11 +1,17 @@
-use Rattle.std.proofs.Common.{◌∙◌, Err, ap}
+use Rattle.std.proofs.Common.{subst}
+use Rattle.tc_cli.proofs.Names.{IsPlace, Staffed}
 use Rattle.tc_cli.proofs.Answered.{release-empty, released}
 use Rattle.tc_cli.proofs.staffed.StaffedStation.release.Goals as goal
 
-pub returns-in-Some-Ok-clause-answer : goal.returns-in-Some-Ok-clause-answer
-returns-in-Some-Ok-clause-answer g c =
-    released c.args.self.now c.operate_at.new.self c.args.vcid c.in-Some-Ok.delivery (rw c.in-Some-Ok.field-0-is at c.in-Some-Ok.ensures.call)
+pub operate_met-requires : goal.operate_met-requires
+operate_met-requires g c = subst (λ (m : Staffed). IsPlace m.station c.args.vcid c.in-Some.place) c.self.view_is c.in-Some.ensures
 
-pub returns-in-Some-Err-Empty-clause-answer : goal.returns-in-Some-Err-Empty-clause-answer
-returns-in-Some-Err-Empty-clause-answer g c =
-    release-empty c.args.self.now c.operate_at.new.self c.args.vcid (rw (c.in-Some-Err-Empty.field-0-is ∙ ap (λ f. Err f) c.in-Some-Err-Empty.field-0-0-is) at c.in-Some-Err-Empty.ensures.call)
+pub returns-in-Ok-clause-answer : goal.returns-in-Ok-clause-answer
+returns-in-Ok-clause-answer g c =
+    let at = subst (λ (m : Staffed). IsPlace m.station c.args.vcid c.in-Some.place) c.self.view_is c.in-Some.ensures in
+    released c.args.self.now c.operate_met.new.self c.args.vcid c.in-Ok.delivery (c.in-Some.place, at, c.in-Ok.ensures.call)
+
+pub returns-in-Err-Empty-clause-answer : goal.returns-in-Err-Empty-clause-answer
+returns-in-Err-Empty-clause-answer g c =
+    let at = subst (λ (m : Staffed). IsPlace m.station c.args.vcid c.in-Some.place) c.self.view_is c.in-Some.ensures in
+    release-empty c.args.self.now c.operate_met.new.self c.args.vcid (c.in-Some.place, at, rw c.in-Err-Empty.field-0-is at c.in-Err-Empty.ensures.call)

@@ -3,7 +3,7 @@ use Rattle.tc_station.proofs.Called.{called, ids-kept, same-lock}
 use Rattle.tc_station.proofs.station.StationOf.operate.Goals as goal
 
 pub invariant_of-operator : goal.invariant_of-operator
-invariant_of-operator g c = ids-kept _ _ _ c.args.self.now _ _ _ _ _ _ _ _ c.operator.view_is c.operator.invariant c.requires.ours c.requires.place c.index_mut.ensures.value c.operate.ensures.call
+invariant_of-operator g c = ids-kept _ _ _ c.args.self.now _ _ _ _ _ _ _ c.operator.view_is c.operator.invariant c.requires.ours c.index_mut.ensures.value c.operate.ensures.call
 
 pub operate-requires : goal.operate-requires
 operate-requires g c =
