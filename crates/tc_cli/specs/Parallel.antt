@@ -32,7 +32,7 @@ Begins scid old new = (found : Parted) × ArePartedFor scid old found × (new �
 abbrev pub GivesToFound : ℕ → (Parted → Parted → Type 0) → Plan → Plan → Type 0
 GivesToFound scid Gives old new = (found parted : Parted) × ArePartedFor scid old found × Gives found parted × (new ≡ Operating parted)
 
--- the job of a line is given to its channel; a CLCW is no job, and neither is a blank line. What a line sets up is told by its phase
+-- the job of a line is given to its channel; a CLCW is no job, and neither is a blank line. What a line sets up is known by its phase
 abbrev pub IsParted : ℕ → ℕ → Plan → Instruction → Plan → Type 0
 IsParted scid line old Nothing new = new ≡ old
 IsParted scid line old (Channel settings) new = Unit {0}
@@ -67,7 +67,7 @@ abbrev pub AreWorkedUnbalanced : ℕ → List ℕ → Type 0
 AreWorkedUnbalanced scid script =
     (count : ℕ) × (plan : Plan) × (found : Parted) × AreParted scid script count plan [] × ArePartedFor scid plan found × IsWorkedUnbalanced found
 
--- a script that is told to be out of balance has a cause for it
+-- a script that is reported to be out of balance has a cause for it
 abbrev pub HasCause : ℕ → List ℕ → ScriptFault → Type 0
 HasCause scid script Unbalanced = AreWorkedUnbalanced scid script
 HasCause scid script fault = Unit {0}

@@ -61,7 +61,7 @@ IsReached script number =
 abbrev pub IsScriptCloseFault : Roster → List AtStation → ℕ → ScriptFault → Type 0
 IsScriptCloseFault station operators lines fault = ((fault ≡ Unbalanced) × IsCauseAtStation station operators) ⊎ (fault ≡ Line lines NoMemory)
 
--- what it is for a script of so many lines that its station isn't closed; a lock that isn't free is told as the station's own close tells it
+-- what it is for a script of so many lines that its station isn't closed; a lock that isn't free is reported as the station's own close reports it
 abbrev pub close_fault : ℕ → Refusal → ScriptFault
 close_fault lines refusals.NoMemory = Line lines NoMemory
 close_fault lines refusals.InUse = Line lines NoMemory

@@ -94,7 +94,7 @@ IsScriptUnreported scid script count old new =
     (answers : List (Option Answer)) × (session : Session) × AreAnswers (IsStaffedOperated scid) script answers session [] × (count ≡ length answers)
     × Appends old new (answers_text answers)
 
--- memory ran out before the first line, which is told as line 0; at the line with this number; or for the report, after the last line
+-- memory ran out before the first line, which is reported as line 0; at the line with this number; or for the report, after the last line
 abbrev pub IsOutOfMemory : ℕ → List ℕ → ℕ → Option (List ℕ) → Option (List ℕ) → Type 0
 IsOutOfMemory scid script number old new =
     ((number ≡ 0) × Keeps old new) ⊎ IsWrittenBefore scid script number (λ _ _. ⊤) old new ⊎ IsScriptUnreported scid script number old new

@@ -11,7 +11,7 @@ use tc_station::{CountingStation, Operator, Refusal};
 use tc_text::{Reason, ScriptFault};
 
 /// Closes the station of a script with so many lines, together with its operators. The channels come in rising virtual channel
-/// id, and each tells the number of its events as it is.
+/// id, and each reports the number of its events as it is.
 pub(crate) fn close(
     station: CountingStation,
     operators: Vec<Operator>,

@@ -30,7 +30,7 @@ use tc_text::{Reason, ScriptFault, next_line, parse_line, read_whole};
 /// read whole, and all its jobs are kept before the first one is done.
 ///
 /// Each worker passes the gate once, while it holds its channel's lock. Where the octets of the reader
-/// are known, nothing is done unless each line is good, and a bad line that is told is the first one.
+/// are known, nothing is done unless each line is good, and a bad line that is reported is the first one.
 /// Where it ends early, nothing is written, unless a write failed. It ends as unbalanced only with a cause.
 pub fn parallel_script<T: Threads + Wait + Sync, G: Gate + Sync, R: Read, W: Write>(
     rt: &T,

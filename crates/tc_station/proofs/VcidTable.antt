@@ -1,12 +1,12 @@
--- How the table of the places of virtual channel ids is filled, and what it then tells.
+-- How the table of the places of virtual channel ids is filled, and what it then has.
 use Rattle.tc_station.proofs.Names.{◌≡◌, ◌≢◌, ℕ, suc, ◌<◌, ◌≤◌, Bool, true, false, cond, List, [], ◌∷◌, length, get_or, replicate, Option, Some, None, refl, sym, ap, ◌∙◌, arith, ◌==◌, All, AllPairs, Contains, position, slice_index, eqb-true, get_or-map, length-map, position-Some, none-some, IsAllowed, Settings, vcids_of, true≢false, ltb, eqb, MatchOption, list_any, position_or_len, eq-eqb, ltb-false, ltb-true, Decides-eqb, length-replicate, fails_before_first, passes_at_first, HaveDistinctVcids}
 use Rattle.std.proofs.lemmas.List.Folds.{Any-from_list_any}
 use Rattle.std.proofs.lemmas.Map.Made.{IsDistinct-from_AllPairs}
 use Rattle.std.proofs.lemmas.Map.Steps.{length-le_from_distinct_below}
-use Rattle.tc_station.specs.VcidTable.{IsVcidTable, place_reported}
+use Rattle.tc_station.specs.VcidTable.{IsVcidTable, entry_place}
 
--- the entries of the first ids, of so many, tell their places, and no other entry tells one
-pub record AreReported (ids : List ℕ) (n : ℕ) (table : List ℕ) : Type 0 where
+-- the entries of the first ids, of so many, have their places, and no other entry has one
+pub record HaveEntries (ids : List ℕ) (n : ℕ) (table : List ℕ) : Type 0 where
   pub size : length table ≡ 64
   pub here : (k : ℕ) → k < n → get_or table (get_or ids k 0) 64 ≡ k
   pub apart : (v : ℕ) → ((k : ℕ) → k < n → get_or ids k 0 ≢ v) → get_or table v 64 ≡ 64
@@ -15,32 +15,32 @@ all-alike : (n v x : ℕ) → get_or (replicate n x) v x ≡ x
 all-alike (suc n) (suc v) x = all-alike n v x
 all-alike _ _ x = refl
 
-pub none-reported : (ids table : List ℕ) → table ≡ replicate 64 64 → AreReported ids 0 table
-none-reported ids table is = record {
+pub none-entered : (ids table : List ℕ) → table ≡ replicate 64 64 → HaveEntries ids 0 table
+none-entered ids table is = record {
   size = ap (length {A = ℕ}) is ∙ length-replicate {A = ℕ} 64 64;
   here = λ k lt. absurd (omega (arith, lt));
   apart = λ v none. ap (λ (t : List ℕ). get_or t v 64) is ∙ all-alike 64 v 64;
 }
 
-reported : (k : ℕ) → k ≢ 64 → place_reported k ≡ Some k
-reported k some = grind (arith, some)
+entry-place : (k : ℕ) → k ≢ 64 → entry_place k ≡ Some k
+entry-place k some = grind (arith, some)
 
 -- once all ids have entries
-pub table-of : (ids table : List ℕ) → length ids ≤ 64 → AreReported ids (length ids) table → IsVcidTable ids table
+pub table-of : (ids table : List ℕ) → length ids ≤ 64 → HaveEntries ids (length ids) table → IsVcidTable ids table
 table-of ids table few t v = by (ltb n (length ids)) refl where
   n : ℕ
   n = position_or_len (λ x. x == v) ids
 
-  by : (b : Bool) → ltb n (length ids) ≡ b → cond b (Some n) None ≡ place_reported (get_or table v 64)
+  by : (b : Bool) → ltb n (length ids) ≡ b → cond b (Some n) None ≡ entry_place (get_or table v 64)
   by true is =
       let lt = ltb-true n (length ids) is in
       let there : get_or ids n 0 ≡ v = eqb-true (get_or ids n 0) v (passes_at_first (λ x. x == v) ids 0 lt) in
       let entry : get_or table v 64 ≡ n = ap (λ j. get_or table j 64) (sym there) ∙ t.here n lt in
-      sym (ap place_reported entry ∙ reported n (λ e. absurd (omega (arith, e, lt, few))))
+      sym (ap entry_place entry ∙ entry-place n (λ e. absurd (omega (arith, e, lt, few))))
   by false is =
       let ge = ltb-false n (length ids) is in
       let none : (k : ℕ) → k < length ids → get_or ids k 0 ≢ v = λ k lt e. true≢false (sym (eq-eqb (get_or ids k 0) v e) ∙ fails_before_first (λ x. x == v) ids k 0 (omega (arith, lt, ge))) in
-      sym (ap place_reported (t.apart v none))
+      sym (ap entry_place (t.apart v none))
 
 -- ids that differ are no more than there are
 pub few-ids : (ids : List ℕ) → AllPairs (λ x y. x ≢ y) ids → All (λ v. v ≤ 63) ids → length ids ≤ 64

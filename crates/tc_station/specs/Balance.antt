@@ -17,7 +17,7 @@ abbrev pub AreInBalance : List ℕ → List AtStation → List History → Type 
 AreInBalance vcids operators channels =
     (place : ℕ) (channel : History) → slice_get channels place ≡ Some channel → IsInBalance vcids operators place channel
 
--- they are in balance, and the number of each one's events is told as it is
+-- they are in balance, and the number of each one's events is reported as it is
 abbrev pub AreInReportedBalance : List ℕ → List AtStation → List History → Type 0
 AreInReportedBalance vcids operators channels =
     (place : ℕ) (channel : History) → slice_get channels place ≡ Some channel → IsInBalance vcids operators place channel × IsNumberReported channel

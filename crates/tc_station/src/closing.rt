@@ -42,7 +42,7 @@ pub(crate) fn are_in_balance(vcids: &[u8], operators: &[Operator], channels: &[C
     true
 }
 
-// The same of a channel that tells the number of its events, which the largest number of 64 bits is not.
+// The same of a channel that reports the number of its events, which the largest number of 64 bits is not.
 fn is_in_reported_balance(
     vcids: &[u8],
     operators: &[Operator],
@@ -59,7 +59,7 @@ fn is_in_reported_balance(
         && u128::from(events) == count_of_all(operators, place)
 }
 
-/// Whether each channel tells the number of its events, and all are in balance.
+/// Whether each channel reports the number of its events, and all are in balance.
 pub(crate) fn are_in_reported_balance(
     vcids: &[u8],
     operators: &[Operator],

@@ -63,7 +63,7 @@ where
 
     /// Does each list of jobs in a thread of its own, with the operator of its place. A refusal other than for memory is
     /// passed over. A list whose job is refused for memory is given up there; the others are done in full, and the lowest such
-    /// line is told. Where no further thread starts, the thread that is there works off what is left, list by list. Nothing
+    /// line is reported. Where no further thread starts, the thread that is there works off what is left, list by list. Nothing
     /// grows but in the operations.
     pub fn work<G: Gate + Sync, R: Threads + Wait + Sync>(
         &self,

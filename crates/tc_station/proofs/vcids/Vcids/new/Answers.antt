@@ -1,9 +1,9 @@
 use Rattle.tc_station.proofs.Names.{◌≡◌, ℕ, length, ap, subst, refl, arith}
-use Rattle.tc_station.proofs.VcidTable.{AreReported, few-ids, none-reported, table-of}
+use Rattle.tc_station.proofs.VcidTable.{HaveEntries, few-ids, none-entered, table-of}
 use Rattle.tc_station.proofs.vcids.Vcids.new.Goals as goal
 
 pub loop-place-init : goal.loop-place-init
-loop-place-init c = none-reported c.deref-vcid-items.result.now _ refl
+loop-place-init c = none-entered c.deref-vcid-items.result.now _ refl
 
 pub overflow_cast-table : goal.overflow_cast-table
 overflow_cast-table c =
@@ -19,4 +19,4 @@ invariant_of-result c =
     let end = c.loop-place.auto.place-end in
     let all : c.loop-place.place ≡ length c.deref-vcid-items.result.now = omega (arith, far, end) in
     table-of c.args.ids.items c.loop-place.table few
-    (subst (λ x. AreReported x (length x) c.loop-place.table) same (subst (λ n. AreReported c.deref-vcid-items.result.now n c.loop-place.table) all c.loop-place.invariant))
+    (subst (λ x. HaveEntries x (length x) c.loop-place.table) same (subst (λ n. HaveEntries c.deref-vcid-items.result.now n c.loop-place.table) all c.loop-place.invariant))
