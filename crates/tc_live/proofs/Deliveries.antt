@@ -1,5 +1,5 @@
 -- A delivery, begun and ended on the channels of a receiver.
-use Rattle.tc_live.proofs.Names.{◌≡◌, ℕ, List, Option, refl, sym, ap, ◌∙◌, subst, Answer, Stage, Operating, AreAnswersWritten, IsDeliveryEnded, Racked, Receiving, IsDeliveryBegun, IsDeliveryDone, IsCollectionBegun, collection_reported, begun, rack_for, LiveAnswer, FrameCheck, FrameEnds}
+use Rattle.tc_live.proofs.Names.{◌≡◌, ℕ, List, Option, refl, sym, ap, ◌∙◌, subst, Answer, Stage, Operating, AreAnswersWritten, IsDeliveryEnded, Racked, Receiving, IsDeliveryBegun, IsDeliveryDone, IsCollectionBegun, collection_answer, begun, rack_for, LiveAnswer, FrameCheck, FrameEnds}
 use Rattle.tc_rack.specs.declared.operation.Operation.TheVariants as operations
 use Rattle.tc_rack.specs.Operation.{IsAnswerOf, IsClcwAnswer}
 use Rattle.tc_live.specs.declared.answer.LiveAnswer.TheVariants as reported
@@ -13,7 +13,7 @@ release-reported old now check ends scid stage rack after vcid a is_begun view i
 
 pub collection-reported : (old now : Receiving) (check : FrameCheck) (ends : FrameEnds) (scid : ℕ) (stage : Stage Racked) (rack after : Racked) (vcid : ℕ) (a : Answer) (answer : LiveAnswer)
     → now ≡ begun old → ◌≡◌ {A = Receiving} (record { check = check; ends = ends; scid = scid; stage = stage }) now → stage ≡ Operating rack → IsAnswerOf (operations.Clcw vcid) rack a after
-    → answer ≡ collection_reported vcid a → IsCollectionBegun old vcid (record { check = check; ends = ends; scid = scid; stage = Operating after }) answer
+    → answer ≡ collection_answer vcid a → IsCollectionBegun old vcid (record { check = check; ends = ends; scid = scid; stage = Operating after }) answer
 collection-reported old now check ends scid stage rack after vcid a answer is_begun view is answered reported_so =
     let same : rack ≡ rack_for old.scid old.stage = ap (rack_for old.scid) (sym is ∙ ap (λ (x : Receiving). x.stage) (view ∙ is_begun)) in (
       a,

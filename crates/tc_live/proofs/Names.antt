@@ -9,7 +9,7 @@ pub use Rattle.std.specs.List.{flat_map}
 pub use Rattle.std.specs.Prelude.{All, IfErr, IfOk, IsPermutation, IsTrue, MatchOption, OnOk, codes, not, ◌↔◌}
 pub use Rattle.tc_live.specs.Hint.{first_misfit}
 pub use Rattle.tc_live.specs.Printed.{live_text, map_text, queue_text}
-pub use Rattle.tc_live.specs.Receiver.{IsBadCandidate, IsCandidateDone, IsCollectionBegun, IsDeliveryBegun, IsDeliveryDone, IsInstructed, IsLineDone, IsLiveLineAnswered, IsPassedDone, IsReady, Receiving, begun, collection_reported, new_receiver, rack_at, script_reported}
+pub use Rattle.tc_live.specs.Receiver.{IsBadCandidate, IsCandidateDone, IsCollectionBegun, IsDeliveryBegun, IsDeliveryDone, IsInstructed, IsLineDone, IsLiveLineAnswered, IsPassedDone, IsReady, Receiving, begun, collection_answer, new_receiver, rack_at, script_answer}
 pub use Rattle.tc_live.specs.Serving.{IsClosingFault, IsFollowedBy, IsLineSaid, IsNumberUnreported, IsReceptionCutShort, IsReceptionWritten, IsReportWritten, IsReported, fault_at_lines, line_limit}
 pub use Rattle.tc_live.specs.declared.answer.LiveAnswer.{LiveAnswer}
 pub use Rattle.tc_live.specs.declared.check.FrameCheck.{FrameCheck}

@@ -55,15 +55,15 @@ abbrev pub begun : Receiving → Receiving
 begun receiver = with_rack (rack_at receiver) receiver
 
 -- an operation's answer is reported, and nothing where there is none
-abbrev pub script_reported : Option Answer → LiveAnswer
-script_reported None = reported.Nothing
-script_reported (Some answer) = reported.Operation answer
+abbrev pub script_answer : Option Answer → LiveAnswer
+script_answer None = reported.Nothing
+script_answer (Some answer) = reported.Operation answer
 
 -- what a line of a script is answered, by what it asks for, and that is reported. All but the channels is as before
 abbrev pub IsInstructed : Receiving → Instruction → Receiving → LiveAnswer → Type 0
 IsInstructed old instruction new answer =
     (a : Option Answer) × IsInstructionAnswered (IsPerformed old.scid) old.stage instruction new.stage a
-    × (answer ≡ script_reported a) × (new ≡ record old { stage = new.stage })
+    × (answer ≡ script_answer a) × (new ≡ record old { stage = new.stage })
 
 -- the receiver does what a line of a script says that passed
 abbrev pub IsPassedDone : Receiving → Line → Receiving → LiveAnswer → Type 0
@@ -92,24 +92,24 @@ IsCandidateDone old octets new answer =
 abbrev pub IsReceiverLeft : Reason → Receiving → Receiving → Type 0
 IsReceiverLeft reason old new = (new ≡ old) ⊎ ((reason ≡ NoMemory) × (new ≡ begun old))
 
-abbrev pub link_reported : Bool → ℕ → Link → LiveAnswer
-link_reported true vcid link = reported.Link vcid link
-link_reported false vcid link = reported.UnknownChannel
+abbrev pub link_answer : Bool → ℕ → Link → LiveAnswer
+link_answer true vcid link = reported.Link vcid link
+link_answer false vcid link = reported.UnknownChannel
 
 -- the flags of a channel's link are others from now on, if there is such a channel
 abbrev pub IsLinked : Receiving → ℕ → Link → Receiving → LiveAnswer → Type 0
 IsLinked old vcid link new answer =
     (known : Bool) × (rack : Racked) × IsLinkSet (rack_at old) vcid link known rack
-    × (answer ≡ link_reported known vcid link) × (new ≡ with_rack rack old)
+    × (answer ≡ link_answer known vcid link) × (new ≡ with_rack rack old)
 
-abbrev pub report_reported : ℕ → Option Holding → LiveAnswer
-report_reported vcid None = reported.UnknownChannel
-report_reported vcid (Some holding) = reported.Report vcid holding
+abbrev pub report_answer : ℕ → Option Holding → LiveAnswer
+report_answer vcid None = reported.UnknownChannel
+report_answer vcid (Some holding) = reported.Report vcid holding
 
 -- what a channel has come to is reported, if there is such a channel
 abbrev pub IsReportDone : Receiving → ℕ → Receiving → LiveAnswer → Type 0
 IsReportDone old vcid new answer =
-    (found : Option Holding) × IsReported (rack_at old) vcid found × (answer ≡ report_reported vcid found) × (new ≡ begun old)
+    (found : Option Holding) × IsReported (rack_at old) vcid found × (answer ≡ report_answer vcid found) × (new ≡ begun old)
 
 -- a delivery begins with a release, whose answer is reported
 abbrev pub IsDeliveryBegun : Receiving → ℕ → Receiving → LiveAnswer → Type 0
@@ -118,13 +118,13 @@ IsDeliveryBegun old vcid new answer =
     × (answer ≡ reported.Delivery vcid a) × (new ≡ with_rack rack old)
 
 -- a collection begins where there is such a channel, which has a CLCW
-abbrev pub collection_reported : ℕ → Answer → LiveAnswer
-collection_reported vcid (Refused refusal) = reported.UnknownChannel
-collection_reported vcid _ = reported.Collection vcid
+abbrev pub collection_answer : ℕ → Answer → LiveAnswer
+collection_answer vcid (Refused refusal) = reported.UnknownChannel
+collection_answer vcid _ = reported.Collection vcid
 
 abbrev pub IsCollectionBegun : Receiving → ℕ → Receiving → LiveAnswer → Type 0
 IsCollectionBegun old vcid new answer =
-    (a : Answer) × IsClcwAnswer vcid (rack_at old) a × (answer ≡ collection_reported vcid a) × (new ≡ begun old)
+    (a : Answer) × IsClcwAnswer vcid (rack_at old) a × (answer ≡ collection_answer vcid a) × (new ≡ begun old)
 
 -- then all that waits in the channel is handed on, and these are the answers
 abbrev pub IsDeliveryDone : Receiving → ℕ → Receiving → List Answer → Type 0

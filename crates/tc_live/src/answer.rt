@@ -3,7 +3,7 @@
 ghost use Rattle.std.specs.Prelude.{◌≡◌, Some};
 ghost use Rattle.std.specs.Fmt.{WritesOnOk};
 ghost use Rattle.tc_live.specs.Printed.{live_text, link_text, holding_text, farm_text, rest_text, queues_text, queue_text, maps_text, map_text, state_text};
-ghost use Rattle.tc_live.specs.Receiver.{collection_reported, link_reported, report_reported, script_reported};
+ghost use Rattle.tc_live.specs.Receiver.{collection_answer, link_answer, report_answer, script_answer};
 
 use std::fmt;
 use tc_channel::{Holding, MapHolding, QueueHolding};
@@ -36,7 +36,7 @@ pub enum LiveAnswer {
 impl LiveAnswer {
     /// Passes on the answer to a line of a script, if it is an operation.
     pub(crate) fn of_script(answer: Option<Answer>) -> LiveAnswer
-        ensures { result ≡ script_reported answer }
+        ensures { result ≡ script_answer answer }
     {
         match answer {
             Some(answer) => LiveAnswer::Operation(answer),
@@ -46,7 +46,7 @@ impl LiveAnswer {
 
     /// That what waits in a channel is handed on, if there is such a channel, by what is answered when its CLCW is asked for.
     pub(crate) fn of_collection(vcid: u8, clcw: &Answer) -> LiveAnswer
-        ensures { result ≡ collection_reported vcid clcw.now }
+        ensures { result ≡ collection_answer vcid clcw.now }
     {
         match clcw {
             Answer::Refused(_) => LiveAnswer::UnknownChannel,
@@ -56,7 +56,7 @@ impl LiveAnswer {
 
     /// The flags of the link of a channel, which is known or not.
     pub(crate) fn of_link(known: bool, vcid: u8, link: Link) -> LiveAnswer
-        ensures { result ≡ link_reported known vcid link }
+        ensures { result ≡ link_answer known vcid link }
     {
         if known {
             LiveAnswer::Link { vcid, link }
@@ -67,7 +67,7 @@ impl LiveAnswer {
 
     /// Reports a channel, if there is such a channel.
     pub(crate) fn of_report(vcid: u8, found: Option<Holding>) -> LiveAnswer
-        ensures { result ≡ report_reported vcid found }
+        ensures { result ≡ report_answer vcid found }
     {
         match found {
             Some(holding) => LiveAnswer::Report { vcid, holding },
