@@ -57,11 +57,11 @@ same-line octets line after other rest one two = same-parts octets line after ot
 -- ---- no two channels have one id
 
 -- each id stands at one place
-abbrev AreApart : List ℕ → Type 0
+abbrev pub AreApart : List ℕ → Type 0
 AreApart ids = (one other vcid : ℕ) → slice_get ids one ≡ Some vcid → slice_get ids other ≡ Some vcid → one ≡ other
 
 -- an element at its place, by its id
-same-at : {X : Type 0} (id : X → ℕ) (xs : List X) → AreApart (map id xs) → (vcid one other : ℕ) (x y : X) → slice_get xs one ≡ Some x → id x ≡ vcid → slice_get xs other ≡ Some y → id y ≡ vcid → (one ≡ other) × (x ≡ y)
+pub same-at : {X : Type 0} (id : X → ℕ) (xs : List X) → AreApart (map id xs) → (vcid one other : ℕ) (x y : X) → slice_get xs one ≡ Some x → id x ≡ vcid → slice_get xs other ≡ Some y → id y ≡ vcid → (one ≡ other) × (x ≡ y)
 same-at id xs apart vcid one other x y at is to too =
     let place = apart one other vcid (mapped-at id xs one x at ∙ ap (λ (z : ℕ). Some z) is) (mapped-at id xs other y to ∙ ap (λ (z : ℕ). Some z) too) in
     (place, same_Some x y (sym at ∙ (ap (slice_get xs) place ∙ to)))
@@ -74,28 +74,28 @@ apart-push ids new apart none one other vcid at to =
     grind (arith, apart one other vcid, none one, none other)
 
 -- the ids of the channels that are set up so far
-abbrev ids_of : Progress → List ℕ
+abbrev pub ids_of : Progress → List ℕ
 ids_of (SettingUp list) = vcids_of list
 ids_of (Operating rack) = map vcid_of rack.channels
 
-rack-ids : (scid : ℕ) (progress : Progress) → map vcid_of (rack_for scid progress).channels ≡ ids_of progress
+pub rack-ids : (scid : ℕ) (progress : Progress) → map vcid_of (rack_for scid progress).channels ≡ ids_of progress
 rack-ids scid (SettingUp list) = map-map vcid_of new_linked list
 rack-ids scid (Operating rack) = refl
 
 -- ---- what a channel is answered, and what becomes of it
 
 -- a channel has one answer, and one thing becomes of it
-abbrev IsDetermined : (Linked → Answer → Linked → Type 0) → Type 0
+abbrev pub IsDetermined : (Linked → Answer → Linked → Type 0) → Type 0
 IsDetermined Answers = (old new other : Linked) (answer another : Answer) → Answers old answer new → Answers old another other → (answer ≡ another) × (new ≡ other)
 
 -- it keeps its id
-abbrev IsIdKept : (Linked → Answer → Linked → Type 0) → Type 0
+abbrev pub IsIdKept : (Linked → Answer → Linked → Type 0) → Type 0
 IsIdKept Answers = (old new : Linked) (answer : Answer) → Answers old answer new → vcid_of new ≡ vcid_of old
 
-frame-determined : (frame : List ℕ) → IsDetermined (IsFrameAnswered frame)
+pub frame-determined : (frame : List ℕ) → IsDetermined (IsFrameAnswered frame)
 frame-determined frame old new other answer another (is, next) (too, then) = (is ∙ sym too, next ∙ sym then)
 
-release-determined : IsDetermined IsReleaseAnswered
+pub release-determined : IsDetermined IsReleaseAnswered
 release-determined old new other answer another one two = grind arith
 
 -- nothing waits: there is no queue, or it is empty
@@ -112,31 +112,31 @@ oldest-determined : (waiting : Option (List (List ℕ))) (reported : List ℕ �
     → IsOldestTaken waiting reported without next old answer new → IsOldestTaken waiting reported without next old another other → (answer ≡ another) × (new ≡ other)
 oldest-determined waiting reported without next old new other answer another one two = grind arith
 
-take-determined : (apid : ℕ) → IsDetermined (IsTakeAnswered apid)
+pub take-determined : (apid : ℕ) → IsDetermined (IsTakeAnswered apid)
 take-determined apid old new other answer another one two =
     oldest-determined (waiting_packets old.history.settings old.history.journal apid) (λ packet. answers.Take (vcid_of old) apid packet) (answers.Refused NoQueue)
     (later (events.Take apid) old) old new other answer another one two
 
-unit-determined : (map_id : ℕ) → IsDetermined (IsUnitAnswered map_id)
+pub unit-determined : (map_id : ℕ) → IsDetermined (IsUnitAnswered map_id)
 unit-determined map_id old new other answer another one two =
     oldest-determined (waiting_units old.history.settings old.history.journal map_id) (λ unit. answers.Unit (vcid_of old) map_id unit) (answers.Refused NoMap)
     (later (events.TakeUnit map_id) old) old new other answer another one two
 
-frame-kept : (frame : List ℕ) → IsIdKept (IsFrameAnswered frame)
+pub frame-kept : (frame : List ℕ) → IsIdKept (IsFrameAnswered frame)
 frame-kept frame old new answer (is, next) = ap vcid_of next
 
-release-kept : IsIdKept IsReleaseAnswered
+pub release-kept : IsIdKept IsReleaseAnswered
 release-kept old new answer a = grind arith
 
-take-kept : (apid : ℕ) → IsIdKept (IsTakeAnswered apid)
+pub take-kept : (apid : ℕ) → IsIdKept (IsTakeAnswered apid)
 take-kept apid old new answer a = grind arith
 
-unit-kept : (map_id : ℕ) → IsIdKept (IsUnitAnswered map_id)
+pub unit-kept : (map_id : ℕ) → IsIdKept (IsUnitAnswered map_id)
 unit-kept map_id old new answer a = grind arith
 
 -- ---- what an operation is answered, and what it leaves
 
-change-determined : (Answers : Linked → Answer → Linked → Type 0) → IsDetermined Answers → (vcid : ℕ) (old new other : Racked) (answer another : Answer) → AreApart (map vcid_of old.channels)
+pub change-determined : (Answers : Linked → Answer → Linked → Type 0) → IsDetermined Answers → (vcid : ℕ) (old new other : Racked) (answer another : Answer) → AreApart (map vcid_of old.channels)
     → Changes old vcid (λ before after. Answers before answer after) new → Changes old vcid (λ before after. Answers before another after) other → (answer ≡ another) × (new ≡ other)
 change-determined Answers determined vcid old new other answer another apart (place, before, after, at, a, is) (second, was, then, to, b, too) =
     let same = same-at vcid_of old.channels apart vcid place second before was at.0 at.1 to.0 to.1 in
@@ -144,7 +144,7 @@ change-determined Answers determined vcid old new other answer another apart (pl
     let left : new ≡ record old { channels = set old.channels second then } = is ∙ (λ i. record old { channels = set old.channels (same.0 i) (one.1 i) }) in
     (one.0, left ∙ sym too)
 
-change-ids : (Answers : Linked → Answer → Linked → Type 0) → IsIdKept Answers → (vcid : ℕ) (old new : Racked) (answer : Answer) → Changes old vcid (λ before after. Answers before answer after) new
+pub change-ids : (Answers : Linked → Answer → Linked → Type 0) → IsIdKept Answers → (vcid : ℕ) (old new : Racked) (answer : Answer) → Changes old vcid (λ before after. Answers before answer after) new
     → map vcid_of new.channels ≡ map vcid_of old.channels
 change-ids Answers kept vcid old new answer (place, before, after, at, a, is) =
     ap (λ (r : Racked). map vcid_of r.channels) is ∙ same-set vcid_of old.channels place before after at.0 (kept before after answer a)
@@ -152,7 +152,7 @@ change-ids Answers kept vcid old new answer (place, before, after, at, a, is) =
 not-unknown : (Becomes : Linked → Linked → Type 0) (vcid : ℕ) (old new : Racked) → Changes old vcid Becomes new → ¬ HasChannel old.channels vcid → ⊥
 not-unknown Becomes vcid old new (place, before, after, at, a, is) none = none (any-here (λ (c : Linked). vcid_of c ≡ vcid) old.channels place before at.0 at.1)
 
-channel-determined : (Answers : Linked → Answer → Linked → Type 0) → IsDetermined Answers → (vcid : ℕ) (old new other : Racked) (answer another : Answer) → AreApart (map vcid_of old.channels)
+pub channel-determined : (Answers : Linked → Answer → Linked → Type 0) → IsDetermined Answers → (vcid : ℕ) (old new other : Racked) (answer another : Answer) → AreApart (map vcid_of old.channels)
     → IsChannelAnswer vcid Answers old answer new → IsChannelAnswer vcid Answers old another other → (answer ≡ another) × (new ≡ other)
 channel-determined Answers determined vcid old new other answer another apart (inl one) (inl two) = change-determined Answers determined vcid old new other answer another apart one two
 channel-determined Answers determined vcid old new other answer another apart (inl one) (inr ((none, too), still)) =
@@ -161,16 +161,16 @@ channel-determined Answers determined vcid old new other answer another apart (i
     absurd (not-unknown (λ before after. Answers before another after) vcid old other two none)
 channel-determined Answers determined vcid old new other answer another apart (inr ((none, is), still)) (inr ((nothing, too), rests)) = (is ∙ sym too, still ∙ sym rests)
 
-channel-ids : (Answers : Linked → Answer → Linked → Type 0) → IsIdKept Answers → (vcid : ℕ) (old new : Racked) (answer : Answer) → IsChannelAnswer vcid Answers old answer new
+pub channel-ids : (Answers : Linked → Answer → Linked → Type 0) → IsIdKept Answers → (vcid : ℕ) (old new : Racked) (answer : Answer) → IsChannelAnswer vcid Answers old answer new
     → map vcid_of new.channels ≡ map vcid_of old.channels
 channel-ids Answers kept vcid old new answer (inl change) = change-ids Answers kept vcid old new answer change
 channel-ids Answers kept vcid old new answer (inr (none, still)) = ap (λ (r : Racked). map vcid_of r.channels) still
 
-frame-ids : (octets : List ℕ) (old new : Racked) (answer : Answer) → IsFrameAnswer octets old answer new → map vcid_of new.channels ≡ map vcid_of old.channels
+pub frame-ids : (octets : List ℕ) (old new : Racked) (answer : Answer) → IsFrameAnswer octets old answer new → map vcid_of new.channels ≡ map vcid_of old.channels
 frame-ids octets old new answer (inl (frame, begins, ours, change)) = change-ids (IsFrameAnswered frame) (frame-kept frame) (header_of frame).vcid old new answer change
 frame-ids octets old new answer (inr (fault, why, is, still)) = ap (λ (r : Racked). map vcid_of r.channels) still
 
-operation-ids : (operation : Operation) (old new : Racked) (answer : Answer) → IsAnswerOf operation old answer new → map vcid_of new.channels ≡ map vcid_of old.channels
+pub operation-ids : (operation : Operation) (old new : Racked) (answer : Answer) → IsAnswerOf operation old answer new → map vcid_of new.channels ≡ map vcid_of old.channels
 operation-ids (operations.Frame octets) old new answer a = frame-ids octets old new answer a
 operation-ids (operations.Release vcid) old new answer a = channel-ids IsReleaseAnswered release-kept vcid old new answer a
 operation-ids (operations.Take vcid apid) old new answer a = channel-ids (IsTakeAnswered apid) (take-kept apid) vcid old new answer a
@@ -225,7 +225,7 @@ module _ (only : IsOneAtMost) where
   frame-answer-determined octets old new other answer another apart (inr (fault, why, is, still)) (inr (second, since, too, rests)) =
       (is ∙ (ap (λ (f : LocateFault). answers.Refused (Unlocated f)) (same-fault octets old fault second why since) ∙ sym too), still ∙ sym rests)
 
-  operation-determined : (operation : Operation) (old new other : Racked) (answer another : Answer) → AreApart (map vcid_of old.channels)
+  pub operation-determined : (operation : Operation) (old new other : Racked) (answer another : Answer) → AreApart (map vcid_of old.channels)
       → IsAnswerOf operation old answer new → IsAnswerOf operation old another other → (answer ≡ another) × (new ≡ other)
   operation-determined (operations.Frame octets) old new other answer another apart one two = frame-answer-determined octets old new other answer another apart one two
   operation-determined (operations.Release vcid) old new other answer another apart one two =
@@ -253,7 +253,7 @@ addition-determined list new other vcid addition apart (place, s, at, allowed, i
     left ∙ sym too
 
 module _ (only : IsOneAtMost) (scid : ℕ) where
-  done-apart : (operation : Operation) (old new : Progress) (answer : Option Answer) → AreApart (ids_of old) → IsDoneSo (IsPerformed scid) operation old answer new → AreApart (ids_of new)
+  pub done-apart : (operation : Operation) (old new : Progress) (answer : Option Answer) → AreApart (ids_of old) → IsDoneSo (IsPerformed scid) operation old answer new → AreApart (ids_of new)
   done-apart operation old new answer apart (a, performed, reported) =
       let at = performed-at scid operation old new a performed in
       let same : ids_of new ≡ ids_of old = ap ids_of at.2 ∙ (operation-ids operation (rack_for scid old) at.0 a at.1 ∙ rack-ids scid old) in
@@ -280,7 +280,7 @@ module _ (only : IsOneAtMost) (scid : ℕ) where
   line-apart (TakeUnit vcid map_id) old new answer apart does a = done-apart (operations.Unit vcid map_id) old new answer apart a
   line-apart (Clcw vcid) old new answer apart does a = done-apart (operations.Clcw vcid) old new answer apart a
 
-  all-apart : (script : List ℕ) (answers : List (Option Answer)) (progress : Progress) (rest : List ℕ) → AreAnswers (IsPerformed scid) script answers progress rest → AreApart (ids_of progress)
+  pub all-apart : (script : List ℕ) (answers : List (Option Answer)) (progress : Progress) (rest : List ℕ) → AreAnswers (IsPerformed scid) script answers progress rest → AreApart (ids_of progress)
   all-apart script answers progress rest at_first = λ one other vcid at to. absurd (none-some vcid at)
   all-apart script answers progress rest (one_more {answers = before} {stage = old} {answer = answer} leads next answered) =
       line-apart (instruction_of answered.0) old progress answer (all-apart script before old _ leads) answered.2 answered.3
