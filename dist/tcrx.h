@@ -298,14 +298,14 @@ typedef struct {
     uint8_t decoding; /**< Whether a start sequence has come, and code blocks are decoded. */
     uint8_t last;     /**< The octet before, while a start sequence is looked for. */
     uint8_t count;    /**< The octets of the next code block that have come, 0 to 7. */
-    uint16_t held;    /**< The octets that code blocks have carried since the start sequence, 0 to 1,029. */
+    uint16_t carried; /**< The octets that code blocks have carried since the start sequence, 0 to 1,029. */
 } tcrx_decoder;
 
 /** What octets of a stream came to. */
 typedef struct {
     tcrx_status status;   /**< #TCRX_DONE, or why not. */
     tcrx_decoder decoder; /**< The decoder after the octets that were taken; where the call is refused, as it was given. */
-    uint8_t ended;        /**< Whether the last of them ended a candidate frame: the first `held` octets of the buffer. */
+    uint8_t ended;        /**< Whether the last of them ended a candidate frame: the first `carried` octets of the buffer. */
     uint64_t taken;       /**< How many octets were taken. */
     uint64_t corrected;   /**< How many code blocks ended in them of which one bit was corrected. */
     uint64_t rejected;    /**< How many ended in them that were rejected, and aren't the tail sequence. */

@@ -50,7 +50,7 @@ TCRX_LAYOUT(tcrx_tm, sizeof(tcrx_tm) == 16 && TCRX_AT(tcrx_tm, status, 0) && TCR
                          && TCRX_AT(tcrx_tm, header, 8) && TCRX_AT(tcrx_tm, pointer, 14));
 TCRX_LAYOUT(tcrx_decoder, sizeof(tcrx_decoder) == 6 && TCRX_AT(tcrx_decoder, correct, 0) && TCRX_AT(tcrx_decoder, decoding, 1)
                               && TCRX_AT(tcrx_decoder, last, 2) && TCRX_AT(tcrx_decoder, count, 3)
-                              && TCRX_AT(tcrx_decoder, held, 4));
+                              && TCRX_AT(tcrx_decoder, carried, 4));
 TCRX_LAYOUT(tcrx_decoded, sizeof(tcrx_decoded) == 48 && TCRX_AT(tcrx_decoded, status, 0) && TCRX_AT(tcrx_decoded, decoder, 4)
                               && TCRX_AT(tcrx_decoded, ended, 10) && TCRX_AT(tcrx_decoded, taken, 16)
                               && TCRX_AT(tcrx_decoded, corrected, 24) && TCRX_AT(tcrx_decoded, rejected, 32)

@@ -67,8 +67,8 @@ tcrx_decoded tcrx_cltu_octets_at(tcrx_decoder decoder, const uint8_t *octets, si
     tcrx_set_number(at, 1, decoder.decoding);
     tcrx_set_number(at, 2, decoder.last);
     tcrx_set_number(at, 3, decoder.count);
-    tcrx_set_number(at, 4, decoder.held);
-    tcrx_put(at, at->written, frame, least((size_t)decoder.held + decoder.count, has));
+    tcrx_set_number(at, 4, decoder.carried);
+    tcrx_put(at, at->written, frame, least((size_t)decoder.carried + decoder.count, has));
     do {
         const uint32_t given = least(count - (size_t)answer.taken, TCRX_MODULE_FRAME);
         tcrx_put(at, at->read, octets + answer.taken, given);
@@ -82,9 +82,9 @@ tcrx_decoded tcrx_cltu_octets_at(tcrx_decoder decoder, const uint8_t *octets, si
     answer.decoder.decoding = (uint8_t)tcrx_number(at, 1);
     answer.decoder.last = (uint8_t)tcrx_number(at, 2);
     answer.decoder.count = (uint8_t)tcrx_number(at, 3);
-    answer.decoder.held = (uint16_t)tcrx_number(at, 4);
+    answer.decoder.carried = (uint16_t)tcrx_number(at, 4);
     if (answer.status == TCRX_DONE) {
-        tcrx_get(at, at->written, frame, least((size_t)answer.decoder.held + answer.decoder.count, has));
+        tcrx_get(at, at->written, frame, least((size_t)answer.decoder.carried + answer.decoder.count, has));
     }
     tcrx_instance_back();
     return answer;
@@ -226,13 +226,13 @@ tcrx_decoded tcrx_cltu_search(tcrx_decoder decoder) {
     tcrx_set_number(at, 1, decoder.decoding);
     tcrx_set_number(at, 2, decoder.last);
     tcrx_set_number(at, 3, decoder.count);
-    tcrx_set_number(at, 4, decoder.held);
+    tcrx_set_number(at, 4, decoder.carried);
     answer.status = Z_tcrxZ_module_cltu_search(&at->module);
     answer.decoder.correct = (uint8_t)tcrx_number(at, 0);
     answer.decoder.decoding = (uint8_t)tcrx_number(at, 1);
     answer.decoder.last = (uint8_t)tcrx_number(at, 2);
     answer.decoder.count = (uint8_t)tcrx_number(at, 3);
-    answer.decoder.held = (uint16_t)tcrx_number(at, 4);
+    answer.decoder.carried = (uint16_t)tcrx_number(at, 4);
     answer.ended = (uint8_t)tcrx_number(at, 5);
     answer.taken = count_of(at, 6);
     answer.corrected = count_of(at, 8);

@@ -577,7 +577,7 @@ DEFINE_TABLE_FILL(externref)
 
 static bool s_module_initialized = false;
 
-static u32 func_types[37];
+static u32 func_types[36];
 
 static void init_func_types(void) {
   func_types[0] = wasm_rt_register_func_type(4, 1, WASM_RT_I64, WASM_RT_I32, WASM_RT_I64, WASM_RT_I32, WASM_RT_I32);
@@ -591,10 +591,10 @@ static void init_func_types(void) {
   func_types[8] = wasm_rt_register_func_type(3, 1, WASM_RT_I32, WASM_RT_I64, WASM_RT_I32, WASM_RT_I32);
   func_types[9] = wasm_rt_register_func_type(1, 1, WASM_RT_I64, WASM_RT_I32);
   func_types[10] = wasm_rt_register_func_type(6, 0, WASM_RT_I64, WASM_RT_I64, WASM_RT_I64, WASM_RT_I64, WASM_RT_I64, WASM_RT_I64);
-  func_types[11] = wasm_rt_register_func_type(3, 1, WASM_RT_I64, WASM_RT_I64, WASM_RT_I64, WASM_RT_I64);
-  func_types[12] = wasm_rt_register_func_type(3, 0, WASM_RT_I64, WASM_RT_I64, WASM_RT_I32);
-  func_types[13] = wasm_rt_register_func_type(6, 0, WASM_RT_I64, WASM_RT_I64, WASM_RT_I64, WASM_RT_I32, WASM_RT_I64, WASM_RT_I64);
-  func_types[14] = wasm_rt_register_func_type(5, 0, WASM_RT_I64, WASM_RT_I64, WASM_RT_I32, WASM_RT_I64, WASM_RT_I64);
+  func_types[11] = wasm_rt_register_func_type(5, 0, WASM_RT_I64, WASM_RT_I64, WASM_RT_I32, WASM_RT_I64, WASM_RT_I64);
+  func_types[12] = wasm_rt_register_func_type(3, 1, WASM_RT_I64, WASM_RT_I64, WASM_RT_I64, WASM_RT_I64);
+  func_types[13] = wasm_rt_register_func_type(3, 0, WASM_RT_I64, WASM_RT_I64, WASM_RT_I32);
+  func_types[14] = wasm_rt_register_func_type(6, 0, WASM_RT_I64, WASM_RT_I64, WASM_RT_I64, WASM_RT_I32, WASM_RT_I64, WASM_RT_I64);
   func_types[15] = wasm_rt_register_func_type(2, 1, WASM_RT_I32, WASM_RT_I32, WASM_RT_I32);
   func_types[16] = wasm_rt_register_func_type(7, 1, WASM_RT_I64, WASM_RT_I32, WASM_RT_I64, WASM_RT_I32, WASM_RT_I32, WASM_RT_I64, WASM_RT_I32, WASM_RT_I32);
   func_types[17] = wasm_rt_register_func_type(5, 1, WASM_RT_I32, WASM_RT_I32, WASM_RT_I32, WASM_RT_I32, WASM_RT_I32, WASM_RT_I32);
@@ -608,15 +608,14 @@ static void init_func_types(void) {
   func_types[25] = wasm_rt_register_func_type(4, 0, WASM_RT_I64, WASM_RT_I32, WASM_RT_I32, WASM_RT_I64);
   func_types[26] = wasm_rt_register_func_type(9, 0, WASM_RT_I64, WASM_RT_I64, WASM_RT_I64, WASM_RT_I64, WASM_RT_I64, WASM_RT_I64, WASM_RT_I32, WASM_RT_I64, WASM_RT_I64);
   func_types[27] = wasm_rt_register_func_type(4, 0, WASM_RT_I64, WASM_RT_I64, WASM_RT_I64, WASM_RT_I32);
-  func_types[28] = wasm_rt_register_func_type(2, 0, WASM_RT_I64, WASM_RT_I32);
-  func_types[29] = wasm_rt_register_func_type(4, 0, WASM_RT_I64, WASM_RT_I32, WASM_RT_I64, WASM_RT_I64);
-  func_types[30] = wasm_rt_register_func_type(7, 0, WASM_RT_I64, WASM_RT_I32, WASM_RT_I32, WASM_RT_I32, WASM_RT_I32, WASM_RT_I64, WASM_RT_I64);
-  func_types[31] = wasm_rt_register_func_type(9, 0, WASM_RT_I64, WASM_RT_I64, WASM_RT_I32, WASM_RT_I32, WASM_RT_I32, WASM_RT_I64, WASM_RT_I64, WASM_RT_I64, WASM_RT_I64);
-  func_types[32] = wasm_rt_register_func_type(7, 0, WASM_RT_I64, WASM_RT_I64, WASM_RT_I32, WASM_RT_I32, WASM_RT_I32, WASM_RT_I64, WASM_RT_I64);
-  func_types[33] = wasm_rt_register_func_type(1, 1, WASM_RT_I32, WASM_RT_I64);
-  func_types[34] = wasm_rt_register_func_type(6, 1, WASM_RT_I32, WASM_RT_I32, WASM_RT_I32, WASM_RT_I32, WASM_RT_I64, WASM_RT_I32, WASM_RT_I32);
-  func_types[35] = wasm_rt_register_func_type(7, 1, WASM_RT_I32, WASM_RT_I32, WASM_RT_I32, WASM_RT_I64, WASM_RT_I32, WASM_RT_I64, WASM_RT_I32, WASM_RT_I32);
-  func_types[36] = wasm_rt_register_func_type(5, 1, WASM_RT_I32, WASM_RT_I32, WASM_RT_I32, WASM_RT_I64, WASM_RT_I32, WASM_RT_I32);
+  func_types[28] = wasm_rt_register_func_type(4, 0, WASM_RT_I64, WASM_RT_I32, WASM_RT_I64, WASM_RT_I64);
+  func_types[29] = wasm_rt_register_func_type(7, 0, WASM_RT_I64, WASM_RT_I32, WASM_RT_I32, WASM_RT_I32, WASM_RT_I32, WASM_RT_I64, WASM_RT_I64);
+  func_types[30] = wasm_rt_register_func_type(9, 0, WASM_RT_I64, WASM_RT_I64, WASM_RT_I32, WASM_RT_I32, WASM_RT_I32, WASM_RT_I64, WASM_RT_I64, WASM_RT_I64, WASM_RT_I64);
+  func_types[31] = wasm_rt_register_func_type(7, 0, WASM_RT_I64, WASM_RT_I64, WASM_RT_I32, WASM_RT_I32, WASM_RT_I32, WASM_RT_I64, WASM_RT_I64);
+  func_types[32] = wasm_rt_register_func_type(1, 1, WASM_RT_I32, WASM_RT_I64);
+  func_types[33] = wasm_rt_register_func_type(6, 1, WASM_RT_I32, WASM_RT_I32, WASM_RT_I32, WASM_RT_I32, WASM_RT_I64, WASM_RT_I32, WASM_RT_I32);
+  func_types[34] = wasm_rt_register_func_type(7, 1, WASM_RT_I32, WASM_RT_I32, WASM_RT_I32, WASM_RT_I64, WASM_RT_I32, WASM_RT_I64, WASM_RT_I32, WASM_RT_I32);
+  func_types[35] = wasm_rt_register_func_type(5, 1, WASM_RT_I32, WASM_RT_I32, WASM_RT_I32, WASM_RT_I64, WASM_RT_I32, WASM_RT_I32);
 }
 
 static u64 w2c_f0(Z_tcrx_instance_t*, u64, u64);
@@ -653,7 +652,7 @@ static void w2c_f30(Z_tcrx_instance_t*, u64, u64, u64, u32, u64, u64);
 static void w2c_f31(Z_tcrx_instance_t*, u64, u64, u64, u32);
 static void w2c_f32(Z_tcrx_instance_t*, u64, u64, u64, u64, u64);
 static void w2c_f33(Z_tcrx_instance_t*, u64, u64, u32, u64, u64);
-static void w2c_f34(Z_tcrx_instance_t*, u64, u32);
+static void w2c_f34(Z_tcrx_instance_t*, u64, u64, u32, u64, u64);
 static void w2c_f35(Z_tcrx_instance_t*, u64, u64, u32, u64, u64);
 static void w2c_f36(Z_tcrx_instance_t*, u64, u64, u64, u64, u64);
 static void w2c_f37(Z_tcrx_instance_t*, u64, u64, u64, u64, u64);
@@ -719,532 +718,606 @@ static const u8 data_segment_data_w2c_d0[] = {
   0x00, 0x20, 0x00, 0x00, 0x00, 0x40, 0x00, 0x00, 0x00, 0x80, 0x00, 0x00, 
   0x00, 0x00, 0x01, 0x00, 0x10, 0x00, 0x01, 0x00, 0x00, 0x00, 0x02, 0x00, 
   0x00, 0x00, 0x04, 0x00, 0x00, 0x00, 0x08, 0x00, 0x00, 0x00, 0x10, 0x00, 
-  0x3f, 0x3e, 0x3d, 0x3f, 0x3c, 0x3f, 0x3f, 0x24, 0x3b, 0x3f, 0x3f, 0x1b, 
-  0x3f, 0x0e, 0x23, 0x3f, 0x3a, 0x3f, 0x3f, 0x2e, 0x3f, 0x0a, 0x1a, 0x3f, 
-  0x3f, 0x11, 0x0d, 0x3f, 0x22, 0x3f, 0x3f, 0x06, 0x39, 0x3f, 0x3f, 0x33, 
-  0x3f, 0x1f, 0x2d, 0x3f, 0x3f, 0x27, 0x09, 0x3f, 0x19, 0x3f, 0x3f, 0x16, 
-  0x3f, 0x01, 0x10, 0x3f, 0x0c, 0x3f, 0x3f, 0x13, 0x21, 0x3f, 0x3f, 0x29, 
-  0x3f, 0x03, 0x05, 0x3f, 0x38, 0x3f, 0x3f, 0x3f, 0x3f, 0x37, 0x32, 0x3f, 
-  0x3f, 0x31, 0x1e, 0x3f, 0x2c, 0x3f, 0x3f, 0x36, 0x3f, 0x1d, 0x26, 0x3f, 
-  0x08, 0x3f, 0x3f, 0x30, 0x18, 0x3f, 0x3f, 0x35, 0x3f, 0x2b, 0x15, 0x3f, 
-  0x3f, 0x25, 0x00, 0x3f, 0x0f, 0x3f, 0x3f, 0x1c, 0x0b, 0x3f, 0x3f, 0x2f, 
-  0x3f, 0x07, 0x12, 0x3f, 0x20, 0x3f, 0x3f, 0x34, 0x3f, 0x17, 0x28, 0x3f, 
-  0x3f, 0x14, 0x02, 0x3f, 0x04, 0x3f, 0x3f, 0x2a, 0x00, 0x45, 0x4f, 0x0a, 
-  0x5b, 0x1e, 0x14, 0x51, 0x73, 0x36, 0x3c, 0x79, 0x28, 0x6d, 0x67, 0x22, 
-  0x23, 0x66, 0x6c, 0x29, 0x78, 0x3d, 0x37, 0x72, 0x50, 0x15, 0x1f, 0x5a, 
-  0x0b, 0x4e, 0x44, 0x01, 0x46, 0x03, 0x09, 0x4c, 0x1d, 0x58, 0x52, 0x17, 
-  0x35, 0x70, 0x7a, 0x3f, 0x6e, 0x2b, 0x21, 0x64, 0x65, 0x20, 0x2a, 0x6f, 
-  0x3e, 0x7b, 0x71, 0x34, 0x16, 0x53, 0x59, 0x1c, 0x4d, 0x08, 0x02, 0x47, 
-  0x49, 0x0c, 0x06, 0x43, 0x12, 0x57, 0x5d, 0x18, 0x3a, 0x7f, 0x75, 0x30, 
-  0x61, 0x24, 0x2e, 0x6b, 0x6a, 0x2f, 0x25, 0x60, 0x31, 0x74, 0x7e, 0x3b, 
-  0x19, 0x5c, 0x56, 0x13, 0x42, 0x07, 0x0d, 0x48, 0x0f, 0x4a, 0x40, 0x05, 
-  0x54, 0x11, 0x1b, 0x5e, 0x7c, 0x39, 0x33, 0x76, 0x27, 0x62, 0x68, 0x2d, 
-  0x2c, 0x69, 0x63, 0x26, 0x77, 0x32, 0x38, 0x7d, 0x5f, 0x1a, 0x10, 0x55, 
-  0x04, 0x41, 0x4b, 0x0e, 0x57, 0x12, 0x18, 0x5d, 0x0c, 0x49, 0x43, 0x06, 
-  0x24, 0x61, 0x6b, 0x2e, 0x7f, 0x3a, 0x30, 0x75, 0x74, 0x31, 0x3b, 0x7e, 
-  0x2f, 0x6a, 0x60, 0x25, 0x07, 0x42, 0x48, 0x0d, 0x5c, 0x19, 0x13, 0x56, 
-  0x11, 0x54, 0x5e, 0x1b, 0x4a, 0x0f, 0x05, 0x40, 0x62, 0x27, 0x2d, 0x68, 
-  0x39, 0x7c, 0x76, 0x33, 0x32, 0x77, 0x7d, 0x38, 0x69, 0x2c, 0x26, 0x63, 
-  0x41, 0x04, 0x0e, 0x4b, 0x1a, 0x5f, 0x55, 0x10, 0x1e, 0x5b, 0x51, 0x14, 
-  0x45, 0x00, 0x0a, 0x4f, 0x6d, 0x28, 0x22, 0x67, 0x36, 0x73, 0x79, 0x3c, 
-  0x3d, 0x78, 0x72, 0x37, 0x66, 0x23, 0x29, 0x6c, 0x4e, 0x0b, 0x01, 0x44, 
-  0x15, 0x50, 0x5a, 0x1f, 0x58, 0x1d, 0x17, 0x52, 0x03, 0x46, 0x4c, 0x09, 
-  0x2b, 0x6e, 0x64, 0x21, 0x70, 0x35, 0x3f, 0x7a, 0x7b, 0x3e, 0x34, 0x71, 
-  0x20, 0x65, 0x6f, 0x2a, 0x08, 0x4d, 0x47, 0x02, 0x53, 0x16, 0x1c, 0x59, 
-  0x00, 0x6b, 0x13, 0x78, 0x26, 0x4d, 0x35, 0x5e, 0x4c, 0x27, 0x5f, 0x34, 
-  0x6a, 0x01, 0x79, 0x12, 0x5d, 0x36, 0x4e, 0x25, 0x7b, 0x10, 0x68, 0x03, 
-  0x11, 0x7a, 0x02, 0x69, 0x37, 0x5c, 0x24, 0x4f, 0x7f, 0x14, 0x6c, 0x07, 
-  0x59, 0x32, 0x4a, 0x21, 0x33, 0x58, 0x20, 0x4b, 0x15, 0x7e, 0x06, 0x6d, 
-  0x22, 0x49, 0x31, 0x5a, 0x04, 0x6f, 0x17, 0x7c, 0x6e, 0x05, 0x7d, 0x16, 
-  0x48, 0x23, 0x5b, 0x30, 0x3b, 0x50, 0x28, 0x43, 0x1d, 0x76, 0x0e, 0x65, 
-  0x77, 0x1c, 0x64, 0x0f, 0x51, 0x3a, 0x42, 0x29, 0x66, 0x0d, 0x75, 0x1e, 
-  0x40, 0x2b, 0x53, 0x38, 0x2a, 0x41, 0x39, 0x52, 0x0c, 0x67, 0x1f, 0x74, 
-  0x44, 0x2f, 0x57, 0x3c, 0x62, 0x09, 0x71, 0x1a, 0x08, 0x63, 0x1b, 0x70, 
-  0x2e, 0x45, 0x3d, 0x56, 0x19, 0x72, 0x0a, 0x61, 0x3f, 0x54, 0x2c, 0x47, 
-  0x55, 0x3e, 0x46, 0x2d, 0x73, 0x18, 0x60, 0x0b, 0x76, 0x1d, 0x65, 0x0e, 
-  0x50, 0x3b, 0x43, 0x28, 0x3a, 0x51, 0x29, 0x42, 0x1c, 0x77, 0x0f, 0x64, 
-  0x2b, 0x40, 0x38, 0x53, 0x0d, 0x66, 0x1e, 0x75, 0x67, 0x0c, 0x74, 0x1f, 
-  0x41, 0x2a, 0x52, 0x39, 0x09, 0x62, 0x1a, 0x71, 0x2f, 0x44, 0x3c, 0x57, 
-  0x45, 0x2e, 0x56, 0x3d, 0x63, 0x08, 0x70, 0x1b, 0x54, 0x3f, 0x47, 0x2c, 
-  0x72, 0x19, 0x61, 0x0a, 0x18, 0x73, 0x0b, 0x60, 0x3e, 0x55, 0x2d, 0x46, 
-  0x4d, 0x26, 0x5e, 0x35, 0x6b, 0x00, 0x78, 0x13, 0x01, 0x6a, 0x12, 0x79, 
-  0x27, 0x4c, 0x34, 0x5f, 0x10, 0x7b, 0x03, 0x68, 0x36, 0x5d, 0x25, 0x4e, 
-  0x5c, 0x37, 0x4f, 0x24, 0x7a, 0x11, 0x69, 0x02, 0x32, 0x59, 0x21, 0x4a, 
-  0x14, 0x7f, 0x07, 0x6c, 0x7e, 0x15, 0x6d, 0x06, 0x58, 0x33, 0x4b, 0x20, 
-  0x6f, 0x04, 0x7c, 0x17, 0x49, 0x22, 0x5a, 0x31, 0x23, 0x48, 0x30, 0x5b, 
-  0x05, 0x6e, 0x16, 0x7d, 0x00, 0x29, 0x52, 0x7b, 0x61, 0x48, 0x33, 0x1a, 
-  0x07, 0x2e, 0x55, 0x7c, 0x66, 0x4f, 0x34, 0x1d, 0x0e, 0x27, 0x5c, 0x75, 
-  0x6f, 0x46, 0x3d, 0x14, 0x09, 0x20, 0x5b, 0x72, 0x68, 0x41, 0x3a, 0x13, 
-  0x1c, 0x35, 0x4e, 0x67, 0x7d, 0x54, 0x2f, 0x06, 0x1b, 0x32, 0x49, 0x60, 
-  0x7a, 0x53, 0x28, 0x01, 0x12, 0x3b, 0x40, 0x69, 0x73, 0x5a, 0x21, 0x08, 
-  0x15, 0x3c, 0x47, 0x6e, 0x74, 0x5d, 0x26, 0x0f, 0x38, 0x11, 0x6a, 0x43, 
-  0x59, 0x70, 0x0b, 0x22, 0x3f, 0x16, 0x6d, 0x44, 0x5e, 0x77, 0x0c, 0x25, 
-  0x36, 0x1f, 0x64, 0x4d, 0x57, 0x7e, 0x05, 0x2c, 0x31, 0x18, 0x63, 0x4a, 
-  0x50, 0x79, 0x02, 0x2b, 0x24, 0x0d, 0x76, 0x5f, 0x45, 0x6c, 0x17, 0x3e, 
-  0x23, 0x0a, 0x71, 0x58, 0x42, 0x6b, 0x10, 0x39, 0x2a, 0x03, 0x78, 0x51, 
-  0x4b, 0x62, 0x19, 0x30, 0x2d, 0x04, 0x7f, 0x56, 0x4c, 0x65, 0x1e, 0x37, 
-  0x70, 0x59, 0x22, 0x0b, 0x11, 0x38, 0x43, 0x6a, 0x77, 0x5e, 0x25, 0x0c, 
-  0x16, 0x3f, 0x44, 0x6d, 0x7e, 0x57, 0x2c, 0x05, 0x1f, 0x36, 0x4d, 0x64, 
-  0x79, 0x50, 0x2b, 0x02, 0x18, 0x31, 0x4a, 0x63, 0x6c, 0x45, 0x3e, 0x17, 
-  0x0d, 0x24, 0x5f, 0x76, 0x6b, 0x42, 0x39, 0x10, 0x0a, 0x23, 0x58, 0x71, 
-  0x62, 0x4b, 0x30, 0x19, 0x03, 0x2a, 0x51, 0x78, 0x65, 0x4c, 0x37, 0x1e, 
-  0x04, 0x2d, 0x56, 0x7f, 0x48, 0x61, 0x1a, 0x33, 0x29, 0x00, 0x7b, 0x52, 
-  0x4f, 0x66, 0x1d, 0x34, 0x2e, 0x07, 0x7c, 0x55, 0x46, 0x6f, 0x14, 0x3d, 
-  0x27, 0x0e, 0x75, 0x5c, 0x41, 0x68, 0x13, 0x3a, 0x20, 0x09, 0x72, 0x5b, 
-  0x54, 0x7d, 0x06, 0x2f, 0x35, 0x1c, 0x67, 0x4e, 0x53, 0x7a, 0x01, 0x28, 
-  0x32, 0x1b, 0x60, 0x49, 0x5a, 0x73, 0x08, 0x21, 0x3b, 0x12, 0x69, 0x40, 
-  0x5d, 0x74, 0x0f, 0x26, 0x3c, 0x15, 0x6e, 0x47, 0x00, 0x25, 0x4a, 0x6f, 
-  0x51, 0x74, 0x1b, 0x3e, 0x67, 0x42, 0x2d, 0x08, 0x36, 0x13, 0x7c, 0x59, 
-  0x0b, 0x2e, 0x41, 0x64, 0x5a, 0x7f, 0x10, 0x35, 0x6c, 0x49, 0x26, 0x03, 
-  0x3d, 0x18, 0x77, 0x52, 0x16, 0x33, 0x5c, 0x79, 0x47, 0x62, 0x0d, 0x28, 
-  0x71, 0x54, 0x3b, 0x1e, 0x20, 0x05, 0x6a, 0x4f, 0x1d, 0x38, 0x57, 0x72, 
-  0x4c, 0x69, 0x06, 0x23, 0x7a, 0x5f, 0x30, 0x15, 0x2b, 0x0e, 0x61, 0x44, 
-  0x2c, 0x09, 0x66, 0x43, 0x7d, 0x58, 0x37, 0x12, 0x4b, 0x6e, 0x01, 0x24, 
-  0x1a, 0x3f, 0x50, 0x75, 0x27, 0x02, 0x6d, 0x48, 0x76, 0x53, 0x3c, 0x19, 
-  0x40, 0x65, 0x0a, 0x2f, 0x11, 0x34, 0x5b, 0x7e, 0x3a, 0x1f, 0x70, 0x55, 
-  0x6b, 0x4e, 0x21, 0x04, 0x5d, 0x78, 0x17, 0x32, 0x0c, 0x29, 0x46, 0x63, 
-  0x31, 0x14, 0x7b, 0x5e, 0x60, 0x45, 0x2a, 0x0f, 0x56, 0x73, 0x1c, 0x39, 
-  0x07, 0x22, 0x4d, 0x68, 0x58, 0x7d, 0x12, 0x37, 0x09, 0x2c, 0x43, 0x66, 
-  0x3f, 0x1a, 0x75, 0x50, 0x6e, 0x4b, 0x24, 0x01, 0x53, 0x76, 0x19, 0x3c, 
-  0x02, 0x27, 0x48, 0x6d, 0x34, 0x11, 0x7e, 0x5b, 0x65, 0x40, 0x2f, 0x0a, 
-  0x4e, 0x6b, 0x04, 0x21, 0x1f, 0x3a, 0x55, 0x70, 0x29, 0x0c, 0x63, 0x46, 
-  0x78, 0x5d, 0x32, 0x17, 0x45, 0x60, 0x0f, 0x2a, 0x14, 0x31, 0x5e, 0x7b, 
-  0x22, 0x07, 0x68, 0x4d, 0x73, 0x56, 0x39, 0x1c, 0x74, 0x51, 0x3e, 0x1b, 
-  0x25, 0x00, 0x6f, 0x4a, 0x13, 0x36, 0x59, 0x7c, 0x42, 0x67, 0x08, 0x2d, 
-  0x7f, 0x5a, 0x35, 0x10, 0x2e, 0x0b, 0x64, 0x41, 0x18, 0x3d, 0x52, 0x77, 
-  0x49, 0x6c, 0x03, 0x26, 0x62, 0x47, 0x28, 0x0d, 0x33, 0x16, 0x79, 0x5c, 
-  0x05, 0x20, 0x4f, 0x6a, 0x54, 0x71, 0x1e, 0x3b, 0x69, 0x4c, 0x23, 0x06, 
-  0x38, 0x1d, 0x72, 0x57, 0x0e, 0x2b, 0x44, 0x61, 0x5f, 0x7a, 0x15, 0x30, 
-  0x00, 0x75, 0x2f, 0x5a, 0x5e, 0x2b, 0x71, 0x04, 0x79, 0x0c, 0x56, 0x23, 
-  0x27, 0x52, 0x08, 0x7d, 0x37, 0x42, 0x18, 0x6d, 0x69, 0x1c, 0x46, 0x33, 
-  0x4e, 0x3b, 0x61, 0x14, 0x10, 0x65, 0x3f, 0x4a, 0x6e, 0x1b, 0x41, 0x34, 
-  0x30, 0x45, 0x1f, 0x6a, 0x17, 0x62, 0x38, 0x4d, 0x49, 0x3c, 0x66, 0x13, 
-  0x59, 0x2c, 0x76, 0x03, 0x07, 0x72, 0x28, 0x5d, 0x20, 0x55, 0x0f, 0x7a, 
-  0x7e, 0x0b, 0x51, 0x24, 0x19, 0x6c, 0x36, 0x43, 0x47, 0x32, 0x68, 0x1d, 
-  0x60, 0x15, 0x4f, 0x3a, 0x3e, 0x4b, 0x11, 0x64, 0x2e, 0x5b, 0x01, 0x74, 
-  0x70, 0x05, 0x5f, 0x2a, 0x57, 0x22, 0x78, 0x0d, 0x09, 0x7c, 0x26, 0x53, 
-  0x77, 0x02, 0x58, 0x2d, 0x29, 0x5c, 0x06, 0x73, 0x0e, 0x7b, 0x21, 0x54, 
-  0x50, 0x25, 0x7f, 0x0a, 0x40, 0x35, 0x6f, 0x1a, 0x1e, 0x6b, 0x31, 0x44, 
-  0x39, 0x4c, 0x16, 0x63, 0x67, 0x12, 0x48, 0x3d, 0x32, 0x47, 0x1d, 0x68, 
-  0x6c, 0x19, 0x43, 0x36, 0x4b, 0x3e, 0x64, 0x11, 0x15, 0x60, 0x3a, 0x4f, 
-  0x05, 0x70, 0x2a, 0x5f, 0x5b, 0x2e, 0x74, 0x01, 0x7c, 0x09, 0x53, 0x26, 
-  0x22, 0x57, 0x0d, 0x78, 0x5c, 0x29, 0x73, 0x06, 0x02, 0x77, 0x2d, 0x58, 
-  0x25, 0x50, 0x0a, 0x7f, 0x7b, 0x0e, 0x54, 0x21, 0x6b, 0x1e, 0x44, 0x31, 
-  0x35, 0x40, 0x1a, 0x6f, 0x12, 0x67, 0x3d, 0x48, 0x4c, 0x39, 0x63, 0x16, 
-  0x2b, 0x5e, 0x04, 0x71, 0x75, 0x00, 0x5a, 0x2f, 0x52, 0x27, 0x7d, 0x08, 
-  0x0c, 0x79, 0x23, 0x56, 0x1c, 0x69, 0x33, 0x46, 0x42, 0x37, 0x6d, 0x18, 
-  0x65, 0x10, 0x4a, 0x3f, 0x3b, 0x4e, 0x14, 0x61, 0x45, 0x30, 0x6a, 0x1f, 
-  0x1b, 0x6e, 0x34, 0x41, 0x3c, 0x49, 0x13, 0x66, 0x62, 0x17, 0x4d, 0x38, 
-  0x72, 0x07, 0x5d, 0x28, 0x2c, 0x59, 0x03, 0x76, 0x0b, 0x7e, 0x24, 0x51, 
-  0x55, 0x20, 0x7a, 0x0f, 0x00, 0x64, 0x0d, 0x69, 0x1a, 0x7e, 0x17, 0x73, 
-  0x34, 0x50, 0x39, 0x5d, 0x2e, 0x4a, 0x23, 0x47, 0x68, 0x0c, 0x65, 0x01, 
-  0x72, 0x16, 0x7f, 0x1b, 0x5c, 0x38, 0x51, 0x35, 0x46, 0x22, 0x4b, 0x2f, 
-  0x15, 0x71, 0x18, 0x7c, 0x0f, 0x6b, 0x02, 0x66, 0x21, 0x45, 0x2c, 0x48, 
-  0x3b, 0x5f, 0x36, 0x52, 0x7d, 0x19, 0x70, 0x14, 0x67, 0x03, 0x6a, 0x0e, 
-  0x49, 0x2d, 0x44, 0x20, 0x53, 0x37, 0x5e, 0x3a, 0x2a, 0x4e, 0x27, 0x43, 
-  0x30, 0x54, 0x3d, 0x59, 0x1e, 0x7a, 0x13, 0x77, 0x04, 0x60, 0x09, 0x6d, 
-  0x42, 0x26, 0x4f, 0x2b, 0x58, 0x3c, 0x55, 0x31, 0x76, 0x12, 0x7b, 0x1f, 
-  0x6c, 0x08, 0x61, 0x05, 0x3f, 0x5b, 0x32, 0x56, 0x25, 0x41, 0x28, 0x4c, 
-  0x0b, 0x6f, 0x06, 0x62, 0x11, 0x75, 0x1c, 0x78, 0x57, 0x33, 0x5a, 0x3e, 
-  0x4d, 0x29, 0x40, 0x24, 0x63, 0x07, 0x6e, 0x0a, 0x79, 0x1d, 0x74, 0x10, 
-  0x54, 0x30, 0x59, 0x3d, 0x4e, 0x2a, 0x43, 0x27, 0x60, 0x04, 0x6d, 0x09, 
-  0x7a, 0x1e, 0x77, 0x13, 0x3c, 0x58, 0x31, 0x55, 0x26, 0x42, 0x2b, 0x4f, 
-  0x08, 0x6c, 0x05, 0x61, 0x12, 0x76, 0x1f, 0x7b, 0x41, 0x25, 0x4c, 0x28, 
-  0x5b, 0x3f, 0x56, 0x32, 0x75, 0x11, 0x78, 0x1c, 0x6f, 0x0b, 0x62, 0x06, 
-  0x29, 0x4d, 0x24, 0x40, 0x33, 0x57, 0x3e, 0x5a, 0x1d, 0x79, 0x10, 0x74, 
-  0x07, 0x63, 0x0a, 0x6e, 0x7e, 0x1a, 0x73, 0x17, 0x64, 0x00, 0x69, 0x0d, 
-  0x4a, 0x2e, 0x47, 0x23, 0x50, 0x34, 0x5d, 0x39, 0x16, 0x72, 0x1b, 0x7f, 
-  0x0c, 0x68, 0x01, 0x65, 0x22, 0x46, 0x2f, 0x4b, 0x38, 0x5c, 0x35, 0x51, 
-  0x6b, 0x0f, 0x66, 0x02, 0x71, 0x15, 0x7c, 0x18, 0x5f, 0x3b, 0x52, 0x36, 
-  0x45, 0x21, 0x48, 0x2c, 0x03, 0x67, 0x0e, 0x6a, 0x19, 0x7d, 0x14, 0x70, 
-  0x37, 0x53, 0x3a, 0x5e, 0x2d, 0x49, 0x20, 0x44, 0x00, 0x6d, 0x1f, 0x72, 
-  0x3e, 0x53, 0x21, 0x4c, 0x7c, 0x11, 0x63, 0x0e, 0x42, 0x2f, 0x5d, 0x30, 
-  0x3d, 0x50, 0x22, 0x4f, 0x03, 0x6e, 0x1c, 0x71, 0x41, 0x2c, 0x5e, 0x33, 
-  0x7f, 0x12, 0x60, 0x0d, 0x7a, 0x17, 0x65, 0x08, 0x44, 0x29, 0x5b, 0x36, 
-  0x06, 0x6b, 0x19, 0x74, 0x38, 0x55, 0x27, 0x4a, 0x47, 0x2a, 0x58, 0x35, 
-  0x79, 0x14, 0x66, 0x0b, 0x3b, 0x56, 0x24, 0x49, 0x05, 0x68, 0x1a, 0x77, 
-  0x31, 0x5c, 0x2e, 0x43, 0x0f, 0x62, 0x10, 0x7d, 0x4d, 0x20, 0x52, 0x3f, 
-  0x73, 0x1e, 0x6c, 0x01, 0x0c, 0x61, 0x13, 0x7e, 0x32, 0x5f, 0x2d, 0x40, 
-  0x70, 0x1d, 0x6f, 0x02, 0x4e, 0x23, 0x51, 0x3c, 0x4b, 0x26, 0x54, 0x39, 
-  0x75, 0x18, 0x6a, 0x07, 0x37, 0x5a, 0x28, 0x45, 0x09, 0x64, 0x16, 0x7b, 
-  0x76, 0x1b, 0x69, 0x04, 0x48, 0x25, 0x57, 0x3a, 0x0a, 0x67, 0x15, 0x78, 
-  0x34, 0x59, 0x2b, 0x46, 0x62, 0x0f, 0x7d, 0x10, 0x5c, 0x31, 0x43, 0x2e, 
-  0x1e, 0x73, 0x01, 0x6c, 0x20, 0x4d, 0x3f, 0x52, 0x5f, 0x32, 0x40, 0x2d, 
-  0x61, 0x0c, 0x7e, 0x13, 0x23, 0x4e, 0x3c, 0x51, 0x1d, 0x70, 0x02, 0x6f, 
-  0x18, 0x75, 0x07, 0x6a, 0x26, 0x4b, 0x39, 0x54, 0x64, 0x09, 0x7b, 0x16, 
-  0x5a, 0x37, 0x45, 0x28, 0x25, 0x48, 0x3a, 0x57, 0x1b, 0x76, 0x04, 0x69, 
-  0x59, 0x34, 0x46, 0x2b, 0x67, 0x0a, 0x78, 0x15, 0x53, 0x3e, 0x4c, 0x21, 
-  0x6d, 0x00, 0x72, 0x1f, 0x2f, 0x42, 0x30, 0x5d, 0x11, 0x7c, 0x0e, 0x63, 
-  0x6e, 0x03, 0x71, 0x1c, 0x50, 0x3d, 0x4f, 0x22, 0x12, 0x7f, 0x0d, 0x60, 
-  0x2c, 0x41, 0x33, 0x5e, 0x29, 0x44, 0x36, 0x5b, 0x17, 0x7a, 0x08, 0x65, 
-  0x55, 0x38, 0x4a, 0x27, 0x6b, 0x06, 0x74, 0x19, 0x14, 0x79, 0x0b, 0x66, 
-  0x2a, 0x47, 0x35, 0x58, 0x68, 0x05, 0x77, 0x1a, 0x56, 0x3b, 0x49, 0x24, 
-  0xc5, 0xc5, 0xc5, 0xc5, 0xc5, 0xc5, 0xc5, 0x79, 0xeb, 0x90, 0x00, 0x00, 
-  0xb4, 0x76, 0x68, 0xed, 0xdc, 0x9b, 0xf1, 0xca, 0x45, 0xbc, 0x99, 0x27, 
-  0x2d, 0x51, 0xc3, 0x85, 0x77, 0xf3, 0xab, 0x68, 0x1f, 0x1e, 0x32, 0x4f, 
-  0x86, 0x39, 0x5a, 0xa2, 0xee, 0xd4, 0xa7, 0x1b, 0x13, 0x6d, 0xcf, 0xf6, 
-  0x7b, 0x80, 0x56, 0xd1, 0xe2, 0xa7, 0x3e, 0x3c, 0x8a, 0x4a, 0x64, 0x9e, 
-  0xd0, 0xe8, 0x0c, 0x73, 0xb8, 0x05, 0x95, 0x54, 0x21, 0x22, 0xfd, 0xb9, 
-  0x49, 0xcf, 0x4e, 0x37, 0xfa, 0x41, 0x26, 0xda, 0x92, 0xac, 0xbf, 0xfd, 
-  0x0b, 0x8b, 0xd7, 0x10, 0x63, 0x66, 0x8d, 0xb2, 0x39, 0xc4, 0xe5, 0x5f, 
-  0x51, 0x29, 0x7c, 0x78, 0xc8, 0x0e, 0x14, 0x95, 0xa0, 0xe3, 0xe9, 0x2c, 
-  0x5d, 0x5a, 0x81, 0xc1, 0x35, 0xb7, 0x18, 0xe6, 0xac, 0x90, 0x70, 0x0b, 
-  0xc4, 0x7d, 0x2a, 0xa9, 0x9e, 0xdf, 0x42, 0x44, 0xf6, 0x32, 0xdb, 0x63, 
-  0x6f, 0x15, 0xb3, 0x8e, 0x07, 0xf8, 0x9c, 0x6e, 0x28, 0x18, 0xf4, 0x83, 
-  0x40, 0xf5, 0x6d, 0xa4, 0xd9, 0xd2, 0x05, 0x49, 0xb1, 0x3f, 0x5f, 0xeb, 
-  0xeb, 0x9d, 0x37, 0x06, 0x83, 0x70, 0xae, 0x21, 0x1a, 0x57, 0xc6, 0xcc, 
-  0x72, 0xba, 0x3b, 0x75, 0x8f, 0x03, 0x53, 0x98, 0xe7, 0xee, 0xca, 0xbf, 
-  0x7e, 0xc9, 0xa2, 0x52, 0x16, 0x24, 0xf8, 0xf0, 0x4c, 0x86, 0x90, 0x1d, 
-  0x24, 0x6b, 0x09, 0x3a, 0xbd, 0x4c, 0x61, 0xd7, 0xd5, 0xa1, 0xd2, 0x59, 
-  0x66, 0x2f, 0xba, 0xb4, 0x0e, 0xc2, 0x23, 0x93, 0x97, 0xe5, 0x4b, 0x7e, 
-  0xff, 0x08, 0x11, 0xdc, 0xa5, 0xaa, 0x79, 0x31, 0xcd, 0x47, 0xe0, 0x16, 
-  0x54, 0x60, 0x88, 0xfb, 0x3c, 0x8d, 0x75, 0x42, 0xc1, 0x34, 0x1d, 0xaf, 
-  0xa9, 0xd9, 0x84, 0x88, 0x30, 0xfe, 0xec, 0x65, 0x58, 0x13, 0xb6, 0xc7, 
-  0x02, 0xb1, 0xde, 0x2a, 0x6a, 0x5c, 0x47, 0x0d, 0xf3, 0x7b, 0x2f, 0xe0, 
-  0x9b, 0x96, 0x38, 0xdd, 0x8c, 0xab, 0x50, 0x30, 0xe4, 0x46, 0xc9, 0x17, 
-  0x7d, 0x61, 0xa1, 0xfa, 0x15, 0x8c, 0xfb, 0x58, 0x4f, 0x2e, 0x93, 0xb5, 
-  0x27, 0xc3, 0x0a, 0x92, 0xbe, 0xe4, 0x62, 0x7f, 0xd6, 0x09, 0x9f, 0xc6, 
-  0x2b, 0xb0, 0xf7, 0x2b, 0x43, 0x5d, 0x6e, 0x0c, 0xda, 0x7a, 0x06, 0xe1, 
-  0xb2, 0x97, 0x5c, 0x43, 0xe8, 0x35, 0x34, 0xae, 0x80, 0xd8, 0xad, 0x89, 
-  0x19, 0xff, 0xc5, 0x64, 0x71, 0x12, 0x76, 0xea, 0xc2, 0x9c, 0x1e, 0x07, 
-  0xaa, 0x71, 0x87, 0x20, 0x33, 0x56, 0xef, 0xcd, 0x5b, 0xbb, 0xb5, 0x6f, 
-  0x01, 0x19, 0xdd, 0x82, 0x69, 0xf4, 0x44, 0xa5, 0xf0, 0xd3, 0x2c, 0x48, 
-  0x98, 0x3e, 0xd1, 0xf1, 0x65, 0x87, 0xb9, 0x1c, 0x0d, 0x6a, 0x20, 0x3b, 
-  0x94, 0x4d, 0x48, 0xd6, 0xfc, 0xa0, 0x12, 0x74, 0xa6, 0x02, 0x7a, 0x99, 
-  0xce, 0xef, 0xe3, 0xbe, 0x57, 0xc8, 0x8b, 0x53, 0x3f, 0x25, 0xa4, 0xb3, 
-  0x10, 0xc5, 0xcc, 0x5e, 0x78, 0x28, 0x55, 0x79, 0xe1, 0x0f, 0x3d, 0x94, 
-  0x89, 0xe2, 0x67, 0x36, 0xd3, 0x40, 0x0f, 0xdb, 0xbb, 0xad, 0x96, 0xfc, 
-  0x22, 0x8a, 0xfe, 0x11, 0x4a, 0x67, 0x03, 0xa8, 0xb7, 0xde, 0x6b, 0x45, 
-  0xdf, 0x33, 0xf2, 0x62, 0x46, 0x14, 0x9a, 0x8f, 0x2e, 0xf9, 0xc0, 0x2d, 
-  0x74, 0x5b, 0xa8, 0xc0, 0x1c, 0xb6, 0x31, 0xe7, 0x85, 0x91, 0x59, 0x0a, 
-  0xed, 0x7c, 0xea, 0x84, 0x5e, 0xf2, 0x82, 0x69, 0x36, 0x1f, 0x1b, 0x4e, 
-  0xaf, 0x38, 0x73, 0xa3, 0xc7, 0xd5, 0x29, 0x01, 0x9d, 0x77, 0x41, 0xec, 
-  0xf5, 0x9a, 0xd8, 0xcb, 0x6c, 0xbd, 0xb0, 0x26, 0x04, 0x50, 0x4d, 0x9f, 
-  0xf9, 0xe9, 0x25, 0x72, 0x91, 0x04, 0xbc, 0x55, 0x08, 0x23, 0xd4, 0xb8, 
-  0x60, 0xce, 0x8e, 0x1a, 0x3a, 0x6c, 0xe6, 0xf7, 0x52, 0x81, 0x7f, 0xd0, 
-  0xcb, 0xa6, 0x17, 0x3d, 0xa3, 0x4b, 0x00, 0x00, 0x30, 0x37, 0x60, 0x6e, 
-  0x50, 0x59, 0xc0, 0xdc, 0xf0, 0xeb, 0xa0, 0xb2, 0x90, 0x85, 0xa1, 0xa9, 
-  0x91, 0x9e, 0xc1, 0xc7, 0xf1, 0xf0, 0x61, 0x75, 0x51, 0x42, 0x01, 0x1b, 
-  0x31, 0x2c, 0x63, 0x43, 0x53, 0x74, 0x03, 0x2d, 0x33, 0x1a, 0xa3, 0x9f, 
-  0x93, 0xa8, 0xc3, 0xf1, 0xf3, 0xc6, 0xc2, 0xea, 0xf2, 0xdd, 0xa2, 0x84, 
-  0x92, 0xb3, 0x02, 0x36, 0x32, 0x01, 0x62, 0x58, 0x52, 0x6f, 0xc6, 0x86, 
-  0xf6, 0xb1, 0xa6, 0xe8, 0x96, 0xdf, 0x06, 0x5a, 0x36, 0x6d, 0x66, 0x34, 
-  0x56, 0x03, 0x67, 0x2f, 0x57, 0x18, 0x07, 0x41, 0x37, 0x76, 0xa7, 0xf3, 
-  0x97, 0xc4, 0xc7, 0x9d, 0xf7, 0xaa, 0xa5, 0xc5, 0x95, 0xf2, 0xc5, 0xab, 
-  0xf5, 0x9c, 0x65, 0x19, 0x55, 0x2e, 0x05, 0x77, 0x35, 0x40, 0x04, 0x6c, 
-  0x34, 0x5b, 0x64, 0x02, 0x54, 0x35, 0xc4, 0xb0, 0xf4, 0x87, 0xa4, 0xde, 
-  0x94, 0xe9, 0xad, 0x1d, 0x9d, 0x2a, 0xcd, 0x73, 0xfd, 0x44, 0x6d, 0xc1, 
-  0x5d, 0xf6, 0x0d, 0xaf, 0x3d, 0x98, 0x0c, 0xb4, 0x3c, 0x83, 0x6c, 0xda, 
-  0x5c, 0xed, 0xcc, 0x68, 0xfc, 0x5f, 0xac, 0x06, 0x9c, 0x31, 0xce, 0x5e, 
-  0xfe, 0x69, 0xae, 0x30, 0x9e, 0x07, 0x0e, 0x82, 0x3e, 0xb5, 0x6e, 0xec, 
-  0x5e, 0xdb, 0x6f, 0xf7, 0x5f, 0xc0, 0x0f, 0x99, 0x3f, 0xae, 0xaf, 0x2b, 
-  0x9f, 0x1c, 0xcf, 0x45, 0xff, 0x72, 0x6b, 0x9b, 0x5b, 0xac, 0x0b, 0xf5, 
-  0x3b, 0xc2, 0xab, 0x47, 0x9b, 0x70, 0xcb, 0x29, 0xfb, 0x1e, 0xca, 0x32, 
-  0xfa, 0x05, 0xaa, 0x5c, 0x9a, 0x6b, 0x0a, 0xee, 0x3a, 0xd9, 0x6a, 0x80, 
-  0x5a, 0xb7, 0x08, 0xd8, 0x38, 0xef, 0x68, 0xb6, 0x58, 0x81, 0xc8, 0x04, 
-  0xf8, 0x33, 0xa8, 0x6a, 0x98, 0x5d, 0xa9, 0x71, 0x99, 0x46, 0xc9, 0x1f, 
-  0xf9, 0x28, 0x69, 0xad, 0x59, 0x9a, 0x09, 0xc3, 0x39, 0xf4, 0x5a, 0x3b, 
-  0x6a, 0x0c, 0x3a, 0x55, 0x0a, 0x62, 0x9a, 0xe7, 0xaa, 0xd0, 0xfa, 0x89, 
-  0xca, 0xbe, 0xfb, 0x92, 0xcb, 0xa5, 0x9b, 0xfc, 0xab, 0xcb, 0x3b, 0x4e, 
-  0x0b, 0x79, 0x5b, 0x20, 0x6b, 0x17, 0x39, 0x78, 0x09, 0x4f, 0x59, 0x16, 
-  0x69, 0x21, 0xf9, 0xa4, 0xc9, 0x93, 0x99, 0xca, 0xa9, 0xfd, 0x98, 0xd1, 
-  0xa8, 0xe6, 0xf8, 0xbf, 0xc8, 0x88, 0x58, 0x0d, 0x68, 0x3a, 0x38, 0x63, 
-  0x08, 0x54, 0x9c, 0xbd, 0xac, 0x8a, 0xfc, 0xd3, 0xcc, 0xe4, 0x5c, 0x61, 
-  0x6c, 0x56, 0x3c, 0x0f, 0x0c, 0x38, 0x3d, 0x14, 0x0d, 0x23, 0x5d, 0x7a, 
-  0x6d, 0x4d, 0xfd, 0xc8, 0xcd, 0xff, 0x9d, 0xa6, 0xad, 0x91, 0xff, 0xfe, 
-  0xcf, 0xc9, 0x9f, 0x90, 0xaf, 0xa7, 0x3f, 0x22, 0x0f, 0x15, 0x5f, 0x4c, 
-  0x6f, 0x7b, 0x5e, 0x57, 0x6e, 0x60, 0x3e, 0x39, 0x0e, 0x0e, 0x9e, 0x8b, 
-  0xae, 0xbc, 0xfe, 0xe5, 0xce, 0xd2, 0xf7, 0x26, 0xc7, 0x11, 0x97, 0x48, 
-  0xa7, 0x7f, 0x37, 0xfa, 0x07, 0xcd, 0x57, 0x94, 0x67, 0xa3, 0x56, 0x8f, 
-  0x66, 0xb8, 0x36, 0xe1, 0x06, 0xd6, 0x96, 0x53, 0xa6, 0x64, 0xf6, 0x3d, 
-  0xc6, 0x0a, 0x94, 0x65, 0xa4, 0x52, 0xf4, 0x0b, 0xc4, 0x3c, 0x54, 0xb9, 
-  0x64, 0x8e, 0x34, 0xd7, 0x04, 0xe0, 0x35, 0xcc, 0x05, 0xfb, 0x55, 0xa2, 
-  0x65, 0x95, 0xf5, 0x10, 0xc5, 0x27, 0x95, 0x7e, 0xa5, 0x49, 0x31, 0xa0, 
-  0x01, 0x97, 0x51, 0xce, 0x61, 0xf9, 0xf1, 0x7c, 0xc1, 0x4b, 0x91, 0x12, 
-  0xa1, 0x25, 0x90, 0x09, 0xa0, 0x3e, 0xf0, 0x67, 0xc0, 0x50, 0x50, 0xd5, 
-  0x60, 0xe2, 0x30, 0xbb, 0x00, 0x8c, 0x52, 0xe3, 0x62, 0xd4, 0x32, 0x8d, 
-  0x02, 0xba, 0x92, 0x3f, 0xa2, 0x08, 0xf2, 0x51, 0xc2, 0x66, 0xf3, 0x4a, 
-  0xc3, 0x7d, 0x93, 0x24, 0xa3, 0x13, 0x33, 0x96, 0x03, 0xa1, 0x53, 0xf8, 
-  0x63, 0xcf, 0x00, 0x00, 0x31, 0x33, 0x62, 0x66, 0x53, 0x55, 0xc4, 0xcc, 
-  0xf5, 0xff, 0xa6, 0xaa, 0x97, 0x99, 0xa9, 0x89, 0x98, 0xba, 0xcb, 0xef, 
-  0xfa, 0xdc, 0x6d, 0x45, 0x5c, 0x76, 0x0f, 0x23, 0x3e, 0x10, 0x73, 0x03, 
-  0x42, 0x30, 0x11, 0x65, 0x20, 0x56, 0xb7, 0xcf, 0x86, 0xfc, 0xd5, 0xa9, 
-  0xe4, 0x9a, 0xda, 0x8a, 0xeb, 0xb9, 0xb8, 0xec, 0x89, 0xdf, 0x1e, 0x46, 
-  0x2f, 0x75, 0x7c, 0x20, 0x4d, 0x13, 0xe6, 0x06, 0xd7, 0x35, 0x84, 0x60, 
-  0xb5, 0x53, 0x22, 0xca, 0x13, 0xf9, 0x40, 0xac, 0x71, 0x9f, 0x4f, 0x8f, 
-  0x7e, 0xbc, 0x2d, 0xe9, 0x1c, 0xda, 0x8b, 0x43, 0xba, 0x70, 0xe9, 0x25, 
-  0xd8, 0x16, 0x95, 0x05, 0xa4, 0x36, 0xf7, 0x63, 0xc6, 0x50, 0x51, 0xc9, 
-  0x60, 0xfa, 0x33, 0xaf, 0x02, 0x9c, 0x3c, 0x8c, 0x0d, 0xbf, 0x5e, 0xea, 
-  0x6f, 0xd9, 0xf8, 0x40, 0xc9, 0x73, 0x9a, 0x26, 0xab, 0x15, 0xcc, 0x0d, 
-  0xfd, 0x3e, 0xae, 0x6b, 0x9f, 0x58, 0x08, 0xc1, 0x39, 0xf2, 0x6a, 0xa7, 
-  0x5b, 0x94, 0x65, 0x84, 0x54, 0xb7, 0x07, 0xe2, 0x36, 0xd1, 0xa1, 0x48, 
-  0x90, 0x7b, 0xc3, 0x2e, 0xf2, 0x1d, 0xbf, 0x0e, 0x8e, 0x3d, 0xdd, 0x68, 
-  0xec, 0x5b, 0x7b, 0xc2, 0x4a, 0xf1, 0x19, 0xa4, 0x28, 0x97, 0x16, 0x87, 
-  0x27, 0xb4, 0x74, 0xe1, 0x45, 0xd2, 0xd2, 0x4b, 0xe3, 0x78, 0xb0, 0x2d, 
-  0x81, 0x1e, 0x2a, 0x0b, 0x1b, 0x38, 0x48, 0x6d, 0x79, 0x5e, 0xee, 0xc7, 
-  0xdf, 0xf4, 0x8c, 0xa1, 0xbd, 0x92, 0x83, 0x82, 0xb2, 0xb1, 0xe1, 0xe4, 
-  0xd0, 0xd7, 0x47, 0x4e, 0x76, 0x7d, 0x25, 0x28, 0x14, 0x1b, 0x59, 0x08, 
-  0x68, 0x3b, 0x3b, 0x6e, 0x0a, 0x5d, 0x9d, 0xc4, 0xac, 0xf7, 0xff, 0xa2, 
-  0xce, 0x91, 0xf0, 0x81, 0xc1, 0xb2, 0x92, 0xe7, 0xa3, 0xd4, 0x34, 0x4d, 
-  0x05, 0x7e, 0x56, 0x2b, 0x67, 0x18, 0x98, 0x1b, 0xa9, 0x28, 0xfa, 0x7d, 
-  0xcb, 0x4e, 0x5c, 0xd7, 0x6d, 0xe4, 0x3e, 0xb1, 0x0f, 0x82, 0x31, 0x92, 
-  0x00, 0xa1, 0x53, 0xf4, 0x62, 0xc7, 0xf5, 0x5e, 0xc4, 0x6d, 0x97, 0x38, 
-  0xa6, 0x0b, 0xeb, 0x18, 0xda, 0x2b, 0x89, 0x7e, 0xb8, 0x4d, 0x2f, 0xd4, 
-  0x1e, 0xe7, 0x4d, 0xb2, 0x7c, 0x81, 0x42, 0x91, 0x73, 0xa2, 0x20, 0xf7, 
-  0x11, 0xc4, 0x86, 0x5d, 0xb7, 0x6e, 0xe4, 0x3b, 0xd5, 0x08, 0x7e, 0x1d, 
-  0x4f, 0x2e, 0x1c, 0x7b, 0x2d, 0x48, 0xba, 0xd1, 0x8b, 0xe2, 0xd8, 0xb7, 
-  0xe9, 0x84, 0xd7, 0x94, 0xe6, 0xa7, 0xb5, 0xf2, 0x84, 0xc1, 0x13, 0x58, 
-  0x22, 0x6b, 0x71, 0x3e, 0x40, 0x0d, 0x0d, 0x1e, 0x3c, 0x2d, 0x6f, 0x78, 
-  0x5e, 0x4b, 0xc9, 0xd2, 0xf8, 0xe1, 0xab, 0xb4, 0x9a, 0x87, 0xa4, 0x97, 
-  0x95, 0xa4, 0xc6, 0xf1, 0xf7, 0xc2, 0x60, 0x5b, 0x51, 0x68, 0x02, 0x3d, 
-  0x33, 0x0e, 0x54, 0x16, 0x65, 0x25, 0x36, 0x70, 0x07, 0x43, 0x90, 0xda, 
-  0xa1, 0xe9, 0xf2, 0xbc, 0xc3, 0x8f, 0xfd, 0x9f, 0xcc, 0xac, 0x9f, 0xf9, 
-  0xae, 0xca, 0x39, 0x53, 0x08, 0x60, 0x5b, 0x35, 0x6a, 0x06, 0x27, 0x15, 
-  0x16, 0x26, 0x45, 0x73, 0x74, 0x40, 0xe3, 0xd9, 0xd2, 0xea, 0x81, 0xbf, 
-  0xb0, 0x8c, 0x8e, 0x9c, 0xbf, 0xaf, 0xec, 0xfa, 0xdd, 0xc9, 0x4a, 0x50, 
-  0x7b, 0x63, 0x28, 0x36, 0x19, 0x05, 0xb2, 0x10, 0x83, 0x23, 0xd0, 0x76, 
-  0xe1, 0x45, 0x76, 0xdc, 0x47, 0xef, 0x14, 0xba, 0x25, 0x89, 0x1b, 0x99, 
-  0x2a, 0xaa, 0x79, 0xff, 0x48, 0xcc, 0xdf, 0x55, 0xee, 0x66, 0xbd, 0x33, 
-  0x8c, 0x00, 0xc1, 0x13, 0xf0, 0x20, 0xa3, 0x75, 0x92, 0x46, 0x05, 0xdf, 
-  0x34, 0xec, 0x67, 0xb9, 0x56, 0x8a, 0x68, 0x9a, 0x59, 0xa9, 0x0a, 0xfc, 
-  0x3b, 0xcf, 0xac, 0x56, 0x9d, 0x65, 0xce, 0x30, 0xff, 0x03, 0x00, 0x00, 
-  0x21, 0x10, 0x42, 0x20, 0x63, 0x30, 0x84, 0x40, 0xa5, 0x50, 0xc6, 0x60, 
-  0xe7, 0x70, 0x08, 0x81, 0x29, 0x91, 0x4a, 0xa1, 0x6b, 0xb1, 0x8c, 0xc1, 
-  0xad, 0xd1, 0xce, 0xe1, 0xef, 0xf1, 0x31, 0x12, 0x10, 0x02, 0x73, 0x32, 
-  0x52, 0x22, 0xb5, 0x52, 0x94, 0x42, 0xf7, 0x72, 0xd6, 0x62, 0x39, 0x93, 
-  0x18, 0x83, 0x7b, 0xb3, 0x5a, 0xa3, 0xbd, 0xd3, 0x9c, 0xc3, 0xff, 0xf3, 
-  0xde, 0xe3, 0x62, 0x24, 0x43, 0x34, 0x20, 0x04, 0x01, 0x14, 0xe6, 0x64, 
-  0xc7, 0x74, 0xa4, 0x44, 0x85, 0x54, 0x6a, 0xa5, 0x4b, 0xb5, 0x28, 0x85, 
-  0x09, 0x95, 0xee, 0xe5, 0xcf, 0xf5, 0xac, 0xc5, 0x8d, 0xd5, 0x53, 0x36, 
-  0x72, 0x26, 0x11, 0x16, 0x30, 0x06, 0xd7, 0x76, 0xf6, 0x66, 0x95, 0x56, 
-  0xb4, 0x46, 0x5b, 0xb7, 0x7a, 0xa7, 0x19, 0x97, 0x38, 0x87, 0xdf, 0xf7, 
-  0xfe, 0xe7, 0x9d, 0xd7, 0xbc, 0xc7, 0xc4, 0x48, 0xe5, 0x58, 0x86, 0x68, 
-  0xa7, 0x78, 0x40, 0x08, 0x61, 0x18, 0x02, 0x28, 0x23, 0x38, 0xcc, 0xc9, 
-  0xed, 0xd9, 0x8e, 0xe9, 0xaf, 0xf9, 0x48, 0x89, 0x69, 0x99, 0x0a, 0xa9, 
-  0x2b, 0xb9, 0xf5, 0x5a, 0xd4, 0x4a, 0xb7, 0x7a, 0x96, 0x6a, 0x71, 0x1a, 
-  0x50, 0x0a, 0x33, 0x3a, 0x12, 0x2a, 0xfd, 0xdb, 0xdc, 0xcb, 0xbf, 0xfb, 
-  0x9e, 0xeb, 0x79, 0x9b, 0x58, 0x8b, 0x3b, 0xbb, 0x1a, 0xab, 0xa6, 0x6c, 
-  0x87, 0x7c, 0xe4, 0x4c, 0xc5, 0x5c, 0x22, 0x2c, 0x03, 0x3c, 0x60, 0x0c, 
-  0x41, 0x1c, 0xae, 0xed, 0x8f, 0xfd, 0xec, 0xcd, 0xcd, 0xdd, 0x2a, 0xad, 
-  0x0b, 0xbd, 0x68, 0x8d, 0x49, 0x9d, 0x97, 0x7e, 0xb6, 0x6e, 0xd5, 0x5e, 
-  0xf4, 0x4e, 0x13, 0x3e, 0x32, 0x2e, 0x51, 0x1e, 0x70, 0x0e, 0x9f, 0xff, 
-  0xbe, 0xef, 0xdd, 0xdf, 0xfc, 0xcf, 0x1b, 0xbf, 0x3a, 0xaf, 0x59, 0x9f, 
-  0x78, 0x8f, 0x88, 0x91, 0xa9, 0x81, 0xca, 0xb1, 0xeb, 0xa1, 0x0c, 0xd1, 
-  0x2d, 0xc1, 0x4e, 0xf1, 0x6f, 0xe1, 0x80, 0x10, 0xa1, 0x00, 0xc2, 0x30, 
-  0xe3, 0x20, 0x04, 0x50, 0x25, 0x40, 0x46, 0x70, 0x67, 0x60, 0xb9, 0x83, 
-  0x98, 0x93, 0xfb, 0xa3, 0xda, 0xb3, 0x3d, 0xc3, 0x1c, 0xd3, 0x7f, 0xe3, 
-  0x5e, 0xf3, 0xb1, 0x02, 0x90, 0x12, 0xf3, 0x22, 0xd2, 0x32, 0x35, 0x42, 
-  0x14, 0x52, 0x77, 0x62, 0x56, 0x72, 0xea, 0xb5, 0xcb, 0xa5, 0xa8, 0x95, 
-  0x89, 0x85, 0x6e, 0xf5, 0x4f, 0xe5, 0x2c, 0xd5, 0x0d, 0xc5, 0xe2, 0x34, 
-  0xc3, 0x24, 0xa0, 0x14, 0x81, 0x04, 0x66, 0x74, 0x47, 0x64, 0x24, 0x54, 
-  0x05, 0x44, 0xdb, 0xa7, 0xfa, 0xb7, 0x99, 0x87, 0xb8, 0x97, 0x5f, 0xe7, 
-  0x7e, 0xf7, 0x1d, 0xc7, 0x3c, 0xd7, 0xd3, 0x26, 0xf2, 0x36, 0x91, 0x06, 
-  0xb0, 0x16, 0x57, 0x66, 0x76, 0x76, 0x15, 0x46, 0x34, 0x56, 0x4c, 0xd9, 
-  0x6d, 0xc9, 0x0e, 0xf9, 0x2f, 0xe9, 0xc8, 0x99, 0xe9, 0x89, 0x8a, 0xb9, 
-  0xab, 0xa9, 0x44, 0x58, 0x65, 0x48, 0x06, 0x78, 0x27, 0x68, 0xc0, 0x18, 
-  0xe1, 0x08, 0x82, 0x38, 0xa3, 0x28, 0x7d, 0xcb, 0x5c, 0xdb, 0x3f, 0xeb, 
-  0x1e, 0xfb, 0xf9, 0x8b, 0xd8, 0x9b, 0xbb, 0xab, 0x9a, 0xbb, 0x75, 0x4a, 
-  0x54, 0x5a, 0x37, 0x6a, 0x16, 0x7a, 0xf1, 0x0a, 0xd0, 0x1a, 0xb3, 0x2a, 
-  0x92, 0x3a, 0x2e, 0xfd, 0x0f, 0xed, 0x6c, 0xdd, 0x4d, 0xcd, 0xaa, 0xbd, 
-  0x8b, 0xad, 0xe8, 0x9d, 0xc9, 0x8d, 0x26, 0x7c, 0x07, 0x6c, 0x64, 0x5c, 
-  0x45, 0x4c, 0xa2, 0x3c, 0x83, 0x2c, 0xe0, 0x1c, 0xc1, 0x0c, 0x1f, 0xef, 
-  0x3e, 0xff, 0x5d, 0xcf, 0x7c, 0xdf, 0x9b, 0xaf, 0xba, 0xbf, 0xd9, 0x8f, 
-  0xf8, 0x9f, 0x17, 0x6e, 0x36, 0x7e, 0x55, 0x4e, 0x74, 0x5e, 0x93, 0x2e, 
-  0xb2, 0x3e, 0xd1, 0x0e, 0xf0, 0x1e, 0x00, 0x4a, 0x95, 0xdf, 0x60, 0x2a, 
-  0xf5, 0xbf, 0xc0, 0x8a, 0x55, 0x1f, 0xa0, 0xea, 0x35, 0x7f, 0xca, 0x80, 
-  0x5f, 0x15, 0xaa, 0xe0, 0x3f, 0x75, 0x0a, 0x40, 0x9f, 0xd5, 0x6a, 0x20, 
-  0xff, 0xb5, 0xde, 0x94, 0x4b, 0x01, 0xbe, 0xf4, 0x2b, 0x61, 0x1e, 0x54, 
-  0x8b, 0xc1, 0x7e, 0x34, 0xeb, 0xa1, 0x14, 0x5e, 0x81, 0xcb, 0x74, 0x3e, 
-  0xe1, 0xab, 0xd4, 0x9e, 0x41, 0x0b, 0xb4, 0xfe, 0x21, 0x6b, 0xf7, 0xbd, 
-  0x62, 0x28, 0x97, 0xdd, 0x02, 0x48, 0x37, 0x7d, 0xa2, 0xe8, 0x57, 0x1d, 
-  0xc2, 0x88, 0x3d, 0x77, 0xa8, 0xe2, 0x5d, 0x17, 0xc8, 0x82, 0xfd, 0xb7, 
-  0x68, 0x22, 0x9d, 0xd7, 0x08, 0x42, 0x29, 0x63, 0xbc, 0xf6, 0x49, 0x03, 
-  0xdc, 0x96, 0xe9, 0xa3, 0x7c, 0x36, 0x89, 0xc3, 0x1c, 0x56, 0xe3, 0xa9, 
-  0x76, 0x3c, 0x83, 0xc9, 0x16, 0x5c, 0x23, 0x69, 0xb6, 0xfc, 0x43, 0x09, 
-  0xd6, 0x9c, 0xa5, 0xef, 0x30, 0x7a, 0xc5, 0x8f, 0x50, 0x1a, 0x65, 0x2f, 
-  0xf0, 0xba, 0x05, 0x4f, 0x90, 0xda, 0x6f, 0x25, 0xfa, 0xb0, 0x0f, 0x45, 
-  0x9a, 0xd0, 0xaf, 0xe5, 0x3a, 0x70, 0xcf, 0x85, 0x5a, 0x10, 0x7b, 0x31, 
-  0xee, 0xa4, 0x1b, 0x51, 0x8e, 0xc4, 0xbb, 0xf1, 0x2e, 0x64, 0xdb, 0x91, 
-  0x4e, 0x04, 0xb1, 0xfb, 0x24, 0x6e, 0xd1, 0x9b, 0x44, 0x0e, 0x71, 0x3b, 
-  0xe4, 0xae, 0x11, 0x5b, 0x84, 0xce, 0x52, 0x18, 0xc7, 0x8d, 0x32, 0x78, 
-  0xa7, 0xed, 0x92, 0xd8, 0x07, 0x4d, 0xf2, 0xb8, 0x67, 0x2d, 0x98, 0xd2, 
-  0x0d, 0x47, 0xf8, 0xb2, 0x6d, 0x27, 0x58, 0x12, 0xcd, 0x87, 0x38, 0x72, 
-  0xad, 0xe7, 0x8c, 0xc6, 0x19, 0x53, 0xec, 0xa6, 0x79, 0x33, 0x4c, 0x06, 
-  0xd9, 0x93, 0x2c, 0x66, 0xb9, 0xf3, 0x46, 0x0c, 0xd3, 0x99, 0x26, 0x6c, 
-  0xb3, 0xf9, 0x86, 0xcc, 0x13, 0x59, 0xe6, 0xac, 0x73, 0x39, 0x64, 0x6f, 
-  0x6e, 0x65, 0x66, 0x65, 0x77, 0x65, 0x72, 0x20, 0x74, 0x68, 0x61, 0x6e, 
-  0x20, 0x35, 0x20, 0x6f, 0x63, 0x74, 0x65, 0x74, 0x73, 0x74, 0x68, 0x65, 
-  0x20, 0x76, 0x65, 0x72, 0x73, 0x69, 0x6f, 0x6e, 0x20, 0x69, 0x73, 0x6e, 
-  0x27, 0x74, 0x20, 0x30, 0x74, 0x68, 0x65, 0x20, 0x73, 0x70, 0x61, 0x72, 
-  0x65, 0x20, 0x62, 0x69, 0x74, 0x73, 0x20, 0x61, 0x72, 0x65, 0x6e, 0x27, 
-  0x74, 0x20, 0x30, 0x74, 0x68, 0x65, 0x20, 0x66, 0x72, 0x61, 0x6d, 0x65, 
-  0x20, 0x6c, 0x65, 0x6e, 0x67, 0x74, 0x68, 0x20, 0x6e, 0x61, 0x6d, 0x65, 
-  0x73, 0x20, 0x66, 0x65, 0x77, 0x65, 0x72, 0x20, 0x74, 0x68, 0x61, 0x6e, 
-  0x20, 0x36, 0x20, 0x6f, 0x63, 0x74, 0x65, 0x74, 0x73, 0x74, 0x68, 0x65, 
-  0x20, 0x66, 0x72, 0x61, 0x6d, 0x65, 0x20, 0x6c, 0x65, 0x6e, 0x67, 0x74, 
-  0x68, 0x20, 0x6e, 0x61, 0x6d, 0x65, 0x73, 0x20, 0x6d, 0x6f, 0x72, 0x65, 
-  0x20, 0x6f, 0x63, 0x74, 0x65, 0x74, 0x73, 0x20, 0x74, 0x68, 0x61, 0x6e, 
-  0x20, 0x74, 0x68, 0x65, 0x72, 0x65, 0x20, 0x61, 0x72, 0x65, 0x6f, 0x63, 
-  0x74, 0x65, 0x74, 0x73, 0x20, 0x66, 0x6f, 0x6c, 0x6c, 0x6f, 0x77, 0x20, 
-  0x74, 0x68, 0x65, 0x20, 0x66, 0x72, 0x61, 0x6d, 0x65, 0x74, 0x68, 0x65, 
-  0x20, 0x66, 0x72, 0x61, 0x6d, 0x65, 0x20, 0x68, 0x61, 0x73, 0x20, 0x66, 
-  0x65, 0x77, 0x65, 0x72, 0x20, 0x74, 0x68, 0x61, 0x6e, 0x20, 0x38, 0x20, 
-  0x6f, 0x63, 0x74, 0x65, 0x74, 0x73, 0x74, 0x68, 0x65, 0x20, 0x66, 0x72, 
-  0x61, 0x6d, 0x65, 0x20, 0x65, 0x72, 0x72, 0x6f, 0x72, 0x20, 0x63, 0x6f, 
-  0x6e, 0x74, 0x72, 0x6f, 0x6c, 0x20, 0x66, 0x69, 0x65, 0x6c, 0x64, 0x20, 
-  0x69, 0x73, 0x20, 0x77, 0x72, 0x6f, 0x6e, 0x67, 0x61, 0x20, 0x66, 0x69, 
-  0x65, 0x6c, 0x64, 0x20, 0x6f, 0x66, 0x20, 0x74, 0x68, 0x65, 0x20, 0x68, 
-  0x65, 0x61, 0x64, 0x65, 0x72, 0x20, 0x69, 0x73, 0x20, 0x6f, 0x76, 0x65, 
-  0x72, 0x20, 0x69, 0x74, 0x73, 0x20, 0x62, 0x6f, 0x75, 0x6e, 0x64, 0x74, 
-  0x68, 0x65, 0x20, 0x64, 0x61, 0x74, 0x61, 0x20, 0x66, 0x69, 0x65, 0x6c, 
-  0x64, 0x20, 0x69, 0x73, 0x20, 0x65, 0x6d, 0x70, 0x74, 0x79, 0x74, 0x68, 
-  0x65, 0x20, 0x64, 0x61, 0x74, 0x61, 0x20, 0x66, 0x69, 0x65, 0x6c, 0x64, 
-  0x20, 0x68, 0x61, 0x73, 0x20, 0x6d, 0x6f, 0x72, 0x65, 0x20, 0x74, 0x68, 
-  0x61, 0x6e, 0x20, 0x31, 0x2c, 0x30, 0x31, 0x39, 0x20, 0x6f, 0x63, 0x74, 
-  0x65, 0x74, 0x73, 0x6e, 0x6f, 0x20, 0x6d, 0x65, 0x6d, 0x6f, 0x72, 0x79, 
-  0x74, 0x68, 0x65, 0x20, 0x70, 0x61, 0x63, 0x6b, 0x65, 0x74, 0x20, 0x64, 
-  0x61, 0x74, 0x61, 0x20, 0x66, 0x69, 0x65, 0x6c, 0x64, 0x20, 0x68, 0x61, 
-  0x73, 0x20, 0x6d, 0x6f, 0x72, 0x65, 0x20, 0x74, 0x68, 0x61, 0x6e, 0x20, 
-  0x36, 0x35, 0x2c, 0x35, 0x33, 0x36, 0x20, 0x6f, 0x63, 0x74, 0x65, 0x74, 
-  0x73, 0x74, 0x68, 0x65, 0x20, 0x75, 0x6e, 0x69, 0x74, 0x20, 0x68, 0x61, 
-  0x73, 0x20, 0x6d, 0x6f, 0x72, 0x65, 0x20, 0x74, 0x68, 0x61, 0x6e, 0x20, 
-  0x36, 0x35, 0x2c, 0x35, 0x34, 0x32, 0x20, 0x6f, 0x63, 0x74, 0x65, 0x74, 
-  0x73, 0x74, 0x68, 0x65, 0x20, 0x66, 0x72, 0x61, 0x6d, 0x65, 0x20, 0x68, 
-  0x61, 0x73, 0x20, 0x6d, 0x6f, 0x72, 0x65, 0x20, 0x74, 0x68, 0x61, 0x6e, 
-  0x20, 0x31, 0x2c, 0x30, 0x32, 0x32, 0x20, 0x6f, 0x63, 0x74, 0x65, 0x74, 
-  0x73, 0x61, 0x20, 0x73, 0x65, 0x67, 0x6d, 0x65, 0x6e, 0x74, 0x20, 0x69, 
-  0x73, 0x6e, 0x27, 0x74, 0x20, 0x66, 0x6f, 0x72, 0x20, 0x31, 0x20, 0x74, 
-  0x6f, 0x20, 0x31, 0x2c, 0x30, 0x31, 0x38, 0x20, 0x6f, 0x63, 0x74, 0x65, 
-  0x74, 0x73, 0x74, 0x68, 0x65, 0x20, 0x75, 0x6e, 0x69, 0x74, 0x20, 0x68, 
-  0x61, 0x73, 0x20, 0x6e, 0x6f, 0x20, 0x73, 0x65, 0x67, 0x6d, 0x65, 0x6e, 
-  0x74, 0x20, 0x61, 0x74, 0x20, 0x74, 0x68, 0x61, 0x74, 0x20, 0x70, 0x6c, 
-  0x61, 0x63, 0x65, 0x74, 0x68, 0x65, 0x20, 0x63, 0x6f, 0x6d, 0x6d, 0x61, 
-  0x6e, 0x64, 0x20, 0x69, 0x73, 0x20, 0x6e, 0x65, 0x69, 0x74, 0x68, 0x65, 
-  0x72, 0x20, 0x55, 0x6e, 0x6c, 0x6f, 0x63, 0x6b, 0x20, 0x6e, 0x6f, 0x72, 
-  0x20, 0x53, 0x65, 0x74, 0x20, 0x56, 0x28, 0x52, 0x29, 0x74, 0x68, 0x65, 
-  0x20, 0x77, 0x69, 0x64, 0x74, 0x68, 0x20, 0x6f, 0x66, 0x20, 0x74, 0x68, 
-  0x65, 0x20, 0x77, 0x69, 0x6e, 0x64, 0x6f, 0x77, 0x20, 0x69, 0x73, 0x6e, 
-  0x27, 0x74, 0x20, 0x65, 0x76, 0x65, 0x6e, 0x20, 0x61, 0x6e, 0x64, 0x20, 
-  0x32, 0x20, 0x74, 0x6f, 0x20, 0x32, 0x35, 0x34, 0x74, 0x68, 0x65, 0x20, 
-  0x73, 0x74, 0x61, 0x74, 0x65, 0x20, 0x69, 0x73, 0x6e, 0x27, 0x74, 0x20, 
-  0x31, 0x20, 0x74, 0x6f, 0x20, 0x33, 0x74, 0x68, 0x65, 0x20, 0x46, 0x41, 
-  0x52, 0x4d, 0x2d, 0x42, 0x20, 0x63, 0x6f, 0x75, 0x6e, 0x74, 0x65, 0x72, 
-  0x20, 0x69, 0x73, 0x20, 0x6f, 0x76, 0x65, 0x72, 0x20, 0x33, 0x61, 0x20, 
-  0x66, 0x6c, 0x61, 0x67, 0x20, 0x69, 0x73, 0x20, 0x6e, 0x65, 0x69, 0x74, 
-  0x68, 0x65, 0x72, 0x20, 0x30, 0x20, 0x6e, 0x6f, 0x72, 0x20, 0x31, 0x74, 
-  0x68, 0x65, 0x20, 0x66, 0x6c, 0x61, 0x67, 0x73, 0x20, 0x64, 0x6f, 0x6e, 
-  0x27, 0x74, 0x20, 0x61, 0x67, 0x72, 0x65, 0x65, 0x20, 0x77, 0x69, 0x74, 
-  0x68, 0x20, 0x74, 0x68, 0x65, 0x20, 0x73, 0x74, 0x61, 0x74, 0x65, 0x74, 
-  0x68, 0x65, 0x20, 0x61, 0x72, 0x72, 0x69, 0x76, 0x61, 0x6c, 0x20, 0x69, 
-  0x73, 0x6e, 0x27, 0x74, 0x20, 0x31, 0x20, 0x74, 0x6f, 0x20, 0x36, 0x69, 
-  0x6e, 0x20, 0x53, 0x32, 0x20, 0x6e, 0x6f, 0x20, 0x65, 0x78, 0x70, 0x65, 
-  0x63, 0x74, 0x65, 0x64, 0x20, 0x41, 0x44, 0x20, 0x66, 0x72, 0x61, 0x6d, 
-  0x65, 0x20, 0x66, 0x69, 0x6e, 0x64, 0x73, 0x20, 0x72, 0x6f, 0x6f, 0x6d, 
-  0x74, 0x68, 0x65, 0x20, 0x76, 0x69, 0x72, 0x74, 0x75, 0x61, 0x6c, 0x20, 
-  0x63, 0x68, 0x61, 0x6e, 0x6e, 0x65, 0x6c, 0x20, 0x69, 0x64, 0x20, 0x69, 
-  0x73, 0x20, 0x6f, 0x76, 0x65, 0x72, 0x20, 0x36, 0x33, 0x74, 0x68, 0x65, 
-  0x20, 0x77, 0x6f, 0x72, 0x64, 0x20, 0x69, 0x73, 0x20, 0x6e, 0x6f, 0x20, 
-  0x43, 0x4c, 0x43, 0x57, 0x20, 0x6f, 0x66, 0x20, 0x43, 0x4f, 0x50, 0x2d, 
-  0x31, 0x6e, 0x6f, 0x20, 0x77, 0x68, 0x6f, 0x6c, 0x65, 0x20, 0x70, 0x61, 
-  0x63, 0x6b, 0x65, 0x74, 0x20, 0x69, 0x73, 0x20, 0x74, 0x68, 0x65, 0x72, 
-  0x65, 0x74, 0x68, 0x65, 0x20, 0x62, 0x75, 0x66, 0x66, 0x65, 0x72, 0x20, 
-  0x69, 0x73, 0x20, 0x74, 0x6f, 0x6f, 0x20, 0x73, 0x68, 0x6f, 0x72, 0x74, 
-  0x61, 0x20, 0x70, 0x6f, 0x69, 0x6e, 0x74, 0x65, 0x72, 0x20, 0x69, 0x73, 
-  0x20, 0x6e, 0x75, 0x6c, 0x6c, 0x6e, 0x6f, 0x20, 0x73, 0x75, 0x63, 0x68, 
-  0x20, 0x73, 0x74, 0x61, 0x74, 0x75, 0x73, 0x74, 0x68, 0x65, 0x20, 0x62, 
-  0x75, 0x66, 0x66, 0x65, 0x72, 0x20, 0x69, 0x73, 0x6e, 0x27, 0x74, 0x20, 
-  0x66, 0x6f, 0x72, 0x20, 0x31, 0x20, 0x74, 0x6f, 0x20, 0x36, 0x34, 0x20, 
-  0x64, 0x61, 0x74, 0x61, 0x20, 0x66, 0x69, 0x65, 0x6c, 0x64, 0x73, 0x74, 
-  0x68, 0x65, 0x20, 0x41, 0x50, 0x49, 0x44, 0x20, 0x6f, 0x66, 0x20, 0x61, 
-  0x20, 0x71, 0x75, 0x65, 0x75, 0x65, 0x20, 0x69, 0x73, 0x20, 0x6f, 0x76, 
-  0x65, 0x72, 0x20, 0x32, 0x2c, 0x30, 0x34, 0x36, 0x74, 0x77, 0x6f, 0x20, 
-  0x71, 0x75, 0x65, 0x75, 0x65, 0x73, 0x20, 0x68, 0x61, 0x76, 0x65, 0x20, 
-  0x6f, 0x6e, 0x65, 0x20, 0x41, 0x50, 0x49, 0x44, 0x61, 0x20, 0x71, 0x75, 
-  0x65, 0x75, 0x65, 0x20, 0x69, 0x73, 0x6e, 0x27, 0x74, 0x20, 0x66, 0x6f, 
-  0x72, 0x20, 0x31, 0x20, 0x74, 0x6f, 0x20, 0x32, 0x35, 0x36, 0x20, 0x70, 
-  0x61, 0x63, 0x6b, 0x65, 0x74, 0x73, 0x61, 0x20, 0x4d, 0x41, 0x50, 0x20, 
-  0x69, 0x73, 0x20, 0x6f, 0x76, 0x65, 0x72, 0x20, 0x36, 0x33, 0x61, 0x20, 
-  0x4d, 0x41, 0x50, 0x20, 0x69, 0x73, 0x20, 0x63, 0x68, 0x6f, 0x73, 0x65, 
-  0x6e, 0x20, 0x74, 0x77, 0x69, 0x63, 0x65, 0x74, 0x68, 0x65, 0x20, 0x71, 
-  0x75, 0x65, 0x75, 0x65, 0x20, 0x6f, 0x66, 0x20, 0x61, 0x20, 0x4d, 0x41, 
-  0x50, 0x20, 0x69, 0x73, 0x6e, 0x27, 0x74, 0x20, 0x66, 0x6f, 0x72, 0x20, 
-  0x31, 0x20, 0x74, 0x6f, 0x20, 0x32, 0x35, 0x36, 0x20, 0x75, 0x6e, 0x69, 
-  0x74, 0x73, 0x61, 0x20, 0x63, 0x68, 0x61, 0x6e, 0x6e, 0x65, 0x6c, 0x20, 
-  0x77, 0x69, 0x74, 0x68, 0x6f, 0x75, 0x74, 0x20, 0x73, 0x65, 0x67, 0x6d, 
-  0x65, 0x6e, 0x74, 0x20, 0x68, 0x65, 0x61, 0x64, 0x65, 0x72, 0x73, 0x20, 
-  0x68, 0x61, 0x73, 0x20, 0x6e, 0x6f, 0x20, 0x4d, 0x41, 0x50, 0x73, 0x6e, 
-  0x6f, 0x20, 0x63, 0x68, 0x61, 0x6e, 0x6e, 0x65, 0x6c, 0x20, 0x69, 0x73, 
-  0x20, 0x68, 0x65, 0x6c, 0x64, 0x61, 0x20, 0x63, 0x68, 0x61, 0x6e, 0x6e, 
-  0x65, 0x6c, 0x20, 0x69, 0x73, 0x20, 0x68, 0x65, 0x6c, 0x64, 0x20, 0x61, 
-  0x6c, 0x72, 0x65, 0x61, 0x64, 0x79, 0x6e, 0x6f, 0x20, 0x71, 0x75, 0x65, 
-  0x75, 0x65, 0x20, 0x68, 0x61, 0x73, 0x20, 0x74, 0x68, 0x61, 0x74, 0x20, 
-  0x41, 0x50, 0x49, 0x44, 0x74, 0x68, 0x61, 0x74, 0x20, 0x4d, 0x41, 0x50, 
-  0x20, 0x69, 0x73, 0x6e, 0x27, 0x74, 0x20, 0x63, 0x68, 0x6f, 0x73, 0x65, 
-  0x6e, 0x6e, 0x6f, 0x74, 0x68, 0x69, 0x6e, 0x67, 0x20, 0x77, 0x61, 0x69, 
-  0x74, 0x73, 0x20, 0x74, 0x68, 0x65, 0x72, 0x65, 0x74, 0x68, 0x65, 0x20, 
-  0x66, 0x72, 0x61, 0x6d, 0x65, 0x20, 0x69, 0x73, 0x20, 0x66, 0x6f, 0x72, 
-  0x20, 0x61, 0x6e, 0x6f, 0x74, 0x68, 0x65, 0x72, 0x20, 0x73, 0x70, 0x61, 
-  0x63, 0x65, 0x63, 0x72, 0x61, 0x66, 0x74, 0x6e, 0x6f, 0x20, 0x63, 0x68, 
-  0x61, 0x6e, 0x6e, 0x65, 0x6c, 0x20, 0x68, 0x61, 0x73, 0x20, 0x74, 0x68, 
-  0x61, 0x74, 0x20, 0x76, 0x69, 0x72, 0x74, 0x75, 0x61, 0x6c, 0x20, 0x63, 
-  0x68, 0x61, 0x6e, 0x6e, 0x65, 0x6c, 0x20, 0x69, 0x64, 0x74, 0x68, 0x65, 
-  0x20, 0x6c, 0x69, 0x6d, 0x69, 0x74, 0x20, 0x6f, 0x66, 0x20, 0x74, 0x68, 
-  0x65, 0x20, 0x6f, 0x74, 0x68, 0x65, 0x72, 0x20, 0x4d, 0x41, 0x50, 0x73, 
-  0x20, 0x69, 0x73, 0x20, 0x6f, 0x75, 0x74, 0x20, 0x6f, 0x66, 0x20, 0x69, 
-  0x74, 0x73, 0x20, 0x72, 0x61, 0x6e, 0x67, 0x65, 0x74, 0x68, 0x65, 0x20, 
-  0x4d, 0x41, 0x50, 0x20, 0x6f, 0x66, 0x20, 0x61, 0x20, 0x6c, 0x69, 0x6d, 
-  0x69, 0x74, 0x20, 0x69, 0x73, 0x20, 0x6f, 0x76, 0x65, 0x72, 0x20, 0x36, 
-  0x33, 0x61, 0x20, 0x4d, 0x41, 0x50, 0x20, 0x68, 0x61, 0x73, 0x20, 0x74, 
-  0x77, 0x6f, 0x20, 0x6c, 0x69, 0x6d, 0x69, 0x74, 0x73, 0x74, 0x68, 0x65, 
-  0x20, 0x6c, 0x69, 0x6d, 0x69, 0x74, 0x20, 0x6f, 0x66, 0x20, 0x61, 0x20, 
-  0x4d, 0x41, 0x50, 0x20, 0x69, 0x73, 0x6e, 0x27, 0x74, 0x20, 0x31, 0x20, 
-  0x74, 0x6f, 0x20, 0x36, 0x35, 0x2c, 0x35, 0x34, 0x32, 0x20, 0x6f, 0x63, 
-  0x74, 0x65, 0x74, 0x73, 0x61, 0x20, 0x63, 0x68, 0x61, 0x6e, 0x6e, 0x65, 
-  0x6c, 0x20, 0x77, 0x69, 0x74, 0x68, 0x6f, 0x75, 0x74, 0x20, 0x73, 0x65, 
-  0x67, 0x6d, 0x65, 0x6e, 0x74, 0x20, 0x68, 0x65, 0x61, 0x64, 0x65, 0x72, 
-  0x73, 0x20, 0x68, 0x61, 0x73, 0x20, 0x6e, 0x6f, 0x20, 0x6c, 0x69, 0x6d, 
-  0x69, 0x74, 0x73, 0x20, 0x62, 0x79, 0x20, 0x4d, 0x41, 0x50, 0x61, 0x20, 
-  0x63, 0x68, 0x6f, 0x73, 0x65, 0x6e, 0x20, 0x4d, 0x41, 0x50, 0x20, 0x68, 
-  0x61, 0x73, 0x20, 0x6e, 0x6f, 0x20, 0x6c, 0x69, 0x6d, 0x69, 0x74, 0x61, 
-  0x20, 0x43, 0x4c, 0x54, 0x55, 0x20, 0x63, 0x61, 0x72, 0x72, 0x69, 0x65, 
-  0x73, 0x20, 0x61, 0x74, 0x20, 0x6d, 0x6f, 0x73, 0x74, 0x20, 0x31, 0x2c, 
-  0x30, 0x32, 0x39, 0x20, 0x6f, 0x63, 0x74, 0x65, 0x74, 0x73, 0x74, 0x68, 
-  0x65, 0x20, 0x74, 0x65, 0x6c, 0x65, 0x6d, 0x65, 0x74, 0x72, 0x79, 0x20, 
-  0x66, 0x72, 0x61, 0x6d, 0x65, 0x20, 0x69, 0x73, 0x6e, 0x27, 0x74, 0x20, 
-  0x6f, 0x66, 0x20, 0x31, 0x31, 0x20, 0x6f, 0x72, 0x20, 0x31, 0x33, 0x20, 
-  0x74, 0x6f, 0x20, 0x32, 0x2c, 0x30, 0x34, 0x38, 0x20, 0x6f, 0x63, 0x74, 
-  0x65, 0x74, 0x73, 0x74, 0x68, 0x65, 0x72, 0x65, 0x20, 0x69, 0x73, 0x20, 
-  0x6e, 0x6f, 0x20, 0x6f, 0x70, 0x65, 0x72, 0x61, 0x74, 0x69, 0x6f, 0x6e, 
-  0x61, 0x6c, 0x20, 0x63, 0x6f, 0x6e, 0x74, 0x72, 0x6f, 0x6c, 0x20, 0x66, 
-  0x69, 0x65, 0x6c, 0x64, 0x6e, 0x6f, 0x20, 0x64, 0x65, 0x63, 0x6f, 0x64, 
-  0x65, 0x72, 0x20, 0x6f, 0x66, 0x20, 0x43, 0x4c, 0x54, 0x55, 0x73, 0x20, 
-  0x68, 0x61, 0x73, 0x20, 0x74, 0x68, 0x61, 0x74, 0x20, 0x72, 0x65, 0x63, 
-  0x6f, 0x72, 0x64, 0x00, 0x00, 0x00, 0x00, 0x00, 0x01, 0x00, 0x00, 0x00, 
-  0x02, 0x00, 0x00, 0x00, 0x03, 0x00, 0x00, 0x00, 0x04, 0x00, 0x00, 0x00, 
-  0x05, 0x00, 0x00, 0x00, 0x06, 0x00, 0x00, 0x00, 0x07, 0x00, 0x00, 0x00, 
-  0x08, 0x00, 0x00, 0x00, 0x0a, 0x00, 0x00, 0x00, 0x0b, 0x00, 0x00, 0x00, 
-  0x0c, 0x00, 0x00, 0x00, 0x0d, 0x00, 0x00, 0x00, 0x0e, 0x00, 0x00, 0x00, 
-  0x0f, 0x00, 0x00, 0x00, 0x10, 0x00, 0x00, 0x00, 0x11, 0x00, 0x00, 0x00, 
-  0x12, 0x00, 0x00, 0x00, 0x13, 0x00, 0x00, 0x00, 0x14, 0x00, 0x00, 0x00, 
-  0x15, 0x00, 0x00, 0x00, 0x16, 0x00, 0x00, 0x00, 0x17, 0x00, 0x00, 0x00, 
-  0x18, 0x00, 0x00, 0x00, 0x19, 0x00, 0x00, 0x00, 0x1a, 0x00, 0x00, 0x00, 
-  0x1e, 0x00, 0x00, 0x00, 0x1f, 0x00, 0x00, 0x00, 0x28, 0x00, 0x00, 0x00, 
-  0x32, 0x00, 0x00, 0x00, 0x33, 0x00, 0x00, 0x00, 0x34, 0x00, 0x00, 0x00, 
-  0x3c, 0x00, 0x00, 0x00, 0x3d, 0x00, 0x00, 0x00, 0x3e, 0x00, 0x00, 0x00, 
-  0x3f, 0x00, 0x00, 0x00, 0x40, 0x00, 0x00, 0x00, 0x41, 0x00, 0x00, 0x00, 
-  0x42, 0x00, 0x00, 0x00, 0x43, 0x00, 0x00, 0x00, 0x46, 0x00, 0x00, 0x00, 
-  0x47, 0x00, 0x00, 0x00, 0x48, 0x00, 0x00, 0x00, 0x49, 0x00, 0x00, 0x00, 
-  0x4a, 0x00, 0x00, 0x00, 0x4b, 0x00, 0x00, 0x00, 0x4c, 0x00, 0x00, 0x00, 
-  0x50, 0x00, 0x00, 0x00, 0x51, 0x00, 0x00, 0x00, 0x52, 0x00, 0x00, 0x00, 
-  0x53, 0x00, 0x00, 0x00, 0x54, 0x00, 0x00, 0x00, 0x55, 0x00, 0x00, 0x00, 
-  0x5a, 0x00, 0x00, 0x00, 0x5b, 0x00, 0x00, 0x00, 0x5c, 0x00, 0x00, 0x00, 
-  0x5d, 0x00, 0x00, 0x00, 0x1a, 0x13, 0x20, 0x21, 0x22, 0x23, 0x24, 0x25, 
-  0x26, 0x27, 0x0c, 
+  0x00, 0x00, 0x00, 0x00, 0x00, 0x00, 0x00, 0x00, 0x00, 0x00, 0x00, 0x00, 
+  0x00, 0x00, 0x00, 0x02, 0x00, 0x00, 0x00, 0x00, 0x00, 0x00, 0x00, 0x04, 
+  0x00, 0x00, 0x00, 0x00, 0x00, 0x00, 0x00, 0x00, 0x00, 0x00, 0x00, 0x00, 
+  0x00, 0x00, 0x00, 0x08, 0x00, 0x00, 0x00, 0x00, 0x00, 0x00, 0x00, 0x00, 
+  0x00, 0x00, 0x00, 0x00, 0x00, 0x00, 0x00, 0x00, 0x00, 0x00, 0x00, 0x00, 
+  0x08, 0x00, 0x00, 0x00, 0x00, 0x00, 0x00, 0x00, 0x00, 0x00, 0x00, 0x10, 
+  0x00, 0x00, 0x00, 0x00, 0x00, 0x00, 0x00, 0x00, 0x00, 0x00, 0x00, 0x00, 
+  0x00, 0x00, 0x00, 0x00, 0x00, 0x00, 0x00, 0x10, 0x00, 0x00, 0x00, 0x00, 
+  0x00, 0x00, 0x00, 0x00, 0x00, 0x00, 0x00, 0x00, 0x00, 0x02, 0x00, 0x00, 
+  0x00, 0x00, 0x00, 0x00, 0x00, 0x00, 0x00, 0x00, 0x10, 0x00, 0x00, 0x00, 
+  0x00, 0x00, 0x00, 0x00, 0x00, 0x00, 0x00, 0x00, 0x00, 0x00, 0x00, 0x00, 
+  0x00, 0x00, 0x00, 0x20, 0x00, 0x00, 0x00, 0x00, 0x00, 0x00, 0x00, 0x00, 
+  0x00, 0x00, 0x00, 0x00, 0x00, 0x00, 0x00, 0x00, 0x00, 0x00, 0x00, 0x00, 
+  0x00, 0x02, 0x00, 0x00, 0x00, 0x00, 0x00, 0x00, 0x00, 0x00, 0x00, 0x00, 
+  0x00, 0x20, 0x00, 0x00, 0x00, 0x00, 0x00, 0x00, 0x00, 0x00, 0x00, 0x20, 
+  0x00, 0x00, 0x00, 0x00, 0x00, 0x00, 0x00, 0x00, 0x00, 0x00, 0x00, 0x00, 
+  0x00, 0x00, 0x00, 0x00, 0x00, 0x00, 0x00, 0x00, 0x00, 0x00, 0x40, 0x00, 
+  0x00, 0x00, 0x00, 0x00, 0x00, 0x04, 0x00, 0x00, 0x00, 0x00, 0x00, 0x00, 
+  0x00, 0x00, 0x00, 0x00, 0x00, 0x00, 0x00, 0x00, 0x00, 0x00, 0x00, 0x00, 
+  0x20, 0x00, 0x00, 0x00, 0x00, 0x00, 0x00, 0x00, 0x00, 0x00, 0x00, 0x00, 
+  0x00, 0x00, 0x00, 0x00, 0x00, 0x00, 0x00, 0x00, 0x02, 0x00, 0x00, 0x00, 
+  0x00, 0x00, 0x00, 0x00, 0x00, 0x00, 0x00, 0x00, 0x00, 0x00, 0x00, 0x40, 
+  0x00, 0x00, 0x00, 0x00, 0x00, 0x00, 0x00, 0x00, 0x00, 0x00, 0x00, 0x00, 
+  0x00, 0x00, 0x00, 0x00, 0x00, 0x00, 0x00, 0x00, 0x00, 0x00, 0x10, 0x00, 
+  0x00, 0x00, 0x00, 0x00, 0x00, 0x00, 0x00, 0x00, 0x00, 0x00, 0x00, 0x01, 
+  0x00, 0x00, 0x00, 0x00, 0x00, 0x00, 0x00, 0x00, 0x00, 0x04, 0x00, 0x00, 
+  0x00, 0x00, 0x00, 0x00, 0x00, 0x00, 0x00, 0x00, 0x00, 0x00, 0x00, 0x00, 
+  0x00, 0x00, 0x00, 0x00, 0x00, 0x00, 0x00, 0x00, 0x01, 0x00, 0x00, 0x00, 
+  0x00, 0x40, 0x00, 0x00, 0x00, 0x00, 0x00, 0x00, 0x00, 0x00, 0x00, 0x00, 
+  0x00, 0x00, 0x00, 0x00, 0x00, 0x00, 0x00, 0x40, 0x00, 0x00, 0x00, 0x00, 
+  0x00, 0x00, 0x00, 0x00, 0x00, 0x00, 0x00, 0x00, 0x00, 0x00, 0x00, 0x00, 
+  0x00, 0x00, 0x00, 0x00, 0x00, 0x00, 0x02, 0x00, 0x00, 0x00, 0x00, 0x00, 
+  0x00, 0x00, 0x00, 0x00, 0x00, 0x00, 0x00, 0x00, 0x40, 0x00, 0x00, 0x00, 
+  0x00, 0x00, 0x00, 0x00, 0x00, 0x00, 0x80, 0x00, 0x00, 0x00, 0x00, 0x00, 
+  0x00, 0x00, 0x00, 0x00, 0x00, 0x00, 0x00, 0x00, 0x00, 0x08, 0x00, 0x00, 
+  0x00, 0x00, 0x00, 0x00, 0x00, 0x00, 0x00, 0x00, 0x00, 0x00, 0x00, 0x00, 
+  0x00, 0x00, 0x00, 0x00, 0x00, 0x00, 0x00, 0x00, 0x00, 0x00, 0x10, 0x00, 
+  0x00, 0x00, 0x00, 0x00, 0x00, 0x00, 0x00, 0x00, 0x40, 0x00, 0x00, 0x00, 
+  0x00, 0x00, 0x00, 0x00, 0x00, 0x00, 0x00, 0x00, 0x00, 0x00, 0x00, 0x00, 
+  0x00, 0x00, 0x00, 0x00, 0x00, 0x00, 0x00, 0x00, 0x00, 0x40, 0x00, 0x00, 
+  0x00, 0x00, 0x00, 0x00, 0x00, 0x00, 0x00, 0x00, 0x10, 0x00, 0x00, 0x00, 
+  0x00, 0x00, 0x00, 0x00, 0x04, 0x00, 0x00, 0x00, 0x00, 0x00, 0x00, 0x00, 
+  0x00, 0x00, 0x00, 0x00, 0x00, 0x00, 0x00, 0x00, 0x00, 0x00, 0x00, 0x00, 
+  0x00, 0x00, 0x00, 0x80, 0x00, 0x00, 0x00, 0x00, 0x00, 0x00, 0x00, 0x00, 
+  0x00, 0x00, 0x00, 0x00, 0x00, 0x00, 0x00, 0x00, 0x00, 0x00, 0x00, 0x00, 
+  0x00, 0x00, 0x00, 0x00, 0x00, 0x00, 0x00, 0x00, 0x00, 0x00, 0x00, 0x00, 
+  0x00, 0x00, 0x00, 0x00, 0x00, 0x00, 0x01, 0x00, 0x00, 0x00, 0x00, 0x00, 
+  0x00, 0x00, 0x20, 0x00, 0x00, 0x00, 0x00, 0x00, 0x00, 0x00, 0x00, 0x00, 
+  0x00, 0x00, 0x00, 0x00, 0x00, 0x00, 0x00, 0x00, 0x00, 0x00, 0x00, 0x00, 
+  0x00, 0x00, 0x40, 0x00, 0x00, 0x00, 0x00, 0x02, 0x00, 0x00, 0x00, 0x00, 
+  0x00, 0x00, 0x00, 0x00, 0x00, 0x00, 0x00, 0x00, 0x00, 0x00, 0x00, 0x00, 
+  0x00, 0x08, 0x00, 0x00, 0x00, 0x00, 0x00, 0x00, 0x00, 0x00, 0x00, 0x00, 
+  0x00, 0x00, 0x00, 0x00, 0x00, 0x00, 0x00, 0x00, 0x00, 0x00, 0x00, 0x00, 
+  0x00, 0x00, 0x02, 0x00, 0x00, 0x00, 0x00, 0x00, 0x00, 0x00, 0x00, 0x00, 
+  0x00, 0x00, 0x00, 0x04, 0x00, 0x00, 0x00, 0x00, 0x00, 0x00, 0x00, 0x00, 
+  0x02, 0x00, 0x00, 0x00, 0x00, 0x00, 0x00, 0x00, 0x00, 0x00, 0x00, 0x00, 
+  0x00, 0x80, 0x00, 0x00, 0x00, 0x00, 0x00, 0x00, 0x00, 0x00, 0x00, 0x00, 
+  0x00, 0x00, 0x00, 0x00, 0x00, 0x00, 0x00, 0x00, 0x00, 0x00, 0x00, 0x00, 
+  0x00, 0x00, 0x00, 0x00, 0x00, 0x00, 0x80, 0x00, 0x00, 0x00, 0x00, 0x80, 
+  0x00, 0x00, 0x00, 0x00, 0x00, 0x00, 0x00, 0x00, 0x00, 0x00, 0x00, 0x00, 
+  0x00, 0x00, 0x00, 0x00, 0x00, 0x00, 0x00, 0x00, 0x00, 0x00, 0x00, 0x00, 
+  0x00, 0x00, 0x04, 0x00, 0x00, 0x00, 0x00, 0x00, 0x00, 0x00, 0x00, 0x00, 
+  0x00, 0x00, 0x00, 0x00, 0x00, 0x10, 0x00, 0x00, 0x00, 0x00, 0x04, 0x00, 
+  0x00, 0x00, 0x00, 0x00, 0x00, 0x00, 0x00, 0x00, 0x00, 0x00, 0x00, 0x00, 
+  0x00, 0x00, 0x00, 0x00, 0x00, 0x00, 0x00, 0x00, 0x00, 0x00, 0x00, 0x00, 
+  0x04, 0x00, 0x00, 0x00, 0x80, 0x00, 0x00, 0x00, 0x00, 0x00, 0x00, 0x00, 
+  0x00, 0x00, 0x00, 0x00, 0x00, 0x00, 0x00, 0x00, 0x00, 0x01, 0x00, 0x00, 
+  0x00, 0x00, 0x00, 0x00, 0x00, 0x00, 0x00, 0x00, 0x00, 0x00, 0x00, 0x00, 
+  0x00, 0x00, 0x00, 0x00, 0x00, 0x00, 0x00, 0x00, 0x00, 0x00, 0x00, 0x08, 
+  0x00, 0x00, 0x00, 0x00, 0x00, 0x10, 0x00, 0x00, 0x00, 0x00, 0x00, 0x00, 
+  0x00, 0x00, 0x00, 0x00, 0x00, 0x00, 0x00, 0x00, 0x00, 0x00, 0x00, 0x00, 
+  0x00, 0x00, 0x00, 0x00, 0x00, 0x00, 0x00, 0x00, 0x00, 0x01, 0x00, 0x00, 
+  0x00, 0x00, 0x00, 0x00, 0x00, 0x00, 0x00, 0x00, 0x01, 0x00, 0x00, 0x00, 
+  0x00, 0x00, 0x00, 0x00, 0x00, 0x00, 0x20, 0x00, 0x00, 0x00, 0x00, 0x00, 
+  0x00, 0x00, 0x00, 0x00, 0x00, 0x00, 0x00, 0x00, 0x00, 0x00, 0x00, 0x00, 
+  0x80, 0x00, 0x00, 0x00, 0x00, 0x00, 0x00, 0x00, 0x00, 0x00, 0x00, 0x00, 
+  0x00, 0x00, 0x00, 0x00, 0x00, 0x00, 0x00, 0x00, 0x00, 0x00, 0x00, 0x00, 
+  0x00, 0x00, 0x08, 0x00, 0x00, 0x00, 0x00, 0x00, 0x00, 0x00, 0x00, 0x00, 
+  0x00, 0x00, 0x01, 0x00, 0x00, 0x00, 0x00, 0x00, 0x00, 0x00, 0x00, 0x00, 
+  0x00, 0x80, 0x00, 0x00, 0x00, 0x00, 0x00, 0x00, 0x00, 0x00, 0x00, 0x00, 
+  0x00, 0x00, 0x00, 0x00, 0x00, 0x00, 0x00, 0x00, 0x00, 0x00, 0x08, 0x00, 
+  0x00, 0x00, 0x00, 0x00, 0x20, 0x00, 0x00, 0x00, 0x00, 0x00, 0x00, 0x00, 
+  0x00, 0x00, 0x00, 0x00, 0x00, 0x00, 0x00, 0x00, 0x08, 0x00, 0x00, 0x00, 
+  0x00, 0x00, 0x00, 0x00, 0x00, 0x00, 0x00, 0x00, 0x00, 0x00, 0x00, 0x00, 
+  0x00, 0x00, 0x00, 0x00, 0x00, 0x00, 0x00, 0x00, 0x00, 0x00, 0x00, 0x00, 
+  0x00, 0x20, 0x00, 0x00, 0x00, 0x45, 0x4f, 0x0a, 0x5b, 0x1e, 0x14, 0x51, 
+  0x73, 0x36, 0x3c, 0x79, 0x28, 0x6d, 0x67, 0x22, 0x23, 0x66, 0x6c, 0x29, 
+  0x78, 0x3d, 0x37, 0x72, 0x50, 0x15, 0x1f, 0x5a, 0x0b, 0x4e, 0x44, 0x01, 
+  0x46, 0x03, 0x09, 0x4c, 0x1d, 0x58, 0x52, 0x17, 0x35, 0x70, 0x7a, 0x3f, 
+  0x6e, 0x2b, 0x21, 0x64, 0x65, 0x20, 0x2a, 0x6f, 0x3e, 0x7b, 0x71, 0x34, 
+  0x16, 0x53, 0x59, 0x1c, 0x4d, 0x08, 0x02, 0x47, 0x49, 0x0c, 0x06, 0x43, 
+  0x12, 0x57, 0x5d, 0x18, 0x3a, 0x7f, 0x75, 0x30, 0x61, 0x24, 0x2e, 0x6b, 
+  0x6a, 0x2f, 0x25, 0x60, 0x31, 0x74, 0x7e, 0x3b, 0x19, 0x5c, 0x56, 0x13, 
+  0x42, 0x07, 0x0d, 0x48, 0x0f, 0x4a, 0x40, 0x05, 0x54, 0x11, 0x1b, 0x5e, 
+  0x7c, 0x39, 0x33, 0x76, 0x27, 0x62, 0x68, 0x2d, 0x2c, 0x69, 0x63, 0x26, 
+  0x77, 0x32, 0x38, 0x7d, 0x5f, 0x1a, 0x10, 0x55, 0x04, 0x41, 0x4b, 0x0e, 
+  0x57, 0x12, 0x18, 0x5d, 0x0c, 0x49, 0x43, 0x06, 0x24, 0x61, 0x6b, 0x2e, 
+  0x7f, 0x3a, 0x30, 0x75, 0x74, 0x31, 0x3b, 0x7e, 0x2f, 0x6a, 0x60, 0x25, 
+  0x07, 0x42, 0x48, 0x0d, 0x5c, 0x19, 0x13, 0x56, 0x11, 0x54, 0x5e, 0x1b, 
+  0x4a, 0x0f, 0x05, 0x40, 0x62, 0x27, 0x2d, 0x68, 0x39, 0x7c, 0x76, 0x33, 
+  0x32, 0x77, 0x7d, 0x38, 0x69, 0x2c, 0x26, 0x63, 0x41, 0x04, 0x0e, 0x4b, 
+  0x1a, 0x5f, 0x55, 0x10, 0x1e, 0x5b, 0x51, 0x14, 0x45, 0x00, 0x0a, 0x4f, 
+  0x6d, 0x28, 0x22, 0x67, 0x36, 0x73, 0x79, 0x3c, 0x3d, 0x78, 0x72, 0x37, 
+  0x66, 0x23, 0x29, 0x6c, 0x4e, 0x0b, 0x01, 0x44, 0x15, 0x50, 0x5a, 0x1f, 
+  0x58, 0x1d, 0x17, 0x52, 0x03, 0x46, 0x4c, 0x09, 0x2b, 0x6e, 0x64, 0x21, 
+  0x70, 0x35, 0x3f, 0x7a, 0x7b, 0x3e, 0x34, 0x71, 0x20, 0x65, 0x6f, 0x2a, 
+  0x08, 0x4d, 0x47, 0x02, 0x53, 0x16, 0x1c, 0x59, 0x00, 0x6b, 0x13, 0x78, 
+  0x26, 0x4d, 0x35, 0x5e, 0x4c, 0x27, 0x5f, 0x34, 0x6a, 0x01, 0x79, 0x12, 
+  0x5d, 0x36, 0x4e, 0x25, 0x7b, 0x10, 0x68, 0x03, 0x11, 0x7a, 0x02, 0x69, 
+  0x37, 0x5c, 0x24, 0x4f, 0x7f, 0x14, 0x6c, 0x07, 0x59, 0x32, 0x4a, 0x21, 
+  0x33, 0x58, 0x20, 0x4b, 0x15, 0x7e, 0x06, 0x6d, 0x22, 0x49, 0x31, 0x5a, 
+  0x04, 0x6f, 0x17, 0x7c, 0x6e, 0x05, 0x7d, 0x16, 0x48, 0x23, 0x5b, 0x30, 
+  0x3b, 0x50, 0x28, 0x43, 0x1d, 0x76, 0x0e, 0x65, 0x77, 0x1c, 0x64, 0x0f, 
+  0x51, 0x3a, 0x42, 0x29, 0x66, 0x0d, 0x75, 0x1e, 0x40, 0x2b, 0x53, 0x38, 
+  0x2a, 0x41, 0x39, 0x52, 0x0c, 0x67, 0x1f, 0x74, 0x44, 0x2f, 0x57, 0x3c, 
+  0x62, 0x09, 0x71, 0x1a, 0x08, 0x63, 0x1b, 0x70, 0x2e, 0x45, 0x3d, 0x56, 
+  0x19, 0x72, 0x0a, 0x61, 0x3f, 0x54, 0x2c, 0x47, 0x55, 0x3e, 0x46, 0x2d, 
+  0x73, 0x18, 0x60, 0x0b, 0x76, 0x1d, 0x65, 0x0e, 0x50, 0x3b, 0x43, 0x28, 
+  0x3a, 0x51, 0x29, 0x42, 0x1c, 0x77, 0x0f, 0x64, 0x2b, 0x40, 0x38, 0x53, 
+  0x0d, 0x66, 0x1e, 0x75, 0x67, 0x0c, 0x74, 0x1f, 0x41, 0x2a, 0x52, 0x39, 
+  0x09, 0x62, 0x1a, 0x71, 0x2f, 0x44, 0x3c, 0x57, 0x45, 0x2e, 0x56, 0x3d, 
+  0x63, 0x08, 0x70, 0x1b, 0x54, 0x3f, 0x47, 0x2c, 0x72, 0x19, 0x61, 0x0a, 
+  0x18, 0x73, 0x0b, 0x60, 0x3e, 0x55, 0x2d, 0x46, 0x4d, 0x26, 0x5e, 0x35, 
+  0x6b, 0x00, 0x78, 0x13, 0x01, 0x6a, 0x12, 0x79, 0x27, 0x4c, 0x34, 0x5f, 
+  0x10, 0x7b, 0x03, 0x68, 0x36, 0x5d, 0x25, 0x4e, 0x5c, 0x37, 0x4f, 0x24, 
+  0x7a, 0x11, 0x69, 0x02, 0x32, 0x59, 0x21, 0x4a, 0x14, 0x7f, 0x07, 0x6c, 
+  0x7e, 0x15, 0x6d, 0x06, 0x58, 0x33, 0x4b, 0x20, 0x6f, 0x04, 0x7c, 0x17, 
+  0x49, 0x22, 0x5a, 0x31, 0x23, 0x48, 0x30, 0x5b, 0x05, 0x6e, 0x16, 0x7d, 
+  0x00, 0x29, 0x52, 0x7b, 0x61, 0x48, 0x33, 0x1a, 0x07, 0x2e, 0x55, 0x7c, 
+  0x66, 0x4f, 0x34, 0x1d, 0x0e, 0x27, 0x5c, 0x75, 0x6f, 0x46, 0x3d, 0x14, 
+  0x09, 0x20, 0x5b, 0x72, 0x68, 0x41, 0x3a, 0x13, 0x1c, 0x35, 0x4e, 0x67, 
+  0x7d, 0x54, 0x2f, 0x06, 0x1b, 0x32, 0x49, 0x60, 0x7a, 0x53, 0x28, 0x01, 
+  0x12, 0x3b, 0x40, 0x69, 0x73, 0x5a, 0x21, 0x08, 0x15, 0x3c, 0x47, 0x6e, 
+  0x74, 0x5d, 0x26, 0x0f, 0x38, 0x11, 0x6a, 0x43, 0x59, 0x70, 0x0b, 0x22, 
+  0x3f, 0x16, 0x6d, 0x44, 0x5e, 0x77, 0x0c, 0x25, 0x36, 0x1f, 0x64, 0x4d, 
+  0x57, 0x7e, 0x05, 0x2c, 0x31, 0x18, 0x63, 0x4a, 0x50, 0x79, 0x02, 0x2b, 
+  0x24, 0x0d, 0x76, 0x5f, 0x45, 0x6c, 0x17, 0x3e, 0x23, 0x0a, 0x71, 0x58, 
+  0x42, 0x6b, 0x10, 0x39, 0x2a, 0x03, 0x78, 0x51, 0x4b, 0x62, 0x19, 0x30, 
+  0x2d, 0x04, 0x7f, 0x56, 0x4c, 0x65, 0x1e, 0x37, 0x70, 0x59, 0x22, 0x0b, 
+  0x11, 0x38, 0x43, 0x6a, 0x77, 0x5e, 0x25, 0x0c, 0x16, 0x3f, 0x44, 0x6d, 
+  0x7e, 0x57, 0x2c, 0x05, 0x1f, 0x36, 0x4d, 0x64, 0x79, 0x50, 0x2b, 0x02, 
+  0x18, 0x31, 0x4a, 0x63, 0x6c, 0x45, 0x3e, 0x17, 0x0d, 0x24, 0x5f, 0x76, 
+  0x6b, 0x42, 0x39, 0x10, 0x0a, 0x23, 0x58, 0x71, 0x62, 0x4b, 0x30, 0x19, 
+  0x03, 0x2a, 0x51, 0x78, 0x65, 0x4c, 0x37, 0x1e, 0x04, 0x2d, 0x56, 0x7f, 
+  0x48, 0x61, 0x1a, 0x33, 0x29, 0x00, 0x7b, 0x52, 0x4f, 0x66, 0x1d, 0x34, 
+  0x2e, 0x07, 0x7c, 0x55, 0x46, 0x6f, 0x14, 0x3d, 0x27, 0x0e, 0x75, 0x5c, 
+  0x41, 0x68, 0x13, 0x3a, 0x20, 0x09, 0x72, 0x5b, 0x54, 0x7d, 0x06, 0x2f, 
+  0x35, 0x1c, 0x67, 0x4e, 0x53, 0x7a, 0x01, 0x28, 0x32, 0x1b, 0x60, 0x49, 
+  0x5a, 0x73, 0x08, 0x21, 0x3b, 0x12, 0x69, 0x40, 0x5d, 0x74, 0x0f, 0x26, 
+  0x3c, 0x15, 0x6e, 0x47, 0x00, 0x25, 0x4a, 0x6f, 0x51, 0x74, 0x1b, 0x3e, 
+  0x67, 0x42, 0x2d, 0x08, 0x36, 0x13, 0x7c, 0x59, 0x0b, 0x2e, 0x41, 0x64, 
+  0x5a, 0x7f, 0x10, 0x35, 0x6c, 0x49, 0x26, 0x03, 0x3d, 0x18, 0x77, 0x52, 
+  0x16, 0x33, 0x5c, 0x79, 0x47, 0x62, 0x0d, 0x28, 0x71, 0x54, 0x3b, 0x1e, 
+  0x20, 0x05, 0x6a, 0x4f, 0x1d, 0x38, 0x57, 0x72, 0x4c, 0x69, 0x06, 0x23, 
+  0x7a, 0x5f, 0x30, 0x15, 0x2b, 0x0e, 0x61, 0x44, 0x2c, 0x09, 0x66, 0x43, 
+  0x7d, 0x58, 0x37, 0x12, 0x4b, 0x6e, 0x01, 0x24, 0x1a, 0x3f, 0x50, 0x75, 
+  0x27, 0x02, 0x6d, 0x48, 0x76, 0x53, 0x3c, 0x19, 0x40, 0x65, 0x0a, 0x2f, 
+  0x11, 0x34, 0x5b, 0x7e, 0x3a, 0x1f, 0x70, 0x55, 0x6b, 0x4e, 0x21, 0x04, 
+  0x5d, 0x78, 0x17, 0x32, 0x0c, 0x29, 0x46, 0x63, 0x31, 0x14, 0x7b, 0x5e, 
+  0x60, 0x45, 0x2a, 0x0f, 0x56, 0x73, 0x1c, 0x39, 0x07, 0x22, 0x4d, 0x68, 
+  0x58, 0x7d, 0x12, 0x37, 0x09, 0x2c, 0x43, 0x66, 0x3f, 0x1a, 0x75, 0x50, 
+  0x6e, 0x4b, 0x24, 0x01, 0x53, 0x76, 0x19, 0x3c, 0x02, 0x27, 0x48, 0x6d, 
+  0x34, 0x11, 0x7e, 0x5b, 0x65, 0x40, 0x2f, 0x0a, 0x4e, 0x6b, 0x04, 0x21, 
+  0x1f, 0x3a, 0x55, 0x70, 0x29, 0x0c, 0x63, 0x46, 0x78, 0x5d, 0x32, 0x17, 
+  0x45, 0x60, 0x0f, 0x2a, 0x14, 0x31, 0x5e, 0x7b, 0x22, 0x07, 0x68, 0x4d, 
+  0x73, 0x56, 0x39, 0x1c, 0x74, 0x51, 0x3e, 0x1b, 0x25, 0x00, 0x6f, 0x4a, 
+  0x13, 0x36, 0x59, 0x7c, 0x42, 0x67, 0x08, 0x2d, 0x7f, 0x5a, 0x35, 0x10, 
+  0x2e, 0x0b, 0x64, 0x41, 0x18, 0x3d, 0x52, 0x77, 0x49, 0x6c, 0x03, 0x26, 
+  0x62, 0x47, 0x28, 0x0d, 0x33, 0x16, 0x79, 0x5c, 0x05, 0x20, 0x4f, 0x6a, 
+  0x54, 0x71, 0x1e, 0x3b, 0x69, 0x4c, 0x23, 0x06, 0x38, 0x1d, 0x72, 0x57, 
+  0x0e, 0x2b, 0x44, 0x61, 0x5f, 0x7a, 0x15, 0x30, 0x00, 0x75, 0x2f, 0x5a, 
+  0x5e, 0x2b, 0x71, 0x04, 0x79, 0x0c, 0x56, 0x23, 0x27, 0x52, 0x08, 0x7d, 
+  0x37, 0x42, 0x18, 0x6d, 0x69, 0x1c, 0x46, 0x33, 0x4e, 0x3b, 0x61, 0x14, 
+  0x10, 0x65, 0x3f, 0x4a, 0x6e, 0x1b, 0x41, 0x34, 0x30, 0x45, 0x1f, 0x6a, 
+  0x17, 0x62, 0x38, 0x4d, 0x49, 0x3c, 0x66, 0x13, 0x59, 0x2c, 0x76, 0x03, 
+  0x07, 0x72, 0x28, 0x5d, 0x20, 0x55, 0x0f, 0x7a, 0x7e, 0x0b, 0x51, 0x24, 
+  0x19, 0x6c, 0x36, 0x43, 0x47, 0x32, 0x68, 0x1d, 0x60, 0x15, 0x4f, 0x3a, 
+  0x3e, 0x4b, 0x11, 0x64, 0x2e, 0x5b, 0x01, 0x74, 0x70, 0x05, 0x5f, 0x2a, 
+  0x57, 0x22, 0x78, 0x0d, 0x09, 0x7c, 0x26, 0x53, 0x77, 0x02, 0x58, 0x2d, 
+  0x29, 0x5c, 0x06, 0x73, 0x0e, 0x7b, 0x21, 0x54, 0x50, 0x25, 0x7f, 0x0a, 
+  0x40, 0x35, 0x6f, 0x1a, 0x1e, 0x6b, 0x31, 0x44, 0x39, 0x4c, 0x16, 0x63, 
+  0x67, 0x12, 0x48, 0x3d, 0x32, 0x47, 0x1d, 0x68, 0x6c, 0x19, 0x43, 0x36, 
+  0x4b, 0x3e, 0x64, 0x11, 0x15, 0x60, 0x3a, 0x4f, 0x05, 0x70, 0x2a, 0x5f, 
+  0x5b, 0x2e, 0x74, 0x01, 0x7c, 0x09, 0x53, 0x26, 0x22, 0x57, 0x0d, 0x78, 
+  0x5c, 0x29, 0x73, 0x06, 0x02, 0x77, 0x2d, 0x58, 0x25, 0x50, 0x0a, 0x7f, 
+  0x7b, 0x0e, 0x54, 0x21, 0x6b, 0x1e, 0x44, 0x31, 0x35, 0x40, 0x1a, 0x6f, 
+  0x12, 0x67, 0x3d, 0x48, 0x4c, 0x39, 0x63, 0x16, 0x2b, 0x5e, 0x04, 0x71, 
+  0x75, 0x00, 0x5a, 0x2f, 0x52, 0x27, 0x7d, 0x08, 0x0c, 0x79, 0x23, 0x56, 
+  0x1c, 0x69, 0x33, 0x46, 0x42, 0x37, 0x6d, 0x18, 0x65, 0x10, 0x4a, 0x3f, 
+  0x3b, 0x4e, 0x14, 0x61, 0x45, 0x30, 0x6a, 0x1f, 0x1b, 0x6e, 0x34, 0x41, 
+  0x3c, 0x49, 0x13, 0x66, 0x62, 0x17, 0x4d, 0x38, 0x72, 0x07, 0x5d, 0x28, 
+  0x2c, 0x59, 0x03, 0x76, 0x0b, 0x7e, 0x24, 0x51, 0x55, 0x20, 0x7a, 0x0f, 
+  0x00, 0x64, 0x0d, 0x69, 0x1a, 0x7e, 0x17, 0x73, 0x34, 0x50, 0x39, 0x5d, 
+  0x2e, 0x4a, 0x23, 0x47, 0x68, 0x0c, 0x65, 0x01, 0x72, 0x16, 0x7f, 0x1b, 
+  0x5c, 0x38, 0x51, 0x35, 0x46, 0x22, 0x4b, 0x2f, 0x15, 0x71, 0x18, 0x7c, 
+  0x0f, 0x6b, 0x02, 0x66, 0x21, 0x45, 0x2c, 0x48, 0x3b, 0x5f, 0x36, 0x52, 
+  0x7d, 0x19, 0x70, 0x14, 0x67, 0x03, 0x6a, 0x0e, 0x49, 0x2d, 0x44, 0x20, 
+  0x53, 0x37, 0x5e, 0x3a, 0x2a, 0x4e, 0x27, 0x43, 0x30, 0x54, 0x3d, 0x59, 
+  0x1e, 0x7a, 0x13, 0x77, 0x04, 0x60, 0x09, 0x6d, 0x42, 0x26, 0x4f, 0x2b, 
+  0x58, 0x3c, 0x55, 0x31, 0x76, 0x12, 0x7b, 0x1f, 0x6c, 0x08, 0x61, 0x05, 
+  0x3f, 0x5b, 0x32, 0x56, 0x25, 0x41, 0x28, 0x4c, 0x0b, 0x6f, 0x06, 0x62, 
+  0x11, 0x75, 0x1c, 0x78, 0x57, 0x33, 0x5a, 0x3e, 0x4d, 0x29, 0x40, 0x24, 
+  0x63, 0x07, 0x6e, 0x0a, 0x79, 0x1d, 0x74, 0x10, 0x54, 0x30, 0x59, 0x3d, 
+  0x4e, 0x2a, 0x43, 0x27, 0x60, 0x04, 0x6d, 0x09, 0x7a, 0x1e, 0x77, 0x13, 
+  0x3c, 0x58, 0x31, 0x55, 0x26, 0x42, 0x2b, 0x4f, 0x08, 0x6c, 0x05, 0x61, 
+  0x12, 0x76, 0x1f, 0x7b, 0x41, 0x25, 0x4c, 0x28, 0x5b, 0x3f, 0x56, 0x32, 
+  0x75, 0x11, 0x78, 0x1c, 0x6f, 0x0b, 0x62, 0x06, 0x29, 0x4d, 0x24, 0x40, 
+  0x33, 0x57, 0x3e, 0x5a, 0x1d, 0x79, 0x10, 0x74, 0x07, 0x63, 0x0a, 0x6e, 
+  0x7e, 0x1a, 0x73, 0x17, 0x64, 0x00, 0x69, 0x0d, 0x4a, 0x2e, 0x47, 0x23, 
+  0x50, 0x34, 0x5d, 0x39, 0x16, 0x72, 0x1b, 0x7f, 0x0c, 0x68, 0x01, 0x65, 
+  0x22, 0x46, 0x2f, 0x4b, 0x38, 0x5c, 0x35, 0x51, 0x6b, 0x0f, 0x66, 0x02, 
+  0x71, 0x15, 0x7c, 0x18, 0x5f, 0x3b, 0x52, 0x36, 0x45, 0x21, 0x48, 0x2c, 
+  0x03, 0x67, 0x0e, 0x6a, 0x19, 0x7d, 0x14, 0x70, 0x37, 0x53, 0x3a, 0x5e, 
+  0x2d, 0x49, 0x20, 0x44, 0x00, 0x6d, 0x1f, 0x72, 0x3e, 0x53, 0x21, 0x4c, 
+  0x7c, 0x11, 0x63, 0x0e, 0x42, 0x2f, 0x5d, 0x30, 0x3d, 0x50, 0x22, 0x4f, 
+  0x03, 0x6e, 0x1c, 0x71, 0x41, 0x2c, 0x5e, 0x33, 0x7f, 0x12, 0x60, 0x0d, 
+  0x7a, 0x17, 0x65, 0x08, 0x44, 0x29, 0x5b, 0x36, 0x06, 0x6b, 0x19, 0x74, 
+  0x38, 0x55, 0x27, 0x4a, 0x47, 0x2a, 0x58, 0x35, 0x79, 0x14, 0x66, 0x0b, 
+  0x3b, 0x56, 0x24, 0x49, 0x05, 0x68, 0x1a, 0x77, 0x31, 0x5c, 0x2e, 0x43, 
+  0x0f, 0x62, 0x10, 0x7d, 0x4d, 0x20, 0x52, 0x3f, 0x73, 0x1e, 0x6c, 0x01, 
+  0x0c, 0x61, 0x13, 0x7e, 0x32, 0x5f, 0x2d, 0x40, 0x70, 0x1d, 0x6f, 0x02, 
+  0x4e, 0x23, 0x51, 0x3c, 0x4b, 0x26, 0x54, 0x39, 0x75, 0x18, 0x6a, 0x07, 
+  0x37, 0x5a, 0x28, 0x45, 0x09, 0x64, 0x16, 0x7b, 0x76, 0x1b, 0x69, 0x04, 
+  0x48, 0x25, 0x57, 0x3a, 0x0a, 0x67, 0x15, 0x78, 0x34, 0x59, 0x2b, 0x46, 
+  0x62, 0x0f, 0x7d, 0x10, 0x5c, 0x31, 0x43, 0x2e, 0x1e, 0x73, 0x01, 0x6c, 
+  0x20, 0x4d, 0x3f, 0x52, 0x5f, 0x32, 0x40, 0x2d, 0x61, 0x0c, 0x7e, 0x13, 
+  0x23, 0x4e, 0x3c, 0x51, 0x1d, 0x70, 0x02, 0x6f, 0x18, 0x75, 0x07, 0x6a, 
+  0x26, 0x4b, 0x39, 0x54, 0x64, 0x09, 0x7b, 0x16, 0x5a, 0x37, 0x45, 0x28, 
+  0x25, 0x48, 0x3a, 0x57, 0x1b, 0x76, 0x04, 0x69, 0x59, 0x34, 0x46, 0x2b, 
+  0x67, 0x0a, 0x78, 0x15, 0x53, 0x3e, 0x4c, 0x21, 0x6d, 0x00, 0x72, 0x1f, 
+  0x2f, 0x42, 0x30, 0x5d, 0x11, 0x7c, 0x0e, 0x63, 0x6e, 0x03, 0x71, 0x1c, 
+  0x50, 0x3d, 0x4f, 0x22, 0x12, 0x7f, 0x0d, 0x60, 0x2c, 0x41, 0x33, 0x5e, 
+  0x29, 0x44, 0x36, 0x5b, 0x17, 0x7a, 0x08, 0x65, 0x55, 0x38, 0x4a, 0x27, 
+  0x6b, 0x06, 0x74, 0x19, 0x14, 0x79, 0x0b, 0x66, 0x2a, 0x47, 0x35, 0x58, 
+  0x68, 0x05, 0x77, 0x1a, 0x56, 0x3b, 0x49, 0x24, 0xc5, 0xc5, 0xc5, 0xc5, 
+  0xc5, 0xc5, 0xc5, 0x79, 0xeb, 0x90, 0x00, 0x00, 0xb4, 0x76, 0x68, 0xed, 
+  0xdc, 0x9b, 0xf1, 0xca, 0x45, 0xbc, 0x99, 0x27, 0x2d, 0x51, 0xc3, 0x85, 
+  0x77, 0xf3, 0xab, 0x68, 0x1f, 0x1e, 0x32, 0x4f, 0x86, 0x39, 0x5a, 0xa2, 
+  0xee, 0xd4, 0xa7, 0x1b, 0x13, 0x6d, 0xcf, 0xf6, 0x7b, 0x80, 0x56, 0xd1, 
+  0xe2, 0xa7, 0x3e, 0x3c, 0x8a, 0x4a, 0x64, 0x9e, 0xd0, 0xe8, 0x0c, 0x73, 
+  0xb8, 0x05, 0x95, 0x54, 0x21, 0x22, 0xfd, 0xb9, 0x49, 0xcf, 0x4e, 0x37, 
+  0xfa, 0x41, 0x26, 0xda, 0x92, 0xac, 0xbf, 0xfd, 0x0b, 0x8b, 0xd7, 0x10, 
+  0x63, 0x66, 0x8d, 0xb2, 0x39, 0xc4, 0xe5, 0x5f, 0x51, 0x29, 0x7c, 0x78, 
+  0xc8, 0x0e, 0x14, 0x95, 0xa0, 0xe3, 0xe9, 0x2c, 0x5d, 0x5a, 0x81, 0xc1, 
+  0x35, 0xb7, 0x18, 0xe6, 0xac, 0x90, 0x70, 0x0b, 0xc4, 0x7d, 0x2a, 0xa9, 
+  0x9e, 0xdf, 0x42, 0x44, 0xf6, 0x32, 0xdb, 0x63, 0x6f, 0x15, 0xb3, 0x8e, 
+  0x07, 0xf8, 0x9c, 0x6e, 0x28, 0x18, 0xf4, 0x83, 0x40, 0xf5, 0x6d, 0xa4, 
+  0xd9, 0xd2, 0x05, 0x49, 0xb1, 0x3f, 0x5f, 0xeb, 0xeb, 0x9d, 0x37, 0x06, 
+  0x83, 0x70, 0xae, 0x21, 0x1a, 0x57, 0xc6, 0xcc, 0x72, 0xba, 0x3b, 0x75, 
+  0x8f, 0x03, 0x53, 0x98, 0xe7, 0xee, 0xca, 0xbf, 0x7e, 0xc9, 0xa2, 0x52, 
+  0x16, 0x24, 0xf8, 0xf0, 0x4c, 0x86, 0x90, 0x1d, 0x24, 0x6b, 0x09, 0x3a, 
+  0xbd, 0x4c, 0x61, 0xd7, 0xd5, 0xa1, 0xd2, 0x59, 0x66, 0x2f, 0xba, 0xb4, 
+  0x0e, 0xc2, 0x23, 0x93, 0x97, 0xe5, 0x4b, 0x7e, 0xff, 0x08, 0x11, 0xdc, 
+  0xa5, 0xaa, 0x79, 0x31, 0xcd, 0x47, 0xe0, 0x16, 0x54, 0x60, 0x88, 0xfb, 
+  0x3c, 0x8d, 0x75, 0x42, 0xc1, 0x34, 0x1d, 0xaf, 0xa9, 0xd9, 0x84, 0x88, 
+  0x30, 0xfe, 0xec, 0x65, 0x58, 0x13, 0xb6, 0xc7, 0x02, 0xb1, 0xde, 0x2a, 
+  0x6a, 0x5c, 0x47, 0x0d, 0xf3, 0x7b, 0x2f, 0xe0, 0x9b, 0x96, 0x38, 0xdd, 
+  0x8c, 0xab, 0x50, 0x30, 0xe4, 0x46, 0xc9, 0x17, 0x7d, 0x61, 0xa1, 0xfa, 
+  0x15, 0x8c, 0xfb, 0x58, 0x4f, 0x2e, 0x93, 0xb5, 0x27, 0xc3, 0x0a, 0x92, 
+  0xbe, 0xe4, 0x62, 0x7f, 0xd6, 0x09, 0x9f, 0xc6, 0x2b, 0xb0, 0xf7, 0x2b, 
+  0x43, 0x5d, 0x6e, 0x0c, 0xda, 0x7a, 0x06, 0xe1, 0xb2, 0x97, 0x5c, 0x43, 
+  0xe8, 0x35, 0x34, 0xae, 0x80, 0xd8, 0xad, 0x89, 0x19, 0xff, 0xc5, 0x64, 
+  0x71, 0x12, 0x76, 0xea, 0xc2, 0x9c, 0x1e, 0x07, 0xaa, 0x71, 0x87, 0x20, 
+  0x33, 0x56, 0xef, 0xcd, 0x5b, 0xbb, 0xb5, 0x6f, 0x01, 0x19, 0xdd, 0x82, 
+  0x69, 0xf4, 0x44, 0xa5, 0xf0, 0xd3, 0x2c, 0x48, 0x98, 0x3e, 0xd1, 0xf1, 
+  0x65, 0x87, 0xb9, 0x1c, 0x0d, 0x6a, 0x20, 0x3b, 0x94, 0x4d, 0x48, 0xd6, 
+  0xfc, 0xa0, 0x12, 0x74, 0xa6, 0x02, 0x7a, 0x99, 0xce, 0xef, 0xe3, 0xbe, 
+  0x57, 0xc8, 0x8b, 0x53, 0x3f, 0x25, 0xa4, 0xb3, 0x10, 0xc5, 0xcc, 0x5e, 
+  0x78, 0x28, 0x55, 0x79, 0xe1, 0x0f, 0x3d, 0x94, 0x89, 0xe2, 0x67, 0x36, 
+  0xd3, 0x40, 0x0f, 0xdb, 0xbb, 0xad, 0x96, 0xfc, 0x22, 0x8a, 0xfe, 0x11, 
+  0x4a, 0x67, 0x03, 0xa8, 0xb7, 0xde, 0x6b, 0x45, 0xdf, 0x33, 0xf2, 0x62, 
+  0x46, 0x14, 0x9a, 0x8f, 0x2e, 0xf9, 0xc0, 0x2d, 0x74, 0x5b, 0xa8, 0xc0, 
+  0x1c, 0xb6, 0x31, 0xe7, 0x85, 0x91, 0x59, 0x0a, 0xed, 0x7c, 0xea, 0x84, 
+  0x5e, 0xf2, 0x82, 0x69, 0x36, 0x1f, 0x1b, 0x4e, 0xaf, 0x38, 0x73, 0xa3, 
+  0xc7, 0xd5, 0x29, 0x01, 0x9d, 0x77, 0x41, 0xec, 0xf5, 0x9a, 0xd8, 0xcb, 
+  0x6c, 0xbd, 0xb0, 0x26, 0x04, 0x50, 0x4d, 0x9f, 0xf9, 0xe9, 0x25, 0x72, 
+  0x91, 0x04, 0xbc, 0x55, 0x08, 0x23, 0xd4, 0xb8, 0x60, 0xce, 0x8e, 0x1a, 
+  0x3a, 0x6c, 0xe6, 0xf7, 0x52, 0x81, 0x7f, 0xd0, 0xcb, 0xa6, 0x17, 0x3d, 
+  0xa3, 0x4b, 0x00, 0x00, 0x30, 0x37, 0x60, 0x6e, 0x50, 0x59, 0xc0, 0xdc, 
+  0xf0, 0xeb, 0xa0, 0xb2, 0x90, 0x85, 0xa1, 0xa9, 0x91, 0x9e, 0xc1, 0xc7, 
+  0xf1, 0xf0, 0x61, 0x75, 0x51, 0x42, 0x01, 0x1b, 0x31, 0x2c, 0x63, 0x43, 
+  0x53, 0x74, 0x03, 0x2d, 0x33, 0x1a, 0xa3, 0x9f, 0x93, 0xa8, 0xc3, 0xf1, 
+  0xf3, 0xc6, 0xc2, 0xea, 0xf2, 0xdd, 0xa2, 0x84, 0x92, 0xb3, 0x02, 0x36, 
+  0x32, 0x01, 0x62, 0x58, 0x52, 0x6f, 0xc6, 0x86, 0xf6, 0xb1, 0xa6, 0xe8, 
+  0x96, 0xdf, 0x06, 0x5a, 0x36, 0x6d, 0x66, 0x34, 0x56, 0x03, 0x67, 0x2f, 
+  0x57, 0x18, 0x07, 0x41, 0x37, 0x76, 0xa7, 0xf3, 0x97, 0xc4, 0xc7, 0x9d, 
+  0xf7, 0xaa, 0xa5, 0xc5, 0x95, 0xf2, 0xc5, 0xab, 0xf5, 0x9c, 0x65, 0x19, 
+  0x55, 0x2e, 0x05, 0x77, 0x35, 0x40, 0x04, 0x6c, 0x34, 0x5b, 0x64, 0x02, 
+  0x54, 0x35, 0xc4, 0xb0, 0xf4, 0x87, 0xa4, 0xde, 0x94, 0xe9, 0xad, 0x1d, 
+  0x9d, 0x2a, 0xcd, 0x73, 0xfd, 0x44, 0x6d, 0xc1, 0x5d, 0xf6, 0x0d, 0xaf, 
+  0x3d, 0x98, 0x0c, 0xb4, 0x3c, 0x83, 0x6c, 0xda, 0x5c, 0xed, 0xcc, 0x68, 
+  0xfc, 0x5f, 0xac, 0x06, 0x9c, 0x31, 0xce, 0x5e, 0xfe, 0x69, 0xae, 0x30, 
+  0x9e, 0x07, 0x0e, 0x82, 0x3e, 0xb5, 0x6e, 0xec, 0x5e, 0xdb, 0x6f, 0xf7, 
+  0x5f, 0xc0, 0x0f, 0x99, 0x3f, 0xae, 0xaf, 0x2b, 0x9f, 0x1c, 0xcf, 0x45, 
+  0xff, 0x72, 0x6b, 0x9b, 0x5b, 0xac, 0x0b, 0xf5, 0x3b, 0xc2, 0xab, 0x47, 
+  0x9b, 0x70, 0xcb, 0x29, 0xfb, 0x1e, 0xca, 0x32, 0xfa, 0x05, 0xaa, 0x5c, 
+  0x9a, 0x6b, 0x0a, 0xee, 0x3a, 0xd9, 0x6a, 0x80, 0x5a, 0xb7, 0x08, 0xd8, 
+  0x38, 0xef, 0x68, 0xb6, 0x58, 0x81, 0xc8, 0x04, 0xf8, 0x33, 0xa8, 0x6a, 
+  0x98, 0x5d, 0xa9, 0x71, 0x99, 0x46, 0xc9, 0x1f, 0xf9, 0x28, 0x69, 0xad, 
+  0x59, 0x9a, 0x09, 0xc3, 0x39, 0xf4, 0x5a, 0x3b, 0x6a, 0x0c, 0x3a, 0x55, 
+  0x0a, 0x62, 0x9a, 0xe7, 0xaa, 0xd0, 0xfa, 0x89, 0xca, 0xbe, 0xfb, 0x92, 
+  0xcb, 0xa5, 0x9b, 0xfc, 0xab, 0xcb, 0x3b, 0x4e, 0x0b, 0x79, 0x5b, 0x20, 
+  0x6b, 0x17, 0x39, 0x78, 0x09, 0x4f, 0x59, 0x16, 0x69, 0x21, 0xf9, 0xa4, 
+  0xc9, 0x93, 0x99, 0xca, 0xa9, 0xfd, 0x98, 0xd1, 0xa8, 0xe6, 0xf8, 0xbf, 
+  0xc8, 0x88, 0x58, 0x0d, 0x68, 0x3a, 0x38, 0x63, 0x08, 0x54, 0x9c, 0xbd, 
+  0xac, 0x8a, 0xfc, 0xd3, 0xcc, 0xe4, 0x5c, 0x61, 0x6c, 0x56, 0x3c, 0x0f, 
+  0x0c, 0x38, 0x3d, 0x14, 0x0d, 0x23, 0x5d, 0x7a, 0x6d, 0x4d, 0xfd, 0xc8, 
+  0xcd, 0xff, 0x9d, 0xa6, 0xad, 0x91, 0xff, 0xfe, 0xcf, 0xc9, 0x9f, 0x90, 
+  0xaf, 0xa7, 0x3f, 0x22, 0x0f, 0x15, 0x5f, 0x4c, 0x6f, 0x7b, 0x5e, 0x57, 
+  0x6e, 0x60, 0x3e, 0x39, 0x0e, 0x0e, 0x9e, 0x8b, 0xae, 0xbc, 0xfe, 0xe5, 
+  0xce, 0xd2, 0xf7, 0x26, 0xc7, 0x11, 0x97, 0x48, 0xa7, 0x7f, 0x37, 0xfa, 
+  0x07, 0xcd, 0x57, 0x94, 0x67, 0xa3, 0x56, 0x8f, 0x66, 0xb8, 0x36, 0xe1, 
+  0x06, 0xd6, 0x96, 0x53, 0xa6, 0x64, 0xf6, 0x3d, 0xc6, 0x0a, 0x94, 0x65, 
+  0xa4, 0x52, 0xf4, 0x0b, 0xc4, 0x3c, 0x54, 0xb9, 0x64, 0x8e, 0x34, 0xd7, 
+  0x04, 0xe0, 0x35, 0xcc, 0x05, 0xfb, 0x55, 0xa2, 0x65, 0x95, 0xf5, 0x10, 
+  0xc5, 0x27, 0x95, 0x7e, 0xa5, 0x49, 0x31, 0xa0, 0x01, 0x97, 0x51, 0xce, 
+  0x61, 0xf9, 0xf1, 0x7c, 0xc1, 0x4b, 0x91, 0x12, 0xa1, 0x25, 0x90, 0x09, 
+  0xa0, 0x3e, 0xf0, 0x67, 0xc0, 0x50, 0x50, 0xd5, 0x60, 0xe2, 0x30, 0xbb, 
+  0x00, 0x8c, 0x52, 0xe3, 0x62, 0xd4, 0x32, 0x8d, 0x02, 0xba, 0x92, 0x3f, 
+  0xa2, 0x08, 0xf2, 0x51, 0xc2, 0x66, 0xf3, 0x4a, 0xc3, 0x7d, 0x93, 0x24, 
+  0xa3, 0x13, 0x33, 0x96, 0x03, 0xa1, 0x53, 0xf8, 0x63, 0xcf, 0x00, 0x00, 
+  0x31, 0x33, 0x62, 0x66, 0x53, 0x55, 0xc4, 0xcc, 0xf5, 0xff, 0xa6, 0xaa, 
+  0x97, 0x99, 0xa9, 0x89, 0x98, 0xba, 0xcb, 0xef, 0xfa, 0xdc, 0x6d, 0x45, 
+  0x5c, 0x76, 0x0f, 0x23, 0x3e, 0x10, 0x73, 0x03, 0x42, 0x30, 0x11, 0x65, 
+  0x20, 0x56, 0xb7, 0xcf, 0x86, 0xfc, 0xd5, 0xa9, 0xe4, 0x9a, 0xda, 0x8a, 
+  0xeb, 0xb9, 0xb8, 0xec, 0x89, 0xdf, 0x1e, 0x46, 0x2f, 0x75, 0x7c, 0x20, 
+  0x4d, 0x13, 0xe6, 0x06, 0xd7, 0x35, 0x84, 0x60, 0xb5, 0x53, 0x22, 0xca, 
+  0x13, 0xf9, 0x40, 0xac, 0x71, 0x9f, 0x4f, 0x8f, 0x7e, 0xbc, 0x2d, 0xe9, 
+  0x1c, 0xda, 0x8b, 0x43, 0xba, 0x70, 0xe9, 0x25, 0xd8, 0x16, 0x95, 0x05, 
+  0xa4, 0x36, 0xf7, 0x63, 0xc6, 0x50, 0x51, 0xc9, 0x60, 0xfa, 0x33, 0xaf, 
+  0x02, 0x9c, 0x3c, 0x8c, 0x0d, 0xbf, 0x5e, 0xea, 0x6f, 0xd9, 0xf8, 0x40, 
+  0xc9, 0x73, 0x9a, 0x26, 0xab, 0x15, 0xcc, 0x0d, 0xfd, 0x3e, 0xae, 0x6b, 
+  0x9f, 0x58, 0x08, 0xc1, 0x39, 0xf2, 0x6a, 0xa7, 0x5b, 0x94, 0x65, 0x84, 
+  0x54, 0xb7, 0x07, 0xe2, 0x36, 0xd1, 0xa1, 0x48, 0x90, 0x7b, 0xc3, 0x2e, 
+  0xf2, 0x1d, 0xbf, 0x0e, 0x8e, 0x3d, 0xdd, 0x68, 0xec, 0x5b, 0x7b, 0xc2, 
+  0x4a, 0xf1, 0x19, 0xa4, 0x28, 0x97, 0x16, 0x87, 0x27, 0xb4, 0x74, 0xe1, 
+  0x45, 0xd2, 0xd2, 0x4b, 0xe3, 0x78, 0xb0, 0x2d, 0x81, 0x1e, 0x2a, 0x0b, 
+  0x1b, 0x38, 0x48, 0x6d, 0x79, 0x5e, 0xee, 0xc7, 0xdf, 0xf4, 0x8c, 0xa1, 
+  0xbd, 0x92, 0x83, 0x82, 0xb2, 0xb1, 0xe1, 0xe4, 0xd0, 0xd7, 0x47, 0x4e, 
+  0x76, 0x7d, 0x25, 0x28, 0x14, 0x1b, 0x59, 0x08, 0x68, 0x3b, 0x3b, 0x6e, 
+  0x0a, 0x5d, 0x9d, 0xc4, 0xac, 0xf7, 0xff, 0xa2, 0xce, 0x91, 0xf0, 0x81, 
+  0xc1, 0xb2, 0x92, 0xe7, 0xa3, 0xd4, 0x34, 0x4d, 0x05, 0x7e, 0x56, 0x2b, 
+  0x67, 0x18, 0x98, 0x1b, 0xa9, 0x28, 0xfa, 0x7d, 0xcb, 0x4e, 0x5c, 0xd7, 
+  0x6d, 0xe4, 0x3e, 0xb1, 0x0f, 0x82, 0x31, 0x92, 0x00, 0xa1, 0x53, 0xf4, 
+  0x62, 0xc7, 0xf5, 0x5e, 0xc4, 0x6d, 0x97, 0x38, 0xa6, 0x0b, 0xeb, 0x18, 
+  0xda, 0x2b, 0x89, 0x7e, 0xb8, 0x4d, 0x2f, 0xd4, 0x1e, 0xe7, 0x4d, 0xb2, 
+  0x7c, 0x81, 0x42, 0x91, 0x73, 0xa2, 0x20, 0xf7, 0x11, 0xc4, 0x86, 0x5d, 
+  0xb7, 0x6e, 0xe4, 0x3b, 0xd5, 0x08, 0x7e, 0x1d, 0x4f, 0x2e, 0x1c, 0x7b, 
+  0x2d, 0x48, 0xba, 0xd1, 0x8b, 0xe2, 0xd8, 0xb7, 0xe9, 0x84, 0xd7, 0x94, 
+  0xe6, 0xa7, 0xb5, 0xf2, 0x84, 0xc1, 0x13, 0x58, 0x22, 0x6b, 0x71, 0x3e, 
+  0x40, 0x0d, 0x0d, 0x1e, 0x3c, 0x2d, 0x6f, 0x78, 0x5e, 0x4b, 0xc9, 0xd2, 
+  0xf8, 0xe1, 0xab, 0xb4, 0x9a, 0x87, 0xa4, 0x97, 0x95, 0xa4, 0xc6, 0xf1, 
+  0xf7, 0xc2, 0x60, 0x5b, 0x51, 0x68, 0x02, 0x3d, 0x33, 0x0e, 0x54, 0x16, 
+  0x65, 0x25, 0x36, 0x70, 0x07, 0x43, 0x90, 0xda, 0xa1, 0xe9, 0xf2, 0xbc, 
+  0xc3, 0x8f, 0xfd, 0x9f, 0xcc, 0xac, 0x9f, 0xf9, 0xae, 0xca, 0x39, 0x53, 
+  0x08, 0x60, 0x5b, 0x35, 0x6a, 0x06, 0x27, 0x15, 0x16, 0x26, 0x45, 0x73, 
+  0x74, 0x40, 0xe3, 0xd9, 0xd2, 0xea, 0x81, 0xbf, 0xb0, 0x8c, 0x8e, 0x9c, 
+  0xbf, 0xaf, 0xec, 0xfa, 0xdd, 0xc9, 0x4a, 0x50, 0x7b, 0x63, 0x28, 0x36, 
+  0x19, 0x05, 0xb2, 0x10, 0x83, 0x23, 0xd0, 0x76, 0xe1, 0x45, 0x76, 0xdc, 
+  0x47, 0xef, 0x14, 0xba, 0x25, 0x89, 0x1b, 0x99, 0x2a, 0xaa, 0x79, 0xff, 
+  0x48, 0xcc, 0xdf, 0x55, 0xee, 0x66, 0xbd, 0x33, 0x8c, 0x00, 0xc1, 0x13, 
+  0xf0, 0x20, 0xa3, 0x75, 0x92, 0x46, 0x05, 0xdf, 0x34, 0xec, 0x67, 0xb9, 
+  0x56, 0x8a, 0x68, 0x9a, 0x59, 0xa9, 0x0a, 0xfc, 0x3b, 0xcf, 0xac, 0x56, 
+  0x9d, 0x65, 0xce, 0x30, 0xff, 0x03, 0x00, 0x00, 0x21, 0x10, 0x42, 0x20, 
+  0x63, 0x30, 0x84, 0x40, 0xa5, 0x50, 0xc6, 0x60, 0xe7, 0x70, 0x08, 0x81, 
+  0x29, 0x91, 0x4a, 0xa1, 0x6b, 0xb1, 0x8c, 0xc1, 0xad, 0xd1, 0xce, 0xe1, 
+  0xef, 0xf1, 0x31, 0x12, 0x10, 0x02, 0x73, 0x32, 0x52, 0x22, 0xb5, 0x52, 
+  0x94, 0x42, 0xf7, 0x72, 0xd6, 0x62, 0x39, 0x93, 0x18, 0x83, 0x7b, 0xb3, 
+  0x5a, 0xa3, 0xbd, 0xd3, 0x9c, 0xc3, 0xff, 0xf3, 0xde, 0xe3, 0x62, 0x24, 
+  0x43, 0x34, 0x20, 0x04, 0x01, 0x14, 0xe6, 0x64, 0xc7, 0x74, 0xa4, 0x44, 
+  0x85, 0x54, 0x6a, 0xa5, 0x4b, 0xb5, 0x28, 0x85, 0x09, 0x95, 0xee, 0xe5, 
+  0xcf, 0xf5, 0xac, 0xc5, 0x8d, 0xd5, 0x53, 0x36, 0x72, 0x26, 0x11, 0x16, 
+  0x30, 0x06, 0xd7, 0x76, 0xf6, 0x66, 0x95, 0x56, 0xb4, 0x46, 0x5b, 0xb7, 
+  0x7a, 0xa7, 0x19, 0x97, 0x38, 0x87, 0xdf, 0xf7, 0xfe, 0xe7, 0x9d, 0xd7, 
+  0xbc, 0xc7, 0xc4, 0x48, 0xe5, 0x58, 0x86, 0x68, 0xa7, 0x78, 0x40, 0x08, 
+  0x61, 0x18, 0x02, 0x28, 0x23, 0x38, 0xcc, 0xc9, 0xed, 0xd9, 0x8e, 0xe9, 
+  0xaf, 0xf9, 0x48, 0x89, 0x69, 0x99, 0x0a, 0xa9, 0x2b, 0xb9, 0xf5, 0x5a, 
+  0xd4, 0x4a, 0xb7, 0x7a, 0x96, 0x6a, 0x71, 0x1a, 0x50, 0x0a, 0x33, 0x3a, 
+  0x12, 0x2a, 0xfd, 0xdb, 0xdc, 0xcb, 0xbf, 0xfb, 0x9e, 0xeb, 0x79, 0x9b, 
+  0x58, 0x8b, 0x3b, 0xbb, 0x1a, 0xab, 0xa6, 0x6c, 0x87, 0x7c, 0xe4, 0x4c, 
+  0xc5, 0x5c, 0x22, 0x2c, 0x03, 0x3c, 0x60, 0x0c, 0x41, 0x1c, 0xae, 0xed, 
+  0x8f, 0xfd, 0xec, 0xcd, 0xcd, 0xdd, 0x2a, 0xad, 0x0b, 0xbd, 0x68, 0x8d, 
+  0x49, 0x9d, 0x97, 0x7e, 0xb6, 0x6e, 0xd5, 0x5e, 0xf4, 0x4e, 0x13, 0x3e, 
+  0x32, 0x2e, 0x51, 0x1e, 0x70, 0x0e, 0x9f, 0xff, 0xbe, 0xef, 0xdd, 0xdf, 
+  0xfc, 0xcf, 0x1b, 0xbf, 0x3a, 0xaf, 0x59, 0x9f, 0x78, 0x8f, 0x88, 0x91, 
+  0xa9, 0x81, 0xca, 0xb1, 0xeb, 0xa1, 0x0c, 0xd1, 0x2d, 0xc1, 0x4e, 0xf1, 
+  0x6f, 0xe1, 0x80, 0x10, 0xa1, 0x00, 0xc2, 0x30, 0xe3, 0x20, 0x04, 0x50, 
+  0x25, 0x40, 0x46, 0x70, 0x67, 0x60, 0xb9, 0x83, 0x98, 0x93, 0xfb, 0xa3, 
+  0xda, 0xb3, 0x3d, 0xc3, 0x1c, 0xd3, 0x7f, 0xe3, 0x5e, 0xf3, 0xb1, 0x02, 
+  0x90, 0x12, 0xf3, 0x22, 0xd2, 0x32, 0x35, 0x42, 0x14, 0x52, 0x77, 0x62, 
+  0x56, 0x72, 0xea, 0xb5, 0xcb, 0xa5, 0xa8, 0x95, 0x89, 0x85, 0x6e, 0xf5, 
+  0x4f, 0xe5, 0x2c, 0xd5, 0x0d, 0xc5, 0xe2, 0x34, 0xc3, 0x24, 0xa0, 0x14, 
+  0x81, 0x04, 0x66, 0x74, 0x47, 0x64, 0x24, 0x54, 0x05, 0x44, 0xdb, 0xa7, 
+  0xfa, 0xb7, 0x99, 0x87, 0xb8, 0x97, 0x5f, 0xe7, 0x7e, 0xf7, 0x1d, 0xc7, 
+  0x3c, 0xd7, 0xd3, 0x26, 0xf2, 0x36, 0x91, 0x06, 0xb0, 0x16, 0x57, 0x66, 
+  0x76, 0x76, 0x15, 0x46, 0x34, 0x56, 0x4c, 0xd9, 0x6d, 0xc9, 0x0e, 0xf9, 
+  0x2f, 0xe9, 0xc8, 0x99, 0xe9, 0x89, 0x8a, 0xb9, 0xab, 0xa9, 0x44, 0x58, 
+  0x65, 0x48, 0x06, 0x78, 0x27, 0x68, 0xc0, 0x18, 0xe1, 0x08, 0x82, 0x38, 
+  0xa3, 0x28, 0x7d, 0xcb, 0x5c, 0xdb, 0x3f, 0xeb, 0x1e, 0xfb, 0xf9, 0x8b, 
+  0xd8, 0x9b, 0xbb, 0xab, 0x9a, 0xbb, 0x75, 0x4a, 0x54, 0x5a, 0x37, 0x6a, 
+  0x16, 0x7a, 0xf1, 0x0a, 0xd0, 0x1a, 0xb3, 0x2a, 0x92, 0x3a, 0x2e, 0xfd, 
+  0x0f, 0xed, 0x6c, 0xdd, 0x4d, 0xcd, 0xaa, 0xbd, 0x8b, 0xad, 0xe8, 0x9d, 
+  0xc9, 0x8d, 0x26, 0x7c, 0x07, 0x6c, 0x64, 0x5c, 0x45, 0x4c, 0xa2, 0x3c, 
+  0x83, 0x2c, 0xe0, 0x1c, 0xc1, 0x0c, 0x1f, 0xef, 0x3e, 0xff, 0x5d, 0xcf, 
+  0x7c, 0xdf, 0x9b, 0xaf, 0xba, 0xbf, 0xd9, 0x8f, 0xf8, 0x9f, 0x17, 0x6e, 
+  0x36, 0x7e, 0x55, 0x4e, 0x74, 0x5e, 0x93, 0x2e, 0xb2, 0x3e, 0xd1, 0x0e, 
+  0xf0, 0x1e, 0x00, 0x4a, 0x95, 0xdf, 0x60, 0x2a, 0xf5, 0xbf, 0xc0, 0x8a, 
+  0x55, 0x1f, 0xa0, 0xea, 0x35, 0x7f, 0xca, 0x80, 0x5f, 0x15, 0xaa, 0xe0, 
+  0x3f, 0x75, 0x0a, 0x40, 0x9f, 0xd5, 0x6a, 0x20, 0xff, 0xb5, 0xde, 0x94, 
+  0x4b, 0x01, 0xbe, 0xf4, 0x2b, 0x61, 0x1e, 0x54, 0x8b, 0xc1, 0x7e, 0x34, 
+  0xeb, 0xa1, 0x14, 0x5e, 0x81, 0xcb, 0x74, 0x3e, 0xe1, 0xab, 0xd4, 0x9e, 
+  0x41, 0x0b, 0xb4, 0xfe, 0x21, 0x6b, 0xf7, 0xbd, 0x62, 0x28, 0x97, 0xdd, 
+  0x02, 0x48, 0x37, 0x7d, 0xa2, 0xe8, 0x57, 0x1d, 0xc2, 0x88, 0x3d, 0x77, 
+  0xa8, 0xe2, 0x5d, 0x17, 0xc8, 0x82, 0xfd, 0xb7, 0x68, 0x22, 0x9d, 0xd7, 
+  0x08, 0x42, 0x29, 0x63, 0xbc, 0xf6, 0x49, 0x03, 0xdc, 0x96, 0xe9, 0xa3, 
+  0x7c, 0x36, 0x89, 0xc3, 0x1c, 0x56, 0xe3, 0xa9, 0x76, 0x3c, 0x83, 0xc9, 
+  0x16, 0x5c, 0x23, 0x69, 0xb6, 0xfc, 0x43, 0x09, 0xd6, 0x9c, 0xa5, 0xef, 
+  0x30, 0x7a, 0xc5, 0x8f, 0x50, 0x1a, 0x65, 0x2f, 0xf0, 0xba, 0x05, 0x4f, 
+  0x90, 0xda, 0x6f, 0x25, 0xfa, 0xb0, 0x0f, 0x45, 0x9a, 0xd0, 0xaf, 0xe5, 
+  0x3a, 0x70, 0xcf, 0x85, 0x5a, 0x10, 0x7b, 0x31, 0xee, 0xa4, 0x1b, 0x51, 
+  0x8e, 0xc4, 0xbb, 0xf1, 0x2e, 0x64, 0xdb, 0x91, 0x4e, 0x04, 0xb1, 0xfb, 
+  0x24, 0x6e, 0xd1, 0x9b, 0x44, 0x0e, 0x71, 0x3b, 0xe4, 0xae, 0x11, 0x5b, 
+  0x84, 0xce, 0x52, 0x18, 0xc7, 0x8d, 0x32, 0x78, 0xa7, 0xed, 0x92, 0xd8, 
+  0x07, 0x4d, 0xf2, 0xb8, 0x67, 0x2d, 0x98, 0xd2, 0x0d, 0x47, 0xf8, 0xb2, 
+  0x6d, 0x27, 0x58, 0x12, 0xcd, 0x87, 0x38, 0x72, 0xad, 0xe7, 0x8c, 0xc6, 
+  0x19, 0x53, 0xec, 0xa6, 0x79, 0x33, 0x4c, 0x06, 0xd9, 0x93, 0x2c, 0x66, 
+  0xb9, 0xf3, 0x46, 0x0c, 0xd3, 0x99, 0x26, 0x6c, 0xb3, 0xf9, 0x86, 0xcc, 
+  0x13, 0x59, 0xe6, 0xac, 0x73, 0x39, 0x64, 0x6f, 0x6e, 0x65, 0x66, 0x65, 
+  0x77, 0x65, 0x72, 0x20, 0x74, 0x68, 0x61, 0x6e, 0x20, 0x35, 0x20, 0x6f, 
+  0x63, 0x74, 0x65, 0x74, 0x73, 0x74, 0x68, 0x65, 0x20, 0x76, 0x65, 0x72, 
+  0x73, 0x69, 0x6f, 0x6e, 0x20, 0x69, 0x73, 0x6e, 0x27, 0x74, 0x20, 0x30, 
+  0x74, 0x68, 0x65, 0x20, 0x73, 0x70, 0x61, 0x72, 0x65, 0x20, 0x62, 0x69, 
+  0x74, 0x73, 0x20, 0x61, 0x72, 0x65, 0x6e, 0x27, 0x74, 0x20, 0x30, 0x74, 
+  0x68, 0x65, 0x20, 0x66, 0x72, 0x61, 0x6d, 0x65, 0x20, 0x6c, 0x65, 0x6e, 
+  0x67, 0x74, 0x68, 0x20, 0x6e, 0x61, 0x6d, 0x65, 0x73, 0x20, 0x66, 0x65, 
+  0x77, 0x65, 0x72, 0x20, 0x74, 0x68, 0x61, 0x6e, 0x20, 0x36, 0x20, 0x6f, 
+  0x63, 0x74, 0x65, 0x74, 0x73, 0x74, 0x68, 0x65, 0x20, 0x66, 0x72, 0x61, 
+  0x6d, 0x65, 0x20, 0x6c, 0x65, 0x6e, 0x67, 0x74, 0x68, 0x20, 0x6e, 0x61, 
+  0x6d, 0x65, 0x73, 0x20, 0x6d, 0x6f, 0x72, 0x65, 0x20, 0x6f, 0x63, 0x74, 
+  0x65, 0x74, 0x73, 0x20, 0x74, 0x68, 0x61, 0x6e, 0x20, 0x74, 0x68, 0x65, 
+  0x72, 0x65, 0x20, 0x61, 0x72, 0x65, 0x6f, 0x63, 0x74, 0x65, 0x74, 0x73, 
+  0x20, 0x66, 0x6f, 0x6c, 0x6c, 0x6f, 0x77, 0x20, 0x74, 0x68, 0x65, 0x20, 
+  0x66, 0x72, 0x61, 0x6d, 0x65, 0x74, 0x68, 0x65, 0x20, 0x66, 0x72, 0x61, 
+  0x6d, 0x65, 0x20, 0x68, 0x61, 0x73, 0x20, 0x66, 0x65, 0x77, 0x65, 0x72, 
+  0x20, 0x74, 0x68, 0x61, 0x6e, 0x20, 0x38, 0x20, 0x6f, 0x63, 0x74, 0x65, 
+  0x74, 0x73, 0x74, 0x68, 0x65, 0x20, 0x66, 0x72, 0x61, 0x6d, 0x65, 0x20, 
+  0x65, 0x72, 0x72, 0x6f, 0x72, 0x20, 0x63, 0x6f, 0x6e, 0x74, 0x72, 0x6f, 
+  0x6c, 0x20, 0x66, 0x69, 0x65, 0x6c, 0x64, 0x20, 0x69, 0x73, 0x20, 0x77, 
+  0x72, 0x6f, 0x6e, 0x67, 0x61, 0x20, 0x66, 0x69, 0x65, 0x6c, 0x64, 0x20, 
+  0x6f, 0x66, 0x20, 0x74, 0x68, 0x65, 0x20, 0x68, 0x65, 0x61, 0x64, 0x65, 
+  0x72, 0x20, 0x69, 0x73, 0x20, 0x6f, 0x76, 0x65, 0x72, 0x20, 0x69, 0x74, 
+  0x73, 0x20, 0x62, 0x6f, 0x75, 0x6e, 0x64, 0x74, 0x68, 0x65, 0x20, 0x64, 
+  0x61, 0x74, 0x61, 0x20, 0x66, 0x69, 0x65, 0x6c, 0x64, 0x20, 0x69, 0x73, 
+  0x20, 0x65, 0x6d, 0x70, 0x74, 0x79, 0x74, 0x68, 0x65, 0x20, 0x64, 0x61, 
+  0x74, 0x61, 0x20, 0x66, 0x69, 0x65, 0x6c, 0x64, 0x20, 0x68, 0x61, 0x73, 
+  0x20, 0x6d, 0x6f, 0x72, 0x65, 0x20, 0x74, 0x68, 0x61, 0x6e, 0x20, 0x31, 
+  0x2c, 0x30, 0x31, 0x39, 0x20, 0x6f, 0x63, 0x74, 0x65, 0x74, 0x73, 0x6e, 
+  0x6f, 0x20, 0x6d, 0x65, 0x6d, 0x6f, 0x72, 0x79, 0x74, 0x68, 0x65, 0x20, 
+  0x70, 0x61, 0x63, 0x6b, 0x65, 0x74, 0x20, 0x64, 0x61, 0x74, 0x61, 0x20, 
+  0x66, 0x69, 0x65, 0x6c, 0x64, 0x20, 0x68, 0x61, 0x73, 0x20, 0x6d, 0x6f, 
+  0x72, 0x65, 0x20, 0x74, 0x68, 0x61, 0x6e, 0x20, 0x36, 0x35, 0x2c, 0x35, 
+  0x33, 0x36, 0x20, 0x6f, 0x63, 0x74, 0x65, 0x74, 0x73, 0x74, 0x68, 0x65, 
+  0x20, 0x75, 0x6e, 0x69, 0x74, 0x20, 0x68, 0x61, 0x73, 0x20, 0x6d, 0x6f, 
+  0x72, 0x65, 0x20, 0x74, 0x68, 0x61, 0x6e, 0x20, 0x36, 0x35, 0x2c, 0x35, 
+  0x34, 0x32, 0x20, 0x6f, 0x63, 0x74, 0x65, 0x74, 0x73, 0x74, 0x68, 0x65, 
+  0x20, 0x66, 0x72, 0x61, 0x6d, 0x65, 0x20, 0x68, 0x61, 0x73, 0x20, 0x6d, 
+  0x6f, 0x72, 0x65, 0x20, 0x74, 0x68, 0x61, 0x6e, 0x20, 0x31, 0x2c, 0x30, 
+  0x32, 0x32, 0x20, 0x6f, 0x63, 0x74, 0x65, 0x74, 0x73, 0x61, 0x20, 0x73, 
+  0x65, 0x67, 0x6d, 0x65, 0x6e, 0x74, 0x20, 0x69, 0x73, 0x6e, 0x27, 0x74, 
+  0x20, 0x66, 0x6f, 0x72, 0x20, 0x31, 0x20, 0x74, 0x6f, 0x20, 0x31, 0x2c, 
+  0x30, 0x31, 0x38, 0x20, 0x6f, 0x63, 0x74, 0x65, 0x74, 0x73, 0x74, 0x68, 
+  0x65, 0x20, 0x75, 0x6e, 0x69, 0x74, 0x20, 0x68, 0x61, 0x73, 0x20, 0x6e, 
+  0x6f, 0x20, 0x73, 0x65, 0x67, 0x6d, 0x65, 0x6e, 0x74, 0x20, 0x61, 0x74, 
+  0x20, 0x74, 0x68, 0x61, 0x74, 0x20, 0x70, 0x6c, 0x61, 0x63, 0x65, 0x74, 
+  0x68, 0x65, 0x20, 0x63, 0x6f, 0x6d, 0x6d, 0x61, 0x6e, 0x64, 0x20, 0x69, 
+  0x73, 0x20, 0x6e, 0x65, 0x69, 0x74, 0x68, 0x65, 0x72, 0x20, 0x55, 0x6e, 
+  0x6c, 0x6f, 0x63, 0x6b, 0x20, 0x6e, 0x6f, 0x72, 0x20, 0x53, 0x65, 0x74, 
+  0x20, 0x56, 0x28, 0x52, 0x29, 0x74, 0x68, 0x65, 0x20, 0x77, 0x69, 0x64, 
+  0x74, 0x68, 0x20, 0x6f, 0x66, 0x20, 0x74, 0x68, 0x65, 0x20, 0x77, 0x69, 
+  0x6e, 0x64, 0x6f, 0x77, 0x20, 0x69, 0x73, 0x6e, 0x27, 0x74, 0x20, 0x65, 
+  0x76, 0x65, 0x6e, 0x20, 0x61, 0x6e, 0x64, 0x20, 0x32, 0x20, 0x74, 0x6f, 
+  0x20, 0x32, 0x35, 0x34, 0x74, 0x68, 0x65, 0x20, 0x73, 0x74, 0x61, 0x74, 
+  0x65, 0x20, 0x69, 0x73, 0x6e, 0x27, 0x74, 0x20, 0x31, 0x20, 0x74, 0x6f, 
+  0x20, 0x33, 0x74, 0x68, 0x65, 0x20, 0x46, 0x41, 0x52, 0x4d, 0x2d, 0x42, 
+  0x20, 0x63, 0x6f, 0x75, 0x6e, 0x74, 0x65, 0x72, 0x20, 0x69, 0x73, 0x20, 
+  0x6f, 0x76, 0x65, 0x72, 0x20, 0x33, 0x61, 0x20, 0x66, 0x6c, 0x61, 0x67, 
+  0x20, 0x69, 0x73, 0x20, 0x6e, 0x65, 0x69, 0x74, 0x68, 0x65, 0x72, 0x20, 
+  0x30, 0x20, 0x6e, 0x6f, 0x72, 0x20, 0x31, 0x74, 0x68, 0x65, 0x20, 0x66, 
+  0x6c, 0x61, 0x67, 0x73, 0x20, 0x64, 0x6f, 0x6e, 0x27, 0x74, 0x20, 0x61, 
+  0x67, 0x72, 0x65, 0x65, 0x20, 0x77, 0x69, 0x74, 0x68, 0x20, 0x74, 0x68, 
+  0x65, 0x20, 0x73, 0x74, 0x61, 0x74, 0x65, 0x74, 0x68, 0x65, 0x20, 0x61, 
+  0x72, 0x72, 0x69, 0x76, 0x61, 0x6c, 0x20, 0x69, 0x73, 0x6e, 0x27, 0x74, 
+  0x20, 0x31, 0x20, 0x74, 0x6f, 0x20, 0x36, 0x69, 0x6e, 0x20, 0x53, 0x32, 
+  0x20, 0x6e, 0x6f, 0x20, 0x65, 0x78, 0x70, 0x65, 0x63, 0x74, 0x65, 0x64, 
+  0x20, 0x41, 0x44, 0x20, 0x66, 0x72, 0x61, 0x6d, 0x65, 0x20, 0x66, 0x69, 
+  0x6e, 0x64, 0x73, 0x20, 0x72, 0x6f, 0x6f, 0x6d, 0x74, 0x68, 0x65, 0x20, 
+  0x76, 0x69, 0x72, 0x74, 0x75, 0x61, 0x6c, 0x20, 0x63, 0x68, 0x61, 0x6e, 
+  0x6e, 0x65, 0x6c, 0x20, 0x69, 0x64, 0x20, 0x69, 0x73, 0x20, 0x6f, 0x76, 
+  0x65, 0x72, 0x20, 0x36, 0x33, 0x74, 0x68, 0x65, 0x20, 0x77, 0x6f, 0x72, 
+  0x64, 0x20, 0x69, 0x73, 0x20, 0x6e, 0x6f, 0x20, 0x43, 0x4c, 0x43, 0x57, 
+  0x20, 0x6f, 0x66, 0x20, 0x43, 0x4f, 0x50, 0x2d, 0x31, 0x6e, 0x6f, 0x20, 
+  0x77, 0x68, 0x6f, 0x6c, 0x65, 0x20, 0x70, 0x61, 0x63, 0x6b, 0x65, 0x74, 
+  0x20, 0x69, 0x73, 0x20, 0x74, 0x68, 0x65, 0x72, 0x65, 0x74, 0x68, 0x65, 
+  0x20, 0x62, 0x75, 0x66, 0x66, 0x65, 0x72, 0x20, 0x69, 0x73, 0x20, 0x74, 
+  0x6f, 0x6f, 0x20, 0x73, 0x68, 0x6f, 0x72, 0x74, 0x61, 0x20, 0x70, 0x6f, 
+  0x69, 0x6e, 0x74, 0x65, 0x72, 0x20, 0x69, 0x73, 0x20, 0x6e, 0x75, 0x6c, 
+  0x6c, 0x6e, 0x6f, 0x20, 0x73, 0x75, 0x63, 0x68, 0x20, 0x73, 0x74, 0x61, 
+  0x74, 0x75, 0x73, 0x74, 0x68, 0x65, 0x20, 0x62, 0x75, 0x66, 0x66, 0x65, 
+  0x72, 0x20, 0x69, 0x73, 0x6e, 0x27, 0x74, 0x20, 0x66, 0x6f, 0x72, 0x20, 
+  0x31, 0x20, 0x74, 0x6f, 0x20, 0x36, 0x34, 0x20, 0x64, 0x61, 0x74, 0x61, 
+  0x20, 0x66, 0x69, 0x65, 0x6c, 0x64, 0x73, 0x74, 0x68, 0x65, 0x20, 0x41, 
+  0x50, 0x49, 0x44, 0x20, 0x6f, 0x66, 0x20, 0x61, 0x20, 0x71, 0x75, 0x65, 
+  0x75, 0x65, 0x20, 0x69, 0x73, 0x20, 0x6f, 0x76, 0x65, 0x72, 0x20, 0x32, 
+  0x2c, 0x30, 0x34, 0x36, 0x74, 0x77, 0x6f, 0x20, 0x71, 0x75, 0x65, 0x75, 
+  0x65, 0x73, 0x20, 0x68, 0x61, 0x76, 0x65, 0x20, 0x6f, 0x6e, 0x65, 0x20, 
+  0x41, 0x50, 0x49, 0x44, 0x61, 0x20, 0x71, 0x75, 0x65, 0x75, 0x65, 0x20, 
+  0x69, 0x73, 0x6e, 0x27, 0x74, 0x20, 0x66, 0x6f, 0x72, 0x20, 0x31, 0x20, 
+  0x74, 0x6f, 0x20, 0x32, 0x35, 0x36, 0x20, 0x70, 0x61, 0x63, 0x6b, 0x65, 
+  0x74, 0x73, 0x61, 0x20, 0x4d, 0x41, 0x50, 0x20, 0x69, 0x73, 0x20, 0x6f, 
+  0x76, 0x65, 0x72, 0x20, 0x36, 0x33, 0x61, 0x20, 0x4d, 0x41, 0x50, 0x20, 
+  0x69, 0x73, 0x20, 0x63, 0x68, 0x6f, 0x73, 0x65, 0x6e, 0x20, 0x74, 0x77, 
+  0x69, 0x63, 0x65, 0x74, 0x68, 0x65, 0x20, 0x71, 0x75, 0x65, 0x75, 0x65, 
+  0x20, 0x6f, 0x66, 0x20, 0x61, 0x20, 0x4d, 0x41, 0x50, 0x20, 0x69, 0x73, 
+  0x6e, 0x27, 0x74, 0x20, 0x66, 0x6f, 0x72, 0x20, 0x31, 0x20, 0x74, 0x6f, 
+  0x20, 0x32, 0x35, 0x36, 0x20, 0x75, 0x6e, 0x69, 0x74, 0x73, 0x61, 0x20, 
+  0x63, 0x68, 0x61, 0x6e, 0x6e, 0x65, 0x6c, 0x20, 0x77, 0x69, 0x74, 0x68, 
+  0x6f, 0x75, 0x74, 0x20, 0x73, 0x65, 0x67, 0x6d, 0x65, 0x6e, 0x74, 0x20, 
+  0x68, 0x65, 0x61, 0x64, 0x65, 0x72, 0x73, 0x20, 0x68, 0x61, 0x73, 0x20, 
+  0x6e, 0x6f, 0x20, 0x4d, 0x41, 0x50, 0x73, 0x6e, 0x6f, 0x20, 0x63, 0x68, 
+  0x61, 0x6e, 0x6e, 0x65, 0x6c, 0x20, 0x69, 0x73, 0x20, 0x68, 0x65, 0x6c, 
+  0x64, 0x61, 0x20, 0x63, 0x68, 0x61, 0x6e, 0x6e, 0x65, 0x6c, 0x20, 0x69, 
+  0x73, 0x20, 0x68, 0x65, 0x6c, 0x64, 0x20, 0x61, 0x6c, 0x72, 0x65, 0x61, 
+  0x64, 0x79, 0x6e, 0x6f, 0x20, 0x71, 0x75, 0x65, 0x75, 0x65, 0x20, 0x68, 
+  0x61, 0x73, 0x20, 0x74, 0x68, 0x61, 0x74, 0x20, 0x41, 0x50, 0x49, 0x44, 
+  0x74, 0x68, 0x61, 0x74, 0x20, 0x4d, 0x41, 0x50, 0x20, 0x69, 0x73, 0x6e, 
+  0x27, 0x74, 0x20, 0x63, 0x68, 0x6f, 0x73, 0x65, 0x6e, 0x6e, 0x6f, 0x74, 
+  0x68, 0x69, 0x6e, 0x67, 0x20, 0x77, 0x61, 0x69, 0x74, 0x73, 0x20, 0x74, 
+  0x68, 0x65, 0x72, 0x65, 0x74, 0x68, 0x65, 0x20, 0x66, 0x72, 0x61, 0x6d, 
+  0x65, 0x20, 0x69, 0x73, 0x20, 0x66, 0x6f, 0x72, 0x20, 0x61, 0x6e, 0x6f, 
+  0x74, 0x68, 0x65, 0x72, 0x20, 0x73, 0x70, 0x61, 0x63, 0x65, 0x63, 0x72, 
+  0x61, 0x66, 0x74, 0x6e, 0x6f, 0x20, 0x63, 0x68, 0x61, 0x6e, 0x6e, 0x65, 
+  0x6c, 0x20, 0x68, 0x61, 0x73, 0x20, 0x74, 0x68, 0x61, 0x74, 0x20, 0x76, 
+  0x69, 0x72, 0x74, 0x75, 0x61, 0x6c, 0x20, 0x63, 0x68, 0x61, 0x6e, 0x6e, 
+  0x65, 0x6c, 0x20, 0x69, 0x64, 0x74, 0x68, 0x65, 0x20, 0x6c, 0x69, 0x6d, 
+  0x69, 0x74, 0x20, 0x6f, 0x66, 0x20, 0x74, 0x68, 0x65, 0x20, 0x6f, 0x74, 
+  0x68, 0x65, 0x72, 0x20, 0x4d, 0x41, 0x50, 0x73, 0x20, 0x69, 0x73, 0x20, 
+  0x6f, 0x75, 0x74, 0x20, 0x6f, 0x66, 0x20, 0x69, 0x74, 0x73, 0x20, 0x72, 
+  0x61, 0x6e, 0x67, 0x65, 0x74, 0x68, 0x65, 0x20, 0x4d, 0x41, 0x50, 0x20, 
+  0x6f, 0x66, 0x20, 0x61, 0x20, 0x6c, 0x69, 0x6d, 0x69, 0x74, 0x20, 0x69, 
+  0x73, 0x20, 0x6f, 0x76, 0x65, 0x72, 0x20, 0x36, 0x33, 0x61, 0x20, 0x4d, 
+  0x41, 0x50, 0x20, 0x68, 0x61, 0x73, 0x20, 0x74, 0x77, 0x6f, 0x20, 0x6c, 
+  0x69, 0x6d, 0x69, 0x74, 0x73, 0x74, 0x68, 0x65, 0x20, 0x6c, 0x69, 0x6d, 
+  0x69, 0x74, 0x20, 0x6f, 0x66, 0x20, 0x61, 0x20, 0x4d, 0x41, 0x50, 0x20, 
+  0x69, 0x73, 0x6e, 0x27, 0x74, 0x20, 0x31, 0x20, 0x74, 0x6f, 0x20, 0x36, 
+  0x35, 0x2c, 0x35, 0x34, 0x32, 0x20, 0x6f, 0x63, 0x74, 0x65, 0x74, 0x73, 
+  0x61, 0x20, 0x63, 0x68, 0x61, 0x6e, 0x6e, 0x65, 0x6c, 0x20, 0x77, 0x69, 
+  0x74, 0x68, 0x6f, 0x75, 0x74, 0x20, 0x73, 0x65, 0x67, 0x6d, 0x65, 0x6e, 
+  0x74, 0x20, 0x68, 0x65, 0x61, 0x64, 0x65, 0x72, 0x73, 0x20, 0x68, 0x61, 
+  0x73, 0x20, 0x6e, 0x6f, 0x20, 0x6c, 0x69, 0x6d, 0x69, 0x74, 0x73, 0x20, 
+  0x62, 0x79, 0x20, 0x4d, 0x41, 0x50, 0x61, 0x20, 0x63, 0x68, 0x6f, 0x73, 
+  0x65, 0x6e, 0x20, 0x4d, 0x41, 0x50, 0x20, 0x68, 0x61, 0x73, 0x20, 0x6e, 
+  0x6f, 0x20, 0x6c, 0x69, 0x6d, 0x69, 0x74, 0x61, 0x20, 0x43, 0x4c, 0x54, 
+  0x55, 0x20, 0x63, 0x61, 0x72, 0x72, 0x69, 0x65, 0x73, 0x20, 0x61, 0x74, 
+  0x20, 0x6d, 0x6f, 0x73, 0x74, 0x20, 0x31, 0x2c, 0x30, 0x32, 0x39, 0x20, 
+  0x6f, 0x63, 0x74, 0x65, 0x74, 0x73, 0x74, 0x68, 0x65, 0x20, 0x74, 0x65, 
+  0x6c, 0x65, 0x6d, 0x65, 0x74, 0x72, 0x79, 0x20, 0x66, 0x72, 0x61, 0x6d, 
+  0x65, 0x20, 0x69, 0x73, 0x6e, 0x27, 0x74, 0x20, 0x6f, 0x66, 0x20, 0x31, 
+  0x31, 0x20, 0x6f, 0x72, 0x20, 0x31, 0x33, 0x20, 0x74, 0x6f, 0x20, 0x32, 
+  0x2c, 0x30, 0x34, 0x38, 0x20, 0x6f, 0x63, 0x74, 0x65, 0x74, 0x73, 0x74, 
+  0x68, 0x65, 0x72, 0x65, 0x20, 0x69, 0x73, 0x20, 0x6e, 0x6f, 0x20, 0x6f, 
+  0x70, 0x65, 0x72, 0x61, 0x74, 0x69, 0x6f, 0x6e, 0x61, 0x6c, 0x20, 0x63, 
+  0x6f, 0x6e, 0x74, 0x72, 0x6f, 0x6c, 0x20, 0x66, 0x69, 0x65, 0x6c, 0x64, 
+  0x6e, 0x6f, 0x20, 0x64, 0x65, 0x63, 0x6f, 0x64, 0x65, 0x72, 0x20, 0x6f, 
+  0x66, 0x20, 0x43, 0x4c, 0x54, 0x55, 0x73, 0x20, 0x68, 0x61, 0x73, 0x20, 
+  0x74, 0x68, 0x61, 0x74, 0x20, 0x72, 0x65, 0x63, 0x6f, 0x72, 0x64, 0x00, 
+  0x00, 0x00, 0x00, 0x00, 0x01, 0x00, 0x00, 0x00, 0x02, 0x00, 0x00, 0x00, 
+  0x03, 0x00, 0x00, 0x00, 0x04, 0x00, 0x00, 0x00, 0x05, 0x00, 0x00, 0x00, 
+  0x06, 0x00, 0x00, 0x00, 0x07, 0x00, 0x00, 0x00, 0x08, 0x00, 0x00, 0x00, 
+  0x0a, 0x00, 0x00, 0x00, 0x0b, 0x00, 0x00, 0x00, 0x0c, 0x00, 0x00, 0x00, 
+  0x0d, 0x00, 0x00, 0x00, 0x0e, 0x00, 0x00, 0x00, 0x0f, 0x00, 0x00, 0x00, 
+  0x10, 0x00, 0x00, 0x00, 0x11, 0x00, 0x00, 0x00, 0x12, 0x00, 0x00, 0x00, 
+  0x13, 0x00, 0x00, 0x00, 0x14, 0x00, 0x00, 0x00, 0x15, 0x00, 0x00, 0x00, 
+  0x16, 0x00, 0x00, 0x00, 0x17, 0x00, 0x00, 0x00, 0x18, 0x00, 0x00, 0x00, 
+  0x19, 0x00, 0x00, 0x00, 0x1a, 0x00, 0x00, 0x00, 0x1e, 0x00, 0x00, 0x00, 
+  0x1f, 0x00, 0x00, 0x00, 0x28, 0x00, 0x00, 0x00, 0x32, 0x00, 0x00, 0x00, 
+  0x33, 0x00, 0x00, 0x00, 0x34, 0x00, 0x00, 0x00, 0x3c, 0x00, 0x00, 0x00, 
+  0x3d, 0x00, 0x00, 0x00, 0x3e, 0x00, 0x00, 0x00, 0x3f, 0x00, 0x00, 0x00, 
+  0x40, 0x00, 0x00, 0x00, 0x41, 0x00, 0x00, 0x00, 0x42, 0x00, 0x00, 0x00, 
+  0x43, 0x00, 0x00, 0x00, 0x46, 0x00, 0x00, 0x00, 0x47, 0x00, 0x00, 0x00, 
+  0x48, 0x00, 0x00, 0x00, 0x49, 0x00, 0x00, 0x00, 0x4a, 0x00, 0x00, 0x00, 
+  0x4b, 0x00, 0x00, 0x00, 0x4c, 0x00, 0x00, 0x00, 0x50, 0x00, 0x00, 0x00, 
+  0x51, 0x00, 0x00, 0x00, 0x52, 0x00, 0x00, 0x00, 0x53, 0x00, 0x00, 0x00, 
+  0x54, 0x00, 0x00, 0x00, 0x55, 0x00, 0x00, 0x00, 0x5a, 0x00, 0x00, 0x00, 
+  0x5b, 0x00, 0x00, 0x00, 0x5c, 0x00, 0x00, 0x00, 0x5d, 0x00, 0x00, 0x00, 
+  0x1a, 0x13, 0x20, 0x21, 0x22, 0x23, 0x24, 0x25, 0x26, 0x27, 0x0c, 
 };
 
 static void init_memories(Z_tcrx_instance_t* instance) {
   wasm_rt_allocate_memory(&instance->w2c_memory, 1, 65536);
-  LOAD_DATA(instance->w2c_memory, 16384u, data_segment_data_w2c_d0, 6315);
+  LOAD_DATA(instance->w2c_memory, 16384u, data_segment_data_w2c_d0, 7211);
 }
 
 static void init_data_instances(Z_tcrx_instance_t *instance) {
@@ -1258,10 +1331,10 @@ static u64 w2c_f0(Z_tcrx_instance_t* instance, u64 w2c_p0, u64 w2c_p1) {
   w2c_j0 = 0ull;
   w2c_i0 = (u32)(w2c_j0);
   w2c_j1 = w2c_p1;
-  w2c_j2 = 27056ull;
+  w2c_j2 = 27952ull;
   w2c_j3 = 0ull;
   w2c_i3 = (u32)(w2c_j3);
-  w2c_j3 = i64_load(&instance->w2c_memory, (u64)(w2c_i3) + 22704u);
+  w2c_j3 = i64_load(&instance->w2c_memory, (u64)(w2c_i3) + 23600u);
   w2c_l2 = w2c_j3;
   w2c_j4 = w2c_l2;
   w2c_i4 = !(w2c_j4);
@@ -1274,7 +1347,7 @@ static u64 w2c_f0(Z_tcrx_instance_t* instance, u64 w2c_p0, u64 w2c_p1) {
   w2c_j2 -= w2c_j3;
   w2c_j1 &= w2c_j2;
   w2c_p1 = w2c_j1;
-  i64_store(&instance->w2c_memory, (u64)(w2c_i0) + 22704, w2c_j1);
+  i64_store(&instance->w2c_memory, (u64)(w2c_i0) + 23600, w2c_j1);
   w2c_j0 = w2c_p1;
   w2c_j1 = w2c_p0;
   w2c_j0 += w2c_j1;
@@ -1307,14 +1380,14 @@ static u64 w2c_f0(Z_tcrx_instance_t* instance, u64 w2c_p0, u64 w2c_p1) {
   w2c_j0 = 0ull;
   w2c_i0 = (u32)(w2c_j0);
   w2c_j1 = w2c_l2;
-  i64_store(&instance->w2c_memory, (u64)(w2c_i0) + 22704, w2c_j1);
+  i64_store(&instance->w2c_memory, (u64)(w2c_i0) + 23600, w2c_j1);
   w2c_j0 = 0ull;
   goto w2c_Bfunc;
   w2c_B0:;
   w2c_j0 = 0ull;
   w2c_i0 = (u32)(w2c_j0);
   w2c_j1 = w2c_p0;
-  i64_store(&instance->w2c_memory, (u64)(w2c_i0) + 22704, w2c_j1);
+  i64_store(&instance->w2c_memory, (u64)(w2c_i0) + 23600, w2c_j1);
   w2c_j0 = w2c_p1;
   w2c_Bfunc:;
   FUNC_EPILOGUE;
@@ -1329,17 +1402,17 @@ static u32 w2c_f1(Z_tcrx_instance_t* instance, u64 w2c_p0) {
   u64 w2c_j0, w2c_j1, w2c_j2;
   w2c_j0 = 0ull;
   w2c_i0 = (u32)(w2c_j0);
-  w2c_j0 = i64_load(&instance->w2c_memory, (u64)(w2c_i0) + 22704u);
+  w2c_j0 = i64_load(&instance->w2c_memory, (u64)(w2c_i0) + 23600u);
   w2c_l1 = w2c_j0;
   w2c_j1 = 0ull;
   w2c_i0 = w2c_j0 != w2c_j1;
   if (w2c_i0) {goto w2c_B0;}
-  w2c_j0 = 27056ull;
+  w2c_j0 = 27952ull;
   w2c_l1 = w2c_j0;
   w2c_j0 = 0ull;
   w2c_i0 = (u32)(w2c_j0);
-  w2c_j1 = 27056ull;
-  i64_store(&instance->w2c_memory, (u64)(w2c_i0) + 22704, w2c_j1);
+  w2c_j1 = 27952ull;
+  i64_store(&instance->w2c_memory, (u64)(w2c_i0) + 23600, w2c_j1);
   w2c_B0:;
   w2c_i0 = 1u;
   w2c_l2 = w2c_i0;
@@ -1483,16 +1556,16 @@ static u64 w2c_f2(Z_tcrx_instance_t* instance, u64 w2c_p0) {
   w2c_j0 <<= (w2c_j1 & 63);
   w2c_p0 = w2c_j0;
   w2c_i0 = (u32)(w2c_j0);
-  w2c_j0 = i64_load(&instance->w2c_memory, (u64)(w2c_i0) + 22720u);
+  w2c_j0 = i64_load(&instance->w2c_memory, (u64)(w2c_i0) + 23616u);
   w2c_i0 = !(w2c_j0);
   w2c_i0 = !(w2c_i0);
   if (w2c_i0) {goto w2c_B14;}
   w2c_j0 = 0ull;
   w2c_i0 = (u32)(w2c_j0);
-  w2c_j1 = 27056ull;
+  w2c_j1 = 27952ull;
   w2c_j2 = 0ull;
   w2c_i2 = (u32)(w2c_j2);
-  w2c_j2 = i64_load(&instance->w2c_memory, (u64)(w2c_i2) + 22704u);
+  w2c_j2 = i64_load(&instance->w2c_memory, (u64)(w2c_i2) + 23600u);
   w2c_l2 = w2c_j2;
   w2c_j3 = w2c_l2;
   w2c_i3 = !(w2c_j3);
@@ -1502,7 +1575,7 @@ static u64 w2c_f2(Z_tcrx_instance_t* instance, u64 w2c_p0) {
   w2c_j2 = 18446744073709551600ull;
   w2c_j1 &= w2c_j2;
   w2c_l3 = w2c_j1;
-  i64_store(&instance->w2c_memory, (u64)(w2c_i0) + 22704, w2c_j1);
+  i64_store(&instance->w2c_memory, (u64)(w2c_i0) + 23600, w2c_j1);
   w2c_j0 = w2c_l1;
   w2c_j1 = 2ull;
   w2c_j0 <<= (w2c_j1 & 63);
@@ -1541,13 +1614,13 @@ static u64 w2c_f2(Z_tcrx_instance_t* instance, u64 w2c_p0) {
   w2c_j0 = 0ull;
   w2c_i0 = (u32)(w2c_j0);
   w2c_j1 = w2c_l2;
-  i64_store(&instance->w2c_memory, (u64)(w2c_i0) + 22704, w2c_j1);
+  i64_store(&instance->w2c_memory, (u64)(w2c_i0) + 23600, w2c_j1);
   goto w2c_B14;
   w2c_B15:;
   w2c_j0 = 0ull;
   w2c_i0 = (u32)(w2c_j0);
   w2c_j1 = w2c_l4;
-  i64_store(&instance->w2c_memory, (u64)(w2c_i0) + 22704, w2c_j1);
+  i64_store(&instance->w2c_memory, (u64)(w2c_i0) + 23600, w2c_j1);
   w2c_j0 = w2c_l3;
   w2c_i0 = !(w2c_j0);
   if (w2c_i0) {goto w2c_B14;}
@@ -1559,7 +1632,7 @@ static u64 w2c_f2(Z_tcrx_instance_t* instance, u64 w2c_p0) {
   w2c_B14:;
   w2c_L16: 
     w2c_j0 = w2c_p0;
-    w2c_j1 = 22720ull;
+    w2c_j1 = 23616ull;
     w2c_j0 += w2c_j1;
     w2c_i0 = (u32)(w2c_j0);
     w2c_j0 = i64_load(&instance->w2c_memory, (u64)(w2c_i0));
@@ -1567,7 +1640,7 @@ static u64 w2c_f2(Z_tcrx_instance_t* instance, u64 w2c_p0) {
     w2c_i0 = !(w2c_j0);
     if (w2c_i0) {goto w2c_B17;}
     w2c_j0 = w2c_p0;
-    w2c_j1 = 22720ull;
+    w2c_j1 = 23616ull;
     w2c_j0 += w2c_j1;
     w2c_i0 = (u32)(w2c_j0);
     w2c_j1 = w2c_l3;
@@ -1617,12 +1690,12 @@ static void w2c_f3(Z_tcrx_instance_t* instance, u64 w2c_p0) {
   w2c_j1 <<= (w2c_j2 & 63);
   w2c_l1 = w2c_j1;
   w2c_i1 = (u32)(w2c_j1);
-  w2c_j1 = i64_load(&instance->w2c_memory, (u64)(w2c_i1) + 22720u);
+  w2c_j1 = i64_load(&instance->w2c_memory, (u64)(w2c_i1) + 23616u);
   i64_store(&instance->w2c_memory, (u64)(w2c_i0), w2c_j1);
   w2c_j0 = w2c_l1;
   w2c_i0 = (u32)(w2c_j0);
   w2c_j1 = w2c_p0;
-  i64_store(&instance->w2c_memory, (u64)(w2c_i0) + 22720, w2c_j1);
+  i64_store(&instance->w2c_memory, (u64)(w2c_i0) + 23616, w2c_j1);
   FUNC_EPILOGUE;
 }
 
@@ -4299,7 +4372,7 @@ static void w2c_f10(Z_tcrx_instance_t* instance, u64 w2c_p0, u64 w2c_p1, u64 w2c
   w2c_j1 = 2ull;
   w2c_j0 <<= (w2c_j1 & 63);
   w2c_i0 = (u32)(w2c_j0);
-  w2c_i0 = i32_load(&instance->w2c_memory, (u64)(w2c_i0) + 22460u);
+  w2c_i0 = i32_load(&instance->w2c_memory, (u64)(w2c_i0) + 23356u);
   w2c_l4 = w2c_i0;
   w2c_B1:;
   w2c_i0 = 0u;
@@ -5876,7 +5949,7 @@ static void w2c_f16(Z_tcrx_instance_t* instance, u64 w2c_p0, u64 w2c_p1, u64 w2c
   w2c_j2 = w2c_p2;
   w2c_j1 = w2c_f0(instance, w2c_j1, w2c_j2);
   w2c_p2 = w2c_j1;
-  w2c_j2 = 22928ull;
+  w2c_j2 = 23824ull;
   w2c_j3 = w2c_p2;
   w2c_j4 = 0ull;
   w2c_i3 = w2c_j3 != w2c_j4;
@@ -8791,14 +8864,14 @@ static void w2c_f25(Z_tcrx_instance_t* instance, u64 w2c_p0, u64 w2c_p1, u64 w2c
   w2c_j1 = 255ull;
   w2c_j0 &= w2c_j1;
   w2c_i0 = (u32)(w2c_j0);
-  w2c_j0 = i64_load8_u(&instance->w2c_memory, (u64)(w2c_i0) + 22688u);
+  w2c_j0 = i64_load8_u(&instance->w2c_memory, (u64)(w2c_i0) + 23584u);
   w2c_l8 = w2c_j0;
   w2c_B2:;
   w2c_j0 = w2c_l8;
   w2c_j1 = 2ull;
   w2c_j0 <<= (w2c_j1 & 63);
   w2c_i0 = (u32)(w2c_j0);
-  w2c_j0 = i64_load32_u(&instance->w2c_memory, (u64)(w2c_i0) + 22460u);
+  w2c_j0 = i64_load32_u(&instance->w2c_memory, (u64)(w2c_i0) + 23356u);
   w2c_l8 = w2c_j0;
   goto w2c_B0;
   w2c_B1:;
@@ -9480,14 +9553,14 @@ static void w2c_f26(Z_tcrx_instance_t* instance, u64 w2c_p0, u64 w2c_p1, u64 w2c
   w2c_i0 = (u32)(w2c_j0);
   w2c_j0 = i64_load8_u(&instance->w2c_memory, (u64)(w2c_i0) + 94u);
   w2c_i0 = (u32)(w2c_j0);
-  w2c_j0 = i64_load8_u(&instance->w2c_memory, (u64)(w2c_i0) + 22688u);
+  w2c_j0 = i64_load8_u(&instance->w2c_memory, (u64)(w2c_i0) + 23584u);
   w2c_p1 = w2c_j0;
   w2c_B4:;
   w2c_j0 = w2c_p1;
   w2c_j1 = 2ull;
   w2c_j0 <<= (w2c_j1 & 63);
   w2c_i0 = (u32)(w2c_j0);
-  w2c_j0 = i64_load32_u(&instance->w2c_memory, (u64)(w2c_i0) + 22460u);
+  w2c_j0 = i64_load32_u(&instance->w2c_memory, (u64)(w2c_i0) + 23356u);
   w2c_l11 = w2c_j0;
   goto w2c_B0;
   w2c_B3:;
@@ -10263,7 +10336,7 @@ static void w2c_f28(Z_tcrx_instance_t* instance, u64 w2c_p0, u64 w2c_p1, u64 w2c
   w2c_j1 = 2ull;
   w2c_j0 <<= (w2c_j1 & 63);
   w2c_i0 = (u32)(w2c_j0);
-  w2c_i0 = i32_load(&instance->w2c_memory, (u64)(w2c_i0) + 22460u);
+  w2c_i0 = i32_load(&instance->w2c_memory, (u64)(w2c_i0) + 23356u);
   w2c_p3 = w2c_i0;
   goto w2c_B1;
   w2c_B2:;
@@ -10463,7 +10536,7 @@ static void w2c_f28(Z_tcrx_instance_t* instance, u64 w2c_p0, u64 w2c_p1, u64 w2c
   w2c_j1 = 2ull;
   w2c_j0 <<= (w2c_j1 & 63);
   w2c_i0 = (u32)(w2c_j0);
-  w2c_i0 = i32_load(&instance->w2c_memory, (u64)(w2c_i0) + 22460u);
+  w2c_i0 = i32_load(&instance->w2c_memory, (u64)(w2c_i0) + 23356u);
   w2c_p3 = w2c_i0;
   w2c_B1:;
   w2c_i0 = 0u;
@@ -10631,7 +10704,7 @@ static void w2c_f29(Z_tcrx_instance_t* instance, u64 w2c_p0, u64 w2c_p1, u64 w2c
     w2c_j1 = 1ull;
     w2c_j0 <<= (w2c_j1 & 63);
     w2c_i0 = (u32)(w2c_j0);
-    w2c_i0 = i32_load16_u(&instance->w2c_memory, (u64)(w2c_i0) + 18898u);
+    w2c_i0 = i32_load16_u(&instance->w2c_memory, (u64)(w2c_i0) + 19794u);
     w2c_j1 = w2c_p1;
     w2c_i1 = (u32)(w2c_j1);
     w2c_i1 = i32_load8_u(&instance->w2c_memory, (u64)(w2c_i1));
@@ -10643,7 +10716,7 @@ static void w2c_f29(Z_tcrx_instance_t* instance, u64 w2c_p0, u64 w2c_p1, u64 w2c
     w2c_j2 = 1ull;
     w2c_j1 <<= (w2c_j2 & 63);
     w2c_i1 = (u32)(w2c_j1);
-    w2c_i1 = i32_load16_u(&instance->w2c_memory, (u64)(w2c_i1) + 18386u);
+    w2c_i1 = i32_load16_u(&instance->w2c_memory, (u64)(w2c_i1) + 19282u);
     w2c_i0 ^= w2c_i1;
     w2c_j1 = w2c_p1;
     w2c_j2 = 2ull;
@@ -10653,7 +10726,7 @@ static void w2c_f29(Z_tcrx_instance_t* instance, u64 w2c_p0, u64 w2c_p1, u64 w2c
     w2c_j2 = 1ull;
     w2c_j1 <<= (w2c_j2 & 63);
     w2c_i1 = (u32)(w2c_j1);
-    w2c_i1 = i32_load16_u(&instance->w2c_memory, (u64)(w2c_i1) + 19410u);
+    w2c_i1 = i32_load16_u(&instance->w2c_memory, (u64)(w2c_i1) + 20306u);
     w2c_i0 ^= w2c_i1;
     w2c_j1 = w2c_p1;
     w2c_j2 = 3ull;
@@ -10663,7 +10736,7 @@ static void w2c_f29(Z_tcrx_instance_t* instance, u64 w2c_p0, u64 w2c_p1, u64 w2c
     w2c_j2 = 1ull;
     w2c_j1 <<= (w2c_j2 & 63);
     w2c_i1 = (u32)(w2c_j1);
-    w2c_i1 = i32_load16_u(&instance->w2c_memory, (u64)(w2c_i1) + 19922u);
+    w2c_i1 = i32_load16_u(&instance->w2c_memory, (u64)(w2c_i1) + 20818u);
     w2c_i0 ^= w2c_i1;
     w2c_l4 = w2c_i0;
     w2c_i1 = 65280u;
@@ -10893,7 +10966,7 @@ static void w2c_f30(Z_tcrx_instance_t* instance, u64 w2c_p0, u64 w2c_p1, u64 w2c
   w2c_j1 = 2ull;
   w2c_j0 <<= (w2c_j1 & 63);
   w2c_i0 = (u32)(w2c_j0);
-  w2c_i0 = i32_load(&instance->w2c_memory, (u64)(w2c_i0) + 22460u);
+  w2c_i0 = i32_load(&instance->w2c_memory, (u64)(w2c_i0) + 23356u);
   w2c_l8 = w2c_i0;
   w2c_i0 = 0u;
   w2c_l10 = w2c_i0;
@@ -11149,7 +11222,7 @@ static void w2c_f32(Z_tcrx_instance_t* instance, u64 w2c_p0, u64 w2c_p1, u64 w2c
   w2c_j1 = 2ull;
   w2c_j0 <<= (w2c_j1 & 63);
   w2c_i0 = (u32)(w2c_j0);
-  w2c_j0 = i64_load32_u(&instance->w2c_memory, (u64)(w2c_i0) + 22460u);
+  w2c_j0 = i64_load32_u(&instance->w2c_memory, (u64)(w2c_i0) + 23356u);
   w2c_p1 = w2c_j0;
   goto w2c_B0;
   w2c_B1:;
@@ -11316,7 +11389,7 @@ static void w2c_f32(Z_tcrx_instance_t* instance, u64 w2c_p0, u64 w2c_p1, u64 w2c
     w2c_j1 = 1ull;
     w2c_j0 <<= (w2c_j1 & 63);
     w2c_i0 = (u32)(w2c_j0);
-    w2c_i0 = i32_load16_u(&instance->w2c_memory, (u64)(w2c_i0) + 18898u);
+    w2c_i0 = i32_load16_u(&instance->w2c_memory, (u64)(w2c_i0) + 19794u);
     w2c_j1 = w2c_l5;
     w2c_i1 = (u32)(w2c_j1);
     w2c_i1 = i32_load8_u(&instance->w2c_memory, (u64)(w2c_i1));
@@ -11328,7 +11401,7 @@ static void w2c_f32(Z_tcrx_instance_t* instance, u64 w2c_p0, u64 w2c_p1, u64 w2c
     w2c_j2 = 1ull;
     w2c_j1 <<= (w2c_j2 & 63);
     w2c_i1 = (u32)(w2c_j1);
-    w2c_i1 = i32_load16_u(&instance->w2c_memory, (u64)(w2c_i1) + 18386u);
+    w2c_i1 = i32_load16_u(&instance->w2c_memory, (u64)(w2c_i1) + 19282u);
     w2c_i0 ^= w2c_i1;
     w2c_j1 = w2c_l5;
     w2c_j2 = 2ull;
@@ -11338,7 +11411,7 @@ static void w2c_f32(Z_tcrx_instance_t* instance, u64 w2c_p0, u64 w2c_p1, u64 w2c
     w2c_j2 = 1ull;
     w2c_j1 <<= (w2c_j2 & 63);
     w2c_i1 = (u32)(w2c_j1);
-    w2c_i1 = i32_load16_u(&instance->w2c_memory, (u64)(w2c_i1) + 19410u);
+    w2c_i1 = i32_load16_u(&instance->w2c_memory, (u64)(w2c_i1) + 20306u);
     w2c_i0 ^= w2c_i1;
     w2c_j1 = w2c_l5;
     w2c_j2 = 3ull;
@@ -11348,7 +11421,7 @@ static void w2c_f32(Z_tcrx_instance_t* instance, u64 w2c_p0, u64 w2c_p1, u64 w2c
     w2c_j2 = 1ull;
     w2c_j1 <<= (w2c_j2 & 63);
     w2c_i1 = (u32)(w2c_j1);
-    w2c_i1 = i32_load16_u(&instance->w2c_memory, (u64)(w2c_i1) + 19922u);
+    w2c_i1 = i32_load16_u(&instance->w2c_memory, (u64)(w2c_i1) + 20818u);
     w2c_i0 ^= w2c_i1;
     w2c_l9 = w2c_i0;
     w2c_i1 = 65280u;
@@ -11445,14 +11518,15 @@ static void w2c_f32(Z_tcrx_instance_t* instance, u64 w2c_p0, u64 w2c_p1, u64 w2c
 }
 
 static void w2c_f33(Z_tcrx_instance_t* instance, u64 w2c_p0, u64 w2c_p1, u32 w2c_p2, u64 w2c_p3, u64 w2c_p4) {
-  u32 w2c_l14 = 0, w2c_l15 = 0;
-  u64 w2c_l5 = 0, w2c_l6 = 0, w2c_l7 = 0, w2c_l8 = 0, w2c_l9 = 0, w2c_l10 = 0, w2c_l11 = 0, w2c_l12 = 0, 
-      w2c_l13 = 0;
+  u64 w2c_l5 = 0, w2c_l6 = 0;
   FUNC_PROLOGUE;
-  u32 w2c_i0, w2c_i1, w2c_i2, w2c_i3, w2c_i4, w2c_i5;
+  u32 w2c_i0, w2c_i1, w2c_i2, w2c_i3, w2c_i6;
   u64 w2c_j0, w2c_j1, w2c_j2, w2c_j3, w2c_j4, w2c_j5, w2c_j6;
-  w2c_j0 = 70ull;
+  w2c_j0 = instance->w2c_g0;
+  w2c_j1 = 32ull;
+  w2c_j0 -= w2c_j1;
   w2c_l5 = w2c_j0;
+  instance->w2c_g0 = w2c_j0;
   w2c_j0 = w2c_p1;
   w2c_i0 = (u32)(w2c_j0);
   w2c_i0 = i32_load8_u(&instance->w2c_memory, (u64)(w2c_i0));
@@ -11460,7 +11534,9 @@ static void w2c_f33(Z_tcrx_instance_t* instance, u64 w2c_p0, u64 w2c_p1, u32 w2c
   w2c_i0 = w2c_i0 == w2c_i1;
   if (w2c_i0) {goto w2c_B1;}
   w2c_j0 = 0ull;
-  w2c_l6 = w2c_j0;
+  w2c_p1 = w2c_j0;
+  w2c_j0 = 70ull;
+  w2c_p3 = w2c_j0;
   goto w2c_B0;
   w2c_B1:;
   w2c_j0 = w2c_p1;
@@ -11468,21 +11544,134 @@ static void w2c_f33(Z_tcrx_instance_t* instance, u64 w2c_p0, u64 w2c_p1, u32 w2c
   w2c_j0 += w2c_j1;
   w2c_i0 = (u32)(w2c_j0);
   w2c_j0 = i64_load(&instance->w2c_memory, (u64)(w2c_i0));
-  w2c_l7 = w2c_j0;
-  w2c_j1 = 200ull;
+  w2c_l6 = w2c_j0;
+  w2c_j0 = w2c_l5;
+  w2c_i0 = (u32)(w2c_j0);
+  w2c_j1 = 0ull;
+  i64_store(&instance->w2c_memory, (u64)(w2c_i0) + 24, w2c_j1);
+  w2c_j0 = w2c_l5;
+  w2c_i0 = (u32)(w2c_j0);
+  w2c_j1 = 0ull;
+  i64_store(&instance->w2c_memory, (u64)(w2c_i0) + 16, w2c_j1);
+  w2c_j0 = w2c_l5;
+  w2c_i0 = (u32)(w2c_j0);
+  w2c_j1 = 0ull;
+  i64_store(&instance->w2c_memory, (u64)(w2c_i0) + 8, w2c_j1);
+  w2c_j0 = w2c_l5;
+  w2c_j1 = 8ull;
+  w2c_j0 += w2c_j1;
+  w2c_j1 = w2c_l6;
+  w2c_j2 = 192ull;
+  w2c_j1 += w2c_j2;
+  w2c_i2 = w2c_p2;
+  w2c_j3 = w2c_p3;
+  w2c_j4 = 4096ull;
+  w2c_j5 = 0ull;
+  w2c_j6 = w2c_p3;
+  w2c_i6 = !(w2c_j6);
+  w2c_j4 = w2c_i6 ? w2c_j4 : w2c_j5;
+  w2c_j3 += w2c_j4;
+  w2c_j4 = w2c_p4;
+  w2c_f34(instance, w2c_j0, w2c_j1, w2c_i2, w2c_j3, w2c_j4);
+  w2c_j0 = w2c_l5;
+  w2c_i0 = (u32)(w2c_j0);
+  w2c_j0 = i64_load(&instance->w2c_memory, (u64)(w2c_i0) + 16u);
+  w2c_p1 = w2c_j0;
+  w2c_j0 = w2c_l5;
+  w2c_i0 = (u32)(w2c_j0);
+  w2c_i0 = i32_load8_u(&instance->w2c_memory, (u64)(w2c_i0) + 8u);
+  if (w2c_i0) {goto w2c_B3;}
+  w2c_j0 = w2c_l6;
+  w2c_j1 = 288ull;
+  w2c_j0 += w2c_j1;
+  w2c_p3 = w2c_j0;
+  w2c_i0 = (u32)(w2c_j0);
+  w2c_j1 = 18446744073709551615ull;
+  w2c_j2 = w2c_p3;
+  w2c_i2 = (u32)(w2c_j2);
+  w2c_j2 = i64_load(&instance->w2c_memory, (u64)(w2c_i2));
+  w2c_j3 = 1ull;
+  w2c_j2 += w2c_j3;
+  w2c_p3 = w2c_j2;
+  w2c_j3 = w2c_p3;
+  w2c_i3 = !(w2c_j3);
+  w2c_j1 = w2c_i3 ? w2c_j1 : w2c_j2;
+  i64_store(&instance->w2c_memory, (u64)(w2c_i0), w2c_j1);
+  w2c_i0 = 0u;
+  w2c_p2 = w2c_i0;
+  goto w2c_B2;
+  w2c_B3:;
+  w2c_j0 = w2c_p1;
+  w2c_j1 = 255ull;
+  w2c_j0 &= w2c_j1;
+  w2c_p3 = w2c_j0;
+  w2c_j0 = 0ull;
+  w2c_p1 = w2c_j0;
+  w2c_i0 = 72u;
+  w2c_p2 = w2c_i0;
+  w2c_j0 = w2c_p3;
+  w2c_i0 = (u32)(w2c_j0);
+  switch (w2c_i0) {
+    case 0: goto w2c_B2;
+    case 1: goto w2c_B4;
+    case 2: goto w2c_B5;
+    default: goto w2c_B2;
+  }
+  w2c_B5:;
+  w2c_j0 = w2c_l5;
+  w2c_i0 = (u32)(w2c_j0);
+  w2c_j0 = i64_load(&instance->w2c_memory, (u64)(w2c_i0) + 24u);
+  w2c_j1 = 0ull;
+  w2c_j2 = w2c_p3;
+  w2c_j3 = 2ull;
+  w2c_i2 = w2c_j2 == w2c_j3;
+  w2c_j0 = w2c_i2 ? w2c_j0 : w2c_j1;
+  w2c_p1 = w2c_j0;
+  w2c_i0 = 50u;
+  w2c_p2 = w2c_i0;
+  goto w2c_B2;
+  w2c_B4:;
+  w2c_j0 = 0ull;
+  w2c_p1 = w2c_j0;
+  w2c_i0 = 74u;
+  w2c_p2 = w2c_i0;
+  w2c_B2:;
+  w2c_i0 = w2c_p2;
+  w2c_j0 = (u64)(w2c_i0);
+  w2c_p3 = w2c_j0;
+  w2c_B0:;
+  w2c_j0 = w2c_p0;
+  w2c_i0 = (u32)(w2c_j0);
+  w2c_j1 = w2c_p1;
+  i64_store(&instance->w2c_memory, (u64)(w2c_i0) + 8, w2c_j1);
+  w2c_j0 = w2c_p0;
+  w2c_i0 = (u32)(w2c_j0);
+  w2c_j1 = w2c_p3;
+  i64_store(&instance->w2c_memory, (u64)(w2c_i0), w2c_j1);
+  w2c_j0 = w2c_l5;
+  w2c_j1 = 32ull;
+  w2c_j0 += w2c_j1;
+  instance->w2c_g0 = w2c_j0;
+  FUNC_EPILOGUE;
+}
+
+static void w2c_f34(Z_tcrx_instance_t* instance, u64 w2c_p0, u64 w2c_p1, u32 w2c_p2, u64 w2c_p3, u64 w2c_p4) {
+  u64 w2c_l5 = 0, w2c_l6 = 0, w2c_l7 = 0, w2c_l8 = 0, w2c_l9 = 0, w2c_l10 = 0, w2c_l11 = 0, w2c_l12 = 0;
+  FUNC_PROLOGUE;
+  u32 w2c_i0, w2c_i1, w2c_i2, w2c_i3, w2c_i4, w2c_i5;
+  u64 w2c_j0, w2c_j1, w2c_j2, w2c_j3, w2c_j4, w2c_j5, w2c_j6;
+  w2c_j0 = w2c_p1;
+  w2c_j1 = 8ull;
   w2c_j0 += w2c_j1;
   w2c_i0 = (u32)(w2c_j0);
   w2c_j0 = i64_load(&instance->w2c_memory, (u64)(w2c_i0));
-  w2c_l8 = w2c_j0;
-  w2c_j0 = w2c_l7;
-  w2c_j1 = 192ull;
-  w2c_j0 += w2c_j1;
-  w2c_l9 = w2c_j0;
+  w2c_l5 = w2c_j0;
+  w2c_j0 = w2c_p1;
   w2c_i0 = (u32)(w2c_j0);
   w2c_j0 = i64_load(&instance->w2c_memory, (u64)(w2c_i0));
-  w2c_l10 = w2c_j0;
-  w2c_j0 = w2c_l7;
-  w2c_j1 = 224ull;
+  w2c_l6 = w2c_j0;
+  w2c_j0 = w2c_p1;
+  w2c_j1 = 32ull;
   w2c_j0 += w2c_j1;
   w2c_i0 = (u32)(w2c_j0);
   w2c_j0 = i64_load(&instance->w2c_memory, (u64)(w2c_i0));
@@ -11490,28 +11679,29 @@ static void w2c_f33(Z_tcrx_instance_t* instance, u64 w2c_p0, u64 w2c_p1, u32 w2c
   w2c_j1 = (u64)(w2c_i1);
   w2c_j2 = 65535ull;
   w2c_j1 &= w2c_j2;
-  w2c_l11 = w2c_j1;
+  w2c_l7 = w2c_j1;
   w2c_i0 = w2c_j0 > w2c_j1;
-  w2c_l14 = w2c_i0;
-  if (w2c_i0) {goto w2c_B10;}
-  w2c_j0 = w2c_l8;
+  if (w2c_i0) {goto w2c_B4;}
+  w2c_j0 = 1ull;
+  w2c_l8 = w2c_j0;
+  w2c_j0 = w2c_l5;
   w2c_i0 = !(w2c_j0);
-  if (w2c_i0) {goto w2c_B3;}
+  if (w2c_i0) {goto w2c_B2;}
+  w2c_j0 = 0ull;
+  w2c_p1 = w2c_j0;
   w2c_i0 = w2c_p2;
   w2c_i1 = 65535u;
   w2c_i0 &= w2c_i1;
-  w2c_l15 = w2c_i0;
-  w2c_j0 = w2c_l10;
-  w2c_p1 = w2c_j0;
-  w2c_j0 = w2c_l8;
-  w2c_l5 = w2c_j0;
-  w2c_L11: 
-    w2c_i0 = w2c_l15;
-    w2c_j1 = w2c_p1;
+  w2c_p2 = w2c_i0;
+  w2c_L5: 
+    w2c_i0 = w2c_p2;
+    w2c_j1 = w2c_l6;
+    w2c_j2 = w2c_p1;
+    w2c_j1 += w2c_j2;
     w2c_i1 = (u32)(w2c_j1);
     w2c_i1 = i32_load16_u(&instance->w2c_memory, (u64)(w2c_i1));
     w2c_i0 = w2c_i0 == w2c_i1;
-    if (w2c_i0) {goto w2c_B9;}
+    if (w2c_i0) {goto w2c_B3;}
     w2c_j0 = w2c_p1;
     w2c_j1 = 64ull;
     w2c_j0 += w2c_j1;
@@ -11521,20 +11711,19 @@ static void w2c_f33(Z_tcrx_instance_t* instance, u64 w2c_p0, u64 w2c_p1, u32 w2c
     w2c_j0 += w2c_j1;
     w2c_l5 = w2c_j0;
     w2c_i0 = !(w2c_j0);
-    w2c_i0 = !(w2c_i0);
-    if (w2c_i0) {goto w2c_L11;}
-    goto w2c_B4;
+    if (w2c_i0) {goto w2c_B2;}
+    goto w2c_L5;
   UNREACHABLE;
-  w2c_B10:;
-  w2c_j0 = 0ull;
-  w2c_l6 = w2c_j0;
-  w2c_j0 = w2c_l8;
-  w2c_j1 = w2c_l7;
-  w2c_j2 = 216ull;
+  w2c_B4:;
+  w2c_j0 = 1ull;
+  w2c_l8 = w2c_j0;
+  w2c_j0 = w2c_l5;
+  w2c_j1 = w2c_p1;
+  w2c_j2 = 24ull;
   w2c_j1 += w2c_j2;
   w2c_i1 = (u32)(w2c_j1);
   w2c_j1 = i64_load(&instance->w2c_memory, (u64)(w2c_i1));
-  w2c_j2 = w2c_l11;
+  w2c_j2 = w2c_l7;
   w2c_j3 = 1ull;
   w2c_j2 <<= (w2c_j3 & 63);
   w2c_j1 += w2c_j2;
@@ -11542,27 +11731,32 @@ static void w2c_f33(Z_tcrx_instance_t* instance, u64 w2c_p0, u64 w2c_p1, u32 w2c
   w2c_j1 = i64_load16_u(&instance->w2c_memory, (u64)(w2c_i1));
   w2c_p1 = w2c_j1;
   w2c_i0 = w2c_j0 <= w2c_j1;
-  if (w2c_i0) {goto w2c_B8;}
-  w2c_j0 = w2c_l10;
-  w2c_j1 = w2c_p1;
-  w2c_j2 = 6ull;
-  w2c_j1 <<= (w2c_j2 & 63);
-  w2c_j2 = 0ull;
-  w2c_j3 = w2c_l8;
-  w2c_j4 = w2c_p1;
-  w2c_i3 = w2c_j3 > w2c_j4;
-  w2c_j1 = w2c_i3 ? w2c_j1 : w2c_j2;
-  w2c_j0 += w2c_j1;
-  w2c_p1 = w2c_j0;
-  w2c_B9:;
+  if (w2c_i0) {goto w2c_B2;}
   w2c_j0 = w2c_p1;
+  w2c_j1 = 6ull;
+  w2c_j0 <<= (w2c_j1 & 63);
+  w2c_p1 = w2c_j0;
+  w2c_B3:;
+  w2c_j0 = 1ull;
+  w2c_l8 = w2c_j0;
+  w2c_j0 = w2c_l6;
+  w2c_j1 = w2c_p1;
+  w2c_j0 += w2c_j1;
+  w2c_l9 = w2c_j0;
   w2c_j1 = 40ull;
   w2c_j0 += w2c_j1;
   w2c_i0 = (u32)(w2c_j0);
   w2c_j0 = i64_load(&instance->w2c_memory, (u64)(w2c_i0));
   w2c_i0 = !(w2c_j0);
-  if (w2c_i0) {goto w2c_B4;}
-  w2c_j0 = w2c_p1;
+  w2c_i0 = !(w2c_i0);
+  if (w2c_i0) {goto w2c_B6;}
+  w2c_j0 = 0ull;
+  w2c_l7 = w2c_j0;
+  w2c_j0 = 1ull;
+  w2c_p1 = w2c_j0;
+  goto w2c_B0;
+  w2c_B6:;
+  w2c_j0 = w2c_l9;
   w2c_j1 = 24ull;
   w2c_j0 += w2c_j1;
   w2c_i0 = (u32)(w2c_j0);
@@ -11571,26 +11765,26 @@ static void w2c_f33(Z_tcrx_instance_t* instance, u64 w2c_p0, u64 w2c_p1, u32 w2c
   w2c_i0 = w2c_j0 == w2c_j1;
   if (w2c_i0) {goto w2c_B7;}
   w2c_j0 = w2c_p4;
-  w2c_j1 = w2c_p1;
+  w2c_j1 = w2c_l9;
   w2c_j2 = 8ull;
   w2c_j1 += w2c_j2;
   w2c_i1 = (u32)(w2c_j1);
   w2c_j1 = i64_load(&instance->w2c_memory, (u64)(w2c_i1));
-  w2c_j2 = w2c_p1;
+  w2c_j2 = w2c_l9;
   w2c_j3 = 32ull;
   w2c_j2 += w2c_j3;
   w2c_i2 = (u32)(w2c_j2);
   w2c_j2 = i64_load(&instance->w2c_memory, (u64)(w2c_i2));
-  w2c_l5 = w2c_j2;
+  w2c_p1 = w2c_j2;
   w2c_j3 = 0ull;
-  w2c_j4 = w2c_p1;
+  w2c_j4 = w2c_l9;
   w2c_j5 = 16ull;
   w2c_j4 += w2c_j5;
   w2c_i4 = (u32)(w2c_j4);
   w2c_j4 = i64_load(&instance->w2c_memory, (u64)(w2c_i4));
-  w2c_p1 = w2c_j4;
-  w2c_j5 = w2c_l5;
-  w2c_j6 = w2c_p1;
+  w2c_l5 = w2c_j4;
+  w2c_j5 = w2c_p1;
+  w2c_j6 = w2c_l5;
   w2c_i5 = w2c_j5 < w2c_j6;
   w2c_j3 = w2c_i5 ? w2c_j3 : w2c_j4;
   w2c_j2 -= w2c_j3;
@@ -11602,44 +11796,40 @@ static void w2c_f33(Z_tcrx_instance_t* instance, u64 w2c_p0, u64 w2c_p1, u32 w2c
   w2c_j1 += w2c_j2;
   w2c_i1 = (u32)(w2c_j1);
   w2c_j1 = i64_load(&instance->w2c_memory, (u64)(w2c_i1));
-  w2c_l6 = w2c_j1;
-  w2c_i0 = w2c_j0 < w2c_j1;
-  if (w2c_i0) {goto w2c_B12;}
+  w2c_l7 = w2c_j1;
+  w2c_i0 = w2c_j0 >= w2c_j1;
+  if (w2c_i0) {goto w2c_B8;}
+  w2c_j0 = 2ull;
+  w2c_p1 = w2c_j0;
+  goto w2c_B0;
+  w2c_B8:;
   w2c_j0 = w2c_p3;
-  w2c_j1 = 4096ull;
-  w2c_j2 = 0ull;
-  w2c_j3 = w2c_p3;
-  w2c_i3 = !(w2c_j3);
-  w2c_j1 = w2c_i3 ? w2c_j1 : w2c_j2;
-  w2c_l12 = w2c_j1;
-  w2c_j0 += w2c_j1;
-  w2c_l11 = w2c_j0;
   w2c_j1 = w2c_p1;
   w2c_i1 = (u32)(w2c_j1);
   w2c_j1 = i64_load(&instance->w2c_memory, (u64)(w2c_i1));
   w2c_p4 = w2c_j1;
   w2c_j0 -= w2c_j1;
-  w2c_j1 = w2c_l6;
+  w2c_j1 = w2c_l7;
   w2c_i0 = w2c_j0 >= w2c_j1;
-  if (w2c_i0) {goto w2c_B6;}
-  w2c_j0 = w2c_l6;
+  if (w2c_i0) {goto w2c_B10;}
+  w2c_j0 = w2c_l7;
   w2c_j1 = 3ull;
   w2c_j0 &= w2c_j1;
   w2c_l8 = w2c_j0;
   w2c_j0 = 0ull;
   w2c_l5 = w2c_j0;
-  w2c_j0 = w2c_l6;
+  w2c_j0 = w2c_l7;
   w2c_j1 = 4ull;
   w2c_i0 = w2c_j0 < w2c_j1;
-  if (w2c_i0) {goto w2c_B13;}
-  w2c_j0 = w2c_l6;
+  if (w2c_i0) {goto w2c_B11;}
+  w2c_j0 = w2c_l7;
   w2c_j1 = 18446744073709551612ull;
   w2c_j0 &= w2c_j1;
-  w2c_l13 = w2c_j0;
+  w2c_l10 = w2c_j0;
   w2c_j0 = 0ull;
   w2c_l5 = w2c_j0;
-  w2c_L14: 
-    w2c_j0 = w2c_l11;
+  w2c_L12: 
+    w2c_j0 = w2c_p3;
     w2c_j1 = w2c_l5;
     w2c_j0 += w2c_j1;
     w2c_p1 = w2c_j0;
@@ -11647,7 +11837,7 @@ static void w2c_f33(Z_tcrx_instance_t* instance, u64 w2c_p0, u64 w2c_p1, u32 w2c
     w2c_j1 = w2c_p4;
     w2c_j2 = w2c_l5;
     w2c_j1 += w2c_j2;
-    w2c_l10 = w2c_j1;
+    w2c_l6 = w2c_j1;
     w2c_i1 = (u32)(w2c_j1);
     w2c_i1 = i32_load8_u(&instance->w2c_memory, (u64)(w2c_i1));
     i32_store8(&instance->w2c_memory, (u64)(w2c_i0), w2c_i1);
@@ -11655,7 +11845,7 @@ static void w2c_f33(Z_tcrx_instance_t* instance, u64 w2c_p0, u64 w2c_p1, u32 w2c
     w2c_j1 = 1ull;
     w2c_j0 += w2c_j1;
     w2c_i0 = (u32)(w2c_j0);
-    w2c_j1 = w2c_l10;
+    w2c_j1 = w2c_l6;
     w2c_j2 = 1ull;
     w2c_j1 += w2c_j2;
     w2c_i1 = (u32)(w2c_j1);
@@ -11665,7 +11855,7 @@ static void w2c_f33(Z_tcrx_instance_t* instance, u64 w2c_p0, u64 w2c_p1, u32 w2c
     w2c_j1 = 2ull;
     w2c_j0 += w2c_j1;
     w2c_i0 = (u32)(w2c_j0);
-    w2c_j1 = w2c_l10;
+    w2c_j1 = w2c_l6;
     w2c_j2 = 2ull;
     w2c_j1 += w2c_j2;
     w2c_i1 = (u32)(w2c_j1);
@@ -11675,420 +11865,113 @@ static void w2c_f33(Z_tcrx_instance_t* instance, u64 w2c_p0, u64 w2c_p1, u32 w2c
     w2c_j1 = 3ull;
     w2c_j0 += w2c_j1;
     w2c_i0 = (u32)(w2c_j0);
-    w2c_j1 = w2c_l10;
+    w2c_j1 = w2c_l6;
     w2c_j2 = 3ull;
     w2c_j1 += w2c_j2;
     w2c_i1 = (u32)(w2c_j1);
     w2c_i1 = i32_load8_u(&instance->w2c_memory, (u64)(w2c_i1));
     i32_store8(&instance->w2c_memory, (u64)(w2c_i0), w2c_i1);
-    w2c_j0 = w2c_l13;
+    w2c_j0 = w2c_l10;
     w2c_j1 = w2c_l5;
     w2c_j2 = 4ull;
     w2c_j1 += w2c_j2;
     w2c_l5 = w2c_j1;
     w2c_i0 = w2c_j0 != w2c_j1;
-    if (w2c_i0) {goto w2c_L14;}
+    if (w2c_i0) {goto w2c_L12;}
   w2c_j0 = w2c_l8;
   w2c_i0 = !(w2c_j0);
-  if (w2c_i0) {goto w2c_B5;}
-  w2c_B13:;
-  w2c_j0 = w2c_p4;
+  if (w2c_i0) {goto w2c_B9;}
+  w2c_B11:;
+  w2c_j0 = w2c_p3;
   w2c_j1 = w2c_l5;
   w2c_j0 += w2c_j1;
   w2c_p1 = w2c_j0;
-  w2c_j0 = w2c_p3;
-  w2c_j1 = w2c_l12;
-  w2c_j2 = w2c_l5;
-  w2c_j1 += w2c_j2;
+  w2c_j0 = w2c_p4;
+  w2c_j1 = w2c_l5;
   w2c_j0 += w2c_j1;
   w2c_l5 = w2c_j0;
-  w2c_L15: 
-    w2c_j0 = w2c_l5;
+  w2c_L13: 
+    w2c_j0 = w2c_p1;
     w2c_i0 = (u32)(w2c_j0);
-    w2c_j1 = w2c_p1;
+    w2c_j1 = w2c_l5;
     w2c_i1 = (u32)(w2c_j1);
     w2c_i1 = i32_load8_u(&instance->w2c_memory, (u64)(w2c_i1));
     i32_store8(&instance->w2c_memory, (u64)(w2c_i0), w2c_i1);
-    w2c_j0 = w2c_l5;
-    w2c_j1 = 1ull;
-    w2c_j0 += w2c_j1;
-    w2c_l5 = w2c_j0;
     w2c_j0 = w2c_p1;
     w2c_j1 = 1ull;
     w2c_j0 += w2c_j1;
     w2c_p1 = w2c_j0;
+    w2c_j0 = w2c_l5;
+    w2c_j1 = 1ull;
+    w2c_j0 += w2c_j1;
+    w2c_l5 = w2c_j0;
     w2c_j0 = w2c_l8;
     w2c_j1 = 18446744073709551615ull;
     w2c_j0 += w2c_j1;
     w2c_l8 = w2c_j0;
     w2c_j1 = 0ull;
     w2c_i0 = w2c_j0 != w2c_j1;
-    if (w2c_i0) {goto w2c_L15;}
-    goto w2c_B5;
+    if (w2c_i0) {goto w2c_L13;}
+    goto w2c_B9;
   UNREACHABLE;
-  w2c_B12:;
-  w2c_i0 = w2c_l14;
-  if (w2c_i0) {goto w2c_B18;}
-  w2c_j0 = 0ull;
-  w2c_l6 = w2c_j0;
-  w2c_j0 = w2c_l8;
-  w2c_i0 = !(w2c_j0);
-  if (w2c_i0) {goto w2c_B16;}
-  w2c_i0 = w2c_p2;
-  w2c_i1 = 65535u;
-  w2c_i0 &= w2c_i1;
-  w2c_l15 = w2c_i0;
-  w2c_L19: 
-    w2c_i0 = w2c_l15;
-    w2c_j1 = w2c_l10;
-    w2c_i1 = (u32)(w2c_j1);
-    w2c_i1 = i32_load16_u(&instance->w2c_memory, (u64)(w2c_i1));
-    w2c_i0 = w2c_i0 == w2c_i1;
-    if (w2c_i0) {goto w2c_B17;}
-    w2c_j0 = w2c_l10;
-    w2c_j1 = 64ull;
-    w2c_j0 += w2c_j1;
-    w2c_l10 = w2c_j0;
-    w2c_j0 = w2c_l8;
-    w2c_j1 = 18446744073709551615ull;
-    w2c_j0 += w2c_j1;
-    w2c_l8 = w2c_j0;
-    w2c_i0 = !(w2c_j0);
-    w2c_i0 = !(w2c_i0);
-    if (w2c_i0) {goto w2c_L19;}
-    goto w2c_B16;
-  UNREACHABLE;
-  w2c_B18:;
-  w2c_j0 = 0ull;
-  w2c_l6 = w2c_j0;
-  w2c_j0 = w2c_l8;
-  w2c_j1 = w2c_l7;
-  w2c_j2 = 216ull;
-  w2c_j1 += w2c_j2;
-  w2c_i1 = (u32)(w2c_j1);
-  w2c_j1 = i64_load(&instance->w2c_memory, (u64)(w2c_i1));
-  w2c_j2 = w2c_l11;
-  w2c_j3 = 1ull;
-  w2c_j2 <<= (w2c_j3 & 63);
-  w2c_j1 += w2c_j2;
-  w2c_i1 = (u32)(w2c_j1);
-  w2c_j1 = i64_load16_u(&instance->w2c_memory, (u64)(w2c_i1));
-  w2c_p1 = w2c_j1;
-  w2c_i0 = w2c_j0 <= w2c_j1;
-  if (w2c_i0) {goto w2c_B16;}
-  w2c_j0 = w2c_l10;
-  w2c_j1 = w2c_p1;
-  w2c_j2 = 6ull;
-  w2c_j1 <<= (w2c_j2 & 63);
-  w2c_j2 = 0ull;
-  w2c_j3 = w2c_l8;
-  w2c_j4 = w2c_p1;
-  w2c_i3 = w2c_j3 > w2c_j4;
-  w2c_j1 = w2c_i3 ? w2c_j1 : w2c_j2;
-  w2c_j0 += w2c_j1;
-  w2c_l10 = w2c_j0;
-  w2c_B17:;
-  w2c_j0 = w2c_l10;
-  w2c_j1 = 40ull;
-  w2c_j0 += w2c_j1;
-  w2c_i0 = (u32)(w2c_j0);
-  w2c_j0 = i64_load(&instance->w2c_memory, (u64)(w2c_i0));
-  w2c_i0 = !(w2c_j0);
-  w2c_i0 = !(w2c_i0);
-  if (w2c_i0) {goto w2c_B20;}
-  w2c_j0 = 0ull;
-  w2c_l6 = w2c_j0;
-  goto w2c_B16;
-  w2c_B20:;
-  w2c_j0 = w2c_l10;
-  w2c_j1 = 24ull;
-  w2c_j0 += w2c_j1;
-  w2c_i0 = (u32)(w2c_j0);
-  w2c_j0 = i64_load(&instance->w2c_memory, (u64)(w2c_i0));
-  w2c_j1 = 0ull;
-  w2c_i0 = w2c_j0 == w2c_j1;
-  if (w2c_i0) {goto w2c_B7;}
-  w2c_j0 = w2c_l10;
-  w2c_j1 = 8ull;
-  w2c_j0 += w2c_j1;
-  w2c_i0 = (u32)(w2c_j0);
-  w2c_j0 = i64_load(&instance->w2c_memory, (u64)(w2c_i0));
-  w2c_j1 = w2c_l10;
-  w2c_j2 = 32ull;
-  w2c_j1 += w2c_j2;
-  w2c_i1 = (u32)(w2c_j1);
-  w2c_j1 = i64_load(&instance->w2c_memory, (u64)(w2c_i1));
-  w2c_p1 = w2c_j1;
-  w2c_j2 = 0ull;
-  w2c_j3 = w2c_l10;
-  w2c_j4 = 16ull;
-  w2c_j3 += w2c_j4;
-  w2c_i3 = (u32)(w2c_j3);
-  w2c_j3 = i64_load(&instance->w2c_memory, (u64)(w2c_i3));
-  w2c_l5 = w2c_j3;
-  w2c_j4 = w2c_p1;
-  w2c_j5 = w2c_l5;
-  w2c_i4 = w2c_j4 < w2c_j5;
-  w2c_j2 = w2c_i4 ? w2c_j2 : w2c_j3;
-  w2c_j1 -= w2c_j2;
-  w2c_j2 = 5ull;
-  w2c_j1 <<= (w2c_j2 & 63);
-  w2c_j0 += w2c_j1;
-  w2c_j1 = 24ull;
-  w2c_j0 += w2c_j1;
-  w2c_i0 = (u32)(w2c_j0);
-  w2c_j0 = i64_load(&instance->w2c_memory, (u64)(w2c_i0));
-  w2c_l6 = w2c_j0;
-  w2c_B16:;
-  w2c_i0 = 50u;
-  w2c_l15 = w2c_i0;
-  goto w2c_B2;
-  w2c_B8:;
-  w2c_i0 = 72u;
-  w2c_l15 = w2c_i0;
-  goto w2c_B2;
-  w2c_B7:;
-  UNREACHABLE;
-  w2c_B6:;
-  w2c_j0 = w2c_l11;
+  w2c_B10:;
+  w2c_j0 = w2c_p3;
   w2c_j1 = w2c_p4;
-  w2c_j2 = w2c_l6;
+  w2c_j2 = w2c_l7;
   w2c_j0 = w2c_f4(instance, w2c_j0, w2c_j1, w2c_j2);
-  w2c_B5:;
+  w2c_B9:;
+  w2c_j0 = 0ull;
+  w2c_l8 = w2c_j0;
   w2c_j0 = w2c_l9;
-  w2c_i1 = w2c_p2;
-  w2c_f34(instance, w2c_j0, w2c_i1);
-  w2c_j0 = w2c_l7;
-  w2c_j1 = 288ull;
-  w2c_j0 += w2c_j1;
-  w2c_p1 = w2c_j0;
-  w2c_i0 = (u32)(w2c_j0);
-  w2c_j1 = 18446744073709551615ull;
-  w2c_j2 = w2c_p1;
-  w2c_i2 = (u32)(w2c_j2);
-  w2c_j2 = i64_load(&instance->w2c_memory, (u64)(w2c_i2));
-  w2c_j3 = 1ull;
-  w2c_j2 += w2c_j3;
-  w2c_p1 = w2c_j2;
-  w2c_j3 = w2c_p1;
-  w2c_i3 = !(w2c_j3);
-  w2c_j1 = w2c_i3 ? w2c_j1 : w2c_j2;
-  i64_store(&instance->w2c_memory, (u64)(w2c_i0), w2c_j1);
-  w2c_i0 = 0u;
-  w2c_l15 = w2c_i0;
-  goto w2c_B2;
-  w2c_B4:;
-  w2c_i0 = w2c_l14;
-  if (w2c_i0) {goto w2c_B22;}
-  w2c_i0 = 72u;
-  w2c_l15 = w2c_i0;
-  w2c_j0 = w2c_l8;
-  w2c_i0 = !(w2c_j0);
-  w2c_i0 = !(w2c_i0);
-  if (w2c_i0) {goto w2c_B23;}
-  w2c_j0 = 0ull;
-  w2c_l6 = w2c_j0;
-  goto w2c_B2;
-  w2c_B23:;
-  w2c_i0 = w2c_p2;
-  w2c_i1 = 65535u;
-  w2c_i0 &= w2c_i1;
-  w2c_p2 = w2c_i0;
-  w2c_L24: 
-    w2c_i0 = w2c_p2;
-    w2c_j1 = w2c_l10;
-    w2c_i1 = (u32)(w2c_j1);
-    w2c_i1 = i32_load16_u(&instance->w2c_memory, (u64)(w2c_i1));
-    w2c_i0 = w2c_i0 == w2c_i1;
-    if (w2c_i0) {goto w2c_B21;}
-    w2c_j0 = w2c_l10;
-    w2c_j1 = 64ull;
-    w2c_j0 += w2c_j1;
-    w2c_l10 = w2c_j0;
-    w2c_j0 = w2c_l8;
-    w2c_j1 = 18446744073709551615ull;
-    w2c_j0 += w2c_j1;
-    w2c_l8 = w2c_j0;
-    w2c_i0 = !(w2c_j0);
-    w2c_i0 = !(w2c_i0);
-    if (w2c_i0) {goto w2c_L24;}
-  w2c_j0 = 0ull;
-  w2c_l6 = w2c_j0;
-  goto w2c_B2;
-  w2c_B22:;
-  w2c_j0 = w2c_l8;
-  w2c_j1 = w2c_l7;
-  w2c_j2 = 216ull;
-  w2c_j1 += w2c_j2;
-  w2c_i1 = (u32)(w2c_j1);
-  w2c_j1 = i64_load(&instance->w2c_memory, (u64)(w2c_i1));
-  w2c_j2 = w2c_l11;
-  w2c_j3 = 1ull;
-  w2c_j2 <<= (w2c_j3 & 63);
-  w2c_j1 += w2c_j2;
-  w2c_i1 = (u32)(w2c_j1);
-  w2c_j1 = i64_load16_u(&instance->w2c_memory, (u64)(w2c_i1));
-  w2c_i0 = w2c_j0 <= w2c_j1;
-  if (w2c_i0) {goto w2c_B3;}
-  w2c_B21:;
-  w2c_j0 = 0ull;
-  w2c_l6 = w2c_j0;
-  w2c_i0 = 74u;
-  w2c_l15 = w2c_i0;
-  goto w2c_B2;
-  w2c_B3:;
-  w2c_j0 = 0ull;
-  w2c_l6 = w2c_j0;
-  w2c_i0 = 72u;
-  w2c_l15 = w2c_i0;
-  w2c_B2:;
-  w2c_i0 = w2c_l15;
-  w2c_j0 = (u64)(w2c_i0);
-  w2c_l5 = w2c_j0;
-  w2c_B0:;
-  w2c_j0 = w2c_p0;
-  w2c_i0 = (u32)(w2c_j0);
-  w2c_j1 = w2c_l6;
-  i64_store(&instance->w2c_memory, (u64)(w2c_i0) + 8, w2c_j1);
-  w2c_j0 = w2c_p0;
-  w2c_i0 = (u32)(w2c_j0);
-  w2c_j1 = w2c_l5;
-  i64_store(&instance->w2c_memory, (u64)(w2c_i0), w2c_j1);
-  FUNC_EPILOGUE;
-}
-
-static void w2c_f34(Z_tcrx_instance_t* instance, u64 w2c_p0, u32 w2c_p1) {
-  u64 w2c_l2 = 0, w2c_l3 = 0, w2c_l4 = 0, w2c_l5 = 0, w2c_l6 = 0, w2c_l7 = 0, w2c_l8 = 0, w2c_l9 = 0;
-  FUNC_PROLOGUE;
-  u32 w2c_i0, w2c_i1, w2c_i3, w2c_i4;
-  u64 w2c_j0, w2c_j1, w2c_j2, w2c_j3, w2c_j4, w2c_j5;
-  w2c_j0 = w2c_p0;
-  w2c_j1 = 8ull;
-  w2c_j0 += w2c_j1;
-  w2c_i0 = (u32)(w2c_j0);
-  w2c_j0 = i64_load(&instance->w2c_memory, (u64)(w2c_i0));
-  w2c_l2 = w2c_j0;
-  w2c_j0 = w2c_p0;
-  w2c_i0 = (u32)(w2c_j0);
-  w2c_j0 = i64_load(&instance->w2c_memory, (u64)(w2c_i0));
-  w2c_l3 = w2c_j0;
-  w2c_j0 = w2c_p0;
-  w2c_j1 = 32ull;
-  w2c_j0 += w2c_j1;
-  w2c_i0 = (u32)(w2c_j0);
-  w2c_j0 = i64_load(&instance->w2c_memory, (u64)(w2c_i0));
-  w2c_i1 = w2c_p1;
-  w2c_j1 = (u64)(w2c_i1);
-  w2c_j2 = 65535ull;
-  w2c_j1 &= w2c_j2;
-  w2c_l4 = w2c_j1;
-  w2c_i0 = w2c_j0 > w2c_j1;
-  if (w2c_i0) {goto w2c_B3;}
-  w2c_j0 = w2c_l2;
-  w2c_i0 = !(w2c_j0);
-  if (w2c_i0) {goto w2c_B1;}
-  w2c_j0 = 0ull;
-  w2c_p0 = w2c_j0;
-  w2c_i0 = w2c_p1;
-  w2c_i1 = 65535u;
-  w2c_i0 &= w2c_i1;
-  w2c_p1 = w2c_i0;
-  w2c_L4: 
-    w2c_i0 = w2c_p1;
-    w2c_j1 = w2c_l3;
-    w2c_j2 = w2c_p0;
-    w2c_j1 += w2c_j2;
-    w2c_i1 = (u32)(w2c_j1);
-    w2c_i1 = i32_load16_u(&instance->w2c_memory, (u64)(w2c_i1));
-    w2c_i0 = w2c_i0 == w2c_i1;
-    if (w2c_i0) {goto w2c_B2;}
-    w2c_j0 = w2c_p0;
-    w2c_j1 = 64ull;
-    w2c_j0 += w2c_j1;
-    w2c_p0 = w2c_j0;
-    w2c_j0 = w2c_l2;
-    w2c_j1 = 18446744073709551615ull;
-    w2c_j0 += w2c_j1;
-    w2c_l2 = w2c_j0;
-    w2c_i0 = !(w2c_j0);
-    w2c_i0 = !(w2c_i0);
-    if (w2c_i0) {goto w2c_L4;}
-    goto w2c_B1;
-  UNREACHABLE;
-  w2c_B3:;
-  w2c_j0 = w2c_l2;
-  w2c_j1 = w2c_p0;
-  w2c_j2 = 24ull;
-  w2c_j1 += w2c_j2;
-  w2c_i1 = (u32)(w2c_j1);
-  w2c_j1 = i64_load(&instance->w2c_memory, (u64)(w2c_i1));
-  w2c_j2 = w2c_l4;
-  w2c_j3 = 1ull;
-  w2c_j2 <<= (w2c_j3 & 63);
-  w2c_j1 += w2c_j2;
-  w2c_i1 = (u32)(w2c_j1);
-  w2c_j1 = i64_load16_u(&instance->w2c_memory, (u64)(w2c_i1));
-  w2c_p0 = w2c_j1;
-  w2c_i0 = w2c_j0 <= w2c_j1;
-  if (w2c_i0) {goto w2c_B1;}
-  w2c_j0 = w2c_p0;
-  w2c_j1 = 6ull;
-  w2c_j0 <<= (w2c_j1 & 63);
-  w2c_p0 = w2c_j0;
-  w2c_B2:;
-  w2c_j0 = w2c_l3;
-  w2c_j1 = w2c_p0;
-  w2c_j0 += w2c_j1;
-  w2c_p0 = w2c_j0;
   w2c_j1 = 40ull;
   w2c_j0 += w2c_j1;
   w2c_i0 = (u32)(w2c_j0);
   w2c_j0 = i64_load(&instance->w2c_memory, (u64)(w2c_i0));
-  w2c_l2 = w2c_j0;
+  w2c_p1 = w2c_j0;
   w2c_i0 = !(w2c_j0);
-  if (w2c_i0) {goto w2c_B1;}
-  w2c_j0 = w2c_p0;
+  if (w2c_i0) {goto w2c_B14;}
+  w2c_j0 = w2c_l9;
   w2c_j1 = 24ull;
   w2c_j0 += w2c_j1;
   w2c_i0 = (u32)(w2c_j0);
   w2c_j0 = i64_load(&instance->w2c_memory, (u64)(w2c_i0));
-  w2c_l3 = w2c_j0;
-  w2c_j0 = w2c_p0;
+  w2c_l5 = w2c_j0;
+  w2c_j0 = w2c_l9;
   w2c_j1 = 48ull;
   w2c_j0 += w2c_j1;
   w2c_i0 = (u32)(w2c_j0);
   w2c_j0 = i64_load(&instance->w2c_memory, (u64)(w2c_i0));
-  w2c_j1 = w2c_l2;
+  w2c_j1 = w2c_p1;
   w2c_j0 += w2c_j1;
   w2c_j1 = 1ull;
   w2c_i0 = w2c_j0 != w2c_j1;
-  if (w2c_i0) {goto w2c_B6;}
+  if (w2c_i0) {goto w2c_B16;}
   w2c_j0 = 0ull;
-  w2c_l2 = w2c_j0;
-  w2c_j0 = w2c_l3;
+  w2c_p1 = w2c_j0;
+  w2c_j0 = w2c_l5;
   w2c_j1 = 0ull;
   w2c_i0 = w2c_j0 == w2c_j1;
-  if (w2c_i0) {goto w2c_B0;}
-  w2c_j0 = w2c_p0;
+  if (w2c_i0) {goto w2c_B7;}
+  w2c_j0 = w2c_l9;
   w2c_j1 = 8ull;
   w2c_j0 += w2c_j1;
   w2c_i0 = (u32)(w2c_j0);
   w2c_j0 = i64_load(&instance->w2c_memory, (u64)(w2c_i0));
-  w2c_j1 = w2c_p0;
+  w2c_j1 = w2c_l9;
   w2c_j2 = 32ull;
   w2c_j1 += w2c_j2;
   w2c_i1 = (u32)(w2c_j1);
   w2c_j1 = i64_load(&instance->w2c_memory, (u64)(w2c_i1));
-  w2c_l3 = w2c_j1;
+  w2c_l5 = w2c_j1;
   w2c_j2 = 0ull;
-  w2c_j3 = w2c_p0;
+  w2c_j3 = w2c_l9;
   w2c_j4 = 16ull;
   w2c_j3 += w2c_j4;
   w2c_i3 = (u32)(w2c_j3);
   w2c_j3 = i64_load(&instance->w2c_memory, (u64)(w2c_i3));
-  w2c_l4 = w2c_j3;
-  w2c_j4 = w2c_l3;
-  w2c_j5 = w2c_l4;
+  w2c_l6 = w2c_j3;
+  w2c_j4 = w2c_l5;
+  w2c_j5 = w2c_l6;
   w2c_i4 = w2c_j4 < w2c_j5;
   w2c_j2 = w2c_i4 ? w2c_j2 : w2c_j3;
   w2c_j1 -= w2c_j2;
@@ -12100,143 +11983,168 @@ static void w2c_f34(Z_tcrx_instance_t* instance, u64 w2c_p0, u32 w2c_p1) {
   w2c_i0 = (u32)(w2c_j0);
   w2c_j1 = 0ull;
   i64_store(&instance->w2c_memory, (u64)(w2c_i0), w2c_j1);
-  goto w2c_B5;
-  w2c_B6:;
-  w2c_j0 = w2c_l3;
+  goto w2c_B15;
+  w2c_B16:;
+  w2c_j0 = w2c_l5;
   w2c_j1 = 0ull;
   w2c_i0 = w2c_j0 == w2c_j1;
-  if (w2c_i0) {goto w2c_B0;}
-  w2c_j0 = w2c_p0;
+  if (w2c_i0) {goto w2c_B7;}
+  w2c_j0 = w2c_l9;
   w2c_j1 = 24ull;
   w2c_j0 += w2c_j1;
-  w2c_l4 = w2c_j0;
+  w2c_l6 = w2c_j0;
   w2c_i0 = (u32)(w2c_j0);
-  w2c_j1 = w2c_l3;
+  w2c_j1 = w2c_l5;
   w2c_j2 = 18446744073709551615ull;
   w2c_j1 += w2c_j2;
-  w2c_l3 = w2c_j1;
+  w2c_l5 = w2c_j1;
   i64_store(&instance->w2c_memory, (u64)(w2c_i0), w2c_j1);
-  w2c_j0 = w2c_p0;
+  w2c_j0 = w2c_l9;
   w2c_j1 = 32ull;
   w2c_j0 += w2c_j1;
-  w2c_l2 = w2c_j0;
+  w2c_p1 = w2c_j0;
   w2c_i0 = (u32)(w2c_j0);
-  w2c_j1 = w2c_l2;
+  w2c_j1 = w2c_p1;
   w2c_i1 = (u32)(w2c_j1);
   w2c_j1 = i64_load(&instance->w2c_memory, (u64)(w2c_i1));
-  w2c_l5 = w2c_j1;
+  w2c_p4 = w2c_j1;
   w2c_j2 = 1ull;
   w2c_j1 += w2c_j2;
-  w2c_l6 = w2c_j1;
+  w2c_p3 = w2c_j1;
   w2c_j2 = 0ull;
-  w2c_j3 = w2c_p0;
+  w2c_j3 = w2c_l9;
   w2c_j4 = 16ull;
   w2c_j3 += w2c_j4;
   w2c_i3 = (u32)(w2c_j3);
   w2c_j3 = i64_load(&instance->w2c_memory, (u64)(w2c_i3));
-  w2c_l2 = w2c_j3;
-  w2c_j4 = w2c_l6;
-  w2c_j5 = w2c_l2;
+  w2c_p1 = w2c_j3;
+  w2c_j4 = w2c_p3;
+  w2c_j5 = w2c_p1;
   w2c_i4 = w2c_j4 < w2c_j5;
   w2c_j2 = w2c_i4 ? w2c_j2 : w2c_j3;
   w2c_j1 -= w2c_j2;
-  w2c_l7 = w2c_j1;
+  w2c_l10 = w2c_j1;
   i64_store(&instance->w2c_memory, (u64)(w2c_i0), w2c_j1);
-  w2c_j0 = w2c_l2;
-  w2c_j1 = w2c_l3;
+  w2c_j0 = w2c_p1;
+  w2c_j1 = w2c_l5;
   w2c_i0 = w2c_j0 <= w2c_j1;
-  if (w2c_i0) {goto w2c_B0;}
-  w2c_j0 = w2c_p0;
+  if (w2c_i0) {goto w2c_B7;}
+  w2c_j0 = w2c_l9;
   w2c_j1 = 8ull;
   w2c_j0 += w2c_j1;
   w2c_i0 = (u32)(w2c_j0);
   w2c_j0 = i64_load(&instance->w2c_memory, (u64)(w2c_i0));
-  w2c_l8 = w2c_j0;
-  w2c_j1 = w2c_l5;
+  w2c_l11 = w2c_j0;
+  w2c_j1 = w2c_p4;
   w2c_j2 = 5ull;
   w2c_j1 <<= (w2c_j2 & 63);
   w2c_j0 += w2c_j1;
-  w2c_l6 = w2c_j0;
+  w2c_p3 = w2c_j0;
   w2c_i0 = (u32)(w2c_j0);
   w2c_j0 = i64_load(&instance->w2c_memory, (u64)(w2c_i0));
-  w2c_l5 = w2c_j0;
-  w2c_j0 = w2c_l6;
+  w2c_p4 = w2c_j0;
+  w2c_j0 = w2c_p3;
   w2c_i0 = (u32)(w2c_j0);
   w2c_j0 = i64_load(&instance->w2c_memory, (u64)(w2c_i0) + 8u);
-  w2c_l9 = w2c_j0;
-  w2c_j0 = w2c_l8;
-  w2c_j1 = w2c_l7;
-  w2c_j2 = w2c_l3;
+  w2c_l12 = w2c_j0;
+  w2c_j0 = w2c_l11;
+  w2c_j1 = w2c_l10;
+  w2c_j2 = w2c_l5;
   w2c_j1 += w2c_j2;
-  w2c_l3 = w2c_j1;
+  w2c_l5 = w2c_j1;
   w2c_j2 = 0ull;
-  w2c_j3 = w2c_l2;
-  w2c_j4 = w2c_l3;
-  w2c_j5 = w2c_l2;
+  w2c_j3 = w2c_p1;
+  w2c_j4 = w2c_l5;
+  w2c_j5 = w2c_p1;
   w2c_i4 = w2c_j4 < w2c_j5;
   w2c_j2 = w2c_i4 ? w2c_j2 : w2c_j3;
   w2c_j1 -= w2c_j2;
   w2c_j2 = 5ull;
   w2c_j1 <<= (w2c_j2 & 63);
   w2c_j0 += w2c_j1;
-  w2c_l2 = w2c_j0;
+  w2c_p1 = w2c_j0;
   w2c_i0 = (u32)(w2c_j0);
-  w2c_j1 = w2c_l6;
+  w2c_j1 = w2c_p3;
   w2c_i1 = (u32)(w2c_j1);
   w2c_j1 = i64_load(&instance->w2c_memory, (u64)(w2c_i1) + 16u);
   i64_store(&instance->w2c_memory, (u64)(w2c_i0) + 16, w2c_j1);
-  w2c_j0 = w2c_l2;
+  w2c_j0 = w2c_p1;
   w2c_i0 = (u32)(w2c_j0);
-  w2c_j1 = w2c_l9;
+  w2c_j1 = w2c_l12;
   i64_store(&instance->w2c_memory, (u64)(w2c_i0) + 8, w2c_j1);
-  w2c_j0 = w2c_l2;
+  w2c_j0 = w2c_p1;
   w2c_i0 = (u32)(w2c_j0);
-  w2c_j1 = w2c_l5;
+  w2c_j1 = w2c_p4;
   i64_store(&instance->w2c_memory, (u64)(w2c_i0), w2c_j1);
-  w2c_j0 = w2c_l2;
+  w2c_j0 = w2c_p1;
   w2c_i0 = (u32)(w2c_j0);
   w2c_j1 = 0ull;
   i64_store(&instance->w2c_memory, (u64)(w2c_i0) + 24, w2c_j1);
-  w2c_j0 = w2c_l4;
+  w2c_j0 = w2c_l6;
   w2c_i0 = (u32)(w2c_j0);
-  w2c_j1 = w2c_l4;
+  w2c_j1 = w2c_l6;
   w2c_i1 = (u32)(w2c_j1);
   w2c_j1 = i64_load(&instance->w2c_memory, (u64)(w2c_i1));
   w2c_j2 = 1ull;
   w2c_j1 += w2c_j2;
   i64_store(&instance->w2c_memory, (u64)(w2c_i0), w2c_j1);
-  w2c_j0 = w2c_p0;
+  w2c_j0 = w2c_l9;
   w2c_j1 = 40ull;
   w2c_j0 += w2c_j1;
   w2c_i0 = (u32)(w2c_j0);
   w2c_j0 = i64_load(&instance->w2c_memory, (u64)(w2c_i0));
   w2c_j1 = 18446744073709551615ull;
   w2c_j0 += w2c_j1;
-  w2c_l2 = w2c_j0;
-  w2c_B5:;
-  w2c_j0 = w2c_p0;
+  w2c_p1 = w2c_j0;
+  w2c_B15:;
+  w2c_j0 = w2c_l9;
   w2c_j1 = 40ull;
   w2c_j0 += w2c_j1;
   w2c_i0 = (u32)(w2c_j0);
-  w2c_j1 = w2c_l2;
+  w2c_j1 = w2c_p1;
   i64_store(&instance->w2c_memory, (u64)(w2c_i0), w2c_j1);
-  w2c_B1:;
-  goto w2c_Bfunc;
-  w2c_B0:;
+  w2c_B14:;
+  w2c_j0 = w2c_l7;
+  w2c_p1 = w2c_j0;
+  goto w2c_B1;
+  w2c_B7:;
   UNREACHABLE;
-  w2c_Bfunc:;
+  w2c_B2:;
+  w2c_j0 = 0ull;
+  w2c_p1 = w2c_j0;
+  w2c_B1:;
+  w2c_j0 = 0ull;
+  w2c_l7 = w2c_j0;
+  w2c_B0:;
+  w2c_j0 = w2c_p0;
+  w2c_i0 = (u32)(w2c_j0);
+  w2c_j1 = w2c_l8;
+  i64_store(&instance->w2c_memory, (u64)(w2c_i0), w2c_j1);
+  w2c_j0 = w2c_p0;
+  w2c_j1 = 16ull;
+  w2c_j0 += w2c_j1;
+  w2c_i0 = (u32)(w2c_j0);
+  w2c_j1 = w2c_l7;
+  i64_store(&instance->w2c_memory, (u64)(w2c_i0), w2c_j1);
+  w2c_j0 = w2c_p0;
+  w2c_j1 = 8ull;
+  w2c_j0 += w2c_j1;
+  w2c_i0 = (u32)(w2c_j0);
+  w2c_j1 = w2c_p1;
+  i64_store(&instance->w2c_memory, (u64)(w2c_i0), w2c_j1);
   FUNC_EPILOGUE;
 }
 
 static void w2c_f35(Z_tcrx_instance_t* instance, u64 w2c_p0, u64 w2c_p1, u32 w2c_p2, u64 w2c_p3, u64 w2c_p4) {
-  u32 w2c_l14 = 0;
-  u64 w2c_l5 = 0, w2c_l6 = 0, w2c_l7 = 0, w2c_l8 = 0, w2c_l9 = 0, w2c_l10 = 0, w2c_l11 = 0, w2c_l12 = 0, 
-      w2c_l13 = 0;
+  u64 w2c_l5 = 0, w2c_l6 = 0;
   FUNC_PROLOGUE;
-  u32 w2c_i0, w2c_i1, w2c_i2, w2c_i3, w2c_i4, w2c_i5;
+  u32 w2c_i0, w2c_i1, w2c_i2, w2c_i3, w2c_i6;
   u64 w2c_j0, w2c_j1, w2c_j2, w2c_j3, w2c_j4, w2c_j5, w2c_j6;
-  w2c_j0 = 70ull;
+  w2c_j0 = instance->w2c_g0;
+  w2c_j1 = 32ull;
+  w2c_j0 -= w2c_j1;
   w2c_l5 = w2c_j0;
+  instance->w2c_g0 = w2c_j0;
   w2c_j0 = w2c_p1;
   w2c_i0 = (u32)(w2c_j0);
   w2c_i0 = i32_load8_u(&instance->w2c_memory, (u64)(w2c_i0));
@@ -12244,492 +12152,126 @@ static void w2c_f35(Z_tcrx_instance_t* instance, u64 w2c_p0, u64 w2c_p1, u32 w2c
   w2c_i0 = w2c_i0 == w2c_i1;
   if (w2c_i0) {goto w2c_B1;}
   w2c_j0 = 0ull;
-  w2c_l6 = w2c_j0;
+  w2c_p1 = w2c_j0;
+  w2c_j0 = 70ull;
+  w2c_p3 = w2c_j0;
   goto w2c_B0;
   w2c_B1:;
-  w2c_i0 = w2c_p2;
-  w2c_i1 = 255u;
-  w2c_i0 &= w2c_i1;
-  w2c_l14 = w2c_i0;
   w2c_j0 = w2c_p1;
   w2c_j1 = 8ull;
   w2c_j0 += w2c_j1;
   w2c_i0 = (u32)(w2c_j0);
   w2c_j0 = i64_load(&instance->w2c_memory, (u64)(w2c_i0));
-  w2c_l7 = w2c_j0;
-  w2c_j1 = 248ull;
-  w2c_j0 += w2c_j1;
-  w2c_i0 = (u32)(w2c_j0);
-  w2c_j0 = i64_load(&instance->w2c_memory, (u64)(w2c_i0));
-  w2c_l8 = w2c_j0;
-  w2c_j0 = w2c_l7;
-  w2c_j1 = 240ull;
-  w2c_j0 += w2c_j1;
-  w2c_l9 = w2c_j0;
-  w2c_i0 = (u32)(w2c_j0);
-  w2c_j0 = i64_load(&instance->w2c_memory, (u64)(w2c_i0));
-  w2c_l10 = w2c_j0;
-  w2c_j0 = w2c_l7;
-  w2c_j1 = 272ull;
-  w2c_j0 += w2c_j1;
-  w2c_i0 = (u32)(w2c_j0);
-  w2c_j0 = i64_load(&instance->w2c_memory, (u64)(w2c_i0));
-  w2c_i1 = w2c_p2;
-  w2c_j1 = (u64)(w2c_i1);
-  w2c_j2 = 255ull;
-  w2c_j1 &= w2c_j2;
-  w2c_l11 = w2c_j1;
-  w2c_i0 = w2c_j0 > w2c_j1;
-  w2c_p2 = w2c_i0;
-  if (w2c_i0) {goto w2c_B10;}
-  w2c_j0 = w2c_l8;
-  w2c_i0 = !(w2c_j0);
-  if (w2c_i0) {goto w2c_B3;}
-  w2c_j0 = w2c_l10;
-  w2c_p1 = w2c_j0;
-  w2c_j0 = w2c_l8;
-  w2c_l5 = w2c_j0;
-  w2c_L11: 
-    w2c_j0 = w2c_p1;
-    w2c_i0 = (u32)(w2c_j0);
-    w2c_i0 = i32_load16_u(&instance->w2c_memory, (u64)(w2c_i0));
-    w2c_i1 = w2c_l14;
-    w2c_i0 = w2c_i0 == w2c_i1;
-    if (w2c_i0) {goto w2c_B9;}
-    w2c_j0 = w2c_p1;
-    w2c_j1 = 64ull;
-    w2c_j0 += w2c_j1;
-    w2c_p1 = w2c_j0;
-    w2c_j0 = w2c_l5;
-    w2c_j1 = 18446744073709551615ull;
-    w2c_j0 += w2c_j1;
-    w2c_l5 = w2c_j0;
-    w2c_i0 = !(w2c_j0);
-    w2c_i0 = !(w2c_i0);
-    if (w2c_i0) {goto w2c_L11;}
-    goto w2c_B4;
-  UNREACHABLE;
-  w2c_B10:;
-  w2c_j0 = 0ull;
   w2c_l6 = w2c_j0;
-  w2c_j0 = w2c_l8;
-  w2c_j1 = w2c_l7;
-  w2c_j2 = 264ull;
-  w2c_j1 += w2c_j2;
-  w2c_i1 = (u32)(w2c_j1);
-  w2c_j1 = i64_load(&instance->w2c_memory, (u64)(w2c_i1));
-  w2c_j2 = w2c_l11;
-  w2c_j3 = 1ull;
-  w2c_j2 <<= (w2c_j3 & 63);
-  w2c_j1 += w2c_j2;
-  w2c_i1 = (u32)(w2c_j1);
-  w2c_j1 = i64_load16_u(&instance->w2c_memory, (u64)(w2c_i1));
-  w2c_p1 = w2c_j1;
-  w2c_i0 = w2c_j0 <= w2c_j1;
-  if (w2c_i0) {goto w2c_B8;}
-  w2c_j0 = w2c_l10;
-  w2c_j1 = w2c_p1;
-  w2c_j2 = 6ull;
-  w2c_j1 <<= (w2c_j2 & 63);
-  w2c_j2 = 0ull;
-  w2c_j3 = w2c_l8;
-  w2c_j4 = w2c_p1;
-  w2c_i3 = w2c_j3 > w2c_j4;
-  w2c_j1 = w2c_i3 ? w2c_j1 : w2c_j2;
-  w2c_j0 += w2c_j1;
-  w2c_p1 = w2c_j0;
-  w2c_B9:;
-  w2c_j0 = w2c_p1;
-  w2c_j1 = 40ull;
-  w2c_j0 += w2c_j1;
+  w2c_j0 = w2c_l5;
   w2c_i0 = (u32)(w2c_j0);
-  w2c_j0 = i64_load(&instance->w2c_memory, (u64)(w2c_i0));
-  w2c_i0 = !(w2c_j0);
-  if (w2c_i0) {goto w2c_B4;}
-  w2c_j0 = w2c_p1;
-  w2c_j1 = 24ull;
-  w2c_j0 += w2c_j1;
-  w2c_i0 = (u32)(w2c_j0);
-  w2c_j0 = i64_load(&instance->w2c_memory, (u64)(w2c_i0));
   w2c_j1 = 0ull;
-  w2c_i0 = w2c_j0 == w2c_j1;
-  if (w2c_i0) {goto w2c_B7;}
-  w2c_j0 = w2c_p4;
-  w2c_j1 = w2c_p1;
-  w2c_j2 = 8ull;
-  w2c_j1 += w2c_j2;
-  w2c_i1 = (u32)(w2c_j1);
-  w2c_j1 = i64_load(&instance->w2c_memory, (u64)(w2c_i1));
-  w2c_j2 = w2c_p1;
-  w2c_j3 = 32ull;
-  w2c_j2 += w2c_j3;
-  w2c_i2 = (u32)(w2c_j2);
-  w2c_j2 = i64_load(&instance->w2c_memory, (u64)(w2c_i2));
-  w2c_l5 = w2c_j2;
-  w2c_j3 = 0ull;
-  w2c_j4 = w2c_p1;
-  w2c_j5 = 16ull;
-  w2c_j4 += w2c_j5;
-  w2c_i4 = (u32)(w2c_j4);
-  w2c_j4 = i64_load(&instance->w2c_memory, (u64)(w2c_i4));
-  w2c_p1 = w2c_j4;
-  w2c_j5 = w2c_l5;
-  w2c_j6 = w2c_p1;
-  w2c_i5 = w2c_j5 < w2c_j6;
-  w2c_j3 = w2c_i5 ? w2c_j3 : w2c_j4;
-  w2c_j2 -= w2c_j3;
-  w2c_j3 = 5ull;
-  w2c_j2 <<= (w2c_j3 & 63);
-  w2c_j1 += w2c_j2;
-  w2c_p1 = w2c_j1;
-  w2c_j2 = 24ull;
-  w2c_j1 += w2c_j2;
-  w2c_i1 = (u32)(w2c_j1);
-  w2c_j1 = i64_load(&instance->w2c_memory, (u64)(w2c_i1));
-  w2c_l6 = w2c_j1;
-  w2c_i0 = w2c_j0 < w2c_j1;
-  if (w2c_i0) {goto w2c_B12;}
-  w2c_j0 = w2c_p3;
-  w2c_j1 = 4096ull;
-  w2c_j2 = 0ull;
-  w2c_j3 = w2c_p3;
-  w2c_i3 = !(w2c_j3);
-  w2c_j1 = w2c_i3 ? w2c_j1 : w2c_j2;
-  w2c_l12 = w2c_j1;
+  i64_store(&instance->w2c_memory, (u64)(w2c_i0) + 24, w2c_j1);
+  w2c_j0 = w2c_l5;
+  w2c_i0 = (u32)(w2c_j0);
+  w2c_j1 = 0ull;
+  i64_store(&instance->w2c_memory, (u64)(w2c_i0) + 16, w2c_j1);
+  w2c_j0 = w2c_l5;
+  w2c_i0 = (u32)(w2c_j0);
+  w2c_j1 = 0ull;
+  i64_store(&instance->w2c_memory, (u64)(w2c_i0) + 8, w2c_j1);
+  w2c_j0 = w2c_l5;
+  w2c_j1 = 8ull;
   w2c_j0 += w2c_j1;
-  w2c_l11 = w2c_j0;
-  w2c_j1 = w2c_p1;
-  w2c_i1 = (u32)(w2c_j1);
-  w2c_j1 = i64_load(&instance->w2c_memory, (u64)(w2c_i1));
-  w2c_p4 = w2c_j1;
-  w2c_j0 -= w2c_j1;
   w2c_j1 = w2c_l6;
-  w2c_i0 = w2c_j0 >= w2c_j1;
-  if (w2c_i0) {goto w2c_B6;}
-  w2c_j0 = w2c_l6;
-  w2c_j1 = 3ull;
-  w2c_j0 &= w2c_j1;
-  w2c_l8 = w2c_j0;
-  w2c_j0 = 0ull;
-  w2c_l5 = w2c_j0;
-  w2c_j0 = w2c_l6;
-  w2c_j1 = 4ull;
-  w2c_i0 = w2c_j0 < w2c_j1;
-  if (w2c_i0) {goto w2c_B13;}
-  w2c_j0 = w2c_l6;
-  w2c_j1 = 18446744073709551612ull;
-  w2c_j0 &= w2c_j1;
-  w2c_l13 = w2c_j0;
-  w2c_j0 = 0ull;
-  w2c_l5 = w2c_j0;
-  w2c_L14: 
-    w2c_j0 = w2c_l11;
-    w2c_j1 = w2c_l5;
-    w2c_j0 += w2c_j1;
-    w2c_p1 = w2c_j0;
-    w2c_i0 = (u32)(w2c_j0);
-    w2c_j1 = w2c_p4;
-    w2c_j2 = w2c_l5;
-    w2c_j1 += w2c_j2;
-    w2c_l10 = w2c_j1;
-    w2c_i1 = (u32)(w2c_j1);
-    w2c_i1 = i32_load8_u(&instance->w2c_memory, (u64)(w2c_i1));
-    i32_store8(&instance->w2c_memory, (u64)(w2c_i0), w2c_i1);
-    w2c_j0 = w2c_p1;
-    w2c_j1 = 1ull;
-    w2c_j0 += w2c_j1;
-    w2c_i0 = (u32)(w2c_j0);
-    w2c_j1 = w2c_l10;
-    w2c_j2 = 1ull;
-    w2c_j1 += w2c_j2;
-    w2c_i1 = (u32)(w2c_j1);
-    w2c_i1 = i32_load8_u(&instance->w2c_memory, (u64)(w2c_i1));
-    i32_store8(&instance->w2c_memory, (u64)(w2c_i0), w2c_i1);
-    w2c_j0 = w2c_p1;
-    w2c_j1 = 2ull;
-    w2c_j0 += w2c_j1;
-    w2c_i0 = (u32)(w2c_j0);
-    w2c_j1 = w2c_l10;
-    w2c_j2 = 2ull;
-    w2c_j1 += w2c_j2;
-    w2c_i1 = (u32)(w2c_j1);
-    w2c_i1 = i32_load8_u(&instance->w2c_memory, (u64)(w2c_i1));
-    i32_store8(&instance->w2c_memory, (u64)(w2c_i0), w2c_i1);
-    w2c_j0 = w2c_p1;
-    w2c_j1 = 3ull;
-    w2c_j0 += w2c_j1;
-    w2c_i0 = (u32)(w2c_j0);
-    w2c_j1 = w2c_l10;
-    w2c_j2 = 3ull;
-    w2c_j1 += w2c_j2;
-    w2c_i1 = (u32)(w2c_j1);
-    w2c_i1 = i32_load8_u(&instance->w2c_memory, (u64)(w2c_i1));
-    i32_store8(&instance->w2c_memory, (u64)(w2c_i0), w2c_i1);
-    w2c_j0 = w2c_l13;
-    w2c_j1 = w2c_l5;
-    w2c_j2 = 4ull;
-    w2c_j1 += w2c_j2;
-    w2c_l5 = w2c_j1;
-    w2c_i0 = w2c_j0 != w2c_j1;
-    if (w2c_i0) {goto w2c_L14;}
-  w2c_j0 = w2c_l8;
-  w2c_i0 = !(w2c_j0);
-  if (w2c_i0) {goto w2c_B5;}
-  w2c_B13:;
-  w2c_j0 = w2c_p4;
-  w2c_j1 = w2c_l5;
-  w2c_j0 += w2c_j1;
-  w2c_p1 = w2c_j0;
-  w2c_j0 = w2c_p3;
-  w2c_j1 = w2c_l12;
-  w2c_j2 = w2c_l5;
+  w2c_j2 = 240ull;
   w2c_j1 += w2c_j2;
-  w2c_j0 += w2c_j1;
-  w2c_l5 = w2c_j0;
-  w2c_L15: 
-    w2c_j0 = w2c_l5;
-    w2c_i0 = (u32)(w2c_j0);
-    w2c_j1 = w2c_p1;
-    w2c_i1 = (u32)(w2c_j1);
-    w2c_i1 = i32_load8_u(&instance->w2c_memory, (u64)(w2c_i1));
-    i32_store8(&instance->w2c_memory, (u64)(w2c_i0), w2c_i1);
-    w2c_j0 = w2c_l5;
-    w2c_j1 = 1ull;
-    w2c_j0 += w2c_j1;
-    w2c_l5 = w2c_j0;
-    w2c_j0 = w2c_p1;
-    w2c_j1 = 1ull;
-    w2c_j0 += w2c_j1;
-    w2c_p1 = w2c_j0;
-    w2c_j0 = w2c_l8;
-    w2c_j1 = 18446744073709551615ull;
-    w2c_j0 += w2c_j1;
-    w2c_l8 = w2c_j0;
-    w2c_j1 = 0ull;
-    w2c_i0 = w2c_j0 != w2c_j1;
-    if (w2c_i0) {goto w2c_L15;}
-    goto w2c_B5;
-  UNREACHABLE;
-  w2c_B12:;
-  w2c_i0 = w2c_p2;
-  if (w2c_i0) {goto w2c_B18;}
-  w2c_j0 = 0ull;
-  w2c_l6 = w2c_j0;
-  w2c_j0 = w2c_l8;
-  w2c_i0 = !(w2c_j0);
-  if (w2c_i0) {goto w2c_B16;}
-  w2c_L19: 
-    w2c_j0 = w2c_l10;
-    w2c_i0 = (u32)(w2c_j0);
-    w2c_i0 = i32_load16_u(&instance->w2c_memory, (u64)(w2c_i0));
-    w2c_i1 = w2c_l14;
-    w2c_i0 = w2c_i0 == w2c_i1;
-    if (w2c_i0) {goto w2c_B17;}
-    w2c_j0 = w2c_l10;
-    w2c_j1 = 64ull;
-    w2c_j0 += w2c_j1;
-    w2c_l10 = w2c_j0;
-    w2c_j0 = w2c_l8;
-    w2c_j1 = 18446744073709551615ull;
-    w2c_j0 += w2c_j1;
-    w2c_l8 = w2c_j0;
-    w2c_i0 = !(w2c_j0);
-    w2c_i0 = !(w2c_i0);
-    if (w2c_i0) {goto w2c_L19;}
-    goto w2c_B16;
-  UNREACHABLE;
-  w2c_B18:;
-  w2c_j0 = 0ull;
-  w2c_l6 = w2c_j0;
-  w2c_j0 = w2c_l8;
-  w2c_j1 = w2c_l7;
-  w2c_j2 = 264ull;
-  w2c_j1 += w2c_j2;
-  w2c_i1 = (u32)(w2c_j1);
-  w2c_j1 = i64_load(&instance->w2c_memory, (u64)(w2c_i1));
-  w2c_j2 = w2c_l11;
-  w2c_j3 = 1ull;
-  w2c_j2 <<= (w2c_j3 & 63);
-  w2c_j1 += w2c_j2;
-  w2c_i1 = (u32)(w2c_j1);
-  w2c_j1 = i64_load16_u(&instance->w2c_memory, (u64)(w2c_i1));
-  w2c_p1 = w2c_j1;
-  w2c_i0 = w2c_j0 <= w2c_j1;
-  if (w2c_i0) {goto w2c_B16;}
-  w2c_j0 = w2c_l10;
-  w2c_j1 = w2c_p1;
-  w2c_j2 = 6ull;
-  w2c_j1 <<= (w2c_j2 & 63);
-  w2c_j2 = 0ull;
-  w2c_j3 = w2c_l8;
-  w2c_j4 = w2c_p1;
-  w2c_i3 = w2c_j3 > w2c_j4;
-  w2c_j1 = w2c_i3 ? w2c_j1 : w2c_j2;
-  w2c_j0 += w2c_j1;
-  w2c_l10 = w2c_j0;
-  w2c_B17:;
-  w2c_j0 = w2c_l10;
-  w2c_j1 = 40ull;
-  w2c_j0 += w2c_j1;
-  w2c_i0 = (u32)(w2c_j0);
-  w2c_j0 = i64_load(&instance->w2c_memory, (u64)(w2c_i0));
-  w2c_i0 = !(w2c_j0);
-  w2c_i0 = !(w2c_i0);
-  if (w2c_i0) {goto w2c_B20;}
-  w2c_j0 = 0ull;
-  w2c_l6 = w2c_j0;
-  goto w2c_B16;
-  w2c_B20:;
-  w2c_j0 = w2c_l10;
-  w2c_j1 = 24ull;
-  w2c_j0 += w2c_j1;
-  w2c_i0 = (u32)(w2c_j0);
-  w2c_j0 = i64_load(&instance->w2c_memory, (u64)(w2c_i0));
-  w2c_j1 = 0ull;
-  w2c_i0 = w2c_j0 == w2c_j1;
-  if (w2c_i0) {goto w2c_B7;}
-  w2c_j0 = w2c_l10;
-  w2c_j1 = 8ull;
-  w2c_j0 += w2c_j1;
-  w2c_i0 = (u32)(w2c_j0);
-  w2c_j0 = i64_load(&instance->w2c_memory, (u64)(w2c_i0));
-  w2c_j1 = w2c_l10;
-  w2c_j2 = 32ull;
-  w2c_j1 += w2c_j2;
-  w2c_i1 = (u32)(w2c_j1);
-  w2c_j1 = i64_load(&instance->w2c_memory, (u64)(w2c_i1));
-  w2c_p1 = w2c_j1;
-  w2c_j2 = 0ull;
-  w2c_j3 = w2c_l10;
-  w2c_j4 = 16ull;
+  w2c_i2 = w2c_p2;
+  w2c_i3 = 255u;
+  w2c_i2 &= w2c_i3;
+  w2c_j3 = w2c_p3;
+  w2c_j4 = 4096ull;
+  w2c_j5 = 0ull;
+  w2c_j6 = w2c_p3;
+  w2c_i6 = !(w2c_j6);
+  w2c_j4 = w2c_i6 ? w2c_j4 : w2c_j5;
   w2c_j3 += w2c_j4;
-  w2c_i3 = (u32)(w2c_j3);
-  w2c_j3 = i64_load(&instance->w2c_memory, (u64)(w2c_i3));
-  w2c_l5 = w2c_j3;
-  w2c_j4 = w2c_p1;
-  w2c_j5 = w2c_l5;
-  w2c_i4 = w2c_j4 < w2c_j5;
-  w2c_j2 = w2c_i4 ? w2c_j2 : w2c_j3;
-  w2c_j1 -= w2c_j2;
-  w2c_j2 = 5ull;
-  w2c_j1 <<= (w2c_j2 & 63);
-  w2c_j0 += w2c_j1;
-  w2c_j1 = 24ull;
-  w2c_j0 += w2c_j1;
+  w2c_j4 = w2c_p4;
+  w2c_f34(instance, w2c_j0, w2c_j1, w2c_i2, w2c_j3, w2c_j4);
+  w2c_j0 = w2c_l5;
   w2c_i0 = (u32)(w2c_j0);
-  w2c_j0 = i64_load(&instance->w2c_memory, (u64)(w2c_i0));
-  w2c_l6 = w2c_j0;
-  w2c_B16:;
-  w2c_i0 = 50u;
-  w2c_p2 = w2c_i0;
-  goto w2c_B2;
-  w2c_B8:;
-  w2c_i0 = 73u;
-  w2c_p2 = w2c_i0;
-  goto w2c_B2;
-  w2c_B7:;
-  UNREACHABLE;
-  w2c_B6:;
-  w2c_j0 = w2c_l11;
-  w2c_j1 = w2c_p4;
-  w2c_j2 = w2c_l6;
-  w2c_j0 = w2c_f4(instance, w2c_j0, w2c_j1, w2c_j2);
-  w2c_B5:;
-  w2c_j0 = w2c_l9;
-  w2c_i1 = w2c_l14;
-  w2c_f34(instance, w2c_j0, w2c_i1);
-  w2c_j0 = w2c_l7;
+  w2c_j0 = i64_load(&instance->w2c_memory, (u64)(w2c_i0) + 16u);
+  w2c_p1 = w2c_j0;
+  w2c_j0 = w2c_l5;
+  w2c_i0 = (u32)(w2c_j0);
+  w2c_i0 = i32_load8_u(&instance->w2c_memory, (u64)(w2c_i0) + 8u);
+  if (w2c_i0) {goto w2c_B3;}
+  w2c_j0 = w2c_l6;
   w2c_j1 = 288ull;
   w2c_j0 += w2c_j1;
-  w2c_p1 = w2c_j0;
+  w2c_p3 = w2c_j0;
   w2c_i0 = (u32)(w2c_j0);
   w2c_j1 = 18446744073709551615ull;
-  w2c_j2 = w2c_p1;
+  w2c_j2 = w2c_p3;
   w2c_i2 = (u32)(w2c_j2);
   w2c_j2 = i64_load(&instance->w2c_memory, (u64)(w2c_i2));
   w2c_j3 = 1ull;
   w2c_j2 += w2c_j3;
-  w2c_p1 = w2c_j2;
-  w2c_j3 = w2c_p1;
+  w2c_p3 = w2c_j2;
+  w2c_j3 = w2c_p3;
   w2c_i3 = !(w2c_j3);
   w2c_j1 = w2c_i3 ? w2c_j1 : w2c_j2;
   i64_store(&instance->w2c_memory, (u64)(w2c_i0), w2c_j1);
   w2c_i0 = 0u;
   w2c_p2 = w2c_i0;
   goto w2c_B2;
-  w2c_B4:;
-  w2c_i0 = w2c_p2;
-  if (w2c_i0) {goto w2c_B22;}
-  w2c_i0 = 73u;
-  w2c_p2 = w2c_i0;
-  w2c_j0 = w2c_l8;
-  w2c_i0 = !(w2c_j0);
-  w2c_i0 = !(w2c_i0);
-  if (w2c_i0) {goto w2c_B23;}
-  w2c_j0 = 0ull;
-  w2c_l6 = w2c_j0;
-  goto w2c_B2;
-  w2c_B23:;
-  w2c_L24: 
-    w2c_j0 = w2c_l10;
-    w2c_i0 = (u32)(w2c_j0);
-    w2c_i0 = i32_load16_u(&instance->w2c_memory, (u64)(w2c_i0));
-    w2c_i1 = w2c_l14;
-    w2c_i0 = w2c_i0 == w2c_i1;
-    if (w2c_i0) {goto w2c_B21;}
-    w2c_j0 = w2c_l10;
-    w2c_j1 = 64ull;
-    w2c_j0 += w2c_j1;
-    w2c_l10 = w2c_j0;
-    w2c_j0 = w2c_l8;
-    w2c_j1 = 18446744073709551615ull;
-    w2c_j0 += w2c_j1;
-    w2c_l8 = w2c_j0;
-    w2c_i0 = !(w2c_j0);
-    w2c_i0 = !(w2c_i0);
-    if (w2c_i0) {goto w2c_L24;}
-  w2c_j0 = 0ull;
-  w2c_l6 = w2c_j0;
-  goto w2c_B2;
-  w2c_B22:;
-  w2c_j0 = w2c_l8;
-  w2c_j1 = w2c_l7;
-  w2c_j2 = 264ull;
-  w2c_j1 += w2c_j2;
-  w2c_i1 = (u32)(w2c_j1);
-  w2c_j1 = i64_load(&instance->w2c_memory, (u64)(w2c_i1));
-  w2c_j2 = w2c_l11;
-  w2c_j3 = 1ull;
-  w2c_j2 <<= (w2c_j3 & 63);
-  w2c_j1 += w2c_j2;
-  w2c_i1 = (u32)(w2c_j1);
-  w2c_j1 = i64_load16_u(&instance->w2c_memory, (u64)(w2c_i1));
-  w2c_i0 = w2c_j0 <= w2c_j1;
-  if (w2c_i0) {goto w2c_B3;}
-  w2c_B21:;
-  w2c_j0 = 0ull;
-  w2c_l6 = w2c_j0;
-  w2c_i0 = 74u;
-  w2c_p2 = w2c_i0;
-  goto w2c_B2;
   w2c_B3:;
+  w2c_j0 = w2c_p1;
+  w2c_j1 = 255ull;
+  w2c_j0 &= w2c_j1;
+  w2c_p3 = w2c_j0;
   w2c_j0 = 0ull;
-  w2c_l6 = w2c_j0;
+  w2c_p1 = w2c_j0;
   w2c_i0 = 73u;
+  w2c_p2 = w2c_i0;
+  w2c_j0 = w2c_p3;
+  w2c_i0 = (u32)(w2c_j0);
+  switch (w2c_i0) {
+    case 0: goto w2c_B2;
+    case 1: goto w2c_B4;
+    case 2: goto w2c_B5;
+    default: goto w2c_B2;
+  }
+  w2c_B5:;
+  w2c_j0 = w2c_l5;
+  w2c_i0 = (u32)(w2c_j0);
+  w2c_j0 = i64_load(&instance->w2c_memory, (u64)(w2c_i0) + 24u);
+  w2c_j1 = 0ull;
+  w2c_j2 = w2c_p3;
+  w2c_j3 = 2ull;
+  w2c_i2 = w2c_j2 == w2c_j3;
+  w2c_j0 = w2c_i2 ? w2c_j0 : w2c_j1;
+  w2c_p1 = w2c_j0;
+  w2c_i0 = 50u;
+  w2c_p2 = w2c_i0;
+  goto w2c_B2;
+  w2c_B4:;
+  w2c_j0 = 0ull;
+  w2c_p1 = w2c_j0;
+  w2c_i0 = 74u;
   w2c_p2 = w2c_i0;
   w2c_B2:;
   w2c_i0 = w2c_p2;
   w2c_j0 = (u64)(w2c_i0);
-  w2c_l5 = w2c_j0;
+  w2c_p3 = w2c_j0;
   w2c_B0:;
   w2c_j0 = w2c_p0;
   w2c_i0 = (u32)(w2c_j0);
-  w2c_j1 = w2c_l6;
+  w2c_j1 = w2c_p1;
   i64_store(&instance->w2c_memory, (u64)(w2c_i0) + 8, w2c_j1);
   w2c_j0 = w2c_p0;
   w2c_i0 = (u32)(w2c_j0);
-  w2c_j1 = w2c_l5;
+  w2c_j1 = w2c_p3;
   i64_store(&instance->w2c_memory, (u64)(w2c_i0), w2c_j1);
+  w2c_j0 = w2c_l5;
+  w2c_j1 = 32ull;
+  w2c_j0 += w2c_j1;
+  instance->w2c_g0 = w2c_j0;
   FUNC_EPILOGUE;
 }
 
@@ -12819,7 +12361,7 @@ static void w2c_f36(Z_tcrx_instance_t* instance, u64 w2c_p0, u64 w2c_p1, u64 w2c
   w2c_j1 = 2ull;
   w2c_j0 <<= (w2c_j1 & 63);
   w2c_i0 = (u32)(w2c_j0);
-  w2c_j0 = i64_load32_u(&instance->w2c_memory, (u64)(w2c_i0) + 22460u);
+  w2c_j0 = i64_load32_u(&instance->w2c_memory, (u64)(w2c_i0) + 23356u);
   w2c_l8 = w2c_j0;
   w2c_j0 = 0ull;
   w2c_l9 = w2c_j0;
@@ -13032,7 +12574,7 @@ static void w2c_f37(Z_tcrx_instance_t* instance, u64 w2c_p0, u64 w2c_p1, u64 w2c
   w2c_j1 = 2ull;
   w2c_j0 <<= (w2c_j1 & 63);
   w2c_i0 = (u32)(w2c_j0);
-  w2c_j0 = i64_load32_u(&instance->w2c_memory, (u64)(w2c_i0) + 22460u);
+  w2c_j0 = i64_load32_u(&instance->w2c_memory, (u64)(w2c_i0) + 23356u);
   w2c_p4 = w2c_j0;
   w2c_j0 = 0ull;
   w2c_p2 = w2c_j0;
@@ -13248,7 +12790,7 @@ static void w2c_f37(Z_tcrx_instance_t* instance, u64 w2c_p0, u64 w2c_p1, u64 w2c
     w2c_j3 = 255ull;
     w2c_j2 &= w2c_j3;
     w2c_i2 = (u32)(w2c_j2);
-    w2c_i2 = i32_load8_u(&instance->w2c_memory, (u64)(w2c_i2) + 20434u);
+    w2c_i2 = i32_load8_u(&instance->w2c_memory, (u64)(w2c_i2) + 21330u);
     w2c_l13 = w2c_i2;
     w2c_i1 ^= w2c_i2;
     i32_store8(&instance->w2c_memory, (u64)(w2c_i0), w2c_i1);
@@ -13265,7 +12807,7 @@ static void w2c_f37(Z_tcrx_instance_t* instance, u64 w2c_p0, u64 w2c_p1, u64 w2c
     w2c_j3 = 255ull;
     w2c_j2 &= w2c_j3;
     w2c_i2 = (u32)(w2c_j2);
-    w2c_i2 = i32_load8_u(&instance->w2c_memory, (u64)(w2c_i2) + 20434u);
+    w2c_i2 = i32_load8_u(&instance->w2c_memory, (u64)(w2c_i2) + 21330u);
     w2c_l13 = w2c_i2;
     w2c_i1 ^= w2c_i2;
     i32_store8(&instance->w2c_memory, (u64)(w2c_i0), w2c_i1);
@@ -13282,7 +12824,7 @@ static void w2c_f37(Z_tcrx_instance_t* instance, u64 w2c_p0, u64 w2c_p1, u64 w2c
     w2c_j3 = 255ull;
     w2c_j2 &= w2c_j3;
     w2c_i2 = (u32)(w2c_j2);
-    w2c_i2 = i32_load8_u(&instance->w2c_memory, (u64)(w2c_i2) + 20434u);
+    w2c_i2 = i32_load8_u(&instance->w2c_memory, (u64)(w2c_i2) + 21330u);
     w2c_l13 = w2c_i2;
     w2c_i1 ^= w2c_i2;
     i32_store8(&instance->w2c_memory, (u64)(w2c_i0), w2c_i1);
@@ -13295,7 +12837,7 @@ static void w2c_f37(Z_tcrx_instance_t* instance, u64 w2c_p0, u64 w2c_p1, u64 w2c
     w2c_j1 = 255ull;
     w2c_j0 &= w2c_j1;
     w2c_i0 = (u32)(w2c_j0);
-    w2c_i0 = i32_load8_u(&instance->w2c_memory, (u64)(w2c_i0) + 20434u);
+    w2c_i0 = i32_load8_u(&instance->w2c_memory, (u64)(w2c_i0) + 21330u);
     w2c_l13 = w2c_i0;
     w2c_j0 = w2c_l12;
     w2c_j1 = 18446744073709551614ull;
@@ -13329,7 +12871,7 @@ static void w2c_f37(Z_tcrx_instance_t* instance, u64 w2c_p0, u64 w2c_p1, u64 w2c
   w2c_j3 = 255ull;
   w2c_j2 &= w2c_j3;
   w2c_i2 = (u32)(w2c_j2);
-  w2c_i2 = i32_load8_u(&instance->w2c_memory, (u64)(w2c_i2) + 20434u);
+  w2c_i2 = i32_load8_u(&instance->w2c_memory, (u64)(w2c_i2) + 21330u);
   w2c_l13 = w2c_i2;
   w2c_i1 ^= w2c_i2;
   i32_store8(&instance->w2c_memory, (u64)(w2c_i0) + 1, w2c_i1);
@@ -13342,7 +12884,7 @@ static void w2c_f37(Z_tcrx_instance_t* instance, u64 w2c_p0, u64 w2c_p1, u64 w2c
   w2c_j1 = 255ull;
   w2c_j0 &= w2c_j1;
   w2c_i0 = (u32)(w2c_j0);
-  w2c_i0 = i32_load8_u(&instance->w2c_memory, (u64)(w2c_i0) + 20434u);
+  w2c_i0 = i32_load8_u(&instance->w2c_memory, (u64)(w2c_i0) + 21330u);
   w2c_l13 = w2c_i0;
   w2c_B12:;
   w2c_j0 = w2c_l8;
@@ -13389,7 +12931,7 @@ static void w2c_f38(Z_tcrx_instance_t* instance, u64 w2c_p0, u32 w2c_p1, u64 w2c
   u64 w2c_j0, w2c_j1, w2c_j2, w2c_j3;
   w2c_j0 = 0ull;
   w2c_l4 = w2c_j0;
-  w2c_j0 = 20694ull;
+  w2c_j0 = 21590ull;
   w2c_l5 = w2c_j0;
   w2c_j0 = 19ull;
   w2c_l6 = w2c_j0;
@@ -13494,329 +13036,329 @@ static void w2c_f38(Z_tcrx_instance_t* instance, u64 w2c_p0, u32 w2c_p1, u64 w2c
     default: goto w2c_B0;
   }
   w2c_B58:;
-  w2c_j0 = 20690ull;
+  w2c_j0 = 21586ull;
   w2c_l5 = w2c_j0;
   w2c_j0 = 4ull;
   w2c_l6 = w2c_j0;
   goto w2c_B1;
   w2c_B57:;
-  w2c_j0 = 20713ull;
+  w2c_j0 = 21609ull;
   w2c_l5 = w2c_j0;
   goto w2c_B1;
   w2c_B56:;
-  w2c_j0 = 20732ull;
+  w2c_j0 = 21628ull;
   w2c_l5 = w2c_j0;
   w2c_j0 = 23ull;
   w2c_l6 = w2c_j0;
   goto w2c_B1;
   w2c_B55:;
-  w2c_j0 = 20755ull;
+  w2c_j0 = 21651ull;
   w2c_l5 = w2c_j0;
   w2c_j0 = 42ull;
   w2c_l6 = w2c_j0;
   goto w2c_B1;
   w2c_B54:;
-  w2c_j0 = 20797ull;
+  w2c_j0 = 21693ull;
   w2c_l5 = w2c_j0;
   w2c_j0 = 49ull;
   w2c_l6 = w2c_j0;
   goto w2c_B1;
   w2c_B53:;
-  w2c_j0 = 20846ull;
+  w2c_j0 = 21742ull;
   w2c_l5 = w2c_j0;
   w2c_j0 = 23ull;
   w2c_l6 = w2c_j0;
   goto w2c_B1;
   w2c_B52:;
-  w2c_j0 = 20869ull;
+  w2c_j0 = 21765ull;
   w2c_l5 = w2c_j0;
   w2c_j0 = 33ull;
   w2c_l6 = w2c_j0;
   goto w2c_B1;
   w2c_B51:;
-  w2c_j0 = 20902ull;
+  w2c_j0 = 21798ull;
   w2c_l5 = w2c_j0;
   w2c_j0 = 38ull;
   w2c_l6 = w2c_j0;
   goto w2c_B1;
   w2c_B50:;
-  w2c_j0 = 20940ull;
+  w2c_j0 = 21836ull;
   w2c_l5 = w2c_j0;
   w2c_j0 = 39ull;
   w2c_l6 = w2c_j0;
   goto w2c_B1;
   w2c_B49:;
-  w2c_j0 = 20979ull;
+  w2c_j0 = 21875ull;
   w2c_l5 = w2c_j0;
   w2c_j0 = 23ull;
   w2c_l6 = w2c_j0;
   goto w2c_B1;
   w2c_B48:;
-  w2c_j0 = 21002ull;
+  w2c_j0 = 21898ull;
   w2c_l5 = w2c_j0;
   w2c_j0 = 41ull;
   w2c_l6 = w2c_j0;
   goto w2c_B1;
   w2c_B47:;
-  w2c_j0 = 21043ull;
+  w2c_j0 = 21939ull;
   w2c_l5 = w2c_j0;
   w2c_j0 = 9ull;
   w2c_l6 = w2c_j0;
   goto w2c_B1;
   w2c_B46:;
-  w2c_j0 = 21052ull;
+  w2c_j0 = 21948ull;
   w2c_l5 = w2c_j0;
   w2c_j0 = 49ull;
   w2c_l6 = w2c_j0;
   goto w2c_B1;
   w2c_B45:;
-  w2c_j0 = 21101ull;
+  w2c_j0 = 21997ull;
   w2c_l5 = w2c_j0;
   w2c_j0 = 36ull;
   w2c_l6 = w2c_j0;
   goto w2c_B1;
   w2c_B44:;
-  w2c_j0 = 21137ull;
+  w2c_j0 = 22033ull;
   w2c_l5 = w2c_j0;
   w2c_j0 = 36ull;
   w2c_l6 = w2c_j0;
   goto w2c_B1;
   w2c_B43:;
-  w2c_j0 = 21173ull;
+  w2c_j0 = 22069ull;
   w2c_l5 = w2c_j0;
   w2c_j0 = 37ull;
   w2c_l6 = w2c_j0;
   goto w2c_B1;
   w2c_B42:;
-  w2c_j0 = 21210ull;
+  w2c_j0 = 22106ull;
   w2c_l5 = w2c_j0;
   w2c_j0 = 37ull;
   w2c_l6 = w2c_j0;
   goto w2c_B1;
   w2c_B41:;
-  w2c_j0 = 21247ull;
+  w2c_j0 = 22143ull;
   w2c_l5 = w2c_j0;
   w2c_j0 = 42ull;
   w2c_l6 = w2c_j0;
   goto w2c_B1;
   w2c_B40:;
-  w2c_j0 = 21289ull;
+  w2c_j0 = 22185ull;
   w2c_l5 = w2c_j0;
   w2c_j0 = 47ull;
   w2c_l6 = w2c_j0;
   goto w2c_B1;
   w2c_B39:;
-  w2c_j0 = 21336ull;
+  w2c_j0 = 22232ull;
   w2c_l5 = w2c_j0;
   w2c_j0 = 22ull;
   w2c_l6 = w2c_j0;
   goto w2c_B1;
   w2c_B38:;
-  w2c_j0 = 21358ull;
+  w2c_j0 = 22254ull;
   w2c_l5 = w2c_j0;
   w2c_j0 = 28ull;
   w2c_l6 = w2c_j0;
   goto w2c_B1;
   w2c_B37:;
-  w2c_j0 = 21386ull;
+  w2c_j0 = 22282ull;
   w2c_l5 = w2c_j0;
   w2c_j0 = 25ull;
   w2c_l6 = w2c_j0;
   goto w2c_B1;
   w2c_B36:;
-  w2c_j0 = 21411ull;
+  w2c_j0 = 22307ull;
   w2c_l5 = w2c_j0;
   w2c_j0 = 36ull;
   w2c_l6 = w2c_j0;
   goto w2c_B1;
   w2c_B35:;
-  w2c_j0 = 21447ull;
+  w2c_j0 = 22343ull;
   w2c_l5 = w2c_j0;
   w2c_j0 = 24ull;
   w2c_l6 = w2c_j0;
   goto w2c_B1;
   w2c_B34:;
-  w2c_j0 = 21471ull;
+  w2c_j0 = 22367ull;
   w2c_l5 = w2c_j0;
   w2c_j0 = 37ull;
   w2c_l6 = w2c_j0;
   goto w2c_B1;
   w2c_B33:;
-  w2c_j0 = 21508ull;
+  w2c_j0 = 22404ull;
   w2c_l5 = w2c_j0;
   w2c_j0 = 33ull;
   w2c_l6 = w2c_j0;
   goto w2c_B1;
   w2c_B32:;
-  w2c_j0 = 21541ull;
+  w2c_j0 = 22437ull;
   w2c_l5 = w2c_j0;
   w2c_j0 = 28ull;
   w2c_l6 = w2c_j0;
   goto w2c_B1;
   w2c_B31:;
-  w2c_j0 = 21569ull;
+  w2c_j0 = 22465ull;
   w2c_l5 = w2c_j0;
   w2c_j0 = 24ull;
   w2c_l6 = w2c_j0;
   goto w2c_B1;
   w2c_B30:;
-  w2c_j0 = 21593ull;
+  w2c_j0 = 22489ull;
   w2c_l5 = w2c_j0;
   w2c_j0 = 23ull;
   w2c_l6 = w2c_j0;
   goto w2c_B1;
   w2c_B29:;
-  w2c_j0 = 21616ull;
+  w2c_j0 = 22512ull;
   w2c_l5 = w2c_j0;
   w2c_j0 = 17ull;
   w2c_l6 = w2c_j0;
   goto w2c_B1;
   w2c_B28:;
-  w2c_j0 = 21633ull;
+  w2c_j0 = 22529ull;
   w2c_l5 = w2c_j0;
   w2c_j0 = 14ull;
   w2c_l6 = w2c_j0;
   goto w2c_B1;
   w2c_B27:;
-  w2c_j0 = 21647ull;
+  w2c_j0 = 22543ull;
   w2c_l5 = w2c_j0;
   w2c_j0 = 40ull;
   w2c_l6 = w2c_j0;
   goto w2c_B1;
   w2c_B26:;
-  w2c_j0 = 21687ull;
+  w2c_j0 = 22583ull;
   w2c_l5 = w2c_j0;
   w2c_j0 = 33ull;
   w2c_l6 = w2c_j0;
   goto w2c_B1;
   w2c_B25:;
-  w2c_j0 = 21720ull;
+  w2c_j0 = 22616ull;
   w2c_l5 = w2c_j0;
   w2c_j0 = 24ull;
   w2c_l6 = w2c_j0;
   goto w2c_B1;
   w2c_B24:;
-  w2c_j0 = 21744ull;
+  w2c_j0 = 22640ull;
   w2c_l5 = w2c_j0;
   w2c_j0 = 34ull;
   w2c_l6 = w2c_j0;
   goto w2c_B1;
   w2c_B23:;
-  w2c_j0 = 21778ull;
+  w2c_j0 = 22674ull;
   w2c_l5 = w2c_j0;
   w2c_j0 = 16ull;
   w2c_l6 = w2c_j0;
   goto w2c_B1;
   w2c_B22:;
-  w2c_j0 = 21794ull;
+  w2c_j0 = 22690ull;
   w2c_l5 = w2c_j0;
   w2c_j0 = 21ull;
   w2c_l6 = w2c_j0;
   goto w2c_B1;
   w2c_B21:;
-  w2c_j0 = 21815ull;
+  w2c_j0 = 22711ull;
   w2c_l5 = w2c_j0;
   w2c_j0 = 43ull;
   w2c_l6 = w2c_j0;
   goto w2c_B1;
   w2c_B20:;
-  w2c_j0 = 21858ull;
+  w2c_j0 = 22754ull;
   w2c_l5 = w2c_j0;
   w2c_j0 = 45ull;
   w2c_l6 = w2c_j0;
   goto w2c_B1;
   w2c_B19:;
-  w2c_j0 = 21903ull;
+  w2c_j0 = 22799ull;
   w2c_l5 = w2c_j0;
   w2c_j0 = 18ull;
   w2c_l6 = w2c_j0;
   goto w2c_B1;
   w2c_B18:;
-  w2c_j0 = 21921ull;
+  w2c_j0 = 22817ull;
   w2c_l5 = w2c_j0;
   w2c_j0 = 25ull;
   w2c_l6 = w2c_j0;
   goto w2c_B1;
   w2c_B17:;
-  w2c_j0 = 21946ull;
+  w2c_j0 = 22842ull;
   w2c_l5 = w2c_j0;
   w2c_j0 = 22ull;
   w2c_l6 = w2c_j0;
   goto w2c_B1;
   w2c_B16:;
-  w2c_j0 = 21968ull;
+  w2c_j0 = 22864ull;
   w2c_l5 = w2c_j0;
   w2c_j0 = 21ull;
   w2c_l6 = w2c_j0;
   goto w2c_B1;
   w2c_B15:;
-  w2c_j0 = 21989ull;
+  w2c_j0 = 22885ull;
   w2c_l5 = w2c_j0;
   goto w2c_B1;
   w2c_B14:;
-  w2c_j0 = 22008ull;
+  w2c_j0 = 22904ull;
   w2c_l5 = w2c_j0;
   goto w2c_B2;
   w2c_B13:;
-  w2c_j0 = 22043ull;
+  w2c_j0 = 22939ull;
   w2c_l5 = w2c_j0;
   w2c_j0 = 38ull;
   w2c_l6 = w2c_j0;
   goto w2c_B1;
   w2c_B12:;
-  w2c_j0 = 22081ull;
+  w2c_j0 = 22977ull;
   w2c_l5 = w2c_j0;
   w2c_j0 = 47ull;
   w2c_l6 = w2c_j0;
   goto w2c_B1;
   w2c_B11:;
-  w2c_j0 = 22128ull;
+  w2c_j0 = 23024ull;
   w2c_l5 = w2c_j0;
   w2c_j0 = 29ull;
   w2c_l6 = w2c_j0;
   goto w2c_B1;
   w2c_B10:;
-  w2c_j0 = 22157ull;
+  w2c_j0 = 23053ull;
   w2c_l5 = w2c_j0;
   w2c_j0 = 20ull;
   w2c_l6 = w2c_j0;
   goto w2c_B1;
   w2c_B9:;
-  w2c_j0 = 22177ull;
+  w2c_j0 = 23073ull;
   w2c_l5 = w2c_j0;
   w2c_j0 = 43ull;
   w2c_l6 = w2c_j0;
   goto w2c_B1;
   w2c_B8:;
-  w2c_j0 = 22220ull;
+  w2c_j0 = 23116ull;
   w2c_l5 = w2c_j0;
   w2c_j0 = 54ull;
   w2c_l6 = w2c_j0;
   goto w2c_B1;
   w2c_B7:;
-  w2c_j0 = 22274ull;
+  w2c_j0 = 23170ull;
   w2c_l5 = w2c_j0;
   w2c_j0 = 25ull;
   w2c_l6 = w2c_j0;
   goto w2c_B1;
   w2c_B6:;
-  w2c_j0 = 22299ull;
+  w2c_j0 = 23195ull;
   w2c_l5 = w2c_j0;
   goto w2c_B2;
   w2c_B5:;
-  w2c_j0 = 22334ull;
+  w2c_j0 = 23230ull;
   w2c_l5 = w2c_j0;
   w2c_j0 = 53ull;
   w2c_l6 = w2c_j0;
   goto w2c_B1;
   w2c_B4:;
-  w2c_j0 = 22387ull;
+  w2c_j0 = 23283ull;
   w2c_l5 = w2c_j0;
   w2c_j0 = 37ull;
   w2c_l6 = w2c_j0;
   goto w2c_B1;
   w2c_B3:;
-  w2c_j0 = 22424ull;
+  w2c_j0 = 23320ull;
   w2c_l5 = w2c_j0;
   w2c_B2:;
   w2c_j0 = 35ull;
@@ -14004,7 +13546,7 @@ static void w2c_f39(Z_tcrx_instance_t* instance, u64 w2c_p0, u64 w2c_p1, u64 w2c
   w2c_j1 = 2ull;
   w2c_j0 <<= (w2c_j1 & 63);
   w2c_i0 = (u32)(w2c_j0);
-  w2c_j0 = i64_load32_u(&instance->w2c_memory, (u64)(w2c_i0) + 22460u);
+  w2c_j0 = i64_load32_u(&instance->w2c_memory, (u64)(w2c_i0) + 23356u);
   w2c_l7 = w2c_j0;
   goto w2c_B0;
   w2c_B1:;
@@ -14043,7 +13585,7 @@ static void w2c_f39(Z_tcrx_instance_t* instance, u64 w2c_p0, u64 w2c_p1, u64 w2c
   w2c_j1 = w2c_i3 ? w2c_j1 : w2c_j2;
   w2c_j0 += w2c_j1;
   w2c_l9 = w2c_j0;
-  w2c_j1 = 18384ull;
+  w2c_j1 = 19280ull;
   w2c_j0 -= w2c_j1;
   w2c_j1 = 1ull;
   w2c_i0 = w2c_j0 > w2c_j1;
@@ -14081,7 +13623,7 @@ static void w2c_f39(Z_tcrx_instance_t* instance, u64 w2c_p0, u64 w2c_p1, u64 w2c
     w2c_j1 = i64_load8_u(&instance->w2c_memory, (u64)(w2c_i1));
     w2c_p3 = w2c_j1;
     w2c_i1 = (u32)(w2c_j1);
-    w2c_i1 = i32_load8_u(&instance->w2c_memory, (u64)(w2c_i1) + 18120u);
+    w2c_i1 = i32_load8_u(&instance->w2c_memory, (u64)(w2c_i1) + 19016u);
     w2c_j2 = w2c_l6;
     w2c_j3 = 1ull;
     w2c_j2 += w2c_j3;
@@ -14089,7 +13631,7 @@ static void w2c_f39(Z_tcrx_instance_t* instance, u64 w2c_p0, u64 w2c_p1, u64 w2c
     w2c_j2 = i64_load8_u(&instance->w2c_memory, (u64)(w2c_i2));
     w2c_p1 = w2c_j2;
     w2c_i2 = (u32)(w2c_j2);
-    w2c_i2 = i32_load8_u(&instance->w2c_memory, (u64)(w2c_i2) + 17864u);
+    w2c_i2 = i32_load8_u(&instance->w2c_memory, (u64)(w2c_i2) + 18760u);
     w2c_i1 ^= w2c_i2;
     w2c_j2 = w2c_l6;
     w2c_j3 = 2ull;
@@ -14098,7 +13640,7 @@ static void w2c_f39(Z_tcrx_instance_t* instance, u64 w2c_p0, u64 w2c_p1, u64 w2c
     w2c_j2 = i64_load8_u(&instance->w2c_memory, (u64)(w2c_i2));
     w2c_p4 = w2c_j2;
     w2c_i2 = (u32)(w2c_j2);
-    w2c_i2 = i32_load8_u(&instance->w2c_memory, (u64)(w2c_i2) + 17608u);
+    w2c_i2 = i32_load8_u(&instance->w2c_memory, (u64)(w2c_i2) + 18504u);
     w2c_i1 ^= w2c_i2;
     w2c_j2 = w2c_l6;
     w2c_j3 = 3ull;
@@ -14107,7 +13649,7 @@ static void w2c_f39(Z_tcrx_instance_t* instance, u64 w2c_p0, u64 w2c_p1, u64 w2c
     w2c_j2 = i64_load8_u(&instance->w2c_memory, (u64)(w2c_i2));
     w2c_l10 = w2c_j2;
     w2c_i2 = (u32)(w2c_j2);
-    w2c_i2 = i32_load8_u(&instance->w2c_memory, (u64)(w2c_i2) + 17352u);
+    w2c_i2 = i32_load8_u(&instance->w2c_memory, (u64)(w2c_i2) + 18248u);
     w2c_i1 ^= w2c_i2;
     w2c_j2 = w2c_l6;
     w2c_j3 = 4ull;
@@ -14116,7 +13658,7 @@ static void w2c_f39(Z_tcrx_instance_t* instance, u64 w2c_p0, u64 w2c_p1, u64 w2c
     w2c_j2 = i64_load8_u(&instance->w2c_memory, (u64)(w2c_i2));
     w2c_l11 = w2c_j2;
     w2c_i2 = (u32)(w2c_j2);
-    w2c_i2 = i32_load8_u(&instance->w2c_memory, (u64)(w2c_i2) + 17096u);
+    w2c_i2 = i32_load8_u(&instance->w2c_memory, (u64)(w2c_i2) + 17992u);
     w2c_i1 ^= w2c_i2;
     w2c_j2 = w2c_l6;
     w2c_j3 = 5ull;
@@ -14125,7 +13667,7 @@ static void w2c_f39(Z_tcrx_instance_t* instance, u64 w2c_p0, u64 w2c_p1, u64 w2c
     w2c_j2 = i64_load8_u(&instance->w2c_memory, (u64)(w2c_i2));
     w2c_l12 = w2c_j2;
     w2c_i2 = (u32)(w2c_j2);
-    w2c_i2 = i32_load8_u(&instance->w2c_memory, (u64)(w2c_i2) + 16840u);
+    w2c_i2 = i32_load8_u(&instance->w2c_memory, (u64)(w2c_i2) + 17736u);
     w2c_i1 ^= w2c_i2;
     w2c_j2 = w2c_l6;
     w2c_j3 = 6ull;
@@ -14134,7 +13676,7 @@ static void w2c_f39(Z_tcrx_instance_t* instance, u64 w2c_p0, u64 w2c_p1, u64 w2c
     w2c_j2 = i64_load8_u(&instance->w2c_memory, (u64)(w2c_i2));
     w2c_l13 = w2c_j2;
     w2c_i2 = (u32)(w2c_j2);
-    w2c_i2 = i32_load8_u(&instance->w2c_memory, (u64)(w2c_i2) + 16584u);
+    w2c_i2 = i32_load8_u(&instance->w2c_memory, (u64)(w2c_i2) + 17480u);
     w2c_i1 ^= w2c_i2;
     w2c_i2 = 4294967295u;
     w2c_i1 ^= w2c_i2;
@@ -14212,48 +13754,48 @@ static void w2c_f39(Z_tcrx_instance_t* instance, u64 w2c_p0, u64 w2c_p1, u64 w2c
   w2c_j1 = i64_load8_u(&instance->w2c_memory, (u64)(w2c_i1) + 9u);
   w2c_l6 = w2c_j1;
   w2c_i1 = (u32)(w2c_j1);
-  w2c_i1 = i32_load8_u(&instance->w2c_memory, (u64)(w2c_i1) + 18120u);
+  w2c_i1 = i32_load8_u(&instance->w2c_memory, (u64)(w2c_i1) + 19016u);
   w2c_j2 = w2c_l5;
   w2c_i2 = (u32)(w2c_j2);
   w2c_j2 = i64_load8_u(&instance->w2c_memory, (u64)(w2c_i2) + 10u);
   w2c_p2 = w2c_j2;
   w2c_i2 = (u32)(w2c_j2);
-  w2c_i2 = i32_load8_u(&instance->w2c_memory, (u64)(w2c_i2) + 17864u);
+  w2c_i2 = i32_load8_u(&instance->w2c_memory, (u64)(w2c_i2) + 18760u);
   w2c_i1 ^= w2c_i2;
   w2c_j2 = w2c_l5;
   w2c_i2 = (u32)(w2c_j2);
   w2c_j2 = i64_load8_u(&instance->w2c_memory, (u64)(w2c_i2) + 11u);
   w2c_p3 = w2c_j2;
   w2c_i2 = (u32)(w2c_j2);
-  w2c_i2 = i32_load8_u(&instance->w2c_memory, (u64)(w2c_i2) + 17608u);
+  w2c_i2 = i32_load8_u(&instance->w2c_memory, (u64)(w2c_i2) + 18504u);
   w2c_i1 ^= w2c_i2;
   w2c_j2 = w2c_l5;
   w2c_i2 = (u32)(w2c_j2);
   w2c_j2 = i64_load8_u(&instance->w2c_memory, (u64)(w2c_i2) + 12u);
   w2c_p1 = w2c_j2;
   w2c_i2 = (u32)(w2c_j2);
-  w2c_i2 = i32_load8_u(&instance->w2c_memory, (u64)(w2c_i2) + 17352u);
+  w2c_i2 = i32_load8_u(&instance->w2c_memory, (u64)(w2c_i2) + 18248u);
   w2c_i1 ^= w2c_i2;
   w2c_j2 = w2c_l5;
   w2c_i2 = (u32)(w2c_j2);
   w2c_j2 = i64_load8_u(&instance->w2c_memory, (u64)(w2c_i2) + 13u);
   w2c_p4 = w2c_j2;
   w2c_i2 = (u32)(w2c_j2);
-  w2c_i2 = i32_load8_u(&instance->w2c_memory, (u64)(w2c_i2) + 17096u);
+  w2c_i2 = i32_load8_u(&instance->w2c_memory, (u64)(w2c_i2) + 17992u);
   w2c_i1 ^= w2c_i2;
   w2c_j2 = w2c_l5;
   w2c_i2 = (u32)(w2c_j2);
   w2c_j2 = i64_load8_u(&instance->w2c_memory, (u64)(w2c_i2) + 14u);
   w2c_l10 = w2c_j2;
   w2c_i2 = (u32)(w2c_j2);
-  w2c_i2 = i32_load8_u(&instance->w2c_memory, (u64)(w2c_i2) + 16840u);
+  w2c_i2 = i32_load8_u(&instance->w2c_memory, (u64)(w2c_i2) + 17736u);
   w2c_i1 ^= w2c_i2;
   w2c_j2 = w2c_l5;
   w2c_i2 = (u32)(w2c_j2);
   w2c_j2 = i64_load8_u(&instance->w2c_memory, (u64)(w2c_i2) + 15u);
   w2c_l11 = w2c_j2;
   w2c_i2 = (u32)(w2c_j2);
-  w2c_i2 = i32_load8_u(&instance->w2c_memory, (u64)(w2c_i2) + 16584u);
+  w2c_i2 = i32_load8_u(&instance->w2c_memory, (u64)(w2c_i2) + 17480u);
   w2c_i1 ^= w2c_i2;
   w2c_i2 = 4294967295u;
   w2c_i1 ^= w2c_i2;
@@ -14296,7 +13838,7 @@ static void w2c_f39(Z_tcrx_instance_t* instance, u64 w2c_p0, u64 w2c_p1, u64 w2c
   w2c_j1 = w2c_l7;
   w2c_j0 += w2c_j1;
   w2c_l6 = w2c_j0;
-  w2c_j1 = 18376ull;
+  w2c_j1 = 19272ull;
   w2c_j0 -= w2c_j1;
   w2c_j1 = 7ull;
   w2c_i0 = w2c_j0 > w2c_j1;
@@ -14605,7 +14147,7 @@ static void w2c_f40(Z_tcrx_instance_t* instance, u64 w2c_p0, u64 w2c_p1, u64 w2c
   w2c_j1 = 2ull;
   w2c_j0 <<= (w2c_j1 & 63);
   w2c_i0 = (u32)(w2c_j0);
-  w2c_j0 = i64_load32_u(&instance->w2c_memory, (u64)(w2c_i0) + 22460u);
+  w2c_j0 = i64_load32_u(&instance->w2c_memory, (u64)(w2c_i0) + 23356u);
   w2c_p1 = w2c_j0;
   w2c_B0:;
   w2c_j0 = w2c_p0;
@@ -15044,7 +14586,7 @@ static void w2c_f42(Z_tcrx_instance_t* instance, u64 w2c_p0, u64 w2c_p1, u64 w2c
   w2c_j1 = 2ull;
   w2c_j0 <<= (w2c_j1 & 63);
   w2c_i0 = (u32)(w2c_j0);
-  w2c_j0 = i64_load32_u(&instance->w2c_memory, (u64)(w2c_i0) + 22460u);
+  w2c_j0 = i64_load32_u(&instance->w2c_memory, (u64)(w2c_i0) + 23356u);
   w2c_p1 = w2c_j0;
   w2c_B0:;
   w2c_j0 = w2c_p0;
@@ -15420,7 +14962,7 @@ static void w2c_f43(Z_tcrx_instance_t* instance, u64 w2c_p0, u64 w2c_p1, u32 w2c
   w2c_j1 = 2ull;
   w2c_j0 <<= (w2c_j1 & 63);
   w2c_i0 = (u32)(w2c_j0);
-  w2c_j0 = i64_load32_u(&instance->w2c_memory, (u64)(w2c_i0) + 22460u);
+  w2c_j0 = i64_load32_u(&instance->w2c_memory, (u64)(w2c_i0) + 23356u);
   w2c_l11 = w2c_j0;
   w2c_B0:;
   w2c_j0 = w2c_p0;
@@ -15696,7 +15238,7 @@ static void w2c_f44(Z_tcrx_instance_t* instance, u64 w2c_p0, u64 w2c_p1, u32 w2c
     w2c_j1 = 1ull;
     w2c_j0 <<= (w2c_j1 & 63);
     w2c_i0 = (u32)(w2c_j0);
-    w2c_i0 = i32_load16_u(&instance->w2c_memory, (u64)(w2c_i0) + 18898u);
+    w2c_i0 = i32_load16_u(&instance->w2c_memory, (u64)(w2c_i0) + 19794u);
     w2c_j1 = w2c_l8;
     w2c_i1 = (u32)(w2c_j1);
     w2c_i1 = i32_load8_u(&instance->w2c_memory, (u64)(w2c_i1));
@@ -15708,7 +15250,7 @@ static void w2c_f44(Z_tcrx_instance_t* instance, u64 w2c_p0, u64 w2c_p1, u32 w2c
     w2c_j2 = 1ull;
     w2c_j1 <<= (w2c_j2 & 63);
     w2c_i1 = (u32)(w2c_j1);
-    w2c_i1 = i32_load16_u(&instance->w2c_memory, (u64)(w2c_i1) + 18386u);
+    w2c_i1 = i32_load16_u(&instance->w2c_memory, (u64)(w2c_i1) + 19282u);
     w2c_i0 ^= w2c_i1;
     w2c_j1 = w2c_l8;
     w2c_j2 = 2ull;
@@ -15718,7 +15260,7 @@ static void w2c_f44(Z_tcrx_instance_t* instance, u64 w2c_p0, u64 w2c_p1, u32 w2c
     w2c_j2 = 1ull;
     w2c_j1 <<= (w2c_j2 & 63);
     w2c_i1 = (u32)(w2c_j1);
-    w2c_i1 = i32_load16_u(&instance->w2c_memory, (u64)(w2c_i1) + 19410u);
+    w2c_i1 = i32_load16_u(&instance->w2c_memory, (u64)(w2c_i1) + 20306u);
     w2c_i0 ^= w2c_i1;
     w2c_j1 = w2c_l8;
     w2c_j2 = 3ull;
@@ -15728,7 +15270,7 @@ static void w2c_f44(Z_tcrx_instance_t* instance, u64 w2c_p0, u64 w2c_p1, u32 w2c
     w2c_j2 = 1ull;
     w2c_j1 <<= (w2c_j2 & 63);
     w2c_i1 = (u32)(w2c_j1);
-    w2c_i1 = i32_load16_u(&instance->w2c_memory, (u64)(w2c_i1) + 19922u);
+    w2c_i1 = i32_load16_u(&instance->w2c_memory, (u64)(w2c_i1) + 20818u);
     w2c_i0 ^= w2c_i1;
     w2c_p2 = w2c_i0;
     w2c_i1 = 65280u;
@@ -15816,7 +15358,7 @@ static void w2c_f44(Z_tcrx_instance_t* instance, u64 w2c_p0, u64 w2c_p1, u32 w2c
   w2c_j1 = 2ull;
   w2c_j0 <<= (w2c_j1 & 63);
   w2c_i0 = (u32)(w2c_j0);
-  w2c_j0 = i64_load32_u(&instance->w2c_memory, (u64)(w2c_i0) + 22460u);
+  w2c_j0 = i64_load32_u(&instance->w2c_memory, (u64)(w2c_i0) + 23356u);
   w2c_l8 = w2c_j0;
   w2c_B0:;
   w2c_j0 = w2c_p0;
@@ -15853,7 +15395,7 @@ static u32 w2c_module_add_fecf(Z_tcrx_instance_t* instance, u64 w2c_p0, u32 w2c_
   w2c_j1 = w2c_l4;
   w2c_i1 = (u32)(w2c_j1);
   w2c_j1 = i64_load(&instance->w2c_memory, (u64)(w2c_i1) + 8u);
-  i64_store(&instance->w2c_memory, (u64)(w2c_i0) + 22864, w2c_j1);
+  i64_store(&instance->w2c_memory, (u64)(w2c_i0) + 23760, w2c_j1);
   w2c_j0 = w2c_l4;
   w2c_i0 = (u32)(w2c_j0);
   w2c_i0 = i32_load(&instance->w2c_memory, (u64)(w2c_i0));
@@ -15879,14 +15421,14 @@ static u32 w2c_module_channel_buffered(Z_tcrx_instance_t* instance) {
   w2c_l0 = w2c_j0;
   instance->w2c_g0 = w2c_j0;
   w2c_j0 = w2c_l0;
-  w2c_j1 = 27032ull;
+  w2c_j1 = 27928ull;
   w2c_f8(instance, w2c_j0, w2c_j1);
   w2c_j0 = 0ull;
   w2c_i0 = (u32)(w2c_j0);
   w2c_j1 = w2c_l0;
   w2c_i1 = (u32)(w2c_j1);
   w2c_j1 = i64_load(&instance->w2c_memory, (u64)(w2c_i1) + 8u);
-  i64_store(&instance->w2c_memory, (u64)(w2c_i0) + 22864, w2c_j1);
+  i64_store(&instance->w2c_memory, (u64)(w2c_i0) + 23760, w2c_j1);
   w2c_j0 = w2c_l0;
   w2c_i0 = (u32)(w2c_j0);
   w2c_i0 = i32_load(&instance->w2c_memory, (u64)(w2c_i0));
@@ -15907,7 +15449,7 @@ static u32 w2c_module_channel_clcw(Z_tcrx_instance_t* instance, u32 w2c_p0, u32 
   u64 w2c_j0, w2c_j1, w2c_j2, w2c_j3, w2c_j4;
   w2c_j0 = 0ull;
   w2c_i0 = (u32)(w2c_j0);
-  w2c_i0 = i32_load8_u(&instance->w2c_memory, (u64)(w2c_i0) + 27032u);
+  w2c_i0 = i32_load8_u(&instance->w2c_memory, (u64)(w2c_i0) + 27928u);
   w2c_i1 = 1u;
   w2c_i0 = w2c_i0 == w2c_i1;
   if (w2c_i0) {goto w2c_B1;}
@@ -15928,7 +15470,7 @@ static u32 w2c_module_channel_clcw(Z_tcrx_instance_t* instance, u32 w2c_p0, u32 
   w2c_B2:;
   w2c_j0 = 0ull;
   w2c_i0 = (u32)(w2c_j0);
-  w2c_j0 = i64_load(&instance->w2c_memory, (u64)(w2c_i0) + 27040u);
+  w2c_j0 = i64_load(&instance->w2c_memory, (u64)(w2c_i0) + 27936u);
   w2c_l2 = w2c_j0;
   w2c_j1 = 92ull;
   w2c_j0 += w2c_j1;
@@ -15998,7 +15540,7 @@ static u32 w2c_module_channel_clcw(Z_tcrx_instance_t* instance, u32 w2c_p0, u32 
   w2c_j1 = w2c_l2;
   w2c_j2 = 32ull;
   w2c_j1 >>= (w2c_j2 & 63);
-  i64_store32(&instance->w2c_memory, (u64)(w2c_i0) + 22864, w2c_j1);
+  i64_store32(&instance->w2c_memory, (u64)(w2c_i0) + 23760, w2c_j1);
   w2c_j0 = w2c_l2;
   w2c_i0 = (u32)(w2c_j0);
   FUNC_EPILOGUE;
@@ -16017,14 +15559,14 @@ static u32 w2c_module_channel_events(Z_tcrx_instance_t* instance) {
   w2c_l0 = w2c_j0;
   instance->w2c_g0 = w2c_j0;
   w2c_j0 = w2c_l0;
-  w2c_j1 = 27032ull;
+  w2c_j1 = 27928ull;
   w2c_f9(instance, w2c_j0, w2c_j1);
   w2c_j0 = 0ull;
   w2c_i0 = (u32)(w2c_j0);
   w2c_j1 = w2c_l0;
   w2c_i1 = (u32)(w2c_j1);
   w2c_j1 = i64_load(&instance->w2c_memory, (u64)(w2c_i1) + 8u);
-  i64_store(&instance->w2c_memory, (u64)(w2c_i0) + 22864, w2c_j1);
+  i64_store(&instance->w2c_memory, (u64)(w2c_i0) + 23760, w2c_j1);
   w2c_j0 = w2c_l0;
   w2c_i0 = (u32)(w2c_j0);
   w2c_i0 = i32_load(&instance->w2c_memory, (u64)(w2c_i0));
@@ -16049,7 +15591,7 @@ static u32 w2c_module_channel_frame(Z_tcrx_instance_t* instance, u64 w2c_p0, u32
   w2c_l2 = w2c_j0;
   instance->w2c_g0 = w2c_j0;
   w2c_j0 = w2c_l2;
-  w2c_j1 = 27032ull;
+  w2c_j1 = 27928ull;
   w2c_j2 = w2c_p0;
   w2c_j3 = 4096ull;
   w2c_j4 = 0ull;
@@ -16066,7 +15608,7 @@ static u32 w2c_module_channel_frame(Z_tcrx_instance_t* instance, u64 w2c_p0, u32
   w2c_i1 = (u32)(w2c_j1);
   w2c_j1 = i64_load(&instance->w2c_memory, (u64)(w2c_i1) + 8u);
   w2c_p0 = w2c_j1;
-  i64_store32(&instance->w2c_memory, (u64)(w2c_i0) + 22868, w2c_j1);
+  i64_store32(&instance->w2c_memory, (u64)(w2c_i0) + 23764, w2c_j1);
   w2c_j0 = 0ull;
   w2c_i0 = (u32)(w2c_j0);
   w2c_j1 = w2c_l2;
@@ -16075,7 +15617,7 @@ static u32 w2c_module_channel_frame(Z_tcrx_instance_t* instance, u64 w2c_p0, u32
   w2c_l3 = w2c_j1;
   w2c_j2 = 32ull;
   w2c_j1 >>= (w2c_j2 & 63);
-  i64_store32(&instance->w2c_memory, (u64)(w2c_i0) + 22864, w2c_j1);
+  i64_store32(&instance->w2c_memory, (u64)(w2c_i0) + 23760, w2c_j1);
   w2c_j0 = 0ull;
   w2c_i0 = (u32)(w2c_j0);
   w2c_j1 = w2c_p0;
@@ -16084,7 +15626,7 @@ static u32 w2c_module_channel_frame(Z_tcrx_instance_t* instance, u64 w2c_p0, u32
   w2c_i1 = (u32)(w2c_j1);
   w2c_i2 = 255u;
   w2c_i1 &= w2c_i2;
-  i32_store(&instance->w2c_memory, (u64)(w2c_i0) + 22880, w2c_i1);
+  i32_store(&instance->w2c_memory, (u64)(w2c_i0) + 23776, w2c_i1);
   w2c_j0 = 0ull;
   w2c_i0 = (u32)(w2c_j0);
   w2c_j1 = w2c_p0;
@@ -16093,7 +15635,7 @@ static u32 w2c_module_channel_frame(Z_tcrx_instance_t* instance, u64 w2c_p0, u32
   w2c_i1 = (u32)(w2c_j1);
   w2c_i2 = 255u;
   w2c_i1 &= w2c_i2;
-  i32_store(&instance->w2c_memory, (u64)(w2c_i0) + 22876, w2c_i1);
+  i32_store(&instance->w2c_memory, (u64)(w2c_i0) + 23772, w2c_i1);
   w2c_j0 = 0ull;
   w2c_i0 = (u32)(w2c_j0);
   w2c_j1 = w2c_p0;
@@ -16102,7 +15644,7 @@ static u32 w2c_module_channel_frame(Z_tcrx_instance_t* instance, u64 w2c_p0, u32
   w2c_i1 = (u32)(w2c_j1);
   w2c_i2 = 255u;
   w2c_i1 &= w2c_i2;
-  i32_store(&instance->w2c_memory, (u64)(w2c_i0) + 22872, w2c_i1);
+  i32_store(&instance->w2c_memory, (u64)(w2c_i0) + 23768, w2c_i1);
   w2c_j0 = w2c_l2;
   w2c_j1 = 16ull;
   w2c_j0 += w2c_j1;
@@ -16121,15 +15663,15 @@ static u32 w2c_module_channel_free(Z_tcrx_instance_t* instance) {
   w2c_j0 = 0ull;
   w2c_i0 = (u32)(w2c_j0);
   w2c_j1 = 0ull;
-  i64_store(&instance->w2c_memory, (u64)(w2c_i0) + 27040, w2c_j1);
+  i64_store(&instance->w2c_memory, (u64)(w2c_i0) + 27936, w2c_j1);
   w2c_j0 = 0ull;
   w2c_i0 = (u32)(w2c_j0);
-  w2c_i0 = i32_load8_u(&instance->w2c_memory, (u64)(w2c_i0) + 27032u);
+  w2c_i0 = i32_load8_u(&instance->w2c_memory, (u64)(w2c_i0) + 27928u);
   w2c_l0 = w2c_i0;
   w2c_j0 = 0ull;
   w2c_i0 = (u32)(w2c_j0);
   w2c_j1 = 0ull;
-  i64_store(&instance->w2c_memory, (u64)(w2c_i0) + 27032, w2c_j1);
+  i64_store(&instance->w2c_memory, (u64)(w2c_i0) + 27928, w2c_j1);
   w2c_i0 = 0u;
   w2c_i1 = 70u;
   w2c_i2 = w2c_l0;
@@ -16158,7 +15700,7 @@ static u32 w2c_module_channel_new(Z_tcrx_instance_t* instance, u64 w2c_p0, u32 w
   w2c_j0 += w2c_j1;
   w2c_j1 = 0ull;
   w2c_i1 = (u32)(w2c_j1);
-  w2c_i1 = i32_load(&instance->w2c_memory, (u64)(w2c_i1) + 22880u);
+  w2c_i1 = i32_load(&instance->w2c_memory, (u64)(w2c_i1) + 23776u);
   w2c_l23 = w2c_i1;
   w2c_j1 = (u64)(w2c_i1);
   w2c_j2 = 32ull;
@@ -16166,20 +15708,20 @@ static u32 w2c_module_channel_new(Z_tcrx_instance_t* instance, u64 w2c_p0, u32 w
   w2c_l5 = w2c_j1;
   w2c_j2 = 0ull;
   w2c_i2 = (u32)(w2c_j2);
-  w2c_i2 = i32_load(&instance->w2c_memory, (u64)(w2c_i2) + 22876u);
+  w2c_i2 = i32_load(&instance->w2c_memory, (u64)(w2c_i2) + 23772u);
   w2c_i3 = 24u;
   w2c_i2 <<= (w2c_i3 & 31);
   w2c_l24 = w2c_i2;
   w2c_j3 = 0ull;
   w2c_i3 = (u32)(w2c_j3);
-  w2c_i3 = i32_load8_u(&instance->w2c_memory, (u64)(w2c_i3) + 22864u);
+  w2c_i3 = i32_load8_u(&instance->w2c_memory, (u64)(w2c_i3) + 23760u);
   w2c_l25 = w2c_i3;
   w2c_i2 |= w2c_i3;
   w2c_j2 = (u64)(w2c_i2);
   w2c_j1 |= w2c_j2;
   w2c_j2 = 0ull;
   w2c_i2 = (u32)(w2c_j2);
-  w2c_j2 = i64_load32_u(&instance->w2c_memory, (u64)(w2c_i2) + 22872u);
+  w2c_j2 = i64_load32_u(&instance->w2c_memory, (u64)(w2c_i2) + 23768u);
   w2c_j3 = 16ull;
   w2c_j2 <<= (w2c_j3 & 63);
   w2c_j3 = 16711680ull;
@@ -16188,7 +15730,7 @@ static u32 w2c_module_channel_new(Z_tcrx_instance_t* instance, u64 w2c_p0, u32 w
   w2c_j1 |= w2c_j2;
   w2c_j2 = 0ull;
   w2c_i2 = (u32)(w2c_j2);
-  w2c_j2 = i64_load32_u(&instance->w2c_memory, (u64)(w2c_i2) + 22868u);
+  w2c_j2 = i64_load32_u(&instance->w2c_memory, (u64)(w2c_i2) + 23764u);
   w2c_j3 = 8ull;
   w2c_j2 <<= (w2c_j3 & 63);
   w2c_j3 = 65280ull;
@@ -16236,13 +15778,13 @@ static u32 w2c_module_channel_new(Z_tcrx_instance_t* instance, u64 w2c_p0, u32 w
   w2c_l5 = w2c_j0;
   w2c_j0 = 0ull;
   w2c_i0 = (u32)(w2c_j0);
-  w2c_i0 = i32_load(&instance->w2c_memory, (u64)(w2c_i0) + 22876u);
+  w2c_i0 = i32_load(&instance->w2c_memory, (u64)(w2c_i0) + 23772u);
   w2c_i1 = 24u;
   w2c_i0 <<= (w2c_i1 & 31);
   w2c_l24 = w2c_i0;
   w2c_j0 = 0ull;
   w2c_i0 = (u32)(w2c_j0);
-  w2c_j0 = i64_load32_u(&instance->w2c_memory, (u64)(w2c_i0) + 22868u);
+  w2c_j0 = i64_load32_u(&instance->w2c_memory, (u64)(w2c_i0) + 23764u);
   w2c_j1 = 8ull;
   w2c_j0 <<= (w2c_j1 & 63);
   w2c_j1 = 65280ull;
@@ -16250,7 +15792,7 @@ static u32 w2c_module_channel_new(Z_tcrx_instance_t* instance, u64 w2c_p0, u32 w
   w2c_l7 = w2c_j0;
   w2c_j0 = 0ull;
   w2c_i0 = (u32)(w2c_j0);
-  w2c_j0 = i64_load32_u(&instance->w2c_memory, (u64)(w2c_i0) + 22872u);
+  w2c_j0 = i64_load32_u(&instance->w2c_memory, (u64)(w2c_i0) + 23768u);
   w2c_j1 = 16ull;
   w2c_j0 <<= (w2c_j1 & 63);
   w2c_j1 = 16711680ull;
@@ -16258,16 +15800,16 @@ static u32 w2c_module_channel_new(Z_tcrx_instance_t* instance, u64 w2c_p0, u32 w
   w2c_l6 = w2c_j0;
   w2c_j0 = 0ull;
   w2c_i0 = (u32)(w2c_j0);
-  w2c_i0 = i32_load(&instance->w2c_memory, (u64)(w2c_i0) + 22880u);
+  w2c_i0 = i32_load(&instance->w2c_memory, (u64)(w2c_i0) + 23776u);
   w2c_p3 = w2c_i0;
   w2c_j0 = 0ull;
   w2c_i0 = (u32)(w2c_j0);
-  w2c_i0 = i32_load(&instance->w2c_memory, (u64)(w2c_i0) + 22864u);
+  w2c_i0 = i32_load(&instance->w2c_memory, (u64)(w2c_i0) + 23760u);
   w2c_l25 = w2c_i0;
   w2c_B1:;
   w2c_j0 = 0ull;
   w2c_i0 = (u32)(w2c_j0);
-  w2c_i0 = i32_load8_u(&instance->w2c_memory, (u64)(w2c_i0) + 27032u);
+  w2c_i0 = i32_load8_u(&instance->w2c_memory, (u64)(w2c_i0) + 27928u);
   w2c_i0 = !(w2c_i0);
   if (w2c_i0) {goto w2c_B4;}
   w2c_i0 = 71u;
@@ -16435,7 +15977,7 @@ static u32 w2c_module_channel_new(Z_tcrx_instance_t* instance, u64 w2c_p0, u32 w
   w2c_j1 = 255ull;
   w2c_j0 &= w2c_j1;
   w2c_i0 = (u32)(w2c_j0);
-  w2c_j0 = i64_load8_u(&instance->w2c_memory, (u64)(w2c_i0) + 22688u);
+  w2c_j0 = i64_load8_u(&instance->w2c_memory, (u64)(w2c_i0) + 23584u);
   w2c_l10 = w2c_j0;
   goto w2c_B6;
   w2c_B7:;
@@ -16821,7 +16363,7 @@ static u32 w2c_module_channel_new(Z_tcrx_instance_t* instance, u64 w2c_p0, u32 w
   w2c_j1 = 2ull;
   w2c_j0 <<= (w2c_j1 & 63);
   w2c_i0 = (u32)(w2c_j0);
-  w2c_i0 = i32_load(&instance->w2c_memory, (u64)(w2c_i0) + 22460u);
+  w2c_i0 = i32_load(&instance->w2c_memory, (u64)(w2c_i0) + 23356u);
   w2c_p3 = w2c_i0;
   goto w2c_B0;
   w2c_B5:;
@@ -16926,21 +16468,21 @@ static u32 w2c_module_channel_new(Z_tcrx_instance_t* instance, u64 w2c_p0, u32 w
   w2c_j0 = 0ull;
   w2c_i0 = (u32)(w2c_j0);
   w2c_i1 = 1u;
-  i32_store8(&instance->w2c_memory, (u64)(w2c_i0) + 27032, w2c_i1);
+  i32_store8(&instance->w2c_memory, (u64)(w2c_i0) + 27928, w2c_i1);
   w2c_i0 = 0u;
   w2c_p3 = w2c_i0;
   w2c_j0 = 0ull;
   w2c_i0 = (u32)(w2c_j0);
   w2c_i1 = 0u;
-  i32_store(&instance->w2c_memory, (u64)(w2c_i0) + 27033, w2c_i1);
+  i32_store(&instance->w2c_memory, (u64)(w2c_i0) + 27929, w2c_i1);
   w2c_j0 = 0ull;
   w2c_i0 = (u32)(w2c_j0);
   w2c_i1 = 0u;
-  i32_store(&instance->w2c_memory, (u64)(w2c_i0) + 27036, w2c_i1);
+  i32_store(&instance->w2c_memory, (u64)(w2c_i0) + 27932, w2c_i1);
   w2c_j0 = 0ull;
   w2c_i0 = (u32)(w2c_j0);
   w2c_j1 = w2c_p2;
-  i64_store(&instance->w2c_memory, (u64)(w2c_i0) + 27040, w2c_j1);
+  i64_store(&instance->w2c_memory, (u64)(w2c_i0) + 27936, w2c_j1);
   w2c_B0:;
   w2c_j0 = w2c_l4;
   w2c_j1 = 864ull;
@@ -16967,7 +16509,7 @@ static u32 w2c_module_channel_new_with_limits(Z_tcrx_instance_t* instance, u64 w
   w2c_j0 = w2c_l7;
   w2c_j1 = 0ull;
   w2c_i1 = (u32)(w2c_j1);
-  w2c_i1 = i32_load(&instance->w2c_memory, (u64)(w2c_i1) + 22880u);
+  w2c_i1 = i32_load(&instance->w2c_memory, (u64)(w2c_i1) + 23776u);
   w2c_l25 = w2c_i1;
   w2c_j1 = (u64)(w2c_i1);
   w2c_j2 = 32ull;
@@ -16975,20 +16517,20 @@ static u32 w2c_module_channel_new_with_limits(Z_tcrx_instance_t* instance, u64 w
   w2c_l8 = w2c_j1;
   w2c_j2 = 0ull;
   w2c_i2 = (u32)(w2c_j2);
-  w2c_i2 = i32_load(&instance->w2c_memory, (u64)(w2c_i2) + 22876u);
+  w2c_i2 = i32_load(&instance->w2c_memory, (u64)(w2c_i2) + 23772u);
   w2c_i3 = 24u;
   w2c_i2 <<= (w2c_i3 & 31);
   w2c_l26 = w2c_i2;
   w2c_j3 = 0ull;
   w2c_i3 = (u32)(w2c_j3);
-  w2c_i3 = i32_load8_u(&instance->w2c_memory, (u64)(w2c_i3) + 22864u);
+  w2c_i3 = i32_load8_u(&instance->w2c_memory, (u64)(w2c_i3) + 23760u);
   w2c_l27 = w2c_i3;
   w2c_i2 |= w2c_i3;
   w2c_j2 = (u64)(w2c_i2);
   w2c_j1 |= w2c_j2;
   w2c_j2 = 0ull;
   w2c_i2 = (u32)(w2c_j2);
-  w2c_j2 = i64_load32_u(&instance->w2c_memory, (u64)(w2c_i2) + 22872u);
+  w2c_j2 = i64_load32_u(&instance->w2c_memory, (u64)(w2c_i2) + 23768u);
   w2c_j3 = 16ull;
   w2c_j2 <<= (w2c_j3 & 63);
   w2c_j3 = 16711680ull;
@@ -16997,7 +16539,7 @@ static u32 w2c_module_channel_new_with_limits(Z_tcrx_instance_t* instance, u64 w
   w2c_j1 |= w2c_j2;
   w2c_j2 = 0ull;
   w2c_i2 = (u32)(w2c_j2);
-  w2c_j2 = i64_load32_u(&instance->w2c_memory, (u64)(w2c_i2) + 22868u);
+  w2c_j2 = i64_load32_u(&instance->w2c_memory, (u64)(w2c_i2) + 23764u);
   w2c_j3 = 8ull;
   w2c_j2 <<= (w2c_j3 & 63);
   w2c_j3 = 65280ull;
@@ -17052,13 +16594,13 @@ static u32 w2c_module_channel_new_with_limits(Z_tcrx_instance_t* instance, u64 w
   w2c_l8 = w2c_j0;
   w2c_j0 = 0ull;
   w2c_i0 = (u32)(w2c_j0);
-  w2c_i0 = i32_load(&instance->w2c_memory, (u64)(w2c_i0) + 22876u);
+  w2c_i0 = i32_load(&instance->w2c_memory, (u64)(w2c_i0) + 23772u);
   w2c_i1 = 24u;
   w2c_i0 <<= (w2c_i1 & 31);
   w2c_l26 = w2c_i0;
   w2c_j0 = 0ull;
   w2c_i0 = (u32)(w2c_j0);
-  w2c_j0 = i64_load32_u(&instance->w2c_memory, (u64)(w2c_i0) + 22868u);
+  w2c_j0 = i64_load32_u(&instance->w2c_memory, (u64)(w2c_i0) + 23764u);
   w2c_j1 = 8ull;
   w2c_j0 <<= (w2c_j1 & 63);
   w2c_j1 = 65280ull;
@@ -17066,7 +16608,7 @@ static u32 w2c_module_channel_new_with_limits(Z_tcrx_instance_t* instance, u64 w
   w2c_l10 = w2c_j0;
   w2c_j0 = 0ull;
   w2c_i0 = (u32)(w2c_j0);
-  w2c_j0 = i64_load32_u(&instance->w2c_memory, (u64)(w2c_i0) + 22872u);
+  w2c_j0 = i64_load32_u(&instance->w2c_memory, (u64)(w2c_i0) + 23768u);
   w2c_j1 = 16ull;
   w2c_j0 <<= (w2c_j1 & 63);
   w2c_j1 = 16711680ull;
@@ -17074,16 +16616,16 @@ static u32 w2c_module_channel_new_with_limits(Z_tcrx_instance_t* instance, u64 w
   w2c_l9 = w2c_j0;
   w2c_j0 = 0ull;
   w2c_i0 = (u32)(w2c_j0);
-  w2c_i0 = i32_load(&instance->w2c_memory, (u64)(w2c_i0) + 22880u);
+  w2c_i0 = i32_load(&instance->w2c_memory, (u64)(w2c_i0) + 23776u);
   w2c_p3 = w2c_i0;
   w2c_j0 = 0ull;
   w2c_i0 = (u32)(w2c_j0);
-  w2c_i0 = i32_load(&instance->w2c_memory, (u64)(w2c_i0) + 22864u);
+  w2c_i0 = i32_load(&instance->w2c_memory, (u64)(w2c_i0) + 23760u);
   w2c_l27 = w2c_i0;
   w2c_B1:;
   w2c_j0 = 0ull;
   w2c_i0 = (u32)(w2c_j0);
-  w2c_i0 = i32_load8_u(&instance->w2c_memory, (u64)(w2c_i0) + 27032u);
+  w2c_i0 = i32_load8_u(&instance->w2c_memory, (u64)(w2c_i0) + 27928u);
   w2c_i0 = !(w2c_i0);
   if (w2c_i0) {goto w2c_B4;}
   w2c_i0 = 71u;
@@ -17446,7 +16988,7 @@ static u32 w2c_module_channel_new_with_limits(Z_tcrx_instance_t* instance, u64 w
   w2c_i0 = (u32)(w2c_j0);
   w2c_j0 = i64_load8_u(&instance->w2c_memory, (u64)(w2c_i0) + 666u);
   w2c_i0 = (u32)(w2c_j0);
-  w2c_j0 = i64_load8_u(&instance->w2c_memory, (u64)(w2c_i0) + 22688u);
+  w2c_j0 = i64_load8_u(&instance->w2c_memory, (u64)(w2c_i0) + 23584u);
   w2c_p5 = w2c_j0;
   goto w2c_B6;
   w2c_B10:;
@@ -17460,7 +17002,7 @@ static u32 w2c_module_channel_new_with_limits(Z_tcrx_instance_t* instance, u64 w
   w2c_i0 = !(w2c_j0);
   if (w2c_i0) {goto w2c_B6;}
   w2c_j0 = w2c_p0;
-  w2c_j1 = 22928ull;
+  w2c_j1 = 23824ull;
   w2c_j2 = w2c_p0;
   w2c_j3 = 0ull;
   w2c_i2 = w2c_j2 != w2c_j3;
@@ -17930,7 +17472,7 @@ static u32 w2c_module_channel_new_with_limits(Z_tcrx_instance_t* instance, u64 w
   w2c_j1 = 2ull;
   w2c_j0 <<= (w2c_j1 & 63);
   w2c_i0 = (u32)(w2c_j0);
-  w2c_i0 = i32_load(&instance->w2c_memory, (u64)(w2c_i0) + 22460u);
+  w2c_i0 = i32_load(&instance->w2c_memory, (u64)(w2c_i0) + 23356u);
   w2c_p4 = w2c_i0;
   goto w2c_B0;
   w2c_B5:;
@@ -18037,19 +17579,19 @@ static u32 w2c_module_channel_new_with_limits(Z_tcrx_instance_t* instance, u64 w
   w2c_j0 = 0ull;
   w2c_i0 = (u32)(w2c_j0);
   w2c_i1 = 0u;
-  i32_store(&instance->w2c_memory, (u64)(w2c_i0) + 27033, w2c_i1);
+  i32_store(&instance->w2c_memory, (u64)(w2c_i0) + 27929, w2c_i1);
   w2c_j0 = 0ull;
   w2c_i0 = (u32)(w2c_j0);
   w2c_i1 = 1u;
-  i32_store8(&instance->w2c_memory, (u64)(w2c_i0) + 27032, w2c_i1);
+  i32_store8(&instance->w2c_memory, (u64)(w2c_i0) + 27928, w2c_i1);
   w2c_j0 = 0ull;
   w2c_i0 = (u32)(w2c_j0);
   w2c_i1 = 0u;
-  i32_store(&instance->w2c_memory, (u64)(w2c_i0) + 27036, w2c_i1);
+  i32_store(&instance->w2c_memory, (u64)(w2c_i0) + 27932, w2c_i1);
   w2c_j0 = 0ull;
   w2c_i0 = (u32)(w2c_j0);
   w2c_j1 = w2c_p2;
-  i64_store(&instance->w2c_memory, (u64)(w2c_i0) + 27040, w2c_j1);
+  i64_store(&instance->w2c_memory, (u64)(w2c_i0) + 27936, w2c_j1);
   w2c_B0:;
   w2c_j0 = w2c_l7;
   w2c_j1 = 736ull;
@@ -18071,7 +17613,7 @@ static u32 w2c_module_channel_queued(Z_tcrx_instance_t* instance, u32 w2c_p0) {
   w2c_l1 = w2c_j0;
   instance->w2c_g0 = w2c_j0;
   w2c_j0 = w2c_l1;
-  w2c_j1 = 27032ull;
+  w2c_j1 = 27928ull;
   w2c_i2 = w2c_p0;
   w2c_i3 = 65535u;
   w2c_i2 &= w2c_i3;
@@ -18081,7 +17623,7 @@ static u32 w2c_module_channel_queued(Z_tcrx_instance_t* instance, u32 w2c_p0) {
   w2c_j1 = w2c_l1;
   w2c_i1 = (u32)(w2c_j1);
   w2c_j1 = i64_load(&instance->w2c_memory, (u64)(w2c_i1) + 8u);
-  i64_store(&instance->w2c_memory, (u64)(w2c_i0) + 22864, w2c_j1);
+  i64_store(&instance->w2c_memory, (u64)(w2c_i0) + 23760, w2c_j1);
   w2c_j0 = w2c_l1;
   w2c_i0 = (u32)(w2c_j0);
   w2c_i0 = i32_load(&instance->w2c_memory, (u64)(w2c_i0));
@@ -18105,7 +17647,7 @@ static u32 w2c_module_channel_release(Z_tcrx_instance_t* instance) {
   u64 w2c_j0, w2c_j1, w2c_j2, w2c_j3, w2c_j4, w2c_j5;
   w2c_j0 = 0ull;
   w2c_i0 = (u32)(w2c_j0);
-  w2c_i0 = i32_load8_u(&instance->w2c_memory, (u64)(w2c_i0) + 27032u);
+  w2c_i0 = i32_load8_u(&instance->w2c_memory, (u64)(w2c_i0) + 27928u);
   w2c_i1 = 1u;
   w2c_i0 = w2c_i0 == w2c_i1;
   if (w2c_i0) {goto w2c_B2;}
@@ -18117,7 +17659,7 @@ static u32 w2c_module_channel_release(Z_tcrx_instance_t* instance) {
   w2c_B2:;
   w2c_j0 = 0ull;
   w2c_i0 = (u32)(w2c_j0);
-  w2c_j0 = i64_load(&instance->w2c_memory, (u64)(w2c_i0) + 27040u);
+  w2c_j0 = i64_load(&instance->w2c_memory, (u64)(w2c_i0) + 27936u);
   w2c_l2 = w2c_j0;
   w2c_j1 = 128ull;
   w2c_j0 += w2c_j1;
@@ -19164,13 +18706,13 @@ static u32 w2c_module_channel_release(Z_tcrx_instance_t* instance) {
   w2c_j0 = 0ull;
   w2c_i0 = (u32)(w2c_j0);
   w2c_j1 = w2c_l1;
-  i64_store(&instance->w2c_memory, (u64)(w2c_i0) + 22868, w2c_j1);
+  i64_store(&instance->w2c_memory, (u64)(w2c_i0) + 23764, w2c_j1);
   w2c_j0 = 0ull;
   w2c_i0 = (u32)(w2c_j0);
   w2c_j1 = w2c_l0;
   w2c_j2 = 32ull;
   w2c_j1 >>= (w2c_j2 & 63);
-  i64_store32(&instance->w2c_memory, (u64)(w2c_i0) + 22864, w2c_j1);
+  i64_store32(&instance->w2c_memory, (u64)(w2c_i0) + 23760, w2c_j1);
   w2c_j0 = w2c_l0;
   w2c_i0 = (u32)(w2c_j0);
   goto w2c_Bfunc;
@@ -19197,13 +18739,13 @@ static u32 w2c_module_channel_report(Z_tcrx_instance_t* instance) {
   w2c_l1 = w2c_j0;
   w2c_j0 = 0ull;
   w2c_i0 = (u32)(w2c_j0);
-  w2c_i0 = i32_load8_u(&instance->w2c_memory, (u64)(w2c_i0) + 27032u);
+  w2c_i0 = i32_load8_u(&instance->w2c_memory, (u64)(w2c_i0) + 27928u);
   w2c_i1 = 1u;
   w2c_i0 = w2c_i0 != w2c_i1;
   if (w2c_i0) {goto w2c_B0;}
   w2c_j0 = 0ull;
   w2c_i0 = (u32)(w2c_j0);
-  w2c_j0 = i64_load(&instance->w2c_memory, (u64)(w2c_i0) + 27040u);
+  w2c_j0 = i64_load(&instance->w2c_memory, (u64)(w2c_i0) + 27936u);
   w2c_l1 = w2c_j0;
   w2c_j1 = 94ull;
   w2c_j0 += w2c_j1;
@@ -19315,7 +18857,7 @@ static u32 w2c_module_channel_report(Z_tcrx_instance_t* instance) {
   w2c_j3 <<= (w2c_j4 & 63);
   w2c_j2 |= w2c_j3;
   w2c_j1 |= w2c_j2;
-  i64_store(&instance->w2c_memory, (u64)(w2c_i0) + 22864, w2c_j1);
+  i64_store(&instance->w2c_memory, (u64)(w2c_i0) + 23760, w2c_j1);
   w2c_j0 = w2c_l1;
   w2c_i0 = (u32)(w2c_j0);
   FUNC_EPILOGUE;
@@ -19333,7 +18875,7 @@ static u32 w2c_module_channel_take(Z_tcrx_instance_t* instance, u32 w2c_p0, u64 
   w2c_l3 = w2c_j0;
   instance->w2c_g0 = w2c_j0;
   w2c_j0 = w2c_l3;
-  w2c_j1 = 27032ull;
+  w2c_j1 = 27928ull;
   w2c_i2 = w2c_p0;
   w2c_i3 = 65535u;
   w2c_i2 &= w2c_i3;
@@ -19346,7 +18888,7 @@ static u32 w2c_module_channel_take(Z_tcrx_instance_t* instance, u32 w2c_p0, u64 
   w2c_j1 = w2c_l3;
   w2c_i1 = (u32)(w2c_j1);
   w2c_j1 = i64_load(&instance->w2c_memory, (u64)(w2c_i1) + 8u);
-  i64_store(&instance->w2c_memory, (u64)(w2c_i0) + 22864, w2c_j1);
+  i64_store(&instance->w2c_memory, (u64)(w2c_i0) + 23760, w2c_j1);
   w2c_j0 = w2c_l3;
   w2c_i0 = (u32)(w2c_j0);
   w2c_i0 = i32_load(&instance->w2c_memory, (u64)(w2c_i0));
@@ -19371,7 +18913,7 @@ static u32 w2c_module_channel_take_unit(Z_tcrx_instance_t* instance, u32 w2c_p0,
   w2c_l3 = w2c_j0;
   instance->w2c_g0 = w2c_j0;
   w2c_j0 = w2c_l3;
-  w2c_j1 = 27032ull;
+  w2c_j1 = 27928ull;
   w2c_i2 = w2c_p0;
   w2c_i3 = 255u;
   w2c_i2 &= w2c_i3;
@@ -19384,7 +18926,7 @@ static u32 w2c_module_channel_take_unit(Z_tcrx_instance_t* instance, u32 w2c_p0,
   w2c_j1 = w2c_l3;
   w2c_i1 = (u32)(w2c_j1);
   w2c_j1 = i64_load(&instance->w2c_memory, (u64)(w2c_i1) + 8u);
-  i64_store(&instance->w2c_memory, (u64)(w2c_i0) + 22864, w2c_j1);
+  i64_store(&instance->w2c_memory, (u64)(w2c_i0) + 23760, w2c_j1);
   w2c_j0 = w2c_l3;
   w2c_i0 = (u32)(w2c_j0);
   w2c_i0 = i32_load(&instance->w2c_memory, (u64)(w2c_i0));
@@ -19409,7 +18951,7 @@ static u32 w2c_module_channel_units(Z_tcrx_instance_t* instance, u32 w2c_p0) {
   w2c_l1 = w2c_j0;
   instance->w2c_g0 = w2c_j0;
   w2c_j0 = w2c_l1;
-  w2c_j1 = 27032ull;
+  w2c_j1 = 27928ull;
   w2c_i2 = w2c_p0;
   w2c_i3 = 255u;
   w2c_i2 &= w2c_i3;
@@ -19419,7 +18961,7 @@ static u32 w2c_module_channel_units(Z_tcrx_instance_t* instance, u32 w2c_p0) {
   w2c_j1 = w2c_l1;
   w2c_i1 = (u32)(w2c_j1);
   w2c_j1 = i64_load(&instance->w2c_memory, (u64)(w2c_i1) + 8u);
-  i64_store(&instance->w2c_memory, (u64)(w2c_i0) + 22864, w2c_j1);
+  i64_store(&instance->w2c_memory, (u64)(w2c_i0) + 23760, w2c_j1);
   w2c_j0 = w2c_l1;
   w2c_i0 = (u32)(w2c_j0);
   w2c_i0 = i32_load(&instance->w2c_memory, (u64)(w2c_i0));
@@ -19456,7 +18998,7 @@ static u32 w2c_module_check_fecf(Z_tcrx_instance_t* instance, u64 w2c_p0, u32 w2
   w2c_j1 = w2c_l4;
   w2c_i1 = (u32)(w2c_j1);
   w2c_j1 = i64_load(&instance->w2c_memory, (u64)(w2c_i1) + 8u);
-  i64_store(&instance->w2c_memory, (u64)(w2c_i0) + 22864, w2c_j1);
+  i64_store(&instance->w2c_memory, (u64)(w2c_i0) + 23760, w2c_j1);
   w2c_j0 = w2c_l4;
   w2c_i0 = (u32)(w2c_j0);
   w2c_i0 = i32_load(&instance->w2c_memory, (u64)(w2c_i0));
@@ -19679,7 +19221,7 @@ static u32 w2c_module_clcw(Z_tcrx_instance_t* instance, u32 w2c_p0, u32 w2c_p1, 
   w2c_j1 = 2ull;
   w2c_j0 <<= (w2c_j1 & 63);
   w2c_i0 = (u32)(w2c_j0);
-  w2c_j0 = i64_load32_u(&instance->w2c_memory, (u64)(w2c_i0) + 22460u);
+  w2c_j0 = i64_load32_u(&instance->w2c_memory, (u64)(w2c_i0) + 23356u);
   w2c_l5 = w2c_j0;
   w2c_B0:;
   w2c_j0 = 0ull;
@@ -19687,7 +19229,7 @@ static u32 w2c_module_clcw(Z_tcrx_instance_t* instance, u32 w2c_p0, u32 w2c_p1, 
   w2c_j1 = w2c_l5;
   w2c_j2 = 32ull;
   w2c_j1 >>= (w2c_j2 & 63);
-  i64_store32(&instance->w2c_memory, (u64)(w2c_i0) + 22864, w2c_j1);
+  i64_store32(&instance->w2c_memory, (u64)(w2c_i0) + 23760, w2c_j1);
   w2c_j0 = w2c_l5;
   w2c_i0 = (u32)(w2c_j0);
   FUNC_EPILOGUE;
@@ -19695,10 +19237,9 @@ static u32 w2c_module_clcw(Z_tcrx_instance_t* instance, u32 w2c_p0, u32 w2c_p1, 
 }
 
 static u32 w2c_module_cltu_octets(Z_tcrx_instance_t* instance, u64 w2c_p0, u32 w2c_p1, u64 w2c_p2, u32 w2c_p3) {
-  u32 w2c_l19 = 0, w2c_l20 = 0, w2c_l21 = 0, w2c_l22 = 0, w2c_l23 = 0, w2c_l24 = 0, w2c_l25 = 0, w2c_l26 = 0, 
-      w2c_l27 = 0, w2c_l28 = 0, w2c_l29 = 0, w2c_l30 = 0, w2c_l31 = 0;
+  u32 w2c_l18 = 0, w2c_l19 = 0, w2c_l20 = 0, w2c_l21 = 0, w2c_l22 = 0, w2c_l23 = 0, w2c_l24 = 0;
   u64 w2c_l4 = 0, w2c_l5 = 0, w2c_l6 = 0, w2c_l7 = 0, w2c_l8 = 0, w2c_l9 = 0, w2c_l10 = 0, w2c_l11 = 0, 
-      w2c_l12 = 0, w2c_l13 = 0, w2c_l14 = 0, w2c_l15 = 0, w2c_l16 = 0, w2c_l17 = 0, w2c_l18 = 0;
+      w2c_l12 = 0, w2c_l13 = 0, w2c_l14 = 0, w2c_l15 = 0, w2c_l16 = 0, w2c_l17 = 0;
   FUNC_PROLOGUE;
   u32 w2c_i0, w2c_i1, w2c_i2, w2c_i3, w2c_i4;
   u64 w2c_j0, w2c_j1, w2c_j2, w2c_j3;
@@ -19711,80 +19252,63 @@ static u32 w2c_module_cltu_octets(Z_tcrx_instance_t* instance, u64 w2c_p0, u32 w
   w2c_l5 = w2c_j0;
   w2c_j0 = 0ull;
   w2c_i0 = (u32)(w2c_j0);
-  w2c_i0 = i32_load(&instance->w2c_memory, (u64)(w2c_i0) + 22880u);
+  w2c_i0 = i32_load(&instance->w2c_memory, (u64)(w2c_i0) + 23776u);
+  w2c_l18 = w2c_i0;
+  w2c_j0 = 0ull;
+  w2c_i0 = (u32)(w2c_j0);
+  w2c_i0 = i32_load(&instance->w2c_memory, (u64)(w2c_i0) + 23772u);
   w2c_l19 = w2c_i0;
   w2c_j0 = 0ull;
   w2c_i0 = (u32)(w2c_j0);
-  w2c_i0 = i32_load(&instance->w2c_memory, (u64)(w2c_i0) + 22876u);
+  w2c_i0 = i32_load(&instance->w2c_memory, (u64)(w2c_i0) + 23768u);
   w2c_l20 = w2c_i0;
   w2c_j0 = 0ull;
   w2c_i0 = (u32)(w2c_j0);
-  w2c_i0 = i32_load(&instance->w2c_memory, (u64)(w2c_i0) + 22872u);
+  w2c_i0 = i32_load(&instance->w2c_memory, (u64)(w2c_i0) + 23764u);
   w2c_l21 = w2c_i0;
-  w2c_j0 = 0ull;
-  w2c_i0 = (u32)(w2c_j0);
-  w2c_i0 = i32_load(&instance->w2c_memory, (u64)(w2c_i0) + 22868u);
-  w2c_l22 = w2c_i0;
   w2c_j0 = 22ull;
   w2c_l6 = w2c_j0;
   w2c_i0 = 1u;
-  w2c_l23 = w2c_i0;
+  w2c_l22 = w2c_i0;
   w2c_j0 = 0ull;
   w2c_i0 = (u32)(w2c_j0);
-  w2c_i0 = i32_load8_u(&instance->w2c_memory, (u64)(w2c_i0) + 22864u);
-  w2c_l24 = w2c_i0;
-  switch (w2c_i0) {
-    case 0: goto w2c_B3;
-    case 1: goto w2c_B4;
-    default: goto w2c_B2;
-  }
-  w2c_B4:;
-  w2c_i0 = 0u;
+  w2c_i0 = i32_load8_u(&instance->w2c_memory, (u64)(w2c_i0) + 23760u);
   w2c_l23 = w2c_i0;
+  switch (w2c_i0) {
+    case 0: goto w2c_B2;
+    case 1: goto w2c_B3;
+    default: goto w2c_B1;
+  }
   w2c_B3:;
-  w2c_i0 = w2c_l22;
+  w2c_i0 = 0u;
+  w2c_l22 = w2c_i0;
+  w2c_B2:;
+  w2c_i0 = w2c_l21;
   w2c_i1 = 255u;
   w2c_i0 &= w2c_i1;
   w2c_i1 = 1u;
   w2c_i0 = w2c_i0 > w2c_i1;
-  if (w2c_i0) {goto w2c_B2;}
+  if (w2c_i0) {goto w2c_B1;}
   w2c_j0 = 56ull;
   w2c_l6 = w2c_j0;
-  w2c_i0 = w2c_l20;
+  w2c_i0 = w2c_l19;
   w2c_i1 = 255u;
   w2c_i0 &= w2c_i1;
   w2c_i1 = 7u;
   w2c_i0 = w2c_i0 > w2c_i1;
-  if (w2c_i0) {goto w2c_B2;}
-  w2c_i0 = w2c_l19;
+  if (w2c_i0) {goto w2c_B1;}
+  w2c_i0 = w2c_l18;
   w2c_i1 = 65535u;
   w2c_i0 &= w2c_i1;
   w2c_i1 = 1029u;
   w2c_i0 = w2c_i0 > w2c_i1;
-  if (w2c_i0) {goto w2c_B2;}
+  if (w2c_i0) {goto w2c_B1;}
   w2c_j0 = 29ull;
   w2c_l6 = w2c_j0;
   w2c_i0 = w2c_p3;
-  w2c_i1 = 1036u;
-  w2c_i0 = w2c_i0 > w2c_i1;
+  w2c_i1 = 1037u;
+  w2c_i0 = w2c_i0 < w2c_i1;
   if (w2c_i0) {goto w2c_B1;}
-  w2c_B2:;
-  w2c_j0 = w2c_l6;
-  w2c_j1 = 2ull;
-  w2c_j0 <<= (w2c_j1 & 63);
-  w2c_i0 = (u32)(w2c_j0);
-  w2c_i0 = i32_load(&instance->w2c_memory, (u64)(w2c_i0) + 22460u);
-  w2c_p1 = w2c_i0;
-  w2c_i0 = 0u;
-  w2c_p3 = w2c_i0;
-  w2c_j0 = 0ull;
-  w2c_l7 = w2c_j0;
-  w2c_j0 = 0ull;
-  w2c_l8 = w2c_j0;
-  w2c_j0 = 0ull;
-  w2c_l9 = w2c_j0;
-  goto w2c_B0;
-  w2c_B1:;
   w2c_j0 = w2c_p2;
   w2c_j1 = 4096ull;
   w2c_j2 = 0ull;
@@ -19792,7 +19316,7 @@ static u32 w2c_module_cltu_octets(Z_tcrx_instance_t* instance, u64 w2c_p0, u32 w
   w2c_i3 = !(w2c_j3);
   w2c_j1 = w2c_i3 ? w2c_j1 : w2c_j2;
   w2c_j0 += w2c_j1;
-  w2c_l10 = w2c_j0;
+  w2c_l7 = w2c_j0;
   w2c_j0 = w2c_p0;
   w2c_j1 = 4096ull;
   w2c_j2 = 0ull;
@@ -19800,59 +19324,59 @@ static u32 w2c_module_cltu_octets(Z_tcrx_instance_t* instance, u64 w2c_p0, u32 w
   w2c_i3 = !(w2c_j3);
   w2c_j1 = w2c_i3 ? w2c_j1 : w2c_j2;
   w2c_j0 += w2c_j1;
-  w2c_l11 = w2c_j0;
+  w2c_l8 = w2c_j0;
   w2c_i0 = w2c_p1;
   w2c_j0 = (u64)(w2c_i0);
   w2c_p0 = w2c_j0;
   w2c_j0 = 0ull;
-  w2c_l7 = w2c_j0;
-  w2c_j0 = 0ull;
-  w2c_l8 = w2c_j0;
-  w2c_j0 = 0ull;
   w2c_l9 = w2c_j0;
   w2c_j0 = 0ull;
+  w2c_l10 = w2c_j0;
+  w2c_j0 = 0ull;
+  w2c_l11 = w2c_j0;
+  w2c_j0 = 0ull;
   w2c_l5 = w2c_j0;
-  w2c_L6: 
+  w2c_L5: 
     w2c_i0 = 0u;
     w2c_p1 = w2c_i0;
     w2c_j0 = w2c_l5;
     w2c_j1 = w2c_p0;
     w2c_i0 = w2c_j0 >= w2c_j1;
-    if (w2c_i0) {goto w2c_B5;}
-    w2c_L7: 
-      w2c_j0 = w2c_l11;
+    if (w2c_i0) {goto w2c_B4;}
+    w2c_L6: 
+      w2c_j0 = w2c_l8;
       w2c_j1 = w2c_l5;
       w2c_j0 += w2c_j1;
       w2c_p2 = w2c_j0;
-      w2c_j0 = w2c_l10;
-      w2c_i1 = w2c_l19;
+      w2c_j0 = w2c_l7;
+      w2c_i1 = w2c_l18;
       w2c_j1 = (u64)(w2c_i1);
       w2c_j2 = 65535ull;
       w2c_j1 &= w2c_j2;
       w2c_j0 += w2c_j1;
       w2c_l6 = w2c_j0;
-      w2c_i0 = w2c_l22;
+      w2c_i0 = w2c_l21;
       w2c_i1 = 255u;
       w2c_i0 &= w2c_i1;
-      w2c_l22 = w2c_i0;
+      w2c_l21 = w2c_i0;
       w2c_i1 = 1u;
       w2c_i0 = w2c_i0 != w2c_i1;
-      if (w2c_i0) {goto w2c_B19;}
-      w2c_i0 = w2c_l20;
+      if (w2c_i0) {goto w2c_B18;}
+      w2c_i0 = w2c_l19;
       w2c_i1 = 255u;
       w2c_i0 &= w2c_i1;
       w2c_i0 = !(w2c_i0);
-      if (w2c_i0) {goto w2c_B18;}
-      w2c_B19:;
+      if (w2c_i0) {goto w2c_B17;}
+      w2c_B18:;
       w2c_j0 = w2c_p2;
       w2c_i0 = (u32)(w2c_j0);
       w2c_i0 = i32_load8_u(&instance->w2c_memory, (u64)(w2c_i0));
       w2c_p3 = w2c_i0;
-      w2c_i0 = w2c_l22;
+      w2c_i0 = w2c_l21;
       w2c_i0 = !(w2c_i0);
-      if (w2c_i0) {goto w2c_B16;}
+      if (w2c_i0) {goto w2c_B15;}
       w2c_j0 = w2c_l6;
-      w2c_i1 = w2c_l20;
+      w2c_i1 = w2c_l19;
       w2c_j1 = (u64)(w2c_i1);
       w2c_j2 = 255ull;
       w2c_j1 &= w2c_j2;
@@ -19860,250 +19384,168 @@ static u32 w2c_module_cltu_octets(Z_tcrx_instance_t* instance, u64 w2c_p0, u32 w
       w2c_i0 = (u32)(w2c_j0);
       w2c_i1 = w2c_p3;
       i32_store8(&instance->w2c_memory, (u64)(w2c_i0), w2c_i1);
-      w2c_i0 = w2c_l20;
+      w2c_i0 = w2c_l19;
       w2c_i1 = 255u;
       w2c_i0 &= w2c_i1;
       w2c_i1 = 7u;
       w2c_i0 = w2c_i0 != w2c_i1;
-      if (w2c_i0) {goto w2c_B12;}
+      if (w2c_i0) {goto w2c_B11;}
+      w2c_i0 = 0u;
+      w2c_l19 = w2c_i0;
       w2c_j0 = w2c_l6;
       w2c_i0 = (u32)(w2c_j0);
       w2c_j0 = i64_load(&instance->w2c_memory, (u64)(w2c_i0));
       w2c_p2 = w2c_j0;
-      w2c_j1 = 48ull;
-      w2c_j0 >>= (w2c_j1 & 63);
-      w2c_l12 = w2c_j0;
-      w2c_i0 = (u32)(w2c_j0);
-      w2c_l22 = w2c_i0;
-      w2c_j0 = w2c_p2;
-      w2c_j1 = 40ull;
-      w2c_j0 >>= (w2c_j1 & 63);
-      w2c_l13 = w2c_j0;
-      w2c_i0 = (u32)(w2c_j0);
-      w2c_p3 = w2c_i0;
-      w2c_j0 = w2c_p2;
-      w2c_j1 = 32ull;
-      w2c_j0 >>= (w2c_j1 & 63);
-      w2c_l14 = w2c_j0;
-      w2c_i0 = (u32)(w2c_j0);
-      w2c_l25 = w2c_i0;
-      w2c_j0 = w2c_p2;
-      w2c_j1 = 24ull;
-      w2c_j0 >>= (w2c_j1 & 63);
-      w2c_l15 = w2c_j0;
-      w2c_i0 = (u32)(w2c_j0);
-      w2c_l26 = w2c_i0;
-      w2c_j0 = w2c_p2;
-      w2c_j1 = 16ull;
-      w2c_j0 >>= (w2c_j1 & 63);
-      w2c_l16 = w2c_j0;
-      w2c_i0 = (u32)(w2c_j0);
-      w2c_l27 = w2c_i0;
-      w2c_j0 = w2c_p2;
-      w2c_j1 = 8ull;
-      w2c_j0 >>= (w2c_j1 & 63);
-      w2c_l17 = w2c_j0;
-      w2c_i0 = (u32)(w2c_j0);
-      w2c_l28 = w2c_i0;
-      w2c_j0 = w2c_p2;
-      w2c_i0 = (u32)(w2c_j0);
-      w2c_l29 = w2c_i0;
-      w2c_i0 = 0u;
-      w2c_l20 = w2c_i0;
-      w2c_j0 = w2c_p2;
       w2c_j1 = 255ull;
       w2c_j0 &= w2c_j1;
-      w2c_l18 = w2c_j0;
       w2c_i0 = (u32)(w2c_j0);
-      w2c_i0 = i32_load8_u(&instance->w2c_memory, (u64)(w2c_i0) + 18120u);
-      w2c_j1 = w2c_l17;
-      w2c_j2 = 255ull;
-      w2c_j1 &= w2c_j2;
-      w2c_l17 = w2c_j1;
-      w2c_i1 = (u32)(w2c_j1);
-      w2c_i1 = i32_load8_u(&instance->w2c_memory, (u64)(w2c_i1) + 17864u);
-      w2c_i0 ^= w2c_i1;
-      w2c_j1 = w2c_l16;
-      w2c_j2 = 255ull;
-      w2c_j1 &= w2c_j2;
-      w2c_l16 = w2c_j1;
-      w2c_i1 = (u32)(w2c_j1);
-      w2c_i1 = i32_load8_u(&instance->w2c_memory, (u64)(w2c_i1) + 17608u);
-      w2c_i0 ^= w2c_i1;
-      w2c_j1 = w2c_l15;
-      w2c_j2 = 255ull;
-      w2c_j1 &= w2c_j2;
-      w2c_l15 = w2c_j1;
-      w2c_i1 = (u32)(w2c_j1);
-      w2c_i1 = i32_load8_u(&instance->w2c_memory, (u64)(w2c_i1) + 17352u);
-      w2c_i0 ^= w2c_i1;
-      w2c_j1 = w2c_l14;
-      w2c_j2 = 255ull;
-      w2c_j1 &= w2c_j2;
-      w2c_l14 = w2c_j1;
-      w2c_i1 = (u32)(w2c_j1);
-      w2c_i1 = i32_load8_u(&instance->w2c_memory, (u64)(w2c_i1) + 17096u);
-      w2c_i0 ^= w2c_i1;
-      w2c_j1 = w2c_l13;
-      w2c_j2 = 255ull;
-      w2c_j1 &= w2c_j2;
-      w2c_l13 = w2c_j1;
-      w2c_i1 = (u32)(w2c_j1);
-      w2c_i1 = i32_load8_u(&instance->w2c_memory, (u64)(w2c_i1) + 16840u);
-      w2c_i0 ^= w2c_i1;
-      w2c_j1 = w2c_l12;
-      w2c_j2 = 255ull;
-      w2c_j1 &= w2c_j2;
+      w2c_i0 = i32_load8_u(&instance->w2c_memory, (u64)(w2c_i0) + 19016u);
+      w2c_j1 = w2c_p2;
+      w2c_j2 = 8ull;
+      w2c_j1 >>= (w2c_j2 & 63);
       w2c_l12 = w2c_j1;
+      w2c_j2 = 255ull;
+      w2c_j1 &= w2c_j2;
       w2c_i1 = (u32)(w2c_j1);
-      w2c_i1 = i32_load8_u(&instance->w2c_memory, (u64)(w2c_i1) + 16584u);
+      w2c_i1 = i32_load8_u(&instance->w2c_memory, (u64)(w2c_i1) + 18760u);
+      w2c_i0 ^= w2c_i1;
+      w2c_j1 = w2c_p2;
+      w2c_j2 = 16ull;
+      w2c_j1 >>= (w2c_j2 & 63);
+      w2c_l13 = w2c_j1;
+      w2c_j2 = 255ull;
+      w2c_j1 &= w2c_j2;
+      w2c_i1 = (u32)(w2c_j1);
+      w2c_i1 = i32_load8_u(&instance->w2c_memory, (u64)(w2c_i1) + 18504u);
+      w2c_i0 ^= w2c_i1;
+      w2c_j1 = w2c_p2;
+      w2c_j2 = 24ull;
+      w2c_j1 >>= (w2c_j2 & 63);
+      w2c_l14 = w2c_j1;
+      w2c_j2 = 255ull;
+      w2c_j1 &= w2c_j2;
+      w2c_i1 = (u32)(w2c_j1);
+      w2c_i1 = i32_load8_u(&instance->w2c_memory, (u64)(w2c_i1) + 18248u);
+      w2c_i0 ^= w2c_i1;
+      w2c_j1 = w2c_p2;
+      w2c_j2 = 32ull;
+      w2c_j1 >>= (w2c_j2 & 63);
+      w2c_l15 = w2c_j1;
+      w2c_j2 = 255ull;
+      w2c_j1 &= w2c_j2;
+      w2c_i1 = (u32)(w2c_j1);
+      w2c_i1 = i32_load8_u(&instance->w2c_memory, (u64)(w2c_i1) + 17992u);
+      w2c_i0 ^= w2c_i1;
+      w2c_j1 = w2c_p2;
+      w2c_j2 = 40ull;
+      w2c_j1 >>= (w2c_j2 & 63);
+      w2c_l16 = w2c_j1;
+      w2c_j2 = 255ull;
+      w2c_j1 &= w2c_j2;
+      w2c_i1 = (u32)(w2c_j1);
+      w2c_i1 = i32_load8_u(&instance->w2c_memory, (u64)(w2c_i1) + 17736u);
+      w2c_i0 ^= w2c_i1;
+      w2c_j1 = w2c_p2;
+      w2c_j2 = 48ull;
+      w2c_j1 >>= (w2c_j2 & 63);
+      w2c_l17 = w2c_j1;
+      w2c_j2 = 255ull;
+      w2c_j1 &= w2c_j2;
+      w2c_i1 = (u32)(w2c_j1);
+      w2c_i1 = i32_load8_u(&instance->w2c_memory, (u64)(w2c_i1) + 17480u);
       w2c_i0 ^= w2c_i1;
       w2c_i1 = 127u;
       w2c_i0 ^= w2c_i1;
-      w2c_l30 = w2c_i0;
+      w2c_l21 = w2c_i0;
       w2c_i1 = 255u;
       w2c_i0 &= w2c_i1;
       w2c_j1 = w2c_p2;
       w2c_j2 = 57ull;
       w2c_j1 >>= (w2c_j2 & 63);
       w2c_i1 = (u32)(w2c_j1);
-      w2c_l31 = w2c_i1;
+      w2c_p3 = w2c_i1;
       w2c_i0 = w2c_i0 == w2c_i1;
-      if (w2c_i0) {goto w2c_B20;}
-      w2c_i0 = w2c_l23;
-      if (w2c_i0) {goto w2c_B15;}
-      w2c_i0 = w2c_l30;
-      w2c_i1 = w2c_l31;
+      if (w2c_i0) {goto w2c_B19;}
+      w2c_i0 = w2c_l22;
+      if (w2c_i0) {goto w2c_B14;}
+      w2c_i0 = w2c_l21;
+      w2c_i1 = w2c_p3;
       w2c_i0 ^= w2c_i1;
       w2c_j0 = (u64)(w2c_i0);
       w2c_j1 = 255ull;
       w2c_j0 &= w2c_j1;
+      w2c_j1 = 3ull;
+      w2c_j0 <<= (w2c_j1 & 63);
       w2c_i0 = (u32)(w2c_j0);
-      w2c_i0 = i32_load8_u(&instance->w2c_memory, (u64)(w2c_i0) + 16456u);
-      w2c_l20 = w2c_i0;
-      w2c_i1 = 62u;
-      w2c_i0 = w2c_i0 > w2c_i1;
-      if (w2c_i0) {goto w2c_B15;}
-      w2c_j0 = w2c_l4;
-      w2c_i0 = (u32)(w2c_j0);
-      w2c_i1 = w2c_l22;
-      i32_store8(&instance->w2c_memory, (u64)(w2c_i0) + 14, w2c_i1);
-      w2c_j0 = w2c_l4;
-      w2c_i0 = (u32)(w2c_j0);
-      w2c_i1 = w2c_p3;
-      i32_store8(&instance->w2c_memory, (u64)(w2c_i0) + 13, w2c_i1);
-      w2c_j0 = w2c_l4;
-      w2c_i0 = (u32)(w2c_j0);
-      w2c_i1 = w2c_l25;
-      i32_store8(&instance->w2c_memory, (u64)(w2c_i0) + 12, w2c_i1);
-      w2c_j0 = w2c_l4;
-      w2c_i0 = (u32)(w2c_j0);
-      w2c_i1 = w2c_l26;
-      i32_store8(&instance->w2c_memory, (u64)(w2c_i0) + 11, w2c_i1);
-      w2c_j0 = w2c_l4;
-      w2c_i0 = (u32)(w2c_j0);
-      w2c_i1 = w2c_l27;
-      i32_store8(&instance->w2c_memory, (u64)(w2c_i0) + 10, w2c_i1);
-      w2c_j0 = w2c_l4;
-      w2c_i0 = (u32)(w2c_j0);
-      w2c_i1 = w2c_l28;
-      i32_store8(&instance->w2c_memory, (u64)(w2c_i0) + 9, w2c_i1);
-      w2c_j0 = w2c_l4;
-      w2c_i0 = (u32)(w2c_j0);
-      w2c_i1 = w2c_l29;
-      i32_store8(&instance->w2c_memory, (u64)(w2c_i0) + 8, w2c_i1);
-      w2c_i0 = w2c_l20;
-      w2c_i1 = 3u;
-      w2c_i0 >>= (w2c_i1 & 31);
-      w2c_l30 = w2c_i0;
-      w2c_i1 = 7u;
-      w2c_i0 = w2c_i0 == w2c_i1;
-      if (w2c_i0) {goto w2c_B21;}
-      w2c_j0 = w2c_l4;
-      w2c_j1 = 8ull;
-      w2c_j0 += w2c_j1;
-      w2c_i1 = w2c_l30;
-      w2c_j1 = (u64)(w2c_i1);
-      w2c_j0 += w2c_j1;
-      w2c_p2 = w2c_j0;
-      w2c_i0 = (u32)(w2c_j0);
+      w2c_j0 = i64_load(&instance->w2c_memory, (u64)(w2c_i0) + 16456u);
+      w2c_l12 = w2c_j0;
+      w2c_i0 = !(w2c_j0);
+      if (w2c_i0) {goto w2c_B14;}
+      w2c_j0 = w2c_l12;
       w2c_j1 = w2c_p2;
-      w2c_i1 = (u32)(w2c_j1);
-      w2c_i1 = i32_load8_u(&instance->w2c_memory, (u64)(w2c_i1));
-      w2c_i2 = 128u;
-      w2c_i3 = w2c_l20;
-      w2c_i4 = 7u;
-      w2c_i3 &= w2c_i4;
-      w2c_i2 >>= (w2c_i3 & 31);
-      w2c_i1 ^= w2c_i2;
-      i32_store8(&instance->w2c_memory, (u64)(w2c_i0), w2c_i1);
-      w2c_j0 = w2c_l4;
-      w2c_i0 = (u32)(w2c_j0);
-      w2c_i0 = i32_load8_u(&instance->w2c_memory, (u64)(w2c_i0) + 14u);
-      w2c_l22 = w2c_i0;
-      w2c_j0 = w2c_l4;
-      w2c_i0 = (u32)(w2c_j0);
-      w2c_i0 = i32_load8_u(&instance->w2c_memory, (u64)(w2c_i0) + 13u);
-      w2c_p3 = w2c_i0;
-      w2c_j0 = w2c_l4;
-      w2c_i0 = (u32)(w2c_j0);
-      w2c_i0 = i32_load8_u(&instance->w2c_memory, (u64)(w2c_i0) + 12u);
-      w2c_l25 = w2c_i0;
-      w2c_j0 = w2c_l4;
-      w2c_i0 = (u32)(w2c_j0);
-      w2c_i0 = i32_load8_u(&instance->w2c_memory, (u64)(w2c_i0) + 11u);
-      w2c_l26 = w2c_i0;
-      w2c_j0 = w2c_l4;
-      w2c_i0 = (u32)(w2c_j0);
-      w2c_i0 = i32_load8_u(&instance->w2c_memory, (u64)(w2c_i0) + 10u);
-      w2c_l27 = w2c_i0;
-      w2c_j0 = w2c_l4;
-      w2c_i0 = (u32)(w2c_j0);
-      w2c_i0 = i32_load8_u(&instance->w2c_memory, (u64)(w2c_i0) + 9u);
-      w2c_l28 = w2c_i0;
-      w2c_j0 = w2c_l4;
-      w2c_i0 = (u32)(w2c_j0);
-      w2c_i0 = i32_load8_u(&instance->w2c_memory, (u64)(w2c_i0) + 8u);
-      w2c_l29 = w2c_i0;
-      w2c_B21:;
+      w2c_j0 ^= w2c_j1;
+      w2c_p2 = w2c_j0;
+      w2c_j1 = 48ull;
+      w2c_j0 >>= (w2c_j1 & 63);
+      w2c_l17 = w2c_j0;
+      w2c_j0 = w2c_p2;
+      w2c_j1 = 40ull;
+      w2c_j0 >>= (w2c_j1 & 63);
+      w2c_l16 = w2c_j0;
+      w2c_j0 = w2c_p2;
+      w2c_j1 = 32ull;
+      w2c_j0 >>= (w2c_j1 & 63);
+      w2c_l15 = w2c_j0;
+      w2c_j0 = w2c_p2;
+      w2c_j1 = 24ull;
+      w2c_j0 >>= (w2c_j1 & 63);
+      w2c_l14 = w2c_j0;
+      w2c_j0 = w2c_p2;
+      w2c_j1 = 16ull;
+      w2c_j0 >>= (w2c_j1 & 63);
+      w2c_l13 = w2c_j0;
+      w2c_j0 = w2c_p2;
+      w2c_j1 = 8ull;
+      w2c_j0 >>= (w2c_j1 & 63);
+      w2c_l12 = w2c_j0;
       w2c_i0 = 1u;
-      w2c_l20 = w2c_i0;
-      w2c_B20:;
-      w2c_i0 = w2c_l19;
+      w2c_l19 = w2c_i0;
+      w2c_B19:;
+      w2c_i0 = w2c_l18;
       w2c_i1 = 65535u;
       w2c_i0 &= w2c_i1;
       w2c_i1 = 1023u;
       w2c_i0 = w2c_i0 < w2c_i1;
-      if (w2c_i0) {goto w2c_B13;}
-      w2c_j0 = w2c_l9;
+      if (w2c_i0) {goto w2c_B12;}
+      w2c_j0 = w2c_l11;
       w2c_j1 = 1ull;
       w2c_j0 += w2c_j1;
-      w2c_l9 = w2c_j0;
+      w2c_l11 = w2c_j0;
       w2c_j0 = w2c_l5;
       w2c_j1 = 1ull;
       w2c_j0 += w2c_j1;
       w2c_l5 = w2c_j0;
       w2c_j1 = w2c_p0;
       w2c_i0 = w2c_j0 < w2c_j1;
-      if (w2c_i0) {goto w2c_B17;}
+      if (w2c_i0) {goto w2c_B16;}
       w2c_i0 = 0u;
       w2c_p1 = w2c_i0;
-      w2c_i0 = 0u;
-      w2c_l22 = w2c_i0;
       w2c_i0 = 0u;
       w2c_l21 = w2c_i0;
       w2c_i0 = 0u;
       w2c_l20 = w2c_i0;
       w2c_i0 = 0u;
+      w2c_l19 = w2c_i0;
+      w2c_i0 = 0u;
       w2c_p3 = w2c_i0;
       goto w2c_B0;
-      w2c_B18:;
+      w2c_B17:;
       w2c_j0 = w2c_p0;
       w2c_j1 = w2c_l5;
       w2c_j0 -= w2c_j1;
       w2c_j1 = 7ull;
       w2c_i0 = w2c_j0 > w2c_j1;
-      if (w2c_i0) {goto w2c_B22;}
+      if (w2c_i0) {goto w2c_B20;}
       w2c_j0 = w2c_l6;
       w2c_i0 = (u32)(w2c_j0);
       w2c_j1 = w2c_p2;
@@ -20111,170 +19553,115 @@ static u32 w2c_module_cltu_octets(Z_tcrx_instance_t* instance, u64 w2c_p0, u32 w
       w2c_i1 = i32_load8_u(&instance->w2c_memory, (u64)(w2c_i1));
       i32_store8(&instance->w2c_memory, (u64)(w2c_i0), w2c_i1);
       w2c_i0 = 1u;
-      w2c_l22 = w2c_i0;
+      w2c_l21 = w2c_i0;
       w2c_i0 = 1u;
-      w2c_l20 = w2c_i0;
-      goto w2c_B11;
-      w2c_B22:;
+      w2c_l19 = w2c_i0;
+      goto w2c_B10;
+      w2c_B20:;
+      w2c_i0 = 0u;
+      w2c_l19 = w2c_i0;
       w2c_j0 = w2c_p2;
       w2c_i0 = (u32)(w2c_j0);
       w2c_j0 = i64_load(&instance->w2c_memory, (u64)(w2c_i0));
       w2c_p2 = w2c_j0;
-      w2c_j1 = 48ull;
-      w2c_j0 >>= (w2c_j1 & 63);
-      w2c_l12 = w2c_j0;
-      w2c_i0 = (u32)(w2c_j0);
-      w2c_l22 = w2c_i0;
-      w2c_j0 = w2c_p2;
-      w2c_j1 = 40ull;
-      w2c_j0 >>= (w2c_j1 & 63);
-      w2c_l13 = w2c_j0;
-      w2c_i0 = (u32)(w2c_j0);
-      w2c_p3 = w2c_i0;
-      w2c_j0 = w2c_p2;
-      w2c_j1 = 32ull;
-      w2c_j0 >>= (w2c_j1 & 63);
-      w2c_l14 = w2c_j0;
-      w2c_i0 = (u32)(w2c_j0);
-      w2c_l25 = w2c_i0;
-      w2c_j0 = w2c_p2;
-      w2c_j1 = 24ull;
-      w2c_j0 >>= (w2c_j1 & 63);
-      w2c_l15 = w2c_j0;
-      w2c_i0 = (u32)(w2c_j0);
-      w2c_l26 = w2c_i0;
-      w2c_j0 = w2c_p2;
-      w2c_j1 = 16ull;
-      w2c_j0 >>= (w2c_j1 & 63);
-      w2c_l16 = w2c_j0;
-      w2c_i0 = (u32)(w2c_j0);
-      w2c_l27 = w2c_i0;
-      w2c_j0 = w2c_p2;
-      w2c_j1 = 8ull;
-      w2c_j0 >>= (w2c_j1 & 63);
-      w2c_l17 = w2c_j0;
-      w2c_i0 = (u32)(w2c_j0);
-      w2c_l28 = w2c_i0;
-      w2c_j0 = w2c_p2;
-      w2c_i0 = (u32)(w2c_j0);
-      w2c_l29 = w2c_i0;
-      w2c_i0 = 0u;
-      w2c_l20 = w2c_i0;
-      w2c_j0 = w2c_p2;
       w2c_j1 = 255ull;
       w2c_j0 &= w2c_j1;
-      w2c_l18 = w2c_j0;
       w2c_i0 = (u32)(w2c_j0);
-      w2c_i0 = i32_load8_u(&instance->w2c_memory, (u64)(w2c_i0) + 18120u);
-      w2c_j1 = w2c_l17;
-      w2c_j2 = 255ull;
-      w2c_j1 &= w2c_j2;
-      w2c_l17 = w2c_j1;
-      w2c_i1 = (u32)(w2c_j1);
-      w2c_i1 = i32_load8_u(&instance->w2c_memory, (u64)(w2c_i1) + 17864u);
-      w2c_i0 ^= w2c_i1;
-      w2c_j1 = w2c_l16;
-      w2c_j2 = 255ull;
-      w2c_j1 &= w2c_j2;
-      w2c_l16 = w2c_j1;
-      w2c_i1 = (u32)(w2c_j1);
-      w2c_i1 = i32_load8_u(&instance->w2c_memory, (u64)(w2c_i1) + 17608u);
-      w2c_i0 ^= w2c_i1;
-      w2c_j1 = w2c_l15;
-      w2c_j2 = 255ull;
-      w2c_j1 &= w2c_j2;
-      w2c_l15 = w2c_j1;
-      w2c_i1 = (u32)(w2c_j1);
-      w2c_i1 = i32_load8_u(&instance->w2c_memory, (u64)(w2c_i1) + 17352u);
-      w2c_i0 ^= w2c_i1;
-      w2c_j1 = w2c_l14;
-      w2c_j2 = 255ull;
-      w2c_j1 &= w2c_j2;
-      w2c_l14 = w2c_j1;
-      w2c_i1 = (u32)(w2c_j1);
-      w2c_i1 = i32_load8_u(&instance->w2c_memory, (u64)(w2c_i1) + 17096u);
-      w2c_i0 ^= w2c_i1;
-      w2c_j1 = w2c_l13;
-      w2c_j2 = 255ull;
-      w2c_j1 &= w2c_j2;
-      w2c_l13 = w2c_j1;
-      w2c_i1 = (u32)(w2c_j1);
-      w2c_i1 = i32_load8_u(&instance->w2c_memory, (u64)(w2c_i1) + 16840u);
-      w2c_i0 ^= w2c_i1;
-      w2c_j1 = w2c_l12;
-      w2c_j2 = 255ull;
-      w2c_j1 &= w2c_j2;
+      w2c_i0 = i32_load8_u(&instance->w2c_memory, (u64)(w2c_i0) + 19016u);
+      w2c_j1 = w2c_p2;
+      w2c_j2 = 8ull;
+      w2c_j1 >>= (w2c_j2 & 63);
       w2c_l12 = w2c_j1;
+      w2c_j2 = 255ull;
+      w2c_j1 &= w2c_j2;
       w2c_i1 = (u32)(w2c_j1);
-      w2c_i1 = i32_load8_u(&instance->w2c_memory, (u64)(w2c_i1) + 16584u);
+      w2c_i1 = i32_load8_u(&instance->w2c_memory, (u64)(w2c_i1) + 18760u);
+      w2c_i0 ^= w2c_i1;
+      w2c_j1 = w2c_p2;
+      w2c_j2 = 16ull;
+      w2c_j1 >>= (w2c_j2 & 63);
+      w2c_l13 = w2c_j1;
+      w2c_j2 = 255ull;
+      w2c_j1 &= w2c_j2;
+      w2c_i1 = (u32)(w2c_j1);
+      w2c_i1 = i32_load8_u(&instance->w2c_memory, (u64)(w2c_i1) + 18504u);
+      w2c_i0 ^= w2c_i1;
+      w2c_j1 = w2c_p2;
+      w2c_j2 = 24ull;
+      w2c_j1 >>= (w2c_j2 & 63);
+      w2c_l14 = w2c_j1;
+      w2c_j2 = 255ull;
+      w2c_j1 &= w2c_j2;
+      w2c_i1 = (u32)(w2c_j1);
+      w2c_i1 = i32_load8_u(&instance->w2c_memory, (u64)(w2c_i1) + 18248u);
+      w2c_i0 ^= w2c_i1;
+      w2c_j1 = w2c_p2;
+      w2c_j2 = 32ull;
+      w2c_j1 >>= (w2c_j2 & 63);
+      w2c_l15 = w2c_j1;
+      w2c_j2 = 255ull;
+      w2c_j1 &= w2c_j2;
+      w2c_i1 = (u32)(w2c_j1);
+      w2c_i1 = i32_load8_u(&instance->w2c_memory, (u64)(w2c_i1) + 17992u);
+      w2c_i0 ^= w2c_i1;
+      w2c_j1 = w2c_p2;
+      w2c_j2 = 40ull;
+      w2c_j1 >>= (w2c_j2 & 63);
+      w2c_l16 = w2c_j1;
+      w2c_j2 = 255ull;
+      w2c_j1 &= w2c_j2;
+      w2c_i1 = (u32)(w2c_j1);
+      w2c_i1 = i32_load8_u(&instance->w2c_memory, (u64)(w2c_i1) + 17736u);
+      w2c_i0 ^= w2c_i1;
+      w2c_j1 = w2c_p2;
+      w2c_j2 = 48ull;
+      w2c_j1 >>= (w2c_j2 & 63);
+      w2c_l17 = w2c_j1;
+      w2c_j2 = 255ull;
+      w2c_j1 &= w2c_j2;
+      w2c_i1 = (u32)(w2c_j1);
+      w2c_i1 = i32_load8_u(&instance->w2c_memory, (u64)(w2c_i1) + 17480u);
       w2c_i0 ^= w2c_i1;
       w2c_i1 = 127u;
       w2c_i0 ^= w2c_i1;
-      w2c_l30 = w2c_i0;
+      w2c_l21 = w2c_i0;
       w2c_i1 = 255u;
       w2c_i0 &= w2c_i1;
       w2c_j1 = w2c_p2;
       w2c_j2 = 57ull;
       w2c_j1 >>= (w2c_j2 & 63);
       w2c_i1 = (u32)(w2c_j1);
-      w2c_l31 = w2c_i1;
+      w2c_p3 = w2c_i1;
       w2c_i0 = w2c_i0 == w2c_i1;
+      if (w2c_i0) {goto w2c_B21;}
+      w2c_i0 = w2c_l22;
       if (w2c_i0) {goto w2c_B23;}
-      w2c_i0 = w2c_l23;
-      if (w2c_i0) {goto w2c_B25;}
-      w2c_i0 = w2c_l30;
-      w2c_i1 = w2c_l31;
+      w2c_i0 = w2c_l21;
+      w2c_i1 = w2c_p3;
       w2c_i0 ^= w2c_i1;
       w2c_j0 = (u64)(w2c_i0);
       w2c_j1 = 255ull;
       w2c_j0 &= w2c_j1;
+      w2c_j1 = 3ull;
+      w2c_j0 <<= (w2c_j1 & 63);
       w2c_i0 = (u32)(w2c_j0);
-      w2c_i0 = i32_load8_u(&instance->w2c_memory, (u64)(w2c_i0) + 16456u);
-      w2c_l20 = w2c_i0;
-      w2c_i1 = 63u;
-      w2c_i0 = w2c_i0 < w2c_i1;
-      if (w2c_i0) {goto w2c_B24;}
-      w2c_B25:;
+      w2c_j0 = i64_load(&instance->w2c_memory, (u64)(w2c_i0) + 16456u);
+      w2c_l12 = w2c_j0;
+      w2c_j1 = 0ull;
+      w2c_i0 = w2c_j0 != w2c_j1;
+      if (w2c_i0) {goto w2c_B22;}
+      w2c_B23:;
       w2c_j0 = w2c_l4;
       w2c_i0 = (u32)(w2c_j0);
-      w2c_j1 = w2c_l12;
-      w2c_j2 = 48ull;
-      w2c_j1 <<= (w2c_j2 & 63);
-      w2c_j2 = w2c_p2;
-      w2c_j3 = 18374686479671623680ull;
-      w2c_j2 &= w2c_j3;
-      w2c_j1 |= w2c_j2;
-      w2c_j2 = w2c_l13;
-      w2c_j3 = 40ull;
-      w2c_j2 <<= (w2c_j3 & 63);
-      w2c_j1 |= w2c_j2;
-      w2c_j2 = w2c_l14;
-      w2c_j3 = 32ull;
-      w2c_j2 <<= (w2c_j3 & 63);
-      w2c_j1 |= w2c_j2;
-      w2c_j2 = w2c_l15;
-      w2c_j3 = 24ull;
-      w2c_j2 <<= (w2c_j3 & 63);
-      w2c_j1 |= w2c_j2;
-      w2c_j2 = w2c_l16;
-      w2c_j3 = 16ull;
-      w2c_j2 <<= (w2c_j3 & 63);
-      w2c_j1 |= w2c_j2;
-      w2c_j2 = w2c_l17;
-      w2c_j3 = 8ull;
-      w2c_j2 <<= (w2c_j3 & 63);
-      w2c_j1 |= w2c_j2;
-      w2c_j2 = w2c_l18;
-      w2c_j1 |= w2c_j2;
-      w2c_l6 = w2c_j1;
+      w2c_j1 = w2c_p2;
       i64_store(&instance->w2c_memory, (u64)(w2c_i0) + 8, w2c_j1);
       w2c_i0 = 3u;
-      w2c_l20 = w2c_i0;
-      w2c_j0 = w2c_l6;
+      w2c_l19 = w2c_i0;
+      w2c_j0 = w2c_p2;
       w2c_i0 = (u32)(w2c_j0);
       w2c_i1 = 3318072773u;
       w2c_i0 = w2c_i0 != w2c_i1;
-      if (w2c_i0) {goto w2c_B26;}
+      if (w2c_i0) {goto w2c_B24;}
       w2c_i0 = 2u;
       w2c_i1 = 3u;
       w2c_j2 = w2c_l4;
@@ -20282,177 +19669,122 @@ static u32 w2c_module_cltu_octets(Z_tcrx_instance_t* instance, u64 w2c_p0, u32 w
       w2c_j2 += w2c_j3;
       w2c_i2 = w2c_f24(instance, w2c_j2);
       w2c_i0 = w2c_i2 ? w2c_i0 : w2c_i1;
-      w2c_l20 = w2c_i0;
-      w2c_B26:;
+      w2c_l19 = w2c_i0;
+      w2c_B24:;
       w2c_i0 = 0u;
-      w2c_l22 = w2c_i0;
-      w2c_i0 = w2c_l19;
+      w2c_l21 = w2c_i0;
+      w2c_i0 = w2c_l18;
       w2c_i1 = 65535u;
       w2c_i0 &= w2c_i1;
       w2c_i1 = 0u;
       w2c_i0 = w2c_i0 != w2c_i1;
-      w2c_l25 = w2c_i0;
+      w2c_l24 = w2c_i0;
       w2c_j0 = 8ull;
       w2c_l6 = w2c_j0;
-      goto w2c_B14;
-      w2c_B24:;
-      w2c_j0 = w2c_l4;
-      w2c_i0 = (u32)(w2c_j0);
-      w2c_i1 = w2c_l22;
-      i32_store8(&instance->w2c_memory, (u64)(w2c_i0) + 14, w2c_i1);
-      w2c_j0 = w2c_l4;
-      w2c_i0 = (u32)(w2c_j0);
-      w2c_i1 = w2c_p3;
-      i32_store8(&instance->w2c_memory, (u64)(w2c_i0) + 13, w2c_i1);
-      w2c_j0 = w2c_l4;
-      w2c_i0 = (u32)(w2c_j0);
-      w2c_i1 = w2c_l25;
-      i32_store8(&instance->w2c_memory, (u64)(w2c_i0) + 12, w2c_i1);
-      w2c_j0 = w2c_l4;
-      w2c_i0 = (u32)(w2c_j0);
-      w2c_i1 = w2c_l26;
-      i32_store8(&instance->w2c_memory, (u64)(w2c_i0) + 11, w2c_i1);
-      w2c_j0 = w2c_l4;
-      w2c_i0 = (u32)(w2c_j0);
-      w2c_i1 = w2c_l27;
-      i32_store8(&instance->w2c_memory, (u64)(w2c_i0) + 10, w2c_i1);
-      w2c_j0 = w2c_l4;
-      w2c_i0 = (u32)(w2c_j0);
-      w2c_i1 = w2c_l28;
-      i32_store8(&instance->w2c_memory, (u64)(w2c_i0) + 9, w2c_i1);
-      w2c_j0 = w2c_l4;
-      w2c_i0 = (u32)(w2c_j0);
-      w2c_i1 = w2c_l29;
-      i32_store8(&instance->w2c_memory, (u64)(w2c_i0) + 8, w2c_i1);
-      w2c_i0 = w2c_l20;
-      w2c_i1 = 3u;
-      w2c_i0 >>= (w2c_i1 & 31);
-      w2c_l30 = w2c_i0;
-      w2c_i1 = 7u;
-      w2c_i0 = w2c_i0 == w2c_i1;
-      if (w2c_i0) {goto w2c_B27;}
-      w2c_j0 = w2c_l4;
-      w2c_j1 = 8ull;
-      w2c_j0 += w2c_j1;
-      w2c_i1 = w2c_l30;
-      w2c_j1 = (u64)(w2c_i1);
-      w2c_j0 += w2c_j1;
-      w2c_p2 = w2c_j0;
-      w2c_i0 = (u32)(w2c_j0);
+      goto w2c_B13;
+      w2c_B22:;
+      w2c_j0 = w2c_l12;
       w2c_j1 = w2c_p2;
-      w2c_i1 = (u32)(w2c_j1);
-      w2c_i1 = i32_load8_u(&instance->w2c_memory, (u64)(w2c_i1));
-      w2c_i2 = 128u;
-      w2c_i3 = w2c_l20;
-      w2c_i4 = 7u;
-      w2c_i3 &= w2c_i4;
-      w2c_i2 >>= (w2c_i3 & 31);
-      w2c_i1 ^= w2c_i2;
-      i32_store8(&instance->w2c_memory, (u64)(w2c_i0), w2c_i1);
-      w2c_j0 = w2c_l4;
-      w2c_i0 = (u32)(w2c_j0);
-      w2c_i0 = i32_load8_u(&instance->w2c_memory, (u64)(w2c_i0) + 14u);
-      w2c_l22 = w2c_i0;
-      w2c_j0 = w2c_l4;
-      w2c_i0 = (u32)(w2c_j0);
-      w2c_i0 = i32_load8_u(&instance->w2c_memory, (u64)(w2c_i0) + 13u);
-      w2c_p3 = w2c_i0;
-      w2c_j0 = w2c_l4;
-      w2c_i0 = (u32)(w2c_j0);
-      w2c_i0 = i32_load8_u(&instance->w2c_memory, (u64)(w2c_i0) + 12u);
-      w2c_l25 = w2c_i0;
-      w2c_j0 = w2c_l4;
-      w2c_i0 = (u32)(w2c_j0);
-      w2c_i0 = i32_load8_u(&instance->w2c_memory, (u64)(w2c_i0) + 11u);
-      w2c_l26 = w2c_i0;
-      w2c_j0 = w2c_l4;
-      w2c_i0 = (u32)(w2c_j0);
-      w2c_i0 = i32_load8_u(&instance->w2c_memory, (u64)(w2c_i0) + 10u);
-      w2c_l27 = w2c_i0;
-      w2c_j0 = w2c_l4;
-      w2c_i0 = (u32)(w2c_j0);
-      w2c_i0 = i32_load8_u(&instance->w2c_memory, (u64)(w2c_i0) + 9u);
-      w2c_l28 = w2c_i0;
-      w2c_j0 = w2c_l4;
-      w2c_i0 = (u32)(w2c_j0);
-      w2c_i0 = i32_load8_u(&instance->w2c_memory, (u64)(w2c_i0) + 8u);
-      w2c_l29 = w2c_i0;
-      w2c_B27:;
+      w2c_j0 ^= w2c_j1;
+      w2c_p2 = w2c_j0;
+      w2c_j1 = 48ull;
+      w2c_j0 >>= (w2c_j1 & 63);
+      w2c_l17 = w2c_j0;
+      w2c_j0 = w2c_p2;
+      w2c_j1 = 40ull;
+      w2c_j0 >>= (w2c_j1 & 63);
+      w2c_l16 = w2c_j0;
+      w2c_j0 = w2c_p2;
+      w2c_j1 = 32ull;
+      w2c_j0 >>= (w2c_j1 & 63);
+      w2c_l15 = w2c_j0;
+      w2c_j0 = w2c_p2;
+      w2c_j1 = 24ull;
+      w2c_j0 >>= (w2c_j1 & 63);
+      w2c_l14 = w2c_j0;
+      w2c_j0 = w2c_p2;
+      w2c_j1 = 16ull;
+      w2c_j0 >>= (w2c_j1 & 63);
+      w2c_l13 = w2c_j0;
+      w2c_j0 = w2c_p2;
+      w2c_j1 = 8ull;
+      w2c_j0 >>= (w2c_j1 & 63);
+      w2c_l12 = w2c_j0;
       w2c_i0 = 1u;
-      w2c_l20 = w2c_i0;
-      w2c_B23:;
-      w2c_i0 = w2c_l19;
+      w2c_l19 = w2c_i0;
+      w2c_B21:;
+      w2c_i0 = w2c_l18;
       w2c_i1 = 65535u;
       w2c_i0 &= w2c_i1;
       w2c_i1 = 1023u;
       w2c_i0 = w2c_i0 < w2c_i1;
-      if (w2c_i0) {goto w2c_B28;}
-      w2c_j0 = w2c_l9;
+      if (w2c_i0) {goto w2c_B25;}
+      w2c_j0 = w2c_l11;
       w2c_j1 = 1ull;
       w2c_j0 += w2c_j1;
-      w2c_l9 = w2c_j0;
+      w2c_l11 = w2c_j0;
       w2c_j0 = w2c_l5;
       w2c_j1 = 8ull;
       w2c_j0 += w2c_j1;
       w2c_l5 = w2c_j0;
       w2c_i0 = 0u;
-      w2c_l22 = w2c_i0;
-      w2c_i0 = 0u;
       w2c_l21 = w2c_i0;
       w2c_i0 = 0u;
       w2c_l20 = w2c_i0;
-      goto w2c_B8;
-      w2c_B28:;
+      w2c_i0 = 0u;
+      w2c_l19 = w2c_i0;
+      goto w2c_B7;
+      w2c_B25:;
       w2c_j0 = w2c_l6;
       w2c_i0 = (u32)(w2c_j0);
-      w2c_i1 = w2c_l22;
-      i32_store8(&instance->w2c_memory, (u64)(w2c_i0) + 6, w2c_i1);
+      w2c_j1 = w2c_l17;
+      i64_store8(&instance->w2c_memory, (u64)(w2c_i0) + 6, w2c_j1);
       w2c_j0 = w2c_l6;
       w2c_i0 = (u32)(w2c_j0);
-      w2c_i1 = w2c_p3;
-      i32_store8(&instance->w2c_memory, (u64)(w2c_i0) + 5, w2c_i1);
+      w2c_j1 = w2c_l16;
+      i64_store8(&instance->w2c_memory, (u64)(w2c_i0) + 5, w2c_j1);
       w2c_j0 = w2c_l6;
       w2c_i0 = (u32)(w2c_j0);
-      w2c_i1 = w2c_l25;
-      i32_store8(&instance->w2c_memory, (u64)(w2c_i0) + 4, w2c_i1);
+      w2c_j1 = w2c_l15;
+      i64_store8(&instance->w2c_memory, (u64)(w2c_i0) + 4, w2c_j1);
       w2c_j0 = w2c_l6;
       w2c_i0 = (u32)(w2c_j0);
-      w2c_i1 = w2c_l26;
-      i32_store8(&instance->w2c_memory, (u64)(w2c_i0) + 3, w2c_i1);
+      w2c_j1 = w2c_l14;
+      i64_store8(&instance->w2c_memory, (u64)(w2c_i0) + 3, w2c_j1);
       w2c_j0 = w2c_l6;
       w2c_i0 = (u32)(w2c_j0);
-      w2c_i1 = w2c_l27;
-      i32_store8(&instance->w2c_memory, (u64)(w2c_i0) + 2, w2c_i1);
+      w2c_j1 = w2c_l13;
+      i64_store8(&instance->w2c_memory, (u64)(w2c_i0) + 2, w2c_j1);
       w2c_j0 = w2c_l6;
       w2c_i0 = (u32)(w2c_j0);
-      w2c_i1 = w2c_l28;
-      i32_store8(&instance->w2c_memory, (u64)(w2c_i0) + 1, w2c_i1);
+      w2c_j1 = w2c_l12;
+      i64_store8(&instance->w2c_memory, (u64)(w2c_i0) + 1, w2c_j1);
       w2c_j0 = w2c_l6;
       w2c_i0 = (u32)(w2c_j0);
-      w2c_i1 = w2c_l29;
-      i32_store8(&instance->w2c_memory, (u64)(w2c_i0), w2c_i1);
-      w2c_i0 = w2c_l19;
+      w2c_j1 = w2c_p2;
+      i64_store8(&instance->w2c_memory, (u64)(w2c_i0), w2c_j1);
+      w2c_i0 = w2c_l18;
       w2c_i1 = 7u;
       w2c_i0 += w2c_i1;
-      w2c_l19 = w2c_i0;
+      w2c_l18 = w2c_i0;
       w2c_j0 = 8ull;
       w2c_l6 = w2c_j0;
-      goto w2c_B10;
-      w2c_B17:;
-      w2c_j0 = w2c_l11;
+      goto w2c_B9;
+      w2c_B16:;
+      w2c_j0 = w2c_l8;
       w2c_j1 = w2c_l5;
       w2c_j0 += w2c_j1;
       w2c_i0 = (u32)(w2c_j0);
       w2c_i0 = i32_load8_u(&instance->w2c_memory, (u64)(w2c_i0));
       w2c_p3 = w2c_i0;
       w2c_i0 = 0u;
+      w2c_l19 = w2c_i0;
+      w2c_i0 = 0u;
       w2c_l20 = w2c_i0;
+      w2c_B15:;
       w2c_i0 = 0u;
-      w2c_l21 = w2c_i0;
-      w2c_B16:;
-      w2c_i0 = 0u;
-      w2c_i1 = w2c_l19;
-      w2c_i2 = w2c_l21;
+      w2c_i1 = w2c_l18;
+      w2c_i2 = w2c_l20;
       w2c_i3 = 235u;
       w2c_i2 ^= w2c_i3;
       w2c_i3 = 255u;
@@ -20465,68 +19797,39 @@ static u32 w2c_module_cltu_octets(Z_tcrx_instance_t* instance, u64 w2c_p0, u32 w
       w2c_i3 &= w2c_i4;
       w2c_i3 = I32_POPCNT(w2c_i3);
       w2c_i2 += w2c_i3;
-      w2c_l22 = w2c_i2;
+      w2c_l21 = w2c_i2;
       w2c_i2 = !(w2c_i2);
-      w2c_i3 = w2c_l22;
+      w2c_i3 = w2c_l21;
       w2c_i4 = 2u;
       w2c_i3 = w2c_i3 < w2c_i4;
-      w2c_i4 = w2c_l23;
+      w2c_i4 = w2c_l22;
       w2c_i2 = w2c_i4 ? w2c_i2 : w2c_i3;
-      w2c_l22 = w2c_i2;
+      w2c_l21 = w2c_i2;
+      w2c_i0 = w2c_i2 ? w2c_i0 : w2c_i1;
+      w2c_l18 = w2c_i0;
+      w2c_i0 = 0u;
+      w2c_i1 = w2c_l19;
+      w2c_i2 = w2c_l21;
       w2c_i0 = w2c_i2 ? w2c_i0 : w2c_i1;
       w2c_l19 = w2c_i0;
-      w2c_i0 = 0u;
-      w2c_i1 = w2c_l20;
-      w2c_i2 = w2c_l22;
+      w2c_i0 = w2c_l20;
+      w2c_i1 = w2c_p3;
+      w2c_i2 = w2c_l21;
       w2c_i0 = w2c_i2 ? w2c_i0 : w2c_i1;
       w2c_l20 = w2c_i0;
-      w2c_i0 = w2c_l21;
-      w2c_i1 = w2c_p3;
-      w2c_i2 = w2c_l22;
-      w2c_i0 = w2c_i2 ? w2c_i0 : w2c_i1;
-      w2c_l21 = w2c_i0;
-      goto w2c_B11;
-      w2c_B15:;
+      goto w2c_B10;
+      w2c_B14:;
       w2c_j0 = w2c_l4;
       w2c_i0 = (u32)(w2c_j0);
-      w2c_j1 = w2c_l12;
-      w2c_j2 = 48ull;
-      w2c_j1 <<= (w2c_j2 & 63);
-      w2c_j2 = w2c_p2;
-      w2c_j3 = 18374686479671623680ull;
-      w2c_j2 &= w2c_j3;
-      w2c_j1 |= w2c_j2;
-      w2c_j2 = w2c_l13;
-      w2c_j3 = 40ull;
-      w2c_j2 <<= (w2c_j3 & 63);
-      w2c_j1 |= w2c_j2;
-      w2c_j2 = w2c_l14;
-      w2c_j3 = 32ull;
-      w2c_j2 <<= (w2c_j3 & 63);
-      w2c_j1 |= w2c_j2;
-      w2c_j2 = w2c_l15;
-      w2c_j3 = 24ull;
-      w2c_j2 <<= (w2c_j3 & 63);
-      w2c_j1 |= w2c_j2;
-      w2c_j2 = w2c_l16;
-      w2c_j3 = 16ull;
-      w2c_j2 <<= (w2c_j3 & 63);
-      w2c_j1 |= w2c_j2;
-      w2c_j2 = w2c_l17;
-      w2c_j3 = 8ull;
-      w2c_j2 <<= (w2c_j3 & 63);
-      w2c_j1 |= w2c_j2;
-      w2c_j2 = w2c_l18;
-      w2c_j1 |= w2c_j2;
-      w2c_l6 = w2c_j1;
+      w2c_j1 = w2c_p2;
       i64_store(&instance->w2c_memory, (u64)(w2c_i0) + 8, w2c_j1);
       w2c_i0 = 3u;
-      w2c_l20 = w2c_i0;
-      w2c_j0 = w2c_l6;
+      w2c_l19 = w2c_i0;
+      w2c_j0 = w2c_p2;
       w2c_i0 = (u32)(w2c_j0);
       w2c_i1 = 3318072773u;
       w2c_i0 = w2c_i0 != w2c_i1;
-      if (w2c_i0) {goto w2c_B29;}
+      if (w2c_i0) {goto w2c_B26;}
       w2c_i0 = 2u;
       w2c_i1 = 3u;
       w2c_j2 = w2c_l4;
@@ -20534,186 +19837,202 @@ static u32 w2c_module_cltu_octets(Z_tcrx_instance_t* instance, u64 w2c_p0, u32 w
       w2c_j2 += w2c_j3;
       w2c_i2 = w2c_f24(instance, w2c_j2);
       w2c_i0 = w2c_i2 ? w2c_i0 : w2c_i1;
-      w2c_l20 = w2c_i0;
-      w2c_B29:;
+      w2c_l19 = w2c_i0;
+      w2c_B26:;
       w2c_i0 = 0u;
-      w2c_l22 = w2c_i0;
-      w2c_i0 = w2c_l19;
+      w2c_l21 = w2c_i0;
+      w2c_i0 = w2c_l18;
       w2c_i1 = 65535u;
       w2c_i0 &= w2c_i1;
       w2c_i1 = 0u;
       w2c_i0 = w2c_i0 != w2c_i1;
-      w2c_l25 = w2c_i0;
+      w2c_l24 = w2c_i0;
       w2c_j0 = 1ull;
       w2c_l6 = w2c_j0;
-      w2c_B14:;
-      w2c_i0 = 0u;
-      w2c_l21 = w2c_i0;
-      goto w2c_B9;
       w2c_B13:;
+      w2c_i0 = 0u;
+      w2c_l20 = w2c_i0;
+      goto w2c_B8;
+      w2c_B12:;
       w2c_j0 = w2c_l6;
       w2c_i0 = (u32)(w2c_j0);
-      w2c_i1 = w2c_l22;
-      i32_store8(&instance->w2c_memory, (u64)(w2c_i0) + 6, w2c_i1);
+      w2c_j1 = w2c_l17;
+      i64_store8(&instance->w2c_memory, (u64)(w2c_i0) + 6, w2c_j1);
       w2c_j0 = w2c_l6;
       w2c_i0 = (u32)(w2c_j0);
-      w2c_i1 = w2c_p3;
-      i32_store8(&instance->w2c_memory, (u64)(w2c_i0) + 5, w2c_i1);
+      w2c_j1 = w2c_l16;
+      i64_store8(&instance->w2c_memory, (u64)(w2c_i0) + 5, w2c_j1);
       w2c_j0 = w2c_l6;
       w2c_i0 = (u32)(w2c_j0);
-      w2c_i1 = w2c_l25;
-      i32_store8(&instance->w2c_memory, (u64)(w2c_i0) + 4, w2c_i1);
+      w2c_j1 = w2c_l15;
+      i64_store8(&instance->w2c_memory, (u64)(w2c_i0) + 4, w2c_j1);
       w2c_j0 = w2c_l6;
       w2c_i0 = (u32)(w2c_j0);
-      w2c_i1 = w2c_l26;
-      i32_store8(&instance->w2c_memory, (u64)(w2c_i0) + 3, w2c_i1);
+      w2c_j1 = w2c_l14;
+      i64_store8(&instance->w2c_memory, (u64)(w2c_i0) + 3, w2c_j1);
       w2c_j0 = w2c_l6;
       w2c_i0 = (u32)(w2c_j0);
-      w2c_i1 = w2c_l27;
-      i32_store8(&instance->w2c_memory, (u64)(w2c_i0) + 2, w2c_i1);
+      w2c_j1 = w2c_l13;
+      i64_store8(&instance->w2c_memory, (u64)(w2c_i0) + 2, w2c_j1);
       w2c_j0 = w2c_l6;
       w2c_i0 = (u32)(w2c_j0);
-      w2c_i1 = w2c_l28;
-      i32_store8(&instance->w2c_memory, (u64)(w2c_i0) + 1, w2c_i1);
+      w2c_j1 = w2c_l12;
+      i64_store8(&instance->w2c_memory, (u64)(w2c_i0) + 1, w2c_j1);
       w2c_j0 = w2c_l6;
       w2c_i0 = (u32)(w2c_j0);
-      w2c_i1 = w2c_l29;
-      i32_store8(&instance->w2c_memory, (u64)(w2c_i0), w2c_i1);
-      w2c_i0 = w2c_l19;
+      w2c_j1 = w2c_p2;
+      i64_store8(&instance->w2c_memory, (u64)(w2c_i0), w2c_j1);
+      w2c_i0 = w2c_l18;
       w2c_i1 = 7u;
       w2c_i0 += w2c_i1;
-      w2c_l19 = w2c_i0;
+      w2c_l18 = w2c_i0;
       w2c_j0 = 1ull;
       w2c_l6 = w2c_j0;
-      goto w2c_B10;
-      w2c_B12:;
+      goto w2c_B9;
+      w2c_B11:;
       w2c_i0 = 1u;
-      w2c_l22 = w2c_i0;
-      w2c_i0 = w2c_l20;
+      w2c_l21 = w2c_i0;
+      w2c_i0 = w2c_l19;
       w2c_i1 = 1u;
       w2c_i0 += w2c_i1;
-      w2c_l20 = w2c_i0;
-      w2c_B11:;
+      w2c_l19 = w2c_i0;
+      w2c_B10:;
       w2c_j0 = w2c_l5;
       w2c_j1 = 1ull;
       w2c_j0 += w2c_j1;
       w2c_l5 = w2c_j0;
-      goto w2c_B8;
-      w2c_B10:;
-      w2c_i0 = 0u;
-      w2c_l25 = w2c_i0;
-      w2c_i0 = 1u;
-      w2c_l22 = w2c_i0;
+      goto w2c_B7;
       w2c_B9:;
+      w2c_i0 = 0u;
+      w2c_l24 = w2c_i0;
+      w2c_i0 = 1u;
+      w2c_l21 = w2c_i0;
+      w2c_B8:;
       w2c_j0 = w2c_l6;
       w2c_j1 = w2c_l5;
       w2c_j0 += w2c_j1;
       w2c_l5 = w2c_j0;
-      w2c_i0 = w2c_l20;
+      w2c_i0 = w2c_l19;
       switch (w2c_i0) {
-        case 0: goto w2c_B31;
-        case 1: goto w2c_B33;
-        case 2: goto w2c_B31;
-        case 3: goto w2c_B32;
-        default: goto w2c_B31;
+        case 0: goto w2c_B28;
+        case 1: goto w2c_B30;
+        case 2: goto w2c_B28;
+        case 3: goto w2c_B29;
+        default: goto w2c_B28;
       }
-      w2c_B33:;
-      w2c_j0 = w2c_l7;
-      w2c_j1 = 1ull;
-      w2c_j0 += w2c_j1;
-      w2c_l7 = w2c_j0;
-      w2c_i0 = 1u;
-      w2c_p3 = w2c_i0;
-      w2c_i0 = 0u;
-      w2c_l20 = w2c_i0;
-      w2c_i0 = 0u;
-      w2c_p1 = w2c_i0;
-      w2c_i0 = w2c_l25;
-      w2c_i0 = !(w2c_i0);
-      if (w2c_i0) {goto w2c_L6;}
-      goto w2c_B0;
-      w2c_B32:;
-      w2c_j0 = w2c_l8;
-      w2c_j1 = 1ull;
-      w2c_j0 += w2c_j1;
-      w2c_l8 = w2c_j0;
-      w2c_i0 = 1u;
-      w2c_p3 = w2c_i0;
-      w2c_i0 = 0u;
-      w2c_l20 = w2c_i0;
-      w2c_i0 = w2c_l25;
-      w2c_i0 = !(w2c_i0);
-      if (w2c_i0) {goto w2c_L6;}
-      goto w2c_B30;
-      w2c_B31:;
-      w2c_i0 = 0u;
-      w2c_l20 = w2c_i0;
-      w2c_i0 = w2c_l25;
-      w2c_i0 = !(w2c_i0);
-      if (w2c_i0) {goto w2c_B8;}
-      w2c_i0 = 1u;
-      w2c_p3 = w2c_i0;
       w2c_B30:;
+      w2c_j0 = w2c_l9;
+      w2c_j1 = 1ull;
+      w2c_j0 += w2c_j1;
+      w2c_l9 = w2c_j0;
+      w2c_i0 = 1u;
+      w2c_p3 = w2c_i0;
+      w2c_i0 = 0u;
+      w2c_l19 = w2c_i0;
+      w2c_i0 = 0u;
+      w2c_p1 = w2c_i0;
+      w2c_i0 = w2c_l24;
+      w2c_i0 = !(w2c_i0);
+      if (w2c_i0) {goto w2c_L5;}
+      goto w2c_B0;
+      w2c_B29:;
+      w2c_j0 = w2c_l10;
+      w2c_j1 = 1ull;
+      w2c_j0 += w2c_j1;
+      w2c_l10 = w2c_j0;
+      w2c_i0 = 1u;
+      w2c_p3 = w2c_i0;
+      w2c_i0 = 0u;
+      w2c_l19 = w2c_i0;
+      w2c_i0 = w2c_l24;
+      w2c_i0 = !(w2c_i0);
+      if (w2c_i0) {goto w2c_L5;}
+      goto w2c_B27;
+      w2c_B28:;
+      w2c_i0 = 0u;
+      w2c_l19 = w2c_i0;
+      w2c_i0 = w2c_l24;
+      w2c_i0 = !(w2c_i0);
+      if (w2c_i0) {goto w2c_B7;}
+      w2c_i0 = 1u;
+      w2c_p3 = w2c_i0;
+      w2c_B27:;
       w2c_i0 = 0u;
       w2c_p1 = w2c_i0;
       goto w2c_B0;
-      w2c_B8:;
+      w2c_B7:;
       w2c_j0 = w2c_l5;
       w2c_j1 = w2c_p0;
       w2c_i0 = w2c_j0 < w2c_j1;
-      if (w2c_i0) {goto w2c_L7;}
-  w2c_B5:;
+      if (w2c_i0) {goto w2c_L6;}
+  w2c_B4:;
   w2c_i0 = 0u;
   w2c_p3 = w2c_i0;
+  goto w2c_B0;
+  w2c_B1:;
+  w2c_j0 = w2c_l6;
+  w2c_j1 = 2ull;
+  w2c_j0 <<= (w2c_j1 & 63);
+  w2c_i0 = (u32)(w2c_j0);
+  w2c_i0 = i32_load(&instance->w2c_memory, (u64)(w2c_i0) + 23356u);
+  w2c_p1 = w2c_i0;
+  w2c_i0 = 0u;
+  w2c_p3 = w2c_i0;
+  w2c_j0 = 0ull;
+  w2c_l9 = w2c_j0;
+  w2c_j0 = 0ull;
+  w2c_l10 = w2c_j0;
+  w2c_j0 = 0ull;
+  w2c_l11 = w2c_j0;
   w2c_B0:;
   w2c_j0 = 0ull;
   w2c_i0 = (u32)(w2c_j0);
+  w2c_j1 = w2c_l11;
+  i64_store(&instance->w2c_memory, (u64)(w2c_i0) + 23808, w2c_j1);
+  w2c_j0 = 0ull;
+  w2c_i0 = (u32)(w2c_j0);
+  w2c_j1 = w2c_l10;
+  i64_store(&instance->w2c_memory, (u64)(w2c_i0) + 23800, w2c_j1);
+  w2c_j0 = 0ull;
+  w2c_i0 = (u32)(w2c_j0);
   w2c_j1 = w2c_l9;
-  i64_store(&instance->w2c_memory, (u64)(w2c_i0) + 22912, w2c_j1);
-  w2c_j0 = 0ull;
-  w2c_i0 = (u32)(w2c_j0);
-  w2c_j1 = w2c_l8;
-  i64_store(&instance->w2c_memory, (u64)(w2c_i0) + 22904, w2c_j1);
-  w2c_j0 = 0ull;
-  w2c_i0 = (u32)(w2c_j0);
-  w2c_j1 = w2c_l7;
-  i64_store(&instance->w2c_memory, (u64)(w2c_i0) + 22896, w2c_j1);
+  i64_store(&instance->w2c_memory, (u64)(w2c_i0) + 23792, w2c_j1);
   w2c_j0 = 0ull;
   w2c_i0 = (u32)(w2c_j0);
   w2c_j1 = w2c_l5;
-  i64_store(&instance->w2c_memory, (u64)(w2c_i0) + 22888, w2c_j1);
+  i64_store(&instance->w2c_memory, (u64)(w2c_i0) + 23784, w2c_j1);
   w2c_j0 = 0ull;
   w2c_i0 = (u32)(w2c_j0);
   w2c_i1 = w2c_p3;
-  i32_store(&instance->w2c_memory, (u64)(w2c_i0) + 22884, w2c_i1);
+  i32_store(&instance->w2c_memory, (u64)(w2c_i0) + 23780, w2c_i1);
   w2c_j0 = 0ull;
   w2c_i0 = (u32)(w2c_j0);
-  w2c_i1 = w2c_l24;
-  i32_store(&instance->w2c_memory, (u64)(w2c_i0) + 22864, w2c_i1);
+  w2c_i1 = w2c_l23;
+  i32_store(&instance->w2c_memory, (u64)(w2c_i0) + 23760, w2c_i1);
+  w2c_j0 = 0ull;
+  w2c_i0 = (u32)(w2c_j0);
+  w2c_i1 = w2c_l18;
+  w2c_i2 = 65535u;
+  w2c_i1 &= w2c_i2;
+  i32_store(&instance->w2c_memory, (u64)(w2c_i0) + 23776, w2c_i1);
   w2c_j0 = 0ull;
   w2c_i0 = (u32)(w2c_j0);
   w2c_i1 = w2c_l19;
-  w2c_i2 = 65535u;
+  w2c_i2 = 255u;
   w2c_i1 &= w2c_i2;
-  i32_store(&instance->w2c_memory, (u64)(w2c_i0) + 22880, w2c_i1);
+  i32_store(&instance->w2c_memory, (u64)(w2c_i0) + 23772, w2c_i1);
   w2c_j0 = 0ull;
   w2c_i0 = (u32)(w2c_j0);
   w2c_i1 = w2c_l20;
   w2c_i2 = 255u;
   w2c_i1 &= w2c_i2;
-  i32_store(&instance->w2c_memory, (u64)(w2c_i0) + 22876, w2c_i1);
+  i32_store(&instance->w2c_memory, (u64)(w2c_i0) + 23768, w2c_i1);
   w2c_j0 = 0ull;
   w2c_i0 = (u32)(w2c_j0);
   w2c_i1 = w2c_l21;
   w2c_i2 = 255u;
   w2c_i1 &= w2c_i2;
-  i32_store(&instance->w2c_memory, (u64)(w2c_i0) + 22872, w2c_i1);
-  w2c_j0 = 0ull;
-  w2c_i0 = (u32)(w2c_j0);
-  w2c_i1 = w2c_l22;
-  w2c_i2 = 255u;
-  w2c_i1 &= w2c_i2;
-  i32_store(&instance->w2c_memory, (u64)(w2c_i0) + 22868, w2c_i1);
+  i32_store(&instance->w2c_memory, (u64)(w2c_i0) + 23764, w2c_i1);
   w2c_j0 = w2c_l4;
   w2c_j1 = 16ull;
   w2c_j0 += w2c_j1;
@@ -20730,25 +20049,25 @@ static u32 w2c_module_cltu_search(Z_tcrx_instance_t* instance) {
   u64 w2c_j0, w2c_j1;
   w2c_j0 = 0ull;
   w2c_i0 = (u32)(w2c_j0);
-  w2c_i0 = i32_load(&instance->w2c_memory, (u64)(w2c_i0) + 22876u);
+  w2c_i0 = i32_load(&instance->w2c_memory, (u64)(w2c_i0) + 23772u);
   w2c_l0 = w2c_i0;
   w2c_i1 = 255u;
   w2c_i0 &= w2c_i1;
   w2c_l1 = w2c_i0;
   w2c_j0 = 0ull;
   w2c_i0 = (u32)(w2c_j0);
-  w2c_i0 = i32_load16_u(&instance->w2c_memory, (u64)(w2c_i0) + 22880u);
+  w2c_i0 = i32_load16_u(&instance->w2c_memory, (u64)(w2c_i0) + 23776u);
   w2c_l2 = w2c_i0;
   w2c_j0 = 0ull;
   w2c_i0 = (u32)(w2c_j0);
-  w2c_i0 = i32_load(&instance->w2c_memory, (u64)(w2c_i0) + 22868u);
+  w2c_i0 = i32_load(&instance->w2c_memory, (u64)(w2c_i0) + 23764u);
   w2c_i1 = 8u;
   w2c_i0 <<= (w2c_i1 & 31);
   w2c_i1 = 65280u;
   w2c_i0 &= w2c_i1;
   w2c_j1 = 0ull;
   w2c_i1 = (u32)(w2c_j1);
-  w2c_i1 = i32_load(&instance->w2c_memory, (u64)(w2c_i1) + 22872u);
+  w2c_i1 = i32_load(&instance->w2c_memory, (u64)(w2c_i1) + 23768u);
   w2c_l3 = w2c_i1;
   w2c_i2 = 16u;
   w2c_i1 <<= (w2c_i2 & 31);
@@ -20764,7 +20083,7 @@ static u32 w2c_module_cltu_search(Z_tcrx_instance_t* instance) {
   w2c_l0 = w2c_i0;
   w2c_j1 = 0ull;
   w2c_i1 = (u32)(w2c_j1);
-  w2c_i1 = i32_load(&instance->w2c_memory, (u64)(w2c_i1) + 22864u);
+  w2c_i1 = i32_load(&instance->w2c_memory, (u64)(w2c_i1) + 23760u);
   w2c_l4 = w2c_i1;
   w2c_i0 |= w2c_i1;
   w2c_i1 = 254u;
@@ -20801,49 +20120,49 @@ static u32 w2c_module_cltu_search(Z_tcrx_instance_t* instance) {
   w2c_j0 = 0ull;
   w2c_i0 = (u32)(w2c_j0);
   w2c_i1 = 0u;
-  i32_store(&instance->w2c_memory, (u64)(w2c_i0) + 22884, w2c_i1);
+  i32_store(&instance->w2c_memory, (u64)(w2c_i0) + 23780, w2c_i1);
   w2c_j0 = 0ull;
   w2c_i0 = (u32)(w2c_j0);
   w2c_i1 = w2c_l2;
-  i32_store(&instance->w2c_memory, (u64)(w2c_i0) + 22880, w2c_i1);
+  i32_store(&instance->w2c_memory, (u64)(w2c_i0) + 23776, w2c_i1);
   w2c_j0 = 0ull;
   w2c_i0 = (u32)(w2c_j0);
   w2c_i1 = w2c_l1;
-  i32_store(&instance->w2c_memory, (u64)(w2c_i0) + 22876, w2c_i1);
+  i32_store(&instance->w2c_memory, (u64)(w2c_i0) + 23772, w2c_i1);
   w2c_j0 = 0ull;
   w2c_i0 = (u32)(w2c_j0);
   w2c_i1 = w2c_l3;
   w2c_i2 = 255u;
   w2c_i1 &= w2c_i2;
-  i32_store(&instance->w2c_memory, (u64)(w2c_i0) + 22872, w2c_i1);
+  i32_store(&instance->w2c_memory, (u64)(w2c_i0) + 23768, w2c_i1);
   w2c_j0 = 0ull;
   w2c_i0 = (u32)(w2c_j0);
   w2c_i1 = w2c_l0;
   w2c_i2 = 255u;
   w2c_i1 &= w2c_i2;
-  i32_store(&instance->w2c_memory, (u64)(w2c_i0) + 22868, w2c_i1);
+  i32_store(&instance->w2c_memory, (u64)(w2c_i0) + 23764, w2c_i1);
   w2c_j0 = 0ull;
   w2c_i0 = (u32)(w2c_j0);
   w2c_i1 = w2c_l4;
   w2c_i2 = 255u;
   w2c_i1 &= w2c_i2;
-  i32_store(&instance->w2c_memory, (u64)(w2c_i0) + 22864, w2c_i1);
+  i32_store(&instance->w2c_memory, (u64)(w2c_i0) + 23760, w2c_i1);
   w2c_j0 = 0ull;
   w2c_i0 = (u32)(w2c_j0);
   w2c_j1 = 0ull;
-  i64_store(&instance->w2c_memory, (u64)(w2c_i0) + 22912, w2c_j1);
+  i64_store(&instance->w2c_memory, (u64)(w2c_i0) + 23808, w2c_j1);
   w2c_j0 = 0ull;
   w2c_i0 = (u32)(w2c_j0);
   w2c_j1 = 0ull;
-  i64_store(&instance->w2c_memory, (u64)(w2c_i0) + 22904, w2c_j1);
+  i64_store(&instance->w2c_memory, (u64)(w2c_i0) + 23800, w2c_j1);
   w2c_j0 = 0ull;
   w2c_i0 = (u32)(w2c_j0);
   w2c_j1 = 0ull;
-  i64_store(&instance->w2c_memory, (u64)(w2c_i0) + 22896, w2c_j1);
+  i64_store(&instance->w2c_memory, (u64)(w2c_i0) + 23792, w2c_j1);
   w2c_j0 = 0ull;
   w2c_i0 = (u32)(w2c_j0);
   w2c_j1 = 0ull;
-  i64_store(&instance->w2c_memory, (u64)(w2c_i0) + 22888, w2c_j1);
+  i64_store(&instance->w2c_memory, (u64)(w2c_i0) + 23784, w2c_j1);
   w2c_i0 = w2c_l5;
   FUNC_EPILOGUE;
   return w2c_i0;
@@ -20936,7 +20255,7 @@ static u32 w2c_module_farm_start(Z_tcrx_instance_t* instance, u32 w2c_p0, u32 w2
   w2c_j3 <<= (w2c_j4 & 63);
   w2c_j2 |= w2c_j3;
   w2c_j1 |= w2c_j2;
-  i64_store(&instance->w2c_memory, (u64)(w2c_i0) + 22864, w2c_j1);
+  i64_store(&instance->w2c_memory, (u64)(w2c_i0) + 23760, w2c_j1);
   w2c_j0 = w2c_l3;
   w2c_i0 = (u32)(w2c_j0);
   FUNC_EPILOGUE;
@@ -21528,7 +20847,7 @@ static u32 w2c_module_farm_step(Z_tcrx_instance_t* instance, u32 w2c_p0, u32 w2c
   w2c_j1 = 2ull;
   w2c_j0 <<= (w2c_j1 & 63);
   w2c_i0 = (u32)(w2c_j0);
-  w2c_j0 = i64_load32_u(&instance->w2c_memory, (u64)(w2c_i0) + 22460u);
+  w2c_j0 = i64_load32_u(&instance->w2c_memory, (u64)(w2c_i0) + 23356u);
   w2c_l7 = w2c_j0;
   w2c_j0 = 0ull;
   w2c_l6 = w2c_j0;
@@ -21565,14 +20884,14 @@ static u32 w2c_module_farm_step(Z_tcrx_instance_t* instance, u32 w2c_p0, u32 w2c
   w2c_j1 = w2c_l6;
   w2c_j2 = 32ull;
   w2c_j1 >>= (w2c_j2 & 63);
-  i64_store32(&instance->w2c_memory, (u64)(w2c_i0) + 22876, w2c_j1);
+  i64_store32(&instance->w2c_memory, (u64)(w2c_i0) + 23772, w2c_j1);
   w2c_j0 = 0ull;
   w2c_i0 = (u32)(w2c_j0);
   w2c_j1 = w2c_l10;
   w2c_i1 = (u32)(w2c_j1);
   w2c_i2 = 24u;
   w2c_i1 >>= (w2c_i2 & 31);
-  i32_store(&instance->w2c_memory, (u64)(w2c_i0) + 22872, w2c_i1);
+  i32_store(&instance->w2c_memory, (u64)(w2c_i0) + 23768, w2c_i1);
   w2c_j0 = w2c_l5;
   w2c_i0 = (u32)(w2c_j0);
   w2c_i1 = w2c_l15;
@@ -21621,7 +20940,7 @@ static u32 w2c_module_farm_step(Z_tcrx_instance_t* instance, u32 w2c_p0, u32 w2c
   w2c_j3 <<= (w2c_j4 & 63);
   w2c_j2 |= w2c_j3;
   w2c_j1 |= w2c_j2;
-  i64_store(&instance->w2c_memory, (u64)(w2c_i0) + 22864, w2c_j1);
+  i64_store(&instance->w2c_memory, (u64)(w2c_i0) + 23760, w2c_j1);
   w2c_j0 = w2c_l5;
   w2c_j1 = 32ull;
   w2c_j0 += w2c_j1;
@@ -21635,7 +20954,7 @@ static u32 w2c_module_farm_step(Z_tcrx_instance_t* instance, u32 w2c_p0, u32 w2c
 static u64 w2c_module_frames(Z_tcrx_instance_t* instance) {
   FUNC_PROLOGUE;
   u64 w2c_j0;
-  w2c_j0 = 22928ull;
+  w2c_j0 = 23824ull;
   FUNC_EPILOGUE;
   return w2c_j0;
 }
@@ -21815,7 +21134,7 @@ static u32 w2c_module_kind(Z_tcrx_instance_t* instance, u64 w2c_p0, u32 w2c_p1) 
   w2c_j1 = 2ull;
   w2c_j0 <<= (w2c_j1 & 63);
   w2c_i0 = (u32)(w2c_j0);
-  w2c_i0 = i32_load(&instance->w2c_memory, (u64)(w2c_i0) + 22460u);
+  w2c_i0 = i32_load(&instance->w2c_memory, (u64)(w2c_i0) + 23356u);
   w2c_l2 = w2c_i0;
   w2c_i0 = 0u;
   w2c_p1 = w2c_i0;
@@ -21825,13 +21144,13 @@ static u32 w2c_module_kind(Z_tcrx_instance_t* instance, u64 w2c_p0, u32 w2c_p1) 
   w2c_j0 = 0ull;
   w2c_i0 = (u32)(w2c_j0);
   w2c_i1 = w2c_l4;
-  i32_store(&instance->w2c_memory, (u64)(w2c_i0) + 22864, w2c_i1);
+  i32_store(&instance->w2c_memory, (u64)(w2c_i0) + 23760, w2c_i1);
   w2c_j0 = 0ull;
   w2c_i0 = (u32)(w2c_j0);
   w2c_i1 = w2c_p1;
   w2c_i2 = 255u;
   w2c_i1 &= w2c_i2;
-  i32_store(&instance->w2c_memory, (u64)(w2c_i0) + 22868, w2c_i1);
+  i32_store(&instance->w2c_memory, (u64)(w2c_i0) + 23764, w2c_i1);
   w2c_i0 = w2c_l2;
   FUNC_EPILOGUE;
   return w2c_i0;
@@ -21840,7 +21159,7 @@ static u32 w2c_module_kind(Z_tcrx_instance_t* instance, u64 w2c_p0, u32 w2c_p1) 
 static u64 w2c_module_numbers(Z_tcrx_instance_t* instance) {
   FUNC_PROLOGUE;
   u64 w2c_j0;
-  w2c_j0 = 22864ull;
+  w2c_j0 = 23760ull;
   FUNC_EPILOGUE;
   return w2c_j0;
 }
@@ -21974,7 +21293,7 @@ static u32 w2c_module_rack_candidate(Z_tcrx_instance_t* instance, u32 w2c_p0, u3
   w2c_i0 = !(w2c_i0);
   if (w2c_i0) {goto w2c_B10;}
   w2c_j0 = w2c_l4;
-  w2c_j1 = 27032ull;
+  w2c_j1 = 27928ull;
   w2c_j2 = 1ull;
   w2c_i3 = w2c_p0;
   w2c_j4 = w2c_p2;
@@ -21983,7 +21302,7 @@ static u32 w2c_module_rack_candidate(Z_tcrx_instance_t* instance, u32 w2c_p0, u3
   goto w2c_B9;
   w2c_B10:;
   w2c_j0 = w2c_l4;
-  w2c_j1 = 27032ull;
+  w2c_j1 = 27928ull;
   w2c_j2 = 1ull;
   w2c_i3 = w2c_p0;
   w2c_j4 = w2c_p2;
@@ -22072,7 +21391,7 @@ static u32 w2c_module_rack_candidate(Z_tcrx_instance_t* instance, u32 w2c_p0, u3
   w2c_j1 = 2ull;
   w2c_j0 <<= (w2c_j1 & 63);
   w2c_i0 = (u32)(w2c_j0);
-  w2c_i0 = i32_load(&instance->w2c_memory, (u64)(w2c_i0) + 22460u);
+  w2c_i0 = i32_load(&instance->w2c_memory, (u64)(w2c_i0) + 23356u);
   w2c_l8 = w2c_i0;
   w2c_i0 = 0u;
   w2c_l7 = w2c_i0;
@@ -22094,35 +21413,35 @@ static u32 w2c_module_rack_candidate(Z_tcrx_instance_t* instance, u32 w2c_p0, u3
   w2c_j0 = 0ull;
   w2c_i0 = (u32)(w2c_j0);
   w2c_i1 = w2c_l15;
-  i32_store(&instance->w2c_memory, (u64)(w2c_i0) + 22892, w2c_i1);
+  i32_store(&instance->w2c_memory, (u64)(w2c_i0) + 23788, w2c_i1);
   w2c_j0 = 0ull;
   w2c_i0 = (u32)(w2c_j0);
   w2c_i1 = w2c_l14;
-  i32_store(&instance->w2c_memory, (u64)(w2c_i0) + 22888, w2c_i1);
+  i32_store(&instance->w2c_memory, (u64)(w2c_i0) + 23784, w2c_i1);
   w2c_j0 = 0ull;
   w2c_i0 = (u32)(w2c_j0);
   w2c_i1 = w2c_l13;
-  i32_store(&instance->w2c_memory, (u64)(w2c_i0) + 22884, w2c_i1);
+  i32_store(&instance->w2c_memory, (u64)(w2c_i0) + 23780, w2c_i1);
   w2c_j0 = 0ull;
   w2c_i0 = (u32)(w2c_j0);
   w2c_i1 = w2c_l12;
-  i32_store(&instance->w2c_memory, (u64)(w2c_i0) + 22880, w2c_i1);
+  i32_store(&instance->w2c_memory, (u64)(w2c_i0) + 23776, w2c_i1);
   w2c_j0 = 0ull;
   w2c_i0 = (u32)(w2c_j0);
   w2c_i1 = w2c_l11;
-  i32_store(&instance->w2c_memory, (u64)(w2c_i0) + 22876, w2c_i1);
+  i32_store(&instance->w2c_memory, (u64)(w2c_i0) + 23772, w2c_i1);
   w2c_j0 = 0ull;
   w2c_i0 = (u32)(w2c_j0);
   w2c_i1 = w2c_l10;
-  i32_store(&instance->w2c_memory, (u64)(w2c_i0) + 22872, w2c_i1);
+  i32_store(&instance->w2c_memory, (u64)(w2c_i0) + 23768, w2c_i1);
   w2c_j0 = 0ull;
   w2c_i0 = (u32)(w2c_j0);
   w2c_i1 = w2c_l9;
-  i32_store(&instance->w2c_memory, (u64)(w2c_i0) + 22868, w2c_i1);
+  i32_store(&instance->w2c_memory, (u64)(w2c_i0) + 23764, w2c_i1);
   w2c_j0 = 0ull;
   w2c_i0 = (u32)(w2c_j0);
   w2c_i1 = w2c_l7;
-  i32_store(&instance->w2c_memory, (u64)(w2c_i0) + 22864, w2c_i1);
+  i32_store(&instance->w2c_memory, (u64)(w2c_i0) + 23760, w2c_i1);
   w2c_j0 = w2c_l4;
   w2c_j1 = 16ull;
   w2c_j0 += w2c_j1;
@@ -22143,7 +21462,7 @@ static u32 w2c_module_rack_find(Z_tcrx_instance_t* instance, u32 w2c_p0) {
   w2c_l1 = w2c_j0;
   instance->w2c_g0 = w2c_j0;
   w2c_j0 = w2c_l1;
-  w2c_j1 = 27032ull;
+  w2c_j1 = 27928ull;
   w2c_j2 = 1ull;
   w2c_i3 = w2c_p0;
   w2c_i4 = 255u;
@@ -22154,7 +21473,7 @@ static u32 w2c_module_rack_find(Z_tcrx_instance_t* instance, u32 w2c_p0) {
   w2c_j1 = w2c_l1;
   w2c_i1 = (u32)(w2c_j1);
   w2c_j1 = i64_load(&instance->w2c_memory, (u64)(w2c_i1) + 8u);
-  i64_store(&instance->w2c_memory, (u64)(w2c_i0) + 22864, w2c_j1);
+  i64_store(&instance->w2c_memory, (u64)(w2c_i0) + 23760, w2c_j1);
   w2c_j0 = w2c_l1;
   w2c_i0 = (u32)(w2c_j0);
   w2c_i0 = i32_load(&instance->w2c_memory, (u64)(w2c_i0));
@@ -22210,7 +21529,7 @@ static u32 w2c_module_rack_frame(Z_tcrx_instance_t* instance, u32 w2c_p0, u32 w2
   }
   w2c_B5:;
   w2c_j0 = w2c_l4;
-  w2c_j1 = 27032ull;
+  w2c_j1 = 27928ull;
   w2c_j2 = 1ull;
   w2c_i3 = w2c_p0;
   w2c_j4 = w2c_p2;
@@ -22298,13 +21617,13 @@ static u32 w2c_module_rack_frame(Z_tcrx_instance_t* instance, u32 w2c_p0, u32 w2
   w2c_l6 = w2c_j0;
   w2c_j0 = 0ull;
   w2c_i0 = (u32)(w2c_j0);
-  w2c_i0 = i32_load8_u(&instance->w2c_memory, (u64)(w2c_i0) + 27032u);
+  w2c_i0 = i32_load8_u(&instance->w2c_memory, (u64)(w2c_i0) + 27928u);
   w2c_i1 = 1u;
   w2c_i0 = w2c_i0 != w2c_i1;
   if (w2c_i0) {goto w2c_B2;}
   w2c_j0 = 0ull;
   w2c_i0 = (u32)(w2c_j0);
-  w2c_j0 = i64_load(&instance->w2c_memory, (u64)(w2c_i0) + 27040u);
+  w2c_j0 = i64_load(&instance->w2c_memory, (u64)(w2c_i0) + 27936u);
   w2c_i0 = (u32)(w2c_j0);
   w2c_i0 = i32_load8_u(&instance->w2c_memory, (u64)(w2c_i0));
   w2c_i1 = w2c_l7;
@@ -22326,7 +21645,7 @@ static u32 w2c_module_rack_frame(Z_tcrx_instance_t* instance, u32 w2c_p0, u32 w2
   w2c_j0 = w2c_l4;
   w2c_j1 = 16ull;
   w2c_j0 += w2c_j1;
-  w2c_j1 = 27032ull;
+  w2c_j1 = 27928ull;
   w2c_j2 = w2c_p2;
   w2c_j3 = w2c_l5;
   w2c_f10(instance, w2c_j0, w2c_j1, w2c_j2, w2c_j3);
@@ -22374,7 +21693,7 @@ static u32 w2c_module_rack_frame(Z_tcrx_instance_t* instance, u32 w2c_p0, u32 w2
   w2c_j1 = 2ull;
   w2c_j0 <<= (w2c_j1 & 63);
   w2c_i0 = (u32)(w2c_j0);
-  w2c_i0 = i32_load(&instance->w2c_memory, (u64)(w2c_i0) + 22460u);
+  w2c_i0 = i32_load(&instance->w2c_memory, (u64)(w2c_i0) + 23356u);
   w2c_p1 = w2c_i0;
   w2c_i0 = 0u;
   w2c_p0 = w2c_i0;
@@ -22424,13 +21743,13 @@ static u32 w2c_module_rack_frame(Z_tcrx_instance_t* instance, u32 w2c_p0, u32 w2
   w2c_i1 = (u32)(w2c_j1);
   w2c_j1 = i64_load(&instance->w2c_memory, (u64)(w2c_i1) + 8u);
   w2c_p2 = w2c_j1;
-  i64_store32(&instance->w2c_memory, (u64)(w2c_i0) + 22868, w2c_j1);
+  i64_store32(&instance->w2c_memory, (u64)(w2c_i0) + 23764, w2c_j1);
   w2c_j0 = 0ull;
   w2c_i0 = (u32)(w2c_j0);
   w2c_j1 = w2c_p2;
   w2c_j2 = 56ull;
   w2c_j1 >>= (w2c_j2 & 63);
-  i64_store32(&instance->w2c_memory, (u64)(w2c_i0) + 22884, w2c_j1);
+  i64_store32(&instance->w2c_memory, (u64)(w2c_i0) + 23780, w2c_j1);
   w2c_j0 = 0ull;
   w2c_i0 = (u32)(w2c_j0);
   w2c_j1 = w2c_l4;
@@ -22439,7 +21758,7 @@ static u32 w2c_module_rack_frame(Z_tcrx_instance_t* instance, u32 w2c_p0, u32 w2
   w2c_l5 = w2c_j1;
   w2c_j2 = 32ull;
   w2c_j1 >>= (w2c_j2 & 63);
-  i64_store32(&instance->w2c_memory, (u64)(w2c_i0) + 22864, w2c_j1);
+  i64_store32(&instance->w2c_memory, (u64)(w2c_i0) + 23760, w2c_j1);
   w2c_j0 = 0ull;
   w2c_i0 = (u32)(w2c_j0);
   w2c_j1 = w2c_p2;
@@ -22448,7 +21767,7 @@ static u32 w2c_module_rack_frame(Z_tcrx_instance_t* instance, u32 w2c_p0, u32 w2
   w2c_i1 = (u32)(w2c_j1);
   w2c_i2 = 255u;
   w2c_i1 &= w2c_i2;
-  i32_store(&instance->w2c_memory, (u64)(w2c_i0) + 22880, w2c_i1);
+  i32_store(&instance->w2c_memory, (u64)(w2c_i0) + 23776, w2c_i1);
   w2c_j0 = 0ull;
   w2c_i0 = (u32)(w2c_j0);
   w2c_j1 = w2c_p2;
@@ -22457,7 +21776,7 @@ static u32 w2c_module_rack_frame(Z_tcrx_instance_t* instance, u32 w2c_p0, u32 w2
   w2c_i1 = (u32)(w2c_j1);
   w2c_i2 = 255u;
   w2c_i1 &= w2c_i2;
-  i32_store(&instance->w2c_memory, (u64)(w2c_i0) + 22876, w2c_i1);
+  i32_store(&instance->w2c_memory, (u64)(w2c_i0) + 23772, w2c_i1);
   w2c_j0 = 0ull;
   w2c_i0 = (u32)(w2c_j0);
   w2c_j1 = w2c_p2;
@@ -22466,7 +21785,7 @@ static u32 w2c_module_rack_frame(Z_tcrx_instance_t* instance, u32 w2c_p0, u32 w2
   w2c_i1 = (u32)(w2c_j1);
   w2c_i2 = 255u;
   w2c_i1 &= w2c_i2;
-  i32_store(&instance->w2c_memory, (u64)(w2c_i0) + 22872, w2c_i1);
+  i32_store(&instance->w2c_memory, (u64)(w2c_i0) + 23768, w2c_i1);
   w2c_j0 = w2c_l4;
   w2c_j1 = 32ull;
   w2c_j0 += w2c_j1;
@@ -22500,7 +21819,7 @@ static u32 w2c_module_randomise(Z_tcrx_instance_t* instance, u64 w2c_p0, u32 w2c
   w2c_j1 = w2c_l4;
   w2c_i1 = (u32)(w2c_j1);
   w2c_j1 = i64_load(&instance->w2c_memory, (u64)(w2c_i1) + 8u);
-  i64_store(&instance->w2c_memory, (u64)(w2c_i0) + 22864, w2c_j1);
+  i64_store(&instance->w2c_memory, (u64)(w2c_i0) + 23760, w2c_j1);
   w2c_j0 = w2c_l4;
   w2c_i0 = (u32)(w2c_j0);
   w2c_i0 = i32_load(&instance->w2c_memory, (u64)(w2c_i0));
@@ -22604,13 +21923,13 @@ static u32 w2c_module_read_clcw(Z_tcrx_instance_t* instance, u32 w2c_p0) {
   w2c_j1 = w2c_l2;
   w2c_j2 = 32ull;
   w2c_j1 >>= (w2c_j2 & 63);
-  i64_store32(&instance->w2c_memory, (u64)(w2c_i0) + 22896, w2c_j1);
+  i64_store32(&instance->w2c_memory, (u64)(w2c_i0) + 23792, w2c_j1);
   w2c_j0 = 0ull;
   w2c_i0 = (u32)(w2c_j0);
   w2c_j1 = w2c_l1;
   w2c_j2 = 56ull;
   w2c_j1 >>= (w2c_j2 & 63);
-  i64_store32(&instance->w2c_memory, (u64)(w2c_i0) + 22876, w2c_j1);
+  i64_store32(&instance->w2c_memory, (u64)(w2c_i0) + 23772, w2c_j1);
   w2c_j0 = 0ull;
   w2c_i0 = (u32)(w2c_j0);
   w2c_j1 = w2c_l2;
@@ -22618,13 +21937,13 @@ static u32 w2c_module_read_clcw(Z_tcrx_instance_t* instance, u32 w2c_p0) {
   w2c_p0 = w2c_i1;
   w2c_i2 = 24u;
   w2c_i1 >>= (w2c_i2 & 31);
-  i32_store(&instance->w2c_memory, (u64)(w2c_i0) + 22892, w2c_i1);
+  i32_store(&instance->w2c_memory, (u64)(w2c_i0) + 23788, w2c_i1);
   w2c_j0 = 0ull;
   w2c_i0 = (u32)(w2c_j0);
   w2c_i1 = w2c_p0;
   w2c_i2 = 255u;
   w2c_i1 &= w2c_i2;
-  i32_store(&instance->w2c_memory, (u64)(w2c_i0) + 22880, w2c_i1);
+  i32_store(&instance->w2c_memory, (u64)(w2c_i0) + 23776, w2c_i1);
   w2c_j0 = 0ull;
   w2c_i0 = (u32)(w2c_j0);
   w2c_i1 = w2c_p0;
@@ -22632,7 +21951,7 @@ static u32 w2c_module_read_clcw(Z_tcrx_instance_t* instance, u32 w2c_p0) {
   w2c_i1 >>= (w2c_i2 & 31);
   w2c_i2 = 255u;
   w2c_i1 &= w2c_i2;
-  i32_store(&instance->w2c_memory, (u64)(w2c_i0) + 22888, w2c_i1);
+  i32_store(&instance->w2c_memory, (u64)(w2c_i0) + 23784, w2c_i1);
   w2c_j0 = 0ull;
   w2c_i0 = (u32)(w2c_j0);
   w2c_i1 = w2c_p0;
@@ -22640,7 +21959,7 @@ static u32 w2c_module_read_clcw(Z_tcrx_instance_t* instance, u32 w2c_p0) {
   w2c_i1 >>= (w2c_i2 & 31);
   w2c_i2 = 255u;
   w2c_i1 &= w2c_i2;
-  i32_store(&instance->w2c_memory, (u64)(w2c_i0) + 22884, w2c_i1);
+  i32_store(&instance->w2c_memory, (u64)(w2c_i0) + 23780, w2c_i1);
   w2c_j0 = 0ull;
   w2c_i0 = (u32)(w2c_j0);
   w2c_j1 = w2c_l1;
@@ -22649,7 +21968,7 @@ static u32 w2c_module_read_clcw(Z_tcrx_instance_t* instance, u32 w2c_p0) {
   w2c_i1 = (u32)(w2c_j1);
   w2c_i2 = 255u;
   w2c_i1 &= w2c_i2;
-  i32_store(&instance->w2c_memory, (u64)(w2c_i0) + 22872, w2c_i1);
+  i32_store(&instance->w2c_memory, (u64)(w2c_i0) + 23768, w2c_i1);
   w2c_j0 = 0ull;
   w2c_i0 = (u32)(w2c_j0);
   w2c_j1 = w2c_l1;
@@ -22658,7 +21977,7 @@ static u32 w2c_module_read_clcw(Z_tcrx_instance_t* instance, u32 w2c_p0) {
   w2c_i1 = (u32)(w2c_j1);
   w2c_i2 = 255u;
   w2c_i1 &= w2c_i2;
-  i32_store(&instance->w2c_memory, (u64)(w2c_i0) + 22868, w2c_i1);
+  i32_store(&instance->w2c_memory, (u64)(w2c_i0) + 23764, w2c_i1);
   w2c_j0 = 0ull;
   w2c_i0 = (u32)(w2c_j0);
   w2c_j1 = w2c_l1;
@@ -22667,7 +21986,7 @@ static u32 w2c_module_read_clcw(Z_tcrx_instance_t* instance, u32 w2c_p0) {
   w2c_i1 = (u32)(w2c_j1);
   w2c_i2 = 255u;
   w2c_i1 &= w2c_i2;
-  i32_store(&instance->w2c_memory, (u64)(w2c_i0) + 22864, w2c_i1);
+  i32_store(&instance->w2c_memory, (u64)(w2c_i0) + 23760, w2c_i1);
   w2c_j0 = w2c_l1;
   w2c_i0 = (u32)(w2c_j0);
   FUNC_EPILOGUE;
@@ -22748,7 +22067,7 @@ static u32 w2c_module_read_frame(Z_tcrx_instance_t* instance, u64 w2c_p0, u32 w2
   w2c_j1 = 2ull;
   w2c_j0 <<= (w2c_j1 & 63);
   w2c_i0 = (u32)(w2c_j0);
-  w2c_j0 = i64_load32_u(&instance->w2c_memory, (u64)(w2c_i0) + 22460u);
+  w2c_j0 = i64_load32_u(&instance->w2c_memory, (u64)(w2c_i0) + 23356u);
   w2c_p0 = w2c_j0;
   w2c_i0 = 0u;
   w2c_p1 = w2c_i0;
@@ -22802,19 +22121,19 @@ static u32 w2c_module_read_frame(Z_tcrx_instance_t* instance, u64 w2c_p0, u32 w2
   w2c_i1 = w2c_p1;
   w2c_i2 = 16u;
   w2c_i1 >>= (w2c_i2 & 31);
-  i32_store(&instance->w2c_memory, (u64)(w2c_i0) + 22884, w2c_i1);
+  i32_store(&instance->w2c_memory, (u64)(w2c_i0) + 23780, w2c_i1);
   w2c_j0 = 0ull;
   w2c_i0 = (u32)(w2c_j0);
   w2c_i1 = w2c_p1;
   w2c_i2 = 255u;
   w2c_i1 &= w2c_i2;
-  i32_store(&instance->w2c_memory, (u64)(w2c_i0) + 22876, w2c_i1);
+  i32_store(&instance->w2c_memory, (u64)(w2c_i0) + 23772, w2c_i1);
   w2c_j0 = 0ull;
   w2c_i0 = (u32)(w2c_j0);
   w2c_j1 = w2c_p0;
   w2c_j2 = 56ull;
   w2c_j1 >>= (w2c_j2 & 63);
-  i64_store32(&instance->w2c_memory, (u64)(w2c_i0) + 22872, w2c_j1);
+  i64_store32(&instance->w2c_memory, (u64)(w2c_i0) + 23768, w2c_j1);
   w2c_j0 = 0ull;
   w2c_i0 = (u32)(w2c_j0);
   w2c_i1 = w2c_p1;
@@ -22822,7 +22141,7 @@ static u32 w2c_module_read_frame(Z_tcrx_instance_t* instance, u64 w2c_p0, u32 w2
   w2c_i1 >>= (w2c_i2 & 31);
   w2c_i2 = 255u;
   w2c_i1 &= w2c_i2;
-  i32_store(&instance->w2c_memory, (u64)(w2c_i0) + 22880, w2c_i1);
+  i32_store(&instance->w2c_memory, (u64)(w2c_i0) + 23776, w2c_i1);
   w2c_j0 = 0ull;
   w2c_i0 = (u32)(w2c_j0);
   w2c_j1 = w2c_p0;
@@ -22831,7 +22150,7 @@ static u32 w2c_module_read_frame(Z_tcrx_instance_t* instance, u64 w2c_p0, u32 w2
   w2c_i1 = (u32)(w2c_j1);
   w2c_i2 = 255u;
   w2c_i1 &= w2c_i2;
-  i32_store(&instance->w2c_memory, (u64)(w2c_i0) + 22868, w2c_i1);
+  i32_store(&instance->w2c_memory, (u64)(w2c_i0) + 23764, w2c_i1);
   w2c_j0 = 0ull;
   w2c_i0 = (u32)(w2c_j0);
   w2c_j1 = w2c_p0;
@@ -22840,7 +22159,7 @@ static u32 w2c_module_read_frame(Z_tcrx_instance_t* instance, u64 w2c_p0, u32 w2
   w2c_i1 = (u32)(w2c_j1);
   w2c_i2 = 65535u;
   w2c_i1 &= w2c_i2;
-  i32_store(&instance->w2c_memory, (u64)(w2c_i0) + 22864, w2c_i1);
+  i32_store(&instance->w2c_memory, (u64)(w2c_i0) + 23760, w2c_i1);
   w2c_j0 = w2c_p0;
   w2c_i0 = (u32)(w2c_j0);
   FUNC_EPILOGUE;
@@ -22959,13 +22278,13 @@ static u32 w2c_module_read_packet(Z_tcrx_instance_t* instance, u64 w2c_p0, u32 w
   w2c_j1 = w2c_l2;
   w2c_j2 = 48ull;
   w2c_j1 >>= (w2c_j2 & 63);
-  i64_store32(&instance->w2c_memory, (u64)(w2c_i0) + 22884, w2c_j1);
+  i64_store32(&instance->w2c_memory, (u64)(w2c_i0) + 23780, w2c_j1);
   w2c_j0 = 0ull;
   w2c_i0 = (u32)(w2c_j0);
   w2c_j1 = w2c_l3;
   w2c_j2 = 32ull;
   w2c_j1 >>= (w2c_j2 & 63);
-  i64_store32(&instance->w2c_memory, (u64)(w2c_i0) + 22864, w2c_j1);
+  i64_store32(&instance->w2c_memory, (u64)(w2c_i0) + 23760, w2c_j1);
   w2c_j0 = 0ull;
   w2c_i0 = (u32)(w2c_j0);
   w2c_j1 = w2c_l2;
@@ -22973,13 +22292,13 @@ static u32 w2c_module_read_packet(Z_tcrx_instance_t* instance, u64 w2c_p0, u32 w
   w2c_p1 = w2c_i1;
   w2c_i2 = 16u;
   w2c_i1 >>= (w2c_i2 & 31);
-  i32_store(&instance->w2c_memory, (u64)(w2c_i0) + 22872, w2c_i1);
+  i32_store(&instance->w2c_memory, (u64)(w2c_i0) + 23768, w2c_i1);
   w2c_j0 = 0ull;
   w2c_i0 = (u32)(w2c_j0);
   w2c_i1 = w2c_p1;
   w2c_i2 = 65535u;
   w2c_i1 &= w2c_i2;
-  i32_store(&instance->w2c_memory, (u64)(w2c_i0) + 22868, w2c_i1);
+  i32_store(&instance->w2c_memory, (u64)(w2c_i0) + 23764, w2c_i1);
   w2c_j0 = 0ull;
   w2c_i0 = (u32)(w2c_j0);
   w2c_j1 = w2c_l2;
@@ -22988,7 +22307,7 @@ static u32 w2c_module_read_packet(Z_tcrx_instance_t* instance, u64 w2c_p0, u32 w
   w2c_i1 = (u32)(w2c_j1);
   w2c_i2 = 255u;
   w2c_i1 &= w2c_i2;
-  i32_store(&instance->w2c_memory, (u64)(w2c_i0) + 22880, w2c_i1);
+  i32_store(&instance->w2c_memory, (u64)(w2c_i0) + 23776, w2c_i1);
   w2c_j0 = 0ull;
   w2c_i0 = (u32)(w2c_j0);
   w2c_j1 = w2c_l2;
@@ -22997,7 +22316,7 @@ static u32 w2c_module_read_packet(Z_tcrx_instance_t* instance, u64 w2c_p0, u32 w
   w2c_i1 = (u32)(w2c_j1);
   w2c_i2 = 255u;
   w2c_i1 &= w2c_i2;
-  i32_store(&instance->w2c_memory, (u64)(w2c_i0) + 22876, w2c_i1);
+  i32_store(&instance->w2c_memory, (u64)(w2c_i0) + 23772, w2c_i1);
   w2c_j0 = w2c_l3;
   w2c_i0 = (u32)(w2c_j0);
   FUNC_EPILOGUE;
@@ -23098,7 +22417,7 @@ static u32 w2c_module_read_tm(Z_tcrx_instance_t* instance, u32 w2c_p0, u64 w2c_p
     w2c_j1 = 1ull;
     w2c_j0 <<= (w2c_j1 & 63);
     w2c_i0 = (u32)(w2c_j0);
-    w2c_i0 = i32_load16_u(&instance->w2c_memory, (u64)(w2c_i0) + 18898u);
+    w2c_i0 = i32_load16_u(&instance->w2c_memory, (u64)(w2c_i0) + 19794u);
     w2c_j1 = w2c_l4;
     w2c_i1 = (u32)(w2c_j1);
     w2c_i1 = i32_load8_u(&instance->w2c_memory, (u64)(w2c_i1));
@@ -23110,7 +22429,7 @@ static u32 w2c_module_read_tm(Z_tcrx_instance_t* instance, u32 w2c_p0, u64 w2c_p
     w2c_j2 = 1ull;
     w2c_j1 <<= (w2c_j2 & 63);
     w2c_i1 = (u32)(w2c_j1);
-    w2c_i1 = i32_load16_u(&instance->w2c_memory, (u64)(w2c_i1) + 18386u);
+    w2c_i1 = i32_load16_u(&instance->w2c_memory, (u64)(w2c_i1) + 19282u);
     w2c_i0 ^= w2c_i1;
     w2c_j1 = w2c_l4;
     w2c_j2 = 2ull;
@@ -23120,7 +22439,7 @@ static u32 w2c_module_read_tm(Z_tcrx_instance_t* instance, u32 w2c_p0, u64 w2c_p
     w2c_j2 = 1ull;
     w2c_j1 <<= (w2c_j2 & 63);
     w2c_i1 = (u32)(w2c_j1);
-    w2c_i1 = i32_load16_u(&instance->w2c_memory, (u64)(w2c_i1) + 19410u);
+    w2c_i1 = i32_load16_u(&instance->w2c_memory, (u64)(w2c_i1) + 20306u);
     w2c_i0 ^= w2c_i1;
     w2c_j1 = w2c_l4;
     w2c_j2 = 3ull;
@@ -23130,7 +22449,7 @@ static u32 w2c_module_read_tm(Z_tcrx_instance_t* instance, u32 w2c_p0, u64 w2c_p
     w2c_j2 = 1ull;
     w2c_j1 <<= (w2c_j2 & 63);
     w2c_i1 = (u32)(w2c_j1);
-    w2c_i1 = i32_load16_u(&instance->w2c_memory, (u64)(w2c_i1) + 19922u);
+    w2c_i1 = i32_load16_u(&instance->w2c_memory, (u64)(w2c_i1) + 20818u);
     w2c_i0 ^= w2c_i1;
     w2c_p2 = w2c_i0;
     w2c_i1 = 65280u;
@@ -23277,7 +22596,7 @@ static u32 w2c_module_read_tm(Z_tcrx_instance_t* instance, u32 w2c_p0, u64 w2c_p
   w2c_j1 = 2ull;
   w2c_j0 <<= (w2c_j1 & 63);
   w2c_i0 = (u32)(w2c_j0);
-  w2c_j0 = i64_load32_u(&instance->w2c_memory, (u64)(w2c_i0) + 22460u);
+  w2c_j0 = i64_load32_u(&instance->w2c_memory, (u64)(w2c_i0) + 23356u);
   w2c_l4 = w2c_j0;
   w2c_B0:;
   w2c_j0 = 0ull;
@@ -23285,13 +22604,13 @@ static u32 w2c_module_read_tm(Z_tcrx_instance_t* instance, u32 w2c_p0, u64 w2c_p
   w2c_j1 = w2c_l3;
   w2c_j2 = 48ull;
   w2c_j1 >>= (w2c_j2 & 63);
-  i64_store32(&instance->w2c_memory, (u64)(w2c_i0) + 22884, w2c_j1);
+  i64_store32(&instance->w2c_memory, (u64)(w2c_i0) + 23780, w2c_j1);
   w2c_j0 = 0ull;
   w2c_i0 = (u32)(w2c_j0);
   w2c_j1 = w2c_l4;
   w2c_j2 = 32ull;
   w2c_j1 >>= (w2c_j2 & 63);
-  i64_store32(&instance->w2c_memory, (u64)(w2c_i0) + 22864, w2c_j1);
+  i64_store32(&instance->w2c_memory, (u64)(w2c_i0) + 23760, w2c_j1);
   w2c_j0 = 0ull;
   w2c_i0 = (u32)(w2c_j0);
   w2c_j1 = w2c_l3;
@@ -23299,13 +22618,13 @@ static u32 w2c_module_read_tm(Z_tcrx_instance_t* instance, u32 w2c_p0, u64 w2c_p
   w2c_p2 = w2c_i1;
   w2c_i2 = 24u;
   w2c_i1 >>= (w2c_i2 & 31);
-  i32_store(&instance->w2c_memory, (u64)(w2c_i0) + 22876, w2c_i1);
+  i32_store(&instance->w2c_memory, (u64)(w2c_i0) + 23772, w2c_i1);
   w2c_j0 = 0ull;
   w2c_i0 = (u32)(w2c_j0);
   w2c_i1 = w2c_p2;
   w2c_i2 = 65535u;
   w2c_i1 &= w2c_i2;
-  i32_store(&instance->w2c_memory, (u64)(w2c_i0) + 22868, w2c_i1);
+  i32_store(&instance->w2c_memory, (u64)(w2c_i0) + 23764, w2c_i1);
   w2c_j0 = 0ull;
   w2c_i0 = (u32)(w2c_j0);
   w2c_j1 = w2c_l3;
@@ -23314,7 +22633,7 @@ static u32 w2c_module_read_tm(Z_tcrx_instance_t* instance, u32 w2c_p0, u64 w2c_p
   w2c_i1 = (u32)(w2c_j1);
   w2c_i2 = 255u;
   w2c_i1 &= w2c_i2;
-  i32_store(&instance->w2c_memory, (u64)(w2c_i0) + 22880, w2c_i1);
+  i32_store(&instance->w2c_memory, (u64)(w2c_i0) + 23776, w2c_i1);
   w2c_j0 = 0ull;
   w2c_i0 = (u32)(w2c_j0);
   w2c_i1 = w2c_p2;
@@ -23322,7 +22641,7 @@ static u32 w2c_module_read_tm(Z_tcrx_instance_t* instance, u32 w2c_p0, u64 w2c_p
   w2c_i1 >>= (w2c_i2 & 31);
   w2c_i2 = 255u;
   w2c_i1 &= w2c_i2;
-  i32_store(&instance->w2c_memory, (u64)(w2c_i0) + 22872, w2c_i1);
+  i32_store(&instance->w2c_memory, (u64)(w2c_i0) + 23768, w2c_i1);
   w2c_j0 = w2c_l4;
   w2c_i0 = (u32)(w2c_j0);
   FUNC_EPILOGUE;
@@ -23364,19 +22683,19 @@ static u32 w2c_module_storage(Z_tcrx_instance_t* instance, u64 w2c_p0, u32 w2c_p
   w2c_j0 = w2c_l4;
   w2c_j1 = 0ull;
   w2c_i1 = (u32)(w2c_j1);
-  w2c_j1 = i64_load32_u(&instance->w2c_memory, (u64)(w2c_i1) + 22880u);
+  w2c_j1 = i64_load32_u(&instance->w2c_memory, (u64)(w2c_i1) + 23776u);
   w2c_j2 = 32ull;
   w2c_j1 <<= (w2c_j2 & 63);
   w2c_j2 = 0ull;
   w2c_i2 = (u32)(w2c_j2);
-  w2c_i2 = i32_load(&instance->w2c_memory, (u64)(w2c_i2) + 22876u);
+  w2c_i2 = i32_load(&instance->w2c_memory, (u64)(w2c_i2) + 23772u);
   w2c_i3 = 24u;
   w2c_i2 <<= (w2c_i3 & 31);
   w2c_j2 = (u64)(w2c_i2);
   w2c_j1 |= w2c_j2;
   w2c_j2 = 0ull;
   w2c_i2 = (u32)(w2c_j2);
-  w2c_j2 = i64_load32_u(&instance->w2c_memory, (u64)(w2c_i2) + 22872u);
+  w2c_j2 = i64_load32_u(&instance->w2c_memory, (u64)(w2c_i2) + 23768u);
   w2c_j3 = 16ull;
   w2c_j2 <<= (w2c_j3 & 63);
   w2c_j3 = 16711680ull;
@@ -23384,7 +22703,7 @@ static u32 w2c_module_storage(Z_tcrx_instance_t* instance, u64 w2c_p0, u32 w2c_p
   w2c_j1 |= w2c_j2;
   w2c_j2 = 0ull;
   w2c_i2 = (u32)(w2c_j2);
-  w2c_j2 = i64_load32_u(&instance->w2c_memory, (u64)(w2c_i2) + 22868u);
+  w2c_j2 = i64_load32_u(&instance->w2c_memory, (u64)(w2c_i2) + 23764u);
   w2c_j3 = 8ull;
   w2c_j2 <<= (w2c_j3 & 63);
   w2c_j3 = 65280ull;
@@ -23392,7 +22711,7 @@ static u32 w2c_module_storage(Z_tcrx_instance_t* instance, u64 w2c_p0, u32 w2c_p
   w2c_j1 |= w2c_j2;
   w2c_j2 = 0ull;
   w2c_i2 = (u32)(w2c_j2);
-  w2c_j2 = i64_load8_u(&instance->w2c_memory, (u64)(w2c_i2) + 22864u);
+  w2c_j2 = i64_load8_u(&instance->w2c_memory, (u64)(w2c_i2) + 23760u);
   w2c_j1 |= w2c_j2;
   w2c_j2 = w2c_p0;
   w2c_i3 = w2c_p1;
@@ -23406,7 +22725,7 @@ static u32 w2c_module_storage(Z_tcrx_instance_t* instance, u64 w2c_p0, u32 w2c_p
   w2c_j1 = w2c_l4;
   w2c_i1 = (u32)(w2c_j1);
   w2c_j1 = i64_load(&instance->w2c_memory, (u64)(w2c_i1) + 8u);
-  i64_store(&instance->w2c_memory, (u64)(w2c_i0) + 22864, w2c_j1);
+  i64_store(&instance->w2c_memory, (u64)(w2c_i0) + 23760, w2c_j1);
   w2c_j0 = w2c_l4;
   w2c_i0 = (u32)(w2c_j0);
   w2c_i0 = i32_load(&instance->w2c_memory, (u64)(w2c_i0));
@@ -23433,19 +22752,19 @@ static u32 w2c_module_storage_with_limits(Z_tcrx_instance_t* instance, u64 w2c_p
   w2c_j0 = w2c_l7;
   w2c_j1 = 0ull;
   w2c_i1 = (u32)(w2c_j1);
-  w2c_j1 = i64_load32_u(&instance->w2c_memory, (u64)(w2c_i1) + 22880u);
+  w2c_j1 = i64_load32_u(&instance->w2c_memory, (u64)(w2c_i1) + 23776u);
   w2c_j2 = 32ull;
   w2c_j1 <<= (w2c_j2 & 63);
   w2c_j2 = 0ull;
   w2c_i2 = (u32)(w2c_j2);
-  w2c_i2 = i32_load(&instance->w2c_memory, (u64)(w2c_i2) + 22876u);
+  w2c_i2 = i32_load(&instance->w2c_memory, (u64)(w2c_i2) + 23772u);
   w2c_i3 = 24u;
   w2c_i2 <<= (w2c_i3 & 31);
   w2c_j2 = (u64)(w2c_i2);
   w2c_j1 |= w2c_j2;
   w2c_j2 = 0ull;
   w2c_i2 = (u32)(w2c_j2);
-  w2c_j2 = i64_load32_u(&instance->w2c_memory, (u64)(w2c_i2) + 22872u);
+  w2c_j2 = i64_load32_u(&instance->w2c_memory, (u64)(w2c_i2) + 23768u);
   w2c_j3 = 16ull;
   w2c_j2 <<= (w2c_j3 & 63);
   w2c_j3 = 16711680ull;
@@ -23453,7 +22772,7 @@ static u32 w2c_module_storage_with_limits(Z_tcrx_instance_t* instance, u64 w2c_p
   w2c_j1 |= w2c_j2;
   w2c_j2 = 0ull;
   w2c_i2 = (u32)(w2c_j2);
-  w2c_j2 = i64_load32_u(&instance->w2c_memory, (u64)(w2c_i2) + 22868u);
+  w2c_j2 = i64_load32_u(&instance->w2c_memory, (u64)(w2c_i2) + 23764u);
   w2c_j3 = 8ull;
   w2c_j2 <<= (w2c_j3 & 63);
   w2c_j3 = 65280ull;
@@ -23461,7 +22780,7 @@ static u32 w2c_module_storage_with_limits(Z_tcrx_instance_t* instance, u64 w2c_p
   w2c_j1 |= w2c_j2;
   w2c_j2 = 0ull;
   w2c_i2 = (u32)(w2c_j2);
-  w2c_j2 = i64_load8_u(&instance->w2c_memory, (u64)(w2c_i2) + 22864u);
+  w2c_j2 = i64_load8_u(&instance->w2c_memory, (u64)(w2c_i2) + 23760u);
   w2c_j1 |= w2c_j2;
   w2c_j2 = w2c_p0;
   w2c_i3 = w2c_p1;
@@ -23479,7 +22798,7 @@ static u32 w2c_module_storage_with_limits(Z_tcrx_instance_t* instance, u64 w2c_p
   w2c_j1 = w2c_l7;
   w2c_i1 = (u32)(w2c_j1);
   w2c_j1 = i64_load(&instance->w2c_memory, (u64)(w2c_i1) + 8u);
-  i64_store(&instance->w2c_memory, (u64)(w2c_i0) + 22864, w2c_j1);
+  i64_store(&instance->w2c_memory, (u64)(w2c_i0) + 23760, w2c_j1);
   w2c_j0 = w2c_l7;
   w2c_i0 = (u32)(w2c_j0);
   w2c_i0 = i32_load(&instance->w2c_memory, (u64)(w2c_i0));
@@ -23514,7 +22833,7 @@ static u32 w2c_module_text(Z_tcrx_instance_t* instance, u32 w2c_p0, u64 w2c_p1, 
   w2c_j1 = w2c_l3;
   w2c_i1 = (u32)(w2c_j1);
   w2c_j1 = i64_load(&instance->w2c_memory, (u64)(w2c_i1) + 8u);
-  i64_store(&instance->w2c_memory, (u64)(w2c_i0) + 22864, w2c_j1);
+  i64_store(&instance->w2c_memory, (u64)(w2c_i0) + 23760, w2c_j1);
   w2c_j0 = w2c_l3;
   w2c_i0 = (u32)(w2c_j0);
   w2c_i0 = i32_load(&instance->w2c_memory, (u64)(w2c_i0));
@@ -23551,7 +22870,7 @@ static u32 w2c_module_write_cltu(Z_tcrx_instance_t* instance, u64 w2c_p0, u32 w2
   w2c_j1 = w2c_l4;
   w2c_i1 = (u32)(w2c_j1);
   w2c_j1 = i64_load(&instance->w2c_memory, (u64)(w2c_i1) + 8u);
-  i64_store(&instance->w2c_memory, (u64)(w2c_i0) + 22864, w2c_j1);
+  i64_store(&instance->w2c_memory, (u64)(w2c_i0) + 23760, w2c_j1);
   w2c_j0 = w2c_l4;
   w2c_i0 = (u32)(w2c_j0);
   w2c_i0 = i32_load(&instance->w2c_memory, (u64)(w2c_i0));
@@ -23597,7 +22916,7 @@ static u32 w2c_module_write_command(Z_tcrx_instance_t* instance, u32 w2c_p0, u32
   w2c_j1 = w2c_l6;
   w2c_i1 = (u32)(w2c_j1);
   w2c_j1 = i64_load(&instance->w2c_memory, (u64)(w2c_i1) + 8u);
-  i64_store(&instance->w2c_memory, (u64)(w2c_i0) + 22864, w2c_j1);
+  i64_store(&instance->w2c_memory, (u64)(w2c_i0) + 23760, w2c_j1);
   w2c_j0 = w2c_l6;
   w2c_i0 = (u32)(w2c_j0);
   w2c_i0 = i32_load(&instance->w2c_memory, (u64)(w2c_i0));
@@ -23624,25 +22943,25 @@ static u32 w2c_module_write_frame(Z_tcrx_instance_t* instance, u64 w2c_p0, u32 w
   w2c_j0 = w2c_l4;
   w2c_j1 = 0ull;
   w2c_i1 = (u32)(w2c_j1);
-  w2c_j1 = i64_load32_u(&instance->w2c_memory, (u64)(w2c_i1) + 22880u);
+  w2c_j1 = i64_load32_u(&instance->w2c_memory, (u64)(w2c_i1) + 23776u);
   w2c_j2 = 40ull;
   w2c_j1 <<= (w2c_j2 & 63);
   w2c_j2 = 0ull;
   w2c_i2 = (u32)(w2c_j2);
-  w2c_j2 = i64_load8_u(&instance->w2c_memory, (u64)(w2c_i2) + 22876u);
+  w2c_j2 = i64_load8_u(&instance->w2c_memory, (u64)(w2c_i2) + 23772u);
   w2c_j3 = 32ull;
   w2c_j2 <<= (w2c_j3 & 63);
   w2c_j1 |= w2c_j2;
   w2c_j2 = 0ull;
   w2c_i2 = (u32)(w2c_j2);
-  w2c_i2 = i32_load(&instance->w2c_memory, (u64)(w2c_i2) + 22872u);
+  w2c_i2 = i32_load(&instance->w2c_memory, (u64)(w2c_i2) + 23768u);
   w2c_i3 = 24u;
   w2c_i2 <<= (w2c_i3 & 31);
   w2c_j2 = (u64)(w2c_i2);
   w2c_j1 |= w2c_j2;
   w2c_j2 = 0ull;
   w2c_i2 = (u32)(w2c_j2);
-  w2c_j2 = i64_load32_u(&instance->w2c_memory, (u64)(w2c_i2) + 22868u);
+  w2c_j2 = i64_load32_u(&instance->w2c_memory, (u64)(w2c_i2) + 23764u);
   w2c_j3 = 16ull;
   w2c_j2 <<= (w2c_j3 & 63);
   w2c_j3 = 16711680ull;
@@ -23650,7 +22969,7 @@ static u32 w2c_module_write_frame(Z_tcrx_instance_t* instance, u64 w2c_p0, u32 w
   w2c_j1 |= w2c_j2;
   w2c_j2 = 0ull;
   w2c_i2 = (u32)(w2c_j2);
-  w2c_j2 = i64_load16_u(&instance->w2c_memory, (u64)(w2c_i2) + 22864u);
+  w2c_j2 = i64_load16_u(&instance->w2c_memory, (u64)(w2c_i2) + 23760u);
   w2c_j1 |= w2c_j2;
   w2c_j2 = w2c_p0;
   w2c_i3 = w2c_p1;
@@ -23664,7 +22983,7 @@ static u32 w2c_module_write_frame(Z_tcrx_instance_t* instance, u64 w2c_p0, u32 w
   w2c_j1 = w2c_l4;
   w2c_i1 = (u32)(w2c_j1);
   w2c_j1 = i64_load(&instance->w2c_memory, (u64)(w2c_i1) + 8u);
-  i64_store(&instance->w2c_memory, (u64)(w2c_i0) + 22864, w2c_j1);
+  i64_store(&instance->w2c_memory, (u64)(w2c_i0) + 23760, w2c_j1);
   w2c_j0 = w2c_l4;
   w2c_i0 = (u32)(w2c_j0);
   w2c_i0 = i32_load(&instance->w2c_memory, (u64)(w2c_i0));
@@ -23691,31 +23010,31 @@ static u32 w2c_module_write_packet(Z_tcrx_instance_t* instance, u64 w2c_p0, u32 
   w2c_j0 = w2c_l4;
   w2c_j1 = 0ull;
   w2c_i1 = (u32)(w2c_j1);
-  w2c_j1 = i64_load8_u(&instance->w2c_memory, (u64)(w2c_i1) + 22880u);
+  w2c_j1 = i64_load8_u(&instance->w2c_memory, (u64)(w2c_i1) + 23776u);
   w2c_j2 = 48ull;
   w2c_j1 <<= (w2c_j2 & 63);
   w2c_j2 = 0ull;
   w2c_i2 = (u32)(w2c_j2);
-  w2c_j2 = i64_load8_u(&instance->w2c_memory, (u64)(w2c_i2) + 22876u);
+  w2c_j2 = i64_load8_u(&instance->w2c_memory, (u64)(w2c_i2) + 23772u);
   w2c_j3 = 40ull;
   w2c_j2 <<= (w2c_j3 & 63);
   w2c_j1 |= w2c_j2;
   w2c_j2 = 0ull;
   w2c_i2 = (u32)(w2c_j2);
-  w2c_j2 = i64_load8_u(&instance->w2c_memory, (u64)(w2c_i2) + 22872u);
+  w2c_j2 = i64_load8_u(&instance->w2c_memory, (u64)(w2c_i2) + 23768u);
   w2c_j3 = 32ull;
   w2c_j2 <<= (w2c_j3 & 63);
   w2c_j1 |= w2c_j2;
   w2c_j2 = 0ull;
   w2c_i2 = (u32)(w2c_j2);
-  w2c_i2 = i32_load(&instance->w2c_memory, (u64)(w2c_i2) + 22868u);
+  w2c_i2 = i32_load(&instance->w2c_memory, (u64)(w2c_i2) + 23764u);
   w2c_i3 = 16u;
   w2c_i2 <<= (w2c_i3 & 31);
   w2c_j2 = (u64)(w2c_i2);
   w2c_j1 |= w2c_j2;
   w2c_j2 = 0ull;
   w2c_i2 = (u32)(w2c_j2);
-  w2c_j2 = i64_load16_u(&instance->w2c_memory, (u64)(w2c_i2) + 22864u);
+  w2c_j2 = i64_load16_u(&instance->w2c_memory, (u64)(w2c_i2) + 23760u);
   w2c_j1 |= w2c_j2;
   w2c_j2 = w2c_p0;
   w2c_i3 = w2c_p1;
@@ -23729,7 +23048,7 @@ static u32 w2c_module_write_packet(Z_tcrx_instance_t* instance, u64 w2c_p0, u32 
   w2c_j1 = w2c_l4;
   w2c_i1 = (u32)(w2c_j1);
   w2c_j1 = i64_load(&instance->w2c_memory, (u64)(w2c_i1) + 8u);
-  i64_store(&instance->w2c_memory, (u64)(w2c_i0) + 22864, w2c_j1);
+  i64_store(&instance->w2c_memory, (u64)(w2c_i0) + 23760, w2c_j1);
   w2c_j0 = w2c_l4;
   w2c_i0 = (u32)(w2c_j0);
   w2c_i0 = i32_load(&instance->w2c_memory, (u64)(w2c_i0));
@@ -23756,25 +23075,25 @@ static u32 w2c_module_write_segment(Z_tcrx_instance_t* instance, u32 w2c_p0, u32
   w2c_j0 = w2c_l7;
   w2c_j1 = 0ull;
   w2c_i1 = (u32)(w2c_j1);
-  w2c_j1 = i64_load32_u(&instance->w2c_memory, (u64)(w2c_i1) + 22880u);
+  w2c_j1 = i64_load32_u(&instance->w2c_memory, (u64)(w2c_i1) + 23776u);
   w2c_j2 = 40ull;
   w2c_j1 <<= (w2c_j2 & 63);
   w2c_j2 = 0ull;
   w2c_i2 = (u32)(w2c_j2);
-  w2c_j2 = i64_load8_u(&instance->w2c_memory, (u64)(w2c_i2) + 22876u);
+  w2c_j2 = i64_load8_u(&instance->w2c_memory, (u64)(w2c_i2) + 23772u);
   w2c_j3 = 32ull;
   w2c_j2 <<= (w2c_j3 & 63);
   w2c_j1 |= w2c_j2;
   w2c_j2 = 0ull;
   w2c_i2 = (u32)(w2c_j2);
-  w2c_i2 = i32_load(&instance->w2c_memory, (u64)(w2c_i2) + 22872u);
+  w2c_i2 = i32_load(&instance->w2c_memory, (u64)(w2c_i2) + 23768u);
   w2c_i3 = 24u;
   w2c_i2 <<= (w2c_i3 & 31);
   w2c_j2 = (u64)(w2c_i2);
   w2c_j1 |= w2c_j2;
   w2c_j2 = 0ull;
   w2c_i2 = (u32)(w2c_j2);
-  w2c_j2 = i64_load32_u(&instance->w2c_memory, (u64)(w2c_i2) + 22868u);
+  w2c_j2 = i64_load32_u(&instance->w2c_memory, (u64)(w2c_i2) + 23764u);
   w2c_j3 = 16ull;
   w2c_j2 <<= (w2c_j3 & 63);
   w2c_j3 = 16711680ull;
@@ -23782,7 +23101,7 @@ static u32 w2c_module_write_segment(Z_tcrx_instance_t* instance, u32 w2c_p0, u32
   w2c_j1 |= w2c_j2;
   w2c_j2 = 0ull;
   w2c_i2 = (u32)(w2c_j2);
-  w2c_j2 = i64_load16_u(&instance->w2c_memory, (u64)(w2c_i2) + 22864u);
+  w2c_j2 = i64_load16_u(&instance->w2c_memory, (u64)(w2c_i2) + 23760u);
   w2c_j1 |= w2c_j2;
   w2c_i2 = w2c_p0;
   w2c_i3 = 255u;
@@ -23803,7 +23122,7 @@ static u32 w2c_module_write_segment(Z_tcrx_instance_t* instance, u32 w2c_p0, u32
   w2c_j1 = w2c_l7;
   w2c_i1 = (u32)(w2c_j1);
   w2c_j1 = i64_load(&instance->w2c_memory, (u64)(w2c_i1) + 8u);
-  i64_store(&instance->w2c_memory, (u64)(w2c_i0) + 22864, w2c_j1);
+  i64_store(&instance->w2c_memory, (u64)(w2c_i0) + 23760, w2c_j1);
   w2c_j0 = w2c_l7;
   w2c_i0 = (u32)(w2c_j0);
   w2c_i0 = i32_load(&instance->w2c_memory, (u64)(w2c_i0));
@@ -23830,19 +23149,19 @@ static u32 w2c_module_write_tm(Z_tcrx_instance_t* instance, u32 w2c_p0, u32 w2c_
   w2c_j0 = w2c_l5;
   w2c_j1 = 0ull;
   w2c_i1 = (u32)(w2c_j1);
-  w2c_j1 = i64_load8_u(&instance->w2c_memory, (u64)(w2c_i1) + 22876u);
+  w2c_j1 = i64_load8_u(&instance->w2c_memory, (u64)(w2c_i1) + 23772u);
   w2c_j2 = 32ull;
   w2c_j1 <<= (w2c_j2 & 63);
   w2c_j2 = 0ull;
   w2c_i2 = (u32)(w2c_j2);
-  w2c_i2 = i32_load(&instance->w2c_memory, (u64)(w2c_i2) + 22872u);
+  w2c_i2 = i32_load(&instance->w2c_memory, (u64)(w2c_i2) + 23768u);
   w2c_i3 = 24u;
   w2c_i2 <<= (w2c_i3 & 31);
   w2c_j2 = (u64)(w2c_i2);
   w2c_j1 |= w2c_j2;
   w2c_j2 = 0ull;
   w2c_i2 = (u32)(w2c_j2);
-  w2c_j2 = i64_load32_u(&instance->w2c_memory, (u64)(w2c_i2) + 22868u);
+  w2c_j2 = i64_load32_u(&instance->w2c_memory, (u64)(w2c_i2) + 23764u);
   w2c_j3 = 16ull;
   w2c_j2 <<= (w2c_j3 & 63);
   w2c_j3 = 16711680ull;
@@ -23850,7 +23169,7 @@ static u32 w2c_module_write_tm(Z_tcrx_instance_t* instance, u32 w2c_p0, u32 w2c_
   w2c_j1 |= w2c_j2;
   w2c_j2 = 0ull;
   w2c_i2 = (u32)(w2c_j2);
-  w2c_j2 = i64_load16_u(&instance->w2c_memory, (u64)(w2c_i2) + 22864u);
+  w2c_j2 = i64_load16_u(&instance->w2c_memory, (u64)(w2c_i2) + 23760u);
   w2c_j1 |= w2c_j2;
   w2c_i2 = w2c_p0;
   w2c_i3 = 255u;
@@ -23868,7 +23187,7 @@ static u32 w2c_module_write_tm(Z_tcrx_instance_t* instance, u32 w2c_p0, u32 w2c_
   w2c_j1 = w2c_l5;
   w2c_i1 = (u32)(w2c_j1);
   w2c_j1 = i64_load(&instance->w2c_memory, (u64)(w2c_i1) + 8u);
-  i64_store(&instance->w2c_memory, (u64)(w2c_i0) + 22864, w2c_j1);
+  i64_store(&instance->w2c_memory, (u64)(w2c_i0) + 23760, w2c_j1);
   w2c_j0 = w2c_l5;
   w2c_i0 = (u32)(w2c_j0);
   w2c_i0 = i32_load(&instance->w2c_memory, (u64)(w2c_i0));
