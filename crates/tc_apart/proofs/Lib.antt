@@ -1,5 +1,6 @@
 pub mod Names
 pub mod OneChannel
+mod Scripted
 mod GivenOut
 mod Merged
 mod Spelled

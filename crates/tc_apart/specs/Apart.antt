@@ -1,11 +1,16 @@
--- Operations on the channels of a spacecraft, one after the other, and those on one of the channels among them.
-use Rattle.std.specs.Prelude.{◌≡◌, ◌==◌, ℕ, Bool, false, List, [], ◌∷◌}
+-- Operations on the channels of a spacecraft, one after the other, and those on one of the channels among them, also of a script.
+use Rattle.std.specs.Prelude.{◌≡◌, ◌==◌, ℕ, Bool, false, List, [], ◌∷◌, ◌++◌, filter, Option, Some, None}
+use Rattle.tc_text.specs.declared.line.Line.{Line}
+use Rattle.tc_text.specs.declared.line.Line.TheVariants as asks
+use Rattle.tc_rack.specs.Linked.{Linked}
 use Rattle.tc_rack.specs.Operation.{IsAnswerOf}
-use Rattle.tc_rack.specs.Rack.{Racked}
+use Rattle.tc_rack.specs.Progress.{IsPerformed, Progress, rack_for}
+use Rattle.tc_rack.specs.Rack.{IsOf, Racked}
 use Rattle.tc_rack.specs.declared.answer.Answer.{Answer}
 use Rattle.tc_rack.specs.declared.answer.Answer.TheVariants as answers
 use Rattle.tc_rack.specs.declared.operation.Operation.{Operation}
 use Rattle.tc_rack.specs.declared.operation.Operation.TheVariants.{Frame, Release, Take, Unit as TakeUnit, Clcw}
+use Rattle.tc_cli.specs.Written.{AreAnswers, at_first, one_more}
 
 -- an operation with its answer
 pub record Answered : Type 0 where
@@ -35,3 +40,32 @@ is_own vcid d = is_on vcid d.operation d.answer
 abbrev pub ArePerformed : List Answered → Racked → Racked → Type 0
 ArePerformed [] old new = new ≡ old
 ArePerformed (d ∷ done) old new = (mid : Racked) × IsAnswerOf d.operation old d.answer mid × ArePerformed done mid new
+
+-- an operation that was answered
+abbrev pub with_answer : Operation → Option Answer → List Answered
+with_answer operation None = []
+with_answer operation (Some answer) = record { operation = operation; answer = answer } ∷ []
+
+-- the operation that a line asks for, with what the line is answered; lines that set channels up, and blank ones, ask for none
+abbrev pub operation_in : Line → Option Answer → List Answered
+operation_in (asks.Frame octets) answer = with_answer (Frame octets) answer
+operation_in (asks.Release vcid) answer = with_answer (Release vcid) answer
+operation_in (asks.Take vcid apid) answer = with_answer (Take vcid apid) answer
+operation_in (asks.Unit vcid map_id) answer = with_answer (TakeUnit vcid map_id) answer
+operation_in (asks.Clcw vcid) answer = with_answer (Clcw vcid) answer
+operation_in said answer = []
+
+-- the operations that the first lines of a script ask for, each with what its line is answered
+abbrev pub operations_of : {scid : ℕ} {script rest : List ℕ} {answers : List (Option Answer)} {progress : Progress} → AreAnswers (IsPerformed scid) script answers progress rest → List Answered
+operations_of at_first = []
+operations_of (one_more {answer = answer} lines next (said, is, does, answered)) = operations_of lines ++ operation_in said answer
+
+-- some first lines of a script are good, and lead to this
+abbrev pub LeadsTo : ℕ → List ℕ → Progress → Type 0
+LeadsTo scid script progress = (answers : List (Option Answer)) × (rest : List ℕ) × AreAnswers (IsPerformed scid) script answers progress rest
+
+-- the first lines of a script are good; these are their operations on the channel with this id, and this is the channel then
+abbrev pub HasPerformed : ℕ → List ℕ → ℕ → List Answered → Linked → Type 0
+HasPerformed scid script vcid done channel =
+    (answers : List (Option Answer)) × (progress : Progress) × (rest : List ℕ) × (lines : AreAnswers (IsPerformed scid) script answers progress rest)
+    × (done ≡ filter (is_own vcid) (operations_of lines)) × IsOf (rack_for scid progress) vcid (λ c. c ≡ channel)

@@ -1,7 +1,8 @@
 //! Laws over operations on several channels.
 
-ghost use Rattle.std.specs.Prelude.{List, ℕ, ◌≡◌, map, filter, slice_get, Some};
+ghost use Rattle.std.specs.Prelude.{List, ℕ, ◌≡◌, map, filter, slice_get, Option, Some};
 ghost use Rattle.logged_lock.specs.Log.{made_by};
+ghost use Rattle.tc_channel.specs.declared.settings.Settings.{Settings};
 ghost use Rattle.tc_channel.specs.Journal.{History};
 ghost use Rattle.tc_desk.specs.Log.{accounts_of};
 ghost use Rattle.tc_desk.specs.Together.{column};
@@ -9,8 +10,12 @@ ghost use Rattle.tc_station.specs.Roster.{Roster, settings_in};
 ghost use Rattle.tc_station.specs.Tally.{AtStation};
 ghost use Rattle.tc_station.specs.Together.{AreClosedTogether, operator_lists_of};
 ghost use Rattle.tc_rack.specs.Linked.{Linked};
-ghost use Rattle.tc_rack.specs.Rack.{Racked, AreChannelsApart, IsOf};
-ghost use Rattle.tc_apart.specs.Apart.{Answered, ArePerformed, is_own, operation_of};
+ghost use Rattle.tc_rack.specs.Progress.{IsPerformed, Progress, rack_for};
+ghost use Rattle.tc_rack.specs.Rack.{Racked, AreChannelsApart, IsOf, new_rack};
+ghost use Rattle.tc_rack.specs.declared.answer.Answer.{Answer};
+ghost use Rattle.tc_rack.specs.declared.stage.Stage.TheVariants.{SettingUp};
+ghost use Rattle.tc_cli.specs.Written.{AreAnswers};
+ghost use Rattle.tc_apart.specs.Apart.{Answered, ArePerformed, HasPerformed, LeadsTo, is_own, operation_of, operations_of};
 
 use tc_link::each_input_begins_with_one_frame_at_most;
 
@@ -25,6 +30,21 @@ pub fn channels_do_not_touch_each_other()
         → IsOf a vcid (λ c. c ≡ channel) → IsOf b vcid (λ c. c ≡ channel) → ArePerformed one a after → ArePerformed other b behind
         → map operation_of (filter (is_own vcid) one) ≡ map operation_of (filter (is_own vcid) other)
         → (last : Linked) × IsOf after vcid (λ c. c ≡ last) × IsOf behind vcid (λ c. c ≡ last) }
+{
+    each_input_begins_with_one_frame_at_most();
+}
+
+/// The same of two scripts, whose first lines are good, and answered as `what_a_script_does_follows_from_its_lines` (tc_cli) has it. Where a channel of
+/// this id is set up with the same settings in both, and the same operations are brought to it in the same order, whatever other lines there are for
+/// other channels, these have the same answers, and the channel is the same in the end. All operations of the lines are performed on what lines set up
+/// before them (`performed`).
+pub fn channels_of_a_script_do_not_touch_each_other()
+    ensures performed { (scid : ℕ) (script rest : List ℕ) (answers : List (Option Answer)) (progress : Progress) (lines : AreAnswers (IsPerformed scid) script answers progress rest)
+        → (list : List Settings) × LeadsTo scid script (SettingUp list) × ArePerformed (operations_of lines) (new_rack scid list) (rack_for scid progress) }
+    ensures answers { (scid vcid : ℕ) (script another : List ℕ) (one other : List Answered) (channel last : Linked) → HasPerformed scid script vcid one channel
+        → HasPerformed scid another vcid other last → channel.history.settings ≡ last.history.settings → map operation_of one ≡ map operation_of other → one ≡ other }
+    ensures channel { (scid vcid : ℕ) (script another : List ℕ) (one other : List Answered) (channel last : Linked) → HasPerformed scid script vcid one channel
+        → HasPerformed scid another vcid other last → channel.history.settings ≡ last.history.settings → map operation_of one ≡ map operation_of other → channel ≡ last }
 {
     each_input_begins_with_one_frame_at_most();
 }

@@ -1,5 +1,6 @@
-//! Channels don't touch each other: laws over lists of operations on the channels of a spacecraft, [`channels_do_not_touch_each_other`], and over
-//! the channels that a station gives out, [`channels_of_a_station_do_not_touch_each_other`].
+//! Channels don't touch each other: laws over lists of operations on the channels of a spacecraft, [`channels_do_not_touch_each_other`], over those of
+//! scripts, [`channels_of_a_script_do_not_touch_each_other`], and over the channels that a station gives out,
+//! [`channels_of_a_station_do_not_touch_each_other`].
 //!
 //! And the way from a sender's packets to takes over any threads: [`a_station_gives_out_what_a_loop_sent`].
 #![tactic(auto)]
@@ -8,6 +9,9 @@ mod laws;
 mod making;
 mod threads;
 
-pub use laws::{channels_do_not_touch_each_other, channels_of_a_station_do_not_touch_each_other};
+pub use laws::{
+    channels_do_not_touch_each_other, channels_of_a_script_do_not_touch_each_other,
+    channels_of_a_station_do_not_touch_each_other,
+};
 pub use making::tcmake_writes_numbered_frames;
 pub use threads::a_station_gives_out_what_a_loop_sent;
