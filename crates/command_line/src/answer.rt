@@ -32,7 +32,7 @@ pub(crate) fn words_of<R: Env + AllocGlobal + Eprint>(
 }
 
 /// Prints help, the version, or why the words are refused, and gives the exit status. What can't be written to standard output is
-/// told on standard error.
+/// written to standard error.
 pub(crate) fn print<R: AllocGlobal + Print + Eprint>(
     rt: &R,
     program: &Program,

@@ -1,4 +1,4 @@
--- Where those that were told have made as many events as the journal has, it is a merge of what they made.
+-- Where those that have reported have made as many events as the journal has, it is a merge of what they made.
 use Rattle.std.proofs.Common.{◌≡◌, ◌≢◌, ℕ, zero, suc, ◌+◌, ◌/◌, ◌<◌, ◌≤◌, ◌==◌, cond, Bool, List, [], ◌∷◌, length, map, refl, sym, ap, ◌∙◌, subst, arith, eq-eqb, ne_eqb, lt_of_not-le}
 use Rattle.std.proofs.lemmas.Bool.Decides.{nat_tests}
 use Rattle.std.proofs.lemmas.List.{length-map}
@@ -117,7 +117,7 @@ even o n = dite (dec_le (suc (o / 2 + o / 2)) o)
     (λ (le : suc (o / 2 + o / 2) ≤ o). absurd (n (omega (arith, le))))
     (λ (no : suc (o / 2 + o / 2) ≤ o → ⊥). let lt : o < suc (o / 2 + o / 2) = lt_of_not-le no in omega (arith, lt))
 
--- an owner that is no seat, and none of those that weren't told, was told
+-- an owner that is no seat, and none of those that haven't reported, has reported
 tagged-whole : (n o : ℕ) → ((id : ℕ) → is o (seat_tag id) ≡ 0) → ((k : ℕ) → n ≤ k → is o (reported_tag k) ≡ 0) → tagged n o ≡ 1
 tagged-whole n o seats later =
     let k = o / 2 in
@@ -139,7 +139,7 @@ made_by-past [] k le = refl
 made_by-past (a ∷ reported) zero le = absurd (omega (arith, le))
 made_by-past (a ∷ reported) (suc k) le = made_by-past reported k (omega (arith, le))
 
--- where no seat owns anything, those that were told have made all
+-- where no seat owns anything, those that have reported have made all
 pub made-whole : {D E : Type 0} (now : Log D E) (owners : List ℕ) (reported : List (Account D E)) → length owners ≡ length now.entries → AreReported now owners reported → NoSeatOwns now owners → total_made reported ≡ length now.entries
 made-whole now owners reported long are none =
     let n = length reported in

@@ -14,7 +14,7 @@ use Rattle.logged_lock.specs.declared.views.Log.{Log}
 use Rattle.logged_lock.specs.declared.views.Account.{Account}
 use Rattle.logged_lock.specs.declared.views.View.{View}
 use Rattle.logged_lock.specs.Log.{with_entry, IsBeginning, start_of, owned, made_by}
-use Rattle.logged_lock.specs.Rule.{words_of, seat_tag, reported_tag, newcomer, guest, issued_one, gone, reported_of, locked, unlocked, unlocked_with, makers_in, AreCounted, IsSeat, AreReported, IsFree, IsTakenOut, IsLock, IsIdle, HasLock, IsTaken, NoSeatOwns, IsSettled}
+use Rattle.logged_lock.specs.Rule.{words_of, seat_tag, reported_tag, newcomer, guest, issued_one, gone, reported_of, locked, unlocked, unlocked_with, makers_in, AreCounted, IsSeat, AreReported, IsFree, IsTakenOut, IsLock, IsIdle, HasLock, IsTaken, NoSeatOwns, IsAccountedFor}
 use Rattle.logged_lock.proofs.Owned.{owned-here, owned-else, renamed, owned-renamed, owned-renamed-old, owned-renamed-new, made_by-last, made_by-end, made_by-else}
 
 pub some_word : (n : ℕ) → n ≡ 33 → 0 < n
@@ -100,7 +100,7 @@ seat-there [] id lt = absurd (omega (arith, lt))
 seat-there (x ∷ xs) zero lt = (x, refl)
 seat-there (x ∷ xs) (suc id) lt = seat-there xs id (omega (arith, lt))
 
--- what is known of the first seat stays where a seat's view is changed, but not what it was told and issued, and whether it is a maker
+-- what is known of the first seat stays where a seat's view is changed, but not what was reported to it and what it issued, and whether it is a maker
 first-stays : {D E : Type 0} (views : List (View D E)) (id : ℕ) (p v w : View D E) → get_elem? views 0 ≡ some p → get_elem? views id ≡ some v → w.reported ≡ v.reported → w.maker ≡ v.maker → w.own.issued ≡ v.own.issued
     → AreCounted views p → (q : View D E) × (get_elem? (set views id w) 0 ≡ some q) × (q.reported ≡ p.reported) × AreCounted (set views id w) q
 first-stays [] id p v w at here same maker issued counted = absurd (some-ne-none p (sym at))
@@ -129,7 +129,7 @@ others-set : {D E : Type 0} (now : Log D E) (owners : List ℕ) (views : List (V
     → ((j : ℕ) → length views ≤ j → owned (seat_tag j) 0 owners now.entries ≡ []) → (j : ℕ) → length (set views id w) ≤ j → owned (seat_tag j) 0 owners now.entries ≡ []
 others-set now owners views id w all j le = all j (omega (arith, length-set views id w))
 
--- tags of seats are even and apart, and those of what was told are odd and apart
+-- tags of seats are even and apart, and those of what was reported are odd and apart
 even-odd : (j k : ℕ) → j + j ≡ suc (k + k) → ⊥
 even-odd j k e = absurd (omega arith)
 
@@ -418,9 +418,9 @@ module _ {S D E : Type 0} (log : S → Log D E) (fits : S → Type 0) (top : D) 
   pub issues : (id : ℕ) (v : View D E) → id ≡ 0 → v.live ≡ true → Splits Recorded id v (issued_one v) (newcomer v.own.seen)
   issues id v is_first live = subst (λ (i : ℕ). Splits Recorded i v (issued_one v) (newcomer v.own.seen)) (sym is_first) (issues-first v live)
 
-  -- the first seat is told what another has seen and made
-  tells-first : (d : D) (v : View D E) (other : ℕ) (w : View D E) → v.live ≡ true → w.live ≡ true → w.maker ≡ true → Joins Recorded 0 v other w (reported_of v w) (gone d)
-  tells-first d v other w live live' maker s b at apart there =
+  -- what another has seen and made is reported to the first seat
+  reports-first : (d : D) (v : View D E) (other : ℕ) (w : View D E) → v.live ≡ true → w.live ≡ true → w.maker ≡ true → Joins Recorded 0 v other w (reported_of v w) (gone d)
+  reports-first d v other w live live' maker s b at apart there =
       let both = reported_of v w in
       let one = set s.views 0 both in
       let same : b.first ≡ v = some-injective b.first v (sym b.at_first ∙ at) in
@@ -469,8 +469,8 @@ module _ {S D E : Type 0} (log : S → Log D E) (fits : S → Type 0) (top : D) 
         lock = b.lock;
       }
 
-  pub tells : (d : D) (id : ℕ) (v : View D E) (other : ℕ) (w : View D E) → id ≡ 0 → v.live ≡ true → w.live ≡ true → w.maker ≡ true → Joins Recorded id v other w (reported_of v w) (gone d)
-  tells d id v other w is_first live live' maker = subst (λ (i : ℕ). Joins Recorded i v other w (reported_of v w) (gone d)) (sym is_first) (tells-first d v other w live live' maker)
+  pub reports : (d : D) (id : ℕ) (v : View D E) (other : ℕ) (w : View D E) → id ≡ 0 → v.live ≡ true → w.live ≡ true → w.maker ≡ true → Joins Recorded id v other w (reported_of v w) (gone d)
+  reports d id v other w is_first live live' maker = subst (λ (i : ℕ). Joins Recorded i v other w (reported_of v w) (gone d)) (sym is_first) (reports-first d v other w live live' maker)
 
   -- a load leaves the word as it is
   word-stays : (s : State S (View D E)) (b : Recorded s) → set s.words 16 (slice_index s.words 16) ≡ s.words
@@ -490,8 +490,8 @@ module _ {S D E : Type 0} (log : S → Log D E) (fits : S → Type 0) (top : D) 
       (λ (past : length s.views ≤ id). b.others id past)
       (λ (no : length s.views ≤ id → ⊥). let u = seat-there s.views id (lt_of_not-le no) in let k = b.seats id u.0 u.1 in k.mine ∙ k.quiet (only-first s.views v id u.0 at counted.lead one away u.1)))
 
-  settles-first : (slots : ℕ) (me : Me S (View D E)) → me.0.locks ≡ true → Allows Recorded slots 0 me 16 (λ n. n) (λ _ w. (w ≡ me) × IsSettled me.0)
-  settles-first slots me locks s b len at small =
+  accounts-first : (slots : ℕ) (me : Me S (View D E)) → me.0.locks ≡ true → Allows Recorded slots 0 me 16 (λ n. n) (λ _ w. (w ≡ me) × IsAccountedFor me.0)
+  accounts-first slots me locks s b len at small =
       let same : b.first ≡ me.0 = some-injective b.first me.0 (sym b.at_first ∙ at) in
       let seen : b.now ≡ me.0.own.seen = sym ((b.seats 0 me.0 at).locks locks).1 in
       let reported : AreReported b.now b.owners me.0.reported = subst (λ (u : View D E). AreReported b.now b.owners u.reported) same b.reported in
@@ -504,5 +504,5 @@ module _ {S D E : Type 0} (log : S → Log D E) (fits : S → Type 0) (top : D) 
         (refl, subst (λ h. (owners : List ℕ) × (length owners ≡ length h.entries) × AreReported h owners me.0.reported × (me.0.own.made ≡ [] → me.0.own.issued ≤ length me.0.reported → NoSeatOwns h owners)) seen (b.owners, b.long, reported, whole)),
       )
 
-  pub settles : (slots id : ℕ) (me : Me S (View D E)) → id ≡ 0 → me.0.locks ≡ true → Allows Recorded slots id me 16 (λ n. n) (λ _ w. (w ≡ me) × IsSettled me.0)
-  settles slots id me is_first locks = subst (λ (i : ℕ). Allows Recorded slots i me 16 (λ n. n) (λ _ w. (w ≡ me) × IsSettled me.0)) (sym is_first) (settles-first slots me locks)
+  pub accounts : (slots id : ℕ) (me : Me S (View D E)) → id ≡ 0 → me.0.locks ≡ true → Allows Recorded slots id me 16 (λ n. n) (λ _ w. (w ≡ me) × IsAccountedFor me.0)
+  accounts slots id me is_first locks = subst (λ (i : ℕ). Allows Recorded slots i me 16 (λ n. n) (λ _ w. (w ≡ me) × IsAccountedFor me.0)) (sym is_first) (accounts-first slots me locks)

@@ -80,7 +80,7 @@ abbrev pub makers_in : {D E : Type 0} → List (View D E) → ℕ
 makers_in [] = 0
 makers_in (v ∷ vs) = (if v.maker then 1 else 0) + makers_in vs
 
--- the makers are the first seat, and those that it issued and wasn't told of
+-- the makers are the first seat, and those that it issued and that haven't reported
 pub record AreCounted {D E : Type 0} (views : List (View D E)) (first : View D E) : Type 0 where
   pub lead : first.maker ≡ true
   pub many : makers_in views + length first.reported ≡ suc first.own.issued
@@ -145,6 +145,6 @@ NoSeatOwns now owners = (id : ℕ) → owned (seat_tag id) 0 owners now.entries 
 
 -- The log that was seen is made of what was joined to the first seat, and of what other seats made; of the first alone where all that
 -- it issued were joined to it, and it has made nothing.
-abbrev pub IsSettled : {D E : Type 0} → View D E → Type 0
-IsSettled v = (owners : List ℕ) × (length owners ≡ length v.own.seen.entries) × AreReported v.own.seen owners v.reported
+abbrev pub IsAccountedFor : {D E : Type 0} → View D E → Type 0
+IsAccountedFor v = (owners : List ℕ) × (length owners ≡ length v.own.seen.entries) × AreReported v.own.seen owners v.reported
     × (v.own.made ≡ [] → v.own.issued ≤ length v.reported → NoSeatOwns v.own.seen owners)

@@ -4,8 +4,8 @@
 //! far. Each thread has a seat at the lock, which has no octets, and whose view says what it has seen of the log and which
 //! entries were made from it, each with its place. The lock is given back with an entry more ([`LoggedLock::unlock_with`]) or
 //! with none ([`LoggedLock::unlock`]). At the end the first seat learns what the others have seen and made
-//! ([`LoggedLock::tell`], [`LoggedLock::settle`]): where that is as much as the log has, the log is a merge of it. So it is where
-//! all seats that it issued have told it. A guest ([`LoggedLock::guest`]) makes nothing.
+//! ([`LoggedLock::report`], [`LoggedLock::account`]): where that is as much as the log has, the log is a merge of it. So it is where
+//! all seats that it issued have reported to it. A guest ([`LoggedLock::guest`]) makes nothing.
 #![tactic(auto)]
 
 mod lock;

@@ -3,10 +3,11 @@
 ghost use Rattle.std.specs.Prelude.{◌≡◌, ◌<◌, ◌≤◌, [], ◌∷◌, length, IfOk, MatchBool, true};
 ghost use Rattle.logged_lock.specs.Log.{start_of, with_entry, total_made, IsMergeOf, AreBehind};
 ghost use Rattle.logged_lock.specs.Word.{is_open, asking, given_back};
-ghost use Rattle.logged_lock.specs.Rule.{newcomer, guest, issued_one, unlocked, unlocked_with, reported_of, IsIdle, HasLock, IsTaken, IsSettled};
+ghost use Rattle.logged_lock.specs.Rule.{newcomer, guest, issued_one, unlocked, unlocked_with, reported_of, IsIdle, HasLock, IsTaken, IsAccountedFor};
 
 use crate::rule::{
-    Issues, Leaves, LeavesWith, LockRule, LockSeat, Marks, NextEntry, Settles, Sits, Takes, Tells,
+    Accounts, Issues, Leaves, LeavesWith, LockRule, LockSeat, Marks, NextEntry, Reports, Sits,
+    Takes,
 };
 use crate::views::{Head, Logged, View};
 use atomic_table::{Shared, Table};
@@ -275,7 +276,7 @@ impl<S: Logged<D, E>, D: Head, E> LoggedLock<S, D, E> {
     }
 
     /// Lets the first seat know what another has seen and made, which is spent.
-    pub fn tell(&self, first: &mut LockSeat<S, D, E>, other: LockSeat<S, D, E>)
+    pub fn report(&self, first: &mut LockSeat<S, D, E>, other: LockSeat<S, D, E>)
         requires own { (first.old.table_id ≡ self.now.id) × (other.table_id ≡ self.now.id) }
         requires first { first.old.id ≡ 0 }
         requires live { first.old.me.0.live ≡ true }
@@ -284,23 +285,23 @@ impl<S: Logged<D, E>, D: Head, E> LoggedLock<S, D, E> {
         ensures same { (first.new.table_id ≡ first.old.table_id) × (first.new.id ≡ first.old.id) }
         ensures reported { first.new.me ≡ (reported_of first.old.me.0 other.me.0, first.old.me.1) }
     {
-        self.table.shared.join_seat::<Tells>(first, other);
+        self.table.shared.join_seat::<Reports>(first, other);
     }
 
-    /// Shows what the log is made of, by the first seat, which has the lock. Where those that it was told of have made as many
-    /// entries as the log has, the log is a merge of what they made. Where it was told of all that it issued, and has made nothing,
+    /// Shows what the log is made of, by the first seat, which has the lock. Where those that reported to it have made as many
+    /// entries as the log has, the log is a merge of what they made. Where all that it issued have reported, and has made nothing,
     /// they have made as many.
-    pub fn settle(&self, first: &mut LockSeat<S, D, E>)
+    pub fn account(&self, first: &mut LockSeat<S, D, E>)
         requires own { first.old.table_id ≡ self.now.id }
         requires first { first.old.id ≡ 0 }
         requires locks { first.old.me.0.locks ≡ true }
         ensures same { (first.new.table_id ≡ first.old.table_id) × (first.new.id ≡ first.old.id) × (first.new.me ≡ first.old.me) }
-        ensures settled { IsSettled first.old.me.0 }
+        ensures accounted { IsAccountedFor first.old.me.0 }
         ensures behind { AreBehind first.old.me.0.reported first.old.me.0.own.seen }
         ensures whole { first.old.me.0.own.made ≡ [] → first.old.me.0.own.issued ≤ length first.old.me.0.reported → total_made first.old.me.0.reported ≡ length first.old.me.0.own.seen.entries }
         ensures merge { total_made first.old.me.0.reported ≡ length first.old.me.0.own.seen.entries → IsMergeOf first.old.me.0.own.seen.entries first.old.me.0.reported }
     {
-        self.table.shared.load::<Settles>(first, WORD);
+        self.table.shared.load::<Accounts>(first, WORD);
     }
 
     /// The table for `slot_mut` of a seat that has the lock, which lends what lies under it, in slot 0.

@@ -62,7 +62,7 @@ impl<S, D, E, P: NextEntry<E>> Play<S, View<D, E>> for LeavesWith<P> {
     ghost then = { λ _ before _ after. after ≡ (unlocked_with P.entry before.0, []) };
 }
 
-/// A new seat, from which nothing is made. What it has seen has the head that the table was told.
+/// A new seat, from which nothing is made. What it has seen has the head that the table was given.
 pub struct Sits;
 
 impl<S, D, E> Play<S, View<D, E>> for Sits {
@@ -73,13 +73,13 @@ impl<S, D, E> Play<S, View<D, E>> for Sits {
 }
 
 /// The first seat learns what the log is made of.
-pub struct Settles;
+pub struct Accounts;
 
-impl<S, D, E> Play<S, View<D, E>> for Settles {
+impl<S, D, E> Play<S, View<D, E>> for Accounts {
     ghost use Rattle.std.specs.Prelude.{◌≡◌};
-    ghost use Rattle.logged_lock.specs.Rule.{IsSettled};
+    ghost use Rattle.logged_lock.specs.Rule.{IsAccountedFor};
 
-    ghost then = { λ _ before _ after. (after ≡ before) × IsSettled before.0 };
+    ghost then = { λ _ before _ after. (after ≡ before) × IsAccountedFor before.0 };
 }
 
 /// A new seat, which has seen what this one has seen.
@@ -94,9 +94,9 @@ impl<D, E> Split<View<D, E>> for Issues {
 }
 
 /// The first seat learns what another has seen and made, which is spent.
-pub struct Tells;
+pub struct Reports;
 
-impl<D: Head, E> Join<View<D, E>> for Tells {
+impl<D: Head, E> Join<View<D, E>> for Reports {
     ghost use Rattle.logged_lock.specs.Rule.{reported_of, gone};
 
     ghost both = { reported_of };

@@ -41,6 +41,7 @@ pub(crate) trait Form: Drop {
 }
 
 // Of a packet that isn't small, its first octets and its last one stand for all.
+#[inline(always)]
 fn add(octets: &[u8], score: &mut Score) {
     match octets {
         [front @ .., last] if octets.len() > 16 => {
@@ -61,14 +62,17 @@ impl<J: Journal> Form for ChannelWith<J> {
         Ok(ChannelWith::new(alloc, settings)?)
     }
 
+    #[inline(always)]
     fn bring(&mut self, frame: &Frame) -> Result<FrameReply> {
         Ok(self.frame(frame)?)
     }
 
+    #[inline(always)]
     fn let_out(&mut self) -> Result<Delivery> {
         Ok(self.release()?)
     }
 
+    #[inline(always)]
     fn take_oldest(&mut self, oldest: Oldest, score: &mut Score) -> Result<()> {
         match oldest {
             Oldest::Packet(apid) | Oldest::LentPacket(apid) => add(&self.take(apid)?, score),
@@ -93,14 +97,17 @@ impl Form for FixedChannel {
         Ok(call_new(alloc, settings)?)
     }
 
+    #[inline(always)]
     fn bring(&mut self, frame: &Frame) -> Result<FrameReply> {
         Ok(self.frame(frame))
     }
 
+    #[inline(always)]
     fn let_out(&mut self) -> Result<Delivery> {
         Ok(self.release()?)
     }
 
+    #[inline(always)]
     fn take_oldest(&mut self, oldest: Oldest, score: &mut Score) -> Result<()> {
         let is_taken = match oldest {
             Oldest::Packet(apid) => call_take(self, apid, &mut [0; 1_024]).is_ok(),

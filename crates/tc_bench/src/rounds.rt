@@ -106,6 +106,7 @@ fn units<F: Form>(
 }
 
 // Takes in a frame that must be accepted.
+#[inline(always)]
 fn bring<F: Form>(channel: &mut F, octets: &[u8], score: &mut Score) -> Option<()> {
     let reply = channel.bring(&read_frame(octets).ok()?).ok()?;
     score.add_reply(1, reply);

@@ -14,11 +14,13 @@ pub(crate) struct Score {
 
 impl Score {
     /// Adds a word of an answer.
+    #[inline(always)]
     pub(crate) fn add(&mut self, word: u64) {
         self.sum = self.sum.wrapping_mul(FACTOR).wrapping_add(word);
     }
 
     /// Adds what became of the packets that a call offered.
+    #[inline(always)]
     pub(crate) fn add_delivery(&mut self, delivery: Delivery) {
         self.add(u64::from(delivery.queued));
         self.add(u64::from(delivery.dropped));
@@ -26,6 +28,7 @@ impl Score {
     }
 
     /// Adds what became of a frame.
+    #[inline(always)]
     pub(crate) fn add_reply(&mut self, vcid: u8, reply: FrameReply) {
         self.add(u64::from(vcid));
         self.add(u64::from(reply.act.event));
@@ -34,6 +37,7 @@ impl Score {
     }
 
     /// Adds a packet: how many octets it has, and each of them.
+    #[inline(always)]
     pub(crate) fn add_packet(&mut self, octets: &[u8]) {
         self.add(octets.len() as u64);
         for octet in octets {

@@ -149,7 +149,7 @@ pub(crate) fn print<R: AllocGlobal + Print>(rt: &R, name: &str, queues: u16) -> 
     Ok(())
 }
 
-// The caller, and with it the channel, is let go at one place alone: each is proved for itself.
+// The caller, and with it the channel, is dropped at one place alone: each is proved for itself.
 fn answer_of(alloc: Global, queues: u16, name: &str) -> Result<u64> {
     let mut caller = Caller::new(alloc, queues)?;
     caller.answer(name)

@@ -11,7 +11,7 @@ use std::marker::Model;
 use std::ptr;
 use tc_fixed::FixedChannel;
 
-/// The place of a channel, or of none. C passes it on, and never reads or copies it. It is let go only where no channel is.
+/// The place of a channel, or of none. C passes it on, and never reads or copies it. It is dropped only where no channel is.
 #[repr(C)]
 #[derive(Drop)]
 pub struct Place {

@@ -1,6 +1,6 @@
 -- What a channel works with, over what rooms add to it.
 use Rattle.tc_channel.proofs.Names.{◌≡◌, ℕ, ◌<◌, Bool, true, false, cond, eqb, nat_lt, List, [], ◌∷◌, ◌++◌, length, drop, Option, Some, None, refl, sym, ap, subst, ◌∙◌, arith, slice_get, IsSome, option_map, HoldsWithin, at_most, run_left, run_at, Settings, Event, Take, TakeUnit, AreRuns, first_of, Service, Bd, Store, open_runs, limit_at, StoredQueue, queue_for, oldest_for, popped, shorter, Keyed, rings_in, room_sizes, AreCommitted, Ad, no_limits, stored, ring_in, run_within, length-map, QueueSetting, MapSetting}
-use Rattle.tc_channel.specs.ChannelCore.{HaveLimits, inside_of, GoOn, Parts, HoldsInRooms, AreChannelCore}
+use Rattle.tc_channel.specs.ChannelCore.{HaveLimits, inside_of, CanPassOn, GoOn, KeepRooms, Parts, HoldsInRooms, AreChannelCore}
 use Rattle.tc_channel.specs.Copying.{copied_out}
 use Rattle.tc_channel.specs.StoredQueues.{items_for}
 use Rattle.tc_channel.specs.declared.reply.NotCopied.{NotCopied}
@@ -10,7 +10,7 @@ use Rattle.tc_channel.specs.Reply.{take_reply_within, unit_reply_within}
 use Rattle.tc_packet.specs.Reassembly.{place_of}
 use Rattle.circular_buffer.specs.Buffer.{buffer}
 use Rattle.tc_channel.proofs.Growth.{key_and_capacity, queues-are, units-are}
-use Rattle.tc_channel.proofs.Takes.{oldest, packets-wait, units-wait, take-keeps, take-unit-keeps}
+use Rattle.tc_channel.proofs.Takes.{oldest, packets-wait, units-wait, queues-distinct, units-distinct, take-keeps, take-unit-keeps}
 
 nothing-left : (segmented : Bool) → run_left segmented [] ≡ None
 nothing-left true = refl
@@ -63,26 +63,42 @@ unit-count {limits} {s} {journal} {parts} k =
     sym (length-map parts.units ring_in) ∙ ap length k.holds.units ∙ length-map (run_within limits s journal).units stored
     ∙ sym (length-map (run_within limits s journal).units key_and_capacity) ∙ ap length (units-are limits s journal) ∙ length-map s.maps (λ (m : MapSetting). (m.map, m.capacity))
 
+-- such a core can pass a data field on
+pub can-pass : {limits : ℕ → ℕ} {s : Settings} {journal : List Event} {parts : Parts} → HoldsInRooms limits s journal parts → CanPassOn parts.store parts.queues parts.units
+can-pass k = record {
+  small = k.small;
+  distinct = queues-distinct k.holds;
+  units_distinct = units-distinct k.holds;
+  sizes = k.sizes;
+  unit_sizes = k.unit_sizes;
+  committed = k.committed;
+  units_committed = k.units_committed;
+}
+
+-- what wasn't touched is kept
+pub none-touched : (store : Store) (queues units : List Keyed) → CanPassOn store queues units → KeepRooms store queues units store queues units
+none-touched store queues units k = record { limits_are = λ _. refl; segmented = refl; sizes = refl; unit_sizes = refl; committed = k.committed; units_committed = k.units_committed }
+
 -- what a step leaves, where rooms and limits are as before and nothing is staged that doesn't count
 pub holds-on : {limits : ℕ → ℕ} {s : Settings} {journal : List Event} {parts : Parts} (next : List Event) (later : Parts) → HoldsInRooms limits s journal parts → HoldsWithin limits s next (inside_of later)
-    → later.fields.size ≡ parts.fields.size → later.fields.staged ≡ [] → ((place : ℕ) → limit_at later.store place ≡ limit_at parts.store place) → later.store.segmented ≡ parts.store.segmented
-    → room_sizes later.queues ≡ room_sizes parts.queues → room_sizes later.units ≡ room_sizes parts.units → AreCommitted later.queues → AreCommitted later.units → HoldsInRooms limits s next later
-holds-on next later k holds size fields limits_are segmented sizes unit_sizes committed units_committed = record {
+    → later.fields.size ≡ parts.fields.size → later.fields.staged ≡ [] → KeepRooms parts.store parts.queues parts.units later.store later.queues later.units → HoldsInRooms limits s next later
+holds-on next later k holds size fields rooms = record {
   holds = holds;
   field_size = size ∙ k.field_size;
   fields_committed = fields;
-  committed = committed;
-  units_committed = units_committed;
-  limits_are = λ service map_id inside. limits_are _ ∙ k.limits_are service map_id inside;
-  small = λ place inside. rw (limits_are place) (k.small place inside);
-  sizes = λ place inside. rw (sizes, limits_are place, segmented) (k.sizes place inside);
-  unit_sizes = λ place inside. rw (unit_sizes, limits_are place, segmented) (k.unit_sizes place inside);
+  committed = rooms.committed;
+  units_committed = rooms.units_committed;
+  limits_are = λ service map_id inside. rooms.limits_are _ ∙ k.limits_are service map_id inside;
+  small = λ place inside. rw (rooms.limits_are place) (k.small place inside);
+  sizes = λ place inside. rw (rooms.sizes, rooms.limits_are place, rooms.segmented) (k.sizes place inside);
+  unit_sizes = λ place inside. rw (rooms.unit_sizes, rooms.limits_are place, rooms.segmented) (k.unit_sizes place inside);
 }
 
 -- the queues were changed, with rooms as large as before
 with-queues : {limits : ℕ → ℕ} {s : Settings} {journal : List Event} {parts : Parts} (next : List Event) (queues units : List Keyed) → HoldsInRooms limits s journal parts → HoldsWithin limits s next (inside_of (record parts { queues = queues; units = units }))
     → room_sizes queues ≡ room_sizes parts.queues → room_sizes units ≡ room_sizes parts.units → AreCommitted queues → AreCommitted units → HoldsInRooms limits s next (record parts { queues = queues; units = units })
-with-queues {parts = parts} next queues units k holds = holds-on next (record parts { queues = queues; units = units }) k holds refl k.fields_committed (λ _. refl) refl
+with-queues {parts = parts} next queues units k holds sizes unit_sizes committed units_committed = holds-on next (record parts { queues = queues; units = units }) k holds refl k.fields_committed
+    (record { limits_are = λ _. refl; segmented = refl; sizes = sizes; unit_sizes = unit_sizes; committed = committed; units_committed = units_committed })
 
 -- the oldest packet was taken, and its room is free
 pub packet-taken : {limits : ℕ → ℕ} {s : Settings} {journal : List Event} {parts : Parts} (later : List Keyed) (apid : ℕ)
@@ -133,10 +149,9 @@ units-work parts later map_id w is same still = by (oldest_for map_id (rings_in 
 -- a call that was refused leaves them as they were but for what doesn't count
 pub still-holds : {limits : ℕ → ℕ} {s : Settings} {journal : List Event} {parts : Parts} (store : Store) (queues units : List Keyed)
     → HoldsInRooms limits s journal parts → open_runs store ≡ open_runs parts.store → rings_in queues ≡ rings_in parts.queues → rings_in units ≡ rings_in parts.units
-    → ((place : ℕ) → limit_at store place ≡ limit_at parts.store place) → store.segmented ≡ parts.store.segmented → room_sizes queues ≡ room_sizes parts.queues → room_sizes units ≡ room_sizes parts.units
-    → AreCommitted queues → AreCommitted units → HoldsInRooms limits s journal (record parts { store = store; queues = queues; units = units })
-still-holds {journal = journal} {parts = parts} store queues units k runs_are queues_are units_are limits_are segmented sizes unit_sizes committed units_committed =
-    holds-on journal (record parts { store = store; queues = queues; units = units }) k (rw (runs_are, queues_are, units_are) k.holds) refl k.fields_committed limits_are segmented sizes unit_sizes committed units_committed
+    → KeepRooms parts.store parts.queues parts.units store queues units → HoldsInRooms limits s journal (record parts { store = store; queues = queues; units = units })
+still-holds {journal = journal} {parts = parts} store queues units k runs_are queues_are units_are rooms =
+    holds-on journal (record parts { store = store; queues = queues; units = units }) k (rw (runs_are, queues_are, units_are) k.holds) refl k.fields_committed rooms
 
 -- where an item was copied out, one waited
 copied-waits : (room key : ℕ) (ws : List StoredQueue) → OnOk (copied_out room (items_for key ws)) (IsSome (oldest_for key ws))

@@ -21,7 +21,7 @@ use Rattle.tc_channel.proofs.Found.{copied-first, empty-in, first-here, found-in
 use Rattle.tc_channel.proofs.Contents.{staged-at, passed-none, committed-one}
 use Rattle.tc_channel.proofs.Passes.{not-telecommand}
 use Rattle.tc_channel.proofs.Tables.{first-key, keys-length, reported-first, reported-none}
-use Rattle.tc_channel.proofs.AtWork.{packet-is, unit-is}
+use Rattle.tc_channel.proofs.AtWork.{none-touched, packet-is, unit-is}
 
 pub ruleset at_place = (fit-at, staged-of-none-at, put-in, same-rings, same-sizes, committed-at, committed-set, copied-first, empty-in, keys-set, none-waits, oldest-in, one-waits, popped-in, staged-at, map-set_same, set-get_or)
 
@@ -33,7 +33,7 @@ pub ruleset reported = (keys-length, reported-first, reported-none, first-key)
 
 pub ruleset passing = (passed-none, committed-one, keys-set, not-telecommand)
 
-pub ruleset at_work = (packet-is, unit-is)
+pub ruleset at_work = (none-touched, packet-is, unit-is)
 
 pub ruleset laws = (run-append, lawful-before, lawful-after, whole-only, packets-only, one-kept, others-stay, no-fault, buffer-fits, chosen-by-settings, clcw-fits, each-era, all-reported, queues-are, units-are, queues-kept, units-kept, state-sound, run-limit, run-segmented, few-packets, steps-by-octets, steps-of-largest)
 

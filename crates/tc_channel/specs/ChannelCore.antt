@@ -11,6 +11,7 @@ use Rattle.tc_channel.specs.declared.event.Event.{Event}
 use Rattle.tc_channel.specs.Channel.{Inside, HoldsWithin}
 use Rattle.tc_channel.specs.Memory.{largest_item, largest_field}
 use Rattle.tc_channel.specs.Keyed.{Keyed, rings_in, room_sizes, AreCommitted}
+use Rattle.tc_channel.specs.StoredQueues.{AreDistinct, keys_of}
 
 -- each stream has the limit of its MAP
 abbrev pub HaveLimits : (ℕ → ℕ) → Store → Type 0
@@ -27,6 +28,25 @@ AreEnough store sizes = (place : ℕ) → place < stream_count → AllByRecursio
 -- so many octets are enough for the unit of each stream
 abbrev pub IsEnough : Store → ℕ → Type 0
 IsEnough store size = (place : ℕ) → place < stream_count → min (limit_at store place) (largest_item store.segmented) ≤ size
+
+-- what a data field is passed on with: units within the largest one, distinct queues, and rooms that are large enough
+pub record CanPassOn (store : Store) (queues units : List Keyed) : Type 0 where
+  pub small : AreSmall store
+  pub distinct : AreDistinct (keys_of (rings_in queues))
+  pub units_distinct : AreDistinct (keys_of (rings_in units))
+  pub sizes : AreEnough store (room_sizes queues)
+  pub unit_sizes : AreEnough store (room_sizes units)
+  pub committed : AreCommitted queues
+  pub units_committed : AreCommitted units
+
+-- limits and rooms are as they were, and nothing is staged that doesn't count
+pub record KeepRooms (store : Store) (queues units : List Keyed) (store_new : Store) (queues_new units_new : List Keyed) : Type 0 where
+  pub limits_are : (place : ℕ) → limit_at store_new place ≡ limit_at store place
+  pub segmented : store_new.segmented ≡ store.segmented
+  pub sizes : room_sizes queues_new ≡ room_sizes queues
+  pub unit_sizes : room_sizes units_new ≡ room_sizes units
+  pub committed : AreCommitted queues_new
+  pub units_committed : AreCommitted units_new
 
 -- FARM-1, the buffer of data fields, the open runs, the packet queues and the unit queues
 pub record Parts : Type 0 where
@@ -56,10 +76,14 @@ pub record HoldsInRooms (limits : ℕ → ℕ) (s : Settings) (journal : List Ev
 abbrev pub AreChannelCore : Parts → Type 0
 AreChannelCore parts = (limits : ℕ → ℕ) × (s : Settings) × (journal : List Event) × HoldsInRooms limits s journal parts
 
+-- it is so of whatever limits, settings and journal these parts are those of
+abbrev pub WhereverItHolds : Parts → ((ℕ → ℕ) → Settings → List Event → Type 0) → Type 0
+WhereverItHolds parts P = (limits : ℕ → ℕ) (s : Settings) (journal : List Event) → HoldsInRooms limits s journal parts → P limits s journal
+
 -- whatever journal the first parts are those of, the others are those of that journal and one more event
 abbrev pub GoOn : Event → Parts → Parts → Type 0
-GoOn event old new = (limits : ℕ → ℕ) (s : Settings) (journal : List Event) → HoldsInRooms limits s journal old → HoldsInRooms limits s (journal ++ event ∷ []) new
+GoOn event old new = WhereverItHolds old (λ limits s journal. HoldsInRooms limits s (journal ++ event ∷ []) new)
 
 -- or they are those of the same journal
 abbrev pub Stay : Parts → Parts → Type 0
-Stay old new = (limits : ℕ → ℕ) (s : Settings) (journal : List Event) → HoldsInRooms limits s journal old → HoldsInRooms limits s journal new
+Stay old new = WhereverItHolds old (λ limits s journal. HoldsInRooms limits s journal new)

@@ -9,20 +9,20 @@ IsFirst key place [] = ⊥
 IsFirst key zero (a ∷ rest) = key ≡ a
 IsFirst key (suc place) (a ∷ rest) = (key ≢ a) × IsFirst key place rest
 
--- a number tells the place of a key, or that none of the keys is it
-abbrev pub TellsFirst : List ℕ → ℕ → ℕ → ℕ → Type 0
-TellsFirst keys none key n = IsFirst key n keys ⊎ ((n ≡ none) × AllByRecursion (λ other. key ≢ other) keys)
+-- a number shows the place of a key, or that none of the keys is it
+abbrev pub ShowsFirst : List ℕ → ℕ → ℕ → ℕ → Type 0
+ShowsFirst keys none key n = IsFirst key n keys ⊎ ((n ≡ none) × AllByRecursion (λ other. key ≢ other) keys)
 
 -- a table of the places of all keys that an APID can be
 pub record AreFirst (keys : List ℕ) (none : ℕ) (table : List ℕ) : Type 0 where
   pub size : length table ≡ apid_count
-  pub tells : (key : ℕ) → key < apid_count → TellsFirst keys none key (get_or table key 0)
+  pub shows : (key : ℕ) → key < apid_count → ShowsFirst keys none key (get_or table key 0)
 
 -- there is a table, or none
 abbrev pub IsTableOf : List ℕ → List ℕ → Type 0
 IsTableOf keys table = length table ≢ 0 → AreFirst keys (length keys) table
 
--- as above, and there is a table where it pays and can tell the places
+-- as above, and there is a table where it pays and can show the places
 pub record IsTabled (keys table : List ℕ) : Type 0 where
   pub reported : IsTableOf keys table
   pub few : length table ≢ 0 → 8 ≤ length keys

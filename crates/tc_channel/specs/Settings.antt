@@ -66,7 +66,7 @@ pub record IsAllowed (s : Settings) : Type 0 where
   pub unit_capacities : HaveUnitCapacities s.maps
   pub by_headers : HasMapsByHeaders s
 
--- what settings keep that are free of this fault; want of memory is no fault of theirs
+-- what settings keep that are free of this fault; being out of memory is no fault of theirs
 abbrev pub IsFreeOf : Settings → SettingsFault → Type 0
 IsFreeOf s BadVcid = IsVcid s.vcid
 IsFreeOf s BadWindow = IsWidth s.width
@@ -93,6 +93,6 @@ IsFirstFault s (next ∷ later) fault = ((fault ≡ next) × ¬ IsFreeOf s next)
 unfoldable pub IsFault : Settings → SettingsFault → Type 0
 IsFault s fault = IsFirstFault s faults_in_order fault
 
--- why no channel was made: want of memory only where the settings have no fault
+-- why no channel was made: out of memory only where the settings have no fault
 abbrev pub IsRefusal : Settings → SettingsFault → Type 0
 IsRefusal s fault = IsFault s fault ⊎ ((fault ≡ NoMemory) × IsAllowed s)

@@ -15,7 +15,7 @@ abbrev pub looks : List Keyed → List ℕ → ℕ
 looks queues [] = length queues
 looks queues (n ∷ table) = 1
 
--- the same for so many queues, which have a table where it pays and can tell their places
+-- the same for so many queues, which have a table where it pays and can show their places
 abbrev pub most_looks : ℕ → ℕ
 most_looks count = if nat_lt count 8 then count else if nat_lt 65535 count then count else 1
 

@@ -7,18 +7,16 @@ ghost use Rattle.tc_packet.specs.Reassembly.{run_at, stream_place};
 ghost use Rattle.tc_packet.specs.Store.{limit_at, open_runs};
 ghost use Rattle.tc_channel.specs.declared.event.Event.{Event};
 ghost use Rattle.tc_channel.specs.declared.event.Event.TheVariants as Event;
-ghost use Rattle.tc_channel.specs.declared.settings.Settings.{Settings};
 ghost use Rattle.tc_channel.specs.Admission.{map_of};
 ghost use Rattle.tc_channel.specs.Channel.{FollowsWithin, FollowsKindWithin, EndsWithin, EndsAtOnceWithin, buffered_of, with_field};
 ghost use Rattle.tc_channel.specs.Copying.{IsCopiedIn, copied_out};
 ghost use Rattle.tc_channel.specs.Delivering.{IsDelivered};
-ghost use Rattle.tc_channel.specs.StoredQueues.{AreDistinct, keys_of};
-ghost use Rattle.tc_channel.specs.Keyed.{rings_in, room_sizes, AreCommitted};
+ghost use Rattle.tc_channel.specs.Keyed.{rings_in};
 ghost use Rattle.tc_channel.specs.Memory.{largest_field};
 ghost use Rattle.tc_channel.specs.Reply.{IsBypassData, frame_reply_within, release_reply_within, take_reply_within, unit_reply_within, waiting_packets_within, waiting_units_within, buffered_fields_within};
 ghost use Rattle.tc_channel.specs.Run.{run_within};
 ghost use Rattle.tc_channel.specs.Settings.{IsAllowed};
-ghost use Rattle.tc_channel.specs.ChannelCore.{AreEnough, AreSmall, GoOn, HaveLimits, HoldsInRooms, IsEnough, Stay};
+ghost use Rattle.tc_channel.specs.ChannelCore.{AreSmall, CanPassOn, GoOn, HaveLimits, HoldsInRooms, IsEnough, KeepRooms, Stay, WhereverItHolds};
 ghost use Rattle.tc_channel.specs.Steps.{delivery_steps, frame_steps_within, looks_for, release_steps_within};
 
 use crate::empty_queues::{empty_queues, empty_unit_queues};
@@ -104,16 +102,13 @@ impl<R: Room> ChannelCore<R> {
     /// unit, and for each queue that is looked at.
     #[inline(always)]
     pub fn frame<C: Tick>(&mut self, frame: &Frame, steps: &mut C) -> Result<FrameReply, AllocError>
-        ensures reply { IfOk result (λ reply. (limits : ℕ → ℕ) (s : Settings) (journal : List Event) → HoldsInRooms limits s journal self.old
-            → reply ≡ frame_reply_within limits s journal frame.now) }
+        ensures reply { IfOk result (λ reply. WhereverItHolds self.old (λ limits s journal. reply ≡ frame_reply_within limits s journal frame.now)) }
         ensures done { OnOk result (GoOn (Event.Frame frame.now) self.old self.new) }
         ensures refused { OnErr result (Stay self.old self.new) }
         ensures bypass { OnErr result (IsBypassData frame.now) }
         ensures answered { R.grows ≡ false → IsOk result }
-        ensures cost { OnOk result ((limits : ℕ → ℕ) (s : Settings) (journal : List Event) → HoldsInRooms limits s journal self.old
-            → C.taken steps.new ≤ C.taken steps.old + frame_steps_within limits s journal frame.now) }
-        ensures refused_cost { OnErr result ((limits : ℕ → ℕ) (s : Settings) (journal : List Event) → HoldsInRooms limits s journal self.old
-            → C.taken steps.new ≤ C.taken steps.old + (frame_steps_within limits s journal frame.now + length s.queues)) }
+        ensures cost { OnOk result (WhereverItHolds self.old (λ limits s journal. C.taken steps.new ≤ C.taken steps.old + frame_steps_within limits s journal frame.now)) }
+        ensures refused_cost { OnErr result (WhereverItHolds self.old (λ limits s journal. C.taken steps.new ≤ C.taken steps.old + (frame_steps_within limits s journal frame.now + length s.queues))) }
         ensures quiet { (IsBypassData frame.now → ⊥) → C.taken steps.new ≡ C.taken steps.old }
     {
         each_arrival_has_an_entry();
@@ -138,15 +133,12 @@ impl<R: Room> ChannelCore<R> {
     #[inline(always)]
     pub fn release<C: Tick>(&mut self, steps: &mut C) -> Result<Delivery, AllocError>
         requires waits { 0 < length self.old.fields.ring.items }
-        ensures reply { IfOk result (λ delivery. (limits : ℕ → ℕ) (s : Settings) (journal : List Event) → HoldsInRooms limits s journal self.old
-            → delivery ≡ release_reply_within limits s journal) }
+        ensures reply { IfOk result (λ delivery. WhereverItHolds self.old (λ limits s journal. delivery ≡ release_reply_within limits s journal)) }
         ensures done { OnOk result (GoOn Event.Release self.old self.new) }
         ensures refused { OnErr result (Stay self.old self.new) }
         ensures answered { R.grows ≡ false → IsOk result }
-        ensures cost { OnOk result ((limits : ℕ → ℕ) (s : Settings) (journal : List Event) → HoldsInRooms limits s journal self.old
-            → C.taken steps.new ≤ C.taken steps.old + release_steps_within limits s journal) }
-        ensures refused_cost { OnErr result ((limits : ℕ → ℕ) (s : Settings) (journal : List Event) → HoldsInRooms limits s journal self.old
-            → C.taken steps.new ≤ C.taken steps.old + (release_steps_within limits s journal + length s.queues)) }
+        ensures cost { OnOk result (WhereverItHolds self.old (λ limits s journal. C.taken steps.new ≤ C.taken steps.old + release_steps_within limits s journal)) }
+        ensures refused_cost { OnErr result (WhereverItHolds self.old (λ limits s journal. C.taken steps.new ≤ C.taken steps.old + (release_steps_within limits s journal + length s.queues))) }
     {
         let field = self.fields.front().unwrap();
         let delivery = pass(
@@ -165,7 +157,7 @@ impl<R: Room> ChannelCore<R> {
     /// Drops the oldest packet of the queue with this APID, where one waits, and says whether it did.
     #[tactic(auto, using(crate::proofs::Closing::at_work))]
     pub fn drop_packet<C: Tick>(&mut self, apid: u16, steps: &mut C) -> bool
-        ensures waits { (limits : ℕ → ℕ) (s : Settings) (journal : List Event) → HoldsInRooms limits s journal self.old → (IsTrue result ↔ IsSome (take_reply_within limits s journal apid)) }
+        ensures waits { WhereverItHolds self.old (λ limits s journal. IsTrue result ↔ IsSome (take_reply_within limits s journal apid)) }
         ensures done { IsTrue result → GoOn (Event.Take apid) self.old self.new }
         ensures refused { result ≡ false → self.new ≡ self.old }
         ensures cost { C.taken steps.new ≤ C.taken steps.old + looks_for apid (length self.old.queues) }
@@ -176,7 +168,7 @@ impl<R: Room> ChannelCore<R> {
     /// Drops the oldest unit of the queue of this chosen MAP, where one waits, and says whether it did.
     #[tactic(auto, using(crate::proofs::Closing::at_work))]
     pub fn drop_unit<C: Tick>(&mut self, map: u8, steps: &mut C) -> bool
-        ensures waits { (limits : ℕ → ℕ) (s : Settings) (journal : List Event) → HoldsInRooms limits s journal self.old → (IsTrue result ↔ IsSome (unit_reply_within limits s journal map)) }
+        ensures waits { WhereverItHolds self.old (λ limits s journal. IsTrue result ↔ IsSome (unit_reply_within limits s journal map)) }
         ensures done { IsTrue result → GoOn (Event.TakeUnit map) self.old self.new }
         ensures refused { result ≡ false → self.new ≡ self.old }
         ensures cost { C.taken steps.new ≤ C.taken steps.old + looks_for map (length self.old.units) }
@@ -185,16 +177,15 @@ impl<R: Room> ChannelCore<R> {
     }
 
     /// Copies the oldest packet of the queue with this APID to the front of these octets and drops it, and says how many it has.
+    #[inline(always)]
     pub fn copy_packet<C: Tick>(
         &mut self,
         apid: u16,
         into: &mut [u8],
         steps: &mut C,
     ) -> Result<usize, NotCopied>
-        ensures count { (limits : ℕ → ℕ) (s : Settings) (journal : List Event) → HoldsInRooms limits s journal self.old
-            → result ≡ copied_out (length into.old) (waiting_packets_within limits s journal apid) }
-        ensures packet { (limits : ℕ → ℕ) (s : Settings) (journal : List Event) → HoldsInRooms limits s journal self.old
-            → IfOk result (λ count. IsCopiedIn (take_reply_within limits s journal apid) count into.old into.new) }
+        ensures count { WhereverItHolds self.old (λ limits s journal. result ≡ copied_out (length into.old) (waiting_packets_within limits s journal apid)) }
+        ensures packet { WhereverItHolds self.old (λ limits s journal. IfOk result (λ count. IsCopiedIn (take_reply_within limits s journal apid) count into.old into.new)) }
         ensures done { OnOk result (GoOn (Event.Take apid) self.old self.new) }
         ensures refused { OnErr result ((self.new ≡ self.old) × (into.new ≡ into.old)) }
         ensures cost { C.taken steps.new ≤ C.taken steps.old + looks_for apid (length self.old.queues) }
@@ -203,16 +194,15 @@ impl<R: Room> ChannelCore<R> {
     }
 
     /// Copies the oldest unit of the queue of this chosen MAP to the front of these octets and drops it, and says how many it has.
+    #[inline(always)]
     pub fn copy_unit<C: Tick>(
         &mut self,
         map: u8,
         into: &mut [u8],
         steps: &mut C,
     ) -> Result<usize, NotCopied>
-        ensures count { (limits : ℕ → ℕ) (s : Settings) (journal : List Event) → HoldsInRooms limits s journal self.old
-            → result ≡ copied_out (length into.old) (waiting_units_within limits s journal map) }
-        ensures unit { (limits : ℕ → ℕ) (s : Settings) (journal : List Event) → HoldsInRooms limits s journal self.old
-            → IfOk result (λ count. IsCopiedIn (unit_reply_within limits s journal map) count into.old into.new) }
+        ensures count { WhereverItHolds self.old (λ limits s journal. result ≡ copied_out (length into.old) (waiting_units_within limits s journal map)) }
+        ensures unit { WhereverItHolds self.old (λ limits s journal. IfOk result (λ count. IsCopiedIn (unit_reply_within limits s journal map) count into.old into.new)) }
         ensures done { OnOk result (GoOn (Event.TakeUnit map) self.old self.new) }
         ensures refused { OnErr result ((self.new ≡ self.old) × (into.new ≡ into.old)) }
         ensures cost { C.taken steps.new ≤ C.taken steps.old + looks_for map (length self.old.units) }
@@ -223,8 +213,7 @@ impl<R: Room> ChannelCore<R> {
     /// The oldest packet of the queue with this APID, lent.
     #[tactic(auto, using(crate::proofs::Closing::at_work))]
     pub fn oldest<C: Tick>(&self, apid: u16, steps: &mut C) -> Option<&[u8]>
-        ensures packet { (limits : ℕ → ℕ) (s : Settings) (journal : List Event) → HoldsInRooms limits s journal self.now
-            → option_map (λ octets. octets.now) result ≡ take_reply_within limits s journal apid }
+        ensures packet { WhereverItHolds self.now (λ limits s journal. option_map (λ octets. octets.now) result ≡ take_reply_within limits s journal apid) }
         ensures cost { C.taken steps.new ≤ C.taken steps.old + looks_for apid (length self.now.queues) }
     {
         self.queues.oldest(apid, steps)
@@ -233,8 +222,7 @@ impl<R: Room> ChannelCore<R> {
     /// The oldest unit of the queue of this chosen MAP, lent.
     #[tactic(auto, using(crate::proofs::Closing::at_work))]
     pub fn oldest_unit<C: Tick>(&self, map: u8, steps: &mut C) -> Option<&[u8]>
-        ensures unit { (limits : ℕ → ℕ) (s : Settings) (journal : List Event) → HoldsInRooms limits s journal self.now
-            → option_map (λ octets. octets.now) result ≡ unit_reply_within limits s journal map }
+        ensures unit { WhereverItHolds self.now (λ limits s journal. option_map (λ octets. octets.now) result ≡ unit_reply_within limits s journal map) }
         ensures cost { C.taken steps.new ≤ C.taken steps.old + looks_for map (length self.now.units) }
     {
         self.units.oldest(map as u16, steps)
@@ -242,7 +230,7 @@ impl<R: Room> ChannelCore<R> {
 
     /// FARM-1's components.
     pub fn report(&self) -> Report
-        ensures report { (limits : ℕ → ℕ) (s : Settings) (journal : List Event) → HoldsInRooms limits s journal self.now → result ≡ (run_within limits s journal).report }
+        ensures report { WhereverItHolds self.now (λ limits s journal. result ≡ (run_within limits s journal).report) }
         ensures farm_b { result.farm_b < 4 }
     {
         self.farm.report()
@@ -250,7 +238,7 @@ impl<R: Room> ChannelCore<R> {
 
     /// How many data fields wait in the buffer.
     pub fn buffered(&self) -> usize
-        ensures count { (limits : ℕ → ℕ) (s : Settings) (journal : List Event) → HoldsInRooms limits s journal self.now → result ≡ length (buffered_fields_within limits s journal) }
+        ensures count { WhereverItHolds self.now (λ limits s journal. result ≡ length (buffered_fields_within limits s journal)) }
         ensures fields { result ≡ length self.now.fields.ring.items }
     {
         self.fields.len()
@@ -258,8 +246,7 @@ impl<R: Room> ChannelCore<R> {
 
     /// How many packets wait in the queue with this APID, if there is one.
     pub fn queued<C: Tick>(&self, apid: u16, steps: &mut C) -> Option<usize>
-        ensures count { (limits : ℕ → ℕ) (s : Settings) (journal : List Event) → HoldsInRooms limits s journal self.now
-            → result ≡ option_map length (waiting_packets_within limits s journal apid) }
+        ensures count { WhereverItHolds self.now (λ limits s journal. result ≡ option_map length (waiting_packets_within limits s journal apid)) }
         ensures cost { C.taken steps.new ≤ C.taken steps.old + looks_for apid (length self.now.queues) }
     {
         Some(self.queues.find(apid, steps)?.len())
@@ -267,8 +254,7 @@ impl<R: Room> ChannelCore<R> {
 
     /// How many units wait in the queue of this MAP, if it is chosen.
     pub fn units<C: Tick>(&self, map: u8, steps: &mut C) -> Option<usize>
-        ensures count { (limits : ℕ → ℕ) (s : Settings) (journal : List Event) → HoldsInRooms limits s journal self.now
-            → result ≡ option_map length (waiting_units_within limits s journal map) }
+        ensures count { WhereverItHolds self.now (λ limits s journal. result ≡ option_map length (waiting_units_within limits s journal map)) }
         ensures cost { C.taken steps.new ≤ C.taken steps.old + looks_for map (length self.now.units) }
     {
         Some(self.units.find(map as u16, steps)?.len())
@@ -279,8 +265,7 @@ impl ChannelCore<GrowingRoom> {
     /// The oldest packet of the queue with this APID, moved out of it; none where there is no such queue, and where it is empty.
     #[tactic(auto, using(crate::proofs::Closing::at_work))]
     pub fn take<C: Tick>(&mut self, apid: u16, steps: &mut C) -> Option<Vec<u8>>
-        ensures packet { (limits : ℕ → ℕ) (s : Settings) (journal : List Event) → HoldsInRooms limits s journal self.old
-            → option_map (λ packet. packet.items) result ≡ take_reply_within limits s journal apid }
+        ensures packet { WhereverItHolds self.old (λ limits s journal. option_map (λ packet. packet.items) result ≡ take_reply_within limits s journal apid) }
         ensures done { IsSome result → GoOn (Event.Take apid) self.old self.new }
         ensures refused { result ≡ None → self.new ≡ self.old }
         ensures cost { C.taken steps.new ≤ C.taken steps.old + looks_for apid (length self.old.queues) }
@@ -291,8 +276,7 @@ impl ChannelCore<GrowingRoom> {
     /// The oldest unit of the queue of this chosen MAP, moved out of it; none where the MAP isn't chosen, and where its queue is empty.
     #[tactic(auto, using(crate::proofs::Closing::at_work))]
     pub fn take_unit<C: Tick>(&mut self, map: u8, steps: &mut C) -> Option<Vec<u8>>
-        ensures unit { (limits : ℕ → ℕ) (s : Settings) (journal : List Event) → HoldsInRooms limits s journal self.old
-            → option_map (λ unit. unit.items) result ≡ unit_reply_within limits s journal map }
+        ensures unit { WhereverItHolds self.old (λ limits s journal. option_map (λ unit. unit.items) result ≡ unit_reply_within limits s journal map) }
         ensures done { IsSome result → GoOn (Event.TakeUnit map) self.old self.new }
         ensures refused { result ≡ None → self.new ≡ self.old }
         ensures cost { C.taken steps.new ≤ C.taken steps.old + looks_for map (length self.old.units) }
@@ -319,6 +303,7 @@ fn put_field(fields: &mut Slots<FixedRoom>, act: &Act, field: &[u8])
 // Passes a data field to reassembly, and delivers the unit that it ends. Where memory runs out the open runs and the queues are as they
 // were.
 #[inline(always)]
+#[tactic(auto, using(crate::proofs::Closing::at_work))]
 fn pass<R: Room, C: Tick>(
     runs: &mut Runs<R>,
     queues: &mut Queues<R>,
@@ -329,23 +314,12 @@ fn pass<R: Room, C: Tick>(
 ) -> Result<Delivery, AllocError>
     requires field { 0 < length field.now }
     requires within { length field.now ≤ largest_field }
-    requires small { AreSmall runs.old }
-    requires distinct { AreDistinct (keys_of (rings_in queues.old)) }
-    requires units_distinct { AreDistinct (keys_of (rings_in units.old)) }
-    requires sizes { AreEnough runs.old (room_sizes queues.old) }
-    requires unit_sizes { AreEnough runs.old (room_sizes units.old) }
-    requires committed { AreCommitted queues.old }
-    requires units_committed { AreCommitted units.old }
+    requires rooms { CanPassOn runs.old queues.old units.old }
     ensures follows { OnOk result (FollowsWithin (limit_at runs.old (stream_place service field.now)) (open_runs runs.old) (open_runs runs.new) service field.now) }
     ensures delivered { IfOk result (λ delivery. (unit : Option (List ℕ)) × EndsWithin (limit_at runs.old (stream_place service field.now)) (open_runs runs.old) service field.now unit
         × IsDelivered (map_of field.now) unit (rings_in queues.old) (rings_in queues.new) (rings_in units.old) (rings_in units.new) delivery) }
     ensures refused { OnErr result ((open_runs runs.new ≡ open_runs runs.old) × (rings_in queues.new ≡ rings_in queues.old) × (rings_in units.new ≡ rings_in units.old)) }
-    ensures limits { (place : ℕ) → limit_at runs.new place ≡ limit_at runs.old place }
-    ensures segmented { runs.new.segmented ≡ runs.old.segmented }
-    ensures sizes { room_sizes queues.new ≡ room_sizes queues.old }
-    ensures unit_sizes { room_sizes units.new ≡ room_sizes units.old }
-    ensures committed { AreCommitted queues.new }
-    ensures units_committed { AreCommitted units.new }
+    ensures rooms { KeepRooms runs.old queues.old units.old runs.new queues.new units.new }
     ensures answered { R.grows ≡ false → IsOk result }
     ensures cost { OnOk result ((unit : Option (List ℕ)) × EndsWithin (limit_at runs.old (stream_place service field.now)) (open_runs runs.old) service field.now unit
         × (C.taken steps.new ≤ C.taken steps.old + delivery_steps unit (length queues.old) (length units.old))) }
@@ -361,6 +335,7 @@ fn pass<R: Room, C: Tick>(
 
 // Passes the field of a BD frame on at once, and no other.
 #[inline(always)]
+#[tactic(auto, using(crate::proofs::Closing::at_work))]
 fn pass_bypass<R: Room, C: Tick>(
     runs: &mut Runs<R>,
     queues: &mut Queues<R>,
@@ -371,24 +346,13 @@ fn pass_bypass<R: Room, C: Tick>(
 ) -> Result<Delivery, AllocError>
     requires field { 0 < length field.now }
     requires within { length field.now ≤ largest_field }
-    requires small { AreSmall runs.old }
-    requires distinct { AreDistinct (keys_of (rings_in queues.old)) }
-    requires units_distinct { AreDistinct (keys_of (rings_in units.old)) }
-    requires sizes { AreEnough runs.old (room_sizes queues.old) }
-    requires unit_sizes { AreEnough runs.old (room_sizes units.old) }
-    requires committed { AreCommitted queues.old }
-    requires units_committed { AreCommitted units.old }
+    requires rooms { CanPassOn runs.old queues.old units.old }
     ensures follows { OnOk result (FollowsKindWithin (limit_at runs.old (stream_place Bd field.now)) kind (open_runs runs.old) (open_runs runs.new) field.now) }
     ensures delivered { IfOk result (λ delivery. (unit : Option (List ℕ)) × EndsAtOnceWithin (limit_at runs.old (stream_place Bd field.now)) kind (open_runs runs.old) field.now unit
         × IsDelivered (map_of field.now) unit (rings_in queues.old) (rings_in queues.new) (rings_in units.old) (rings_in units.new) delivery) }
     ensures refused { OnErr result ((open_runs runs.new ≡ open_runs runs.old) × (rings_in queues.new ≡ rings_in queues.old) × (rings_in units.new ≡ rings_in units.old)) }
     ensures bypass { OnErr result (kind ≡ Kind.Bd) }
-    ensures limits { (place : ℕ) → limit_at runs.new place ≡ limit_at runs.old place }
-    ensures segmented { runs.new.segmented ≡ runs.old.segmented }
-    ensures sizes { room_sizes queues.new ≡ room_sizes queues.old }
-    ensures unit_sizes { room_sizes units.new ≡ room_sizes units.old }
-    ensures committed { AreCommitted queues.new }
-    ensures units_committed { AreCommitted units.new }
+    ensures rooms { KeepRooms runs.old queues.old units.old runs.new queues.new units.new }
     ensures answered { R.grows ≡ false → IsOk result }
     ensures cost { OnOk result ((unit : Option (List ℕ)) × EndsAtOnceWithin (limit_at runs.old (stream_place Bd field.now)) kind (open_runs runs.old) field.now unit
         × (C.taken steps.new ≤ C.taken steps.old + delivery_steps unit (length queues.old) (length units.old))) }

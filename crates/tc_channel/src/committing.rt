@@ -55,7 +55,7 @@ fn commit_packet<R: Room, C: Tick>(
 }
 
 /// What was staged of the packets of this unit counts, of which `staged` packets were staged. Where no memory can be refused it does already.
-/// Where a table tells the places, and the queues are at least as many as these packets, only the queues of the unit's packets are
+/// Where a table shows the places, and the queues are at least as many as these packets, only the queues of the unit's packets are
 /// looked at.
 pub(crate) fn commit_packets<R: Room, C: Tick>(
     queues: &mut BoxedSlice<Queue<R>>,

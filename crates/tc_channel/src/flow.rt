@@ -88,9 +88,9 @@ pub fn passed_fields_make_so()
     ensures plain_field { packets_made no_limits example.plain 5 (record { service = Service.Bd; field = example.joined_packet } ∷ []) ≡ example.joined_packet ∷ [] }
 {}
 
-/// What a CLCW tells the sender: its report value is the number with which the era began, and one more for each Type-AD frame that was
+/// What a CLCW reports to the sender: its report value is the number with which the era began, and one more for each Type-AD frame that was
 /// accepted since, modulo 256.
-pub fn a_clcw_tells_how_many_were_accepted()
+pub fn a_clcw_reports_how_many_were_accepted()
     ensures { (limits : ℕ → ℕ) (s : Settings) (journal before later : List Event) (x : ℕ) (link : Link) → IsAllowed s → IsLawfulWithin limits s journal → IsEraWithin limits s journal before later x
         → (fields_of (clcw_within limits s journal link)).vr ≡ (x + length (accepted_since_within limits s before journal)) % 256 }
 {

@@ -4,7 +4,7 @@
 //! settings and its journal. All else that it has is the run of that journal: FARM-1's components, the buffered data
 //! fields, the open runs of reassembly, the packet queues and the unit queues. The laws over these definitions are the contracts of
 //! [`allowed_settings_have_no_fault`], [`wait_means_no_room`], [`each_frame_has_a_step`],
-//! [`each_journal_has_an_era`], [`accepted_frames_count_up`], [`a_clcw_tells_how_many_were_accepted`],
+//! [`each_journal_has_an_era`], [`accepted_frames_count_up`], [`a_clcw_reports_how_many_were_accepted`],
 //! [`unlock_and_set_v_r_open_a_channel`], [`a_unit_takes_steps_by_its_octets`], [`a_sender_s_frames_may_come_so`], [`what_was_sent_is_accepted_once_and_in_order`],
 //! [`queues_are_those_of_the_settings`], [`queues_keep_to_their_capacity`], [`short_journals_are_answered_so`],
 //! [`further_journals_are_answered_so`], [`memory_is_counted_so`], [`settings_are_refused_so`],
@@ -50,9 +50,10 @@ pub use channel::{Channel, ChannelWith, CountingChannel, FlightChannel};
 pub use channel_core::{ChannelCore, LARGEST_FIELD};
 pub use event::Event;
 pub use flow::{
-    a_clcw_tells_how_many_were_accepted, each_passed_field_is_accounted_for, passed_fields_make_so,
-    what_was_accepted_is_passed_on_in_order, what_was_admitted_is_given_in_order,
-    what_was_passed_on_is_admitted_in_order, what_was_sent_is_given_in_order,
+    a_clcw_reports_how_many_were_accepted, each_passed_field_is_accounted_for,
+    passed_fields_make_so, what_was_accepted_is_passed_on_in_order,
+    what_was_admitted_is_given_in_order, what_was_passed_on_is_admitted_in_order,
+    what_was_sent_is_given_in_order,
 };
 pub use holding::{Holding, MapHolding, QueueHolding, holding_in};
 pub use items::{Items, Octets};

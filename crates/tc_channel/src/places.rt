@@ -21,7 +21,7 @@ pub(crate) const KEYS: usize = 2_048;
 // A table pays for so many queues.
 pub(crate) const QUEUES_FOR_A_TABLE: usize = 8;
 
-// So many places a number of a table can tell, and that there is none.
+// So many places a number of a table can show, and that there is none.
 const QUEUES_IN_A_TABLE: usize = 65_535;
 
 // The place of the queue with this key, found by a search.

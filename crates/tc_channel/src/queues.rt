@@ -90,6 +90,7 @@ impl<R: Room> Queues<R> {
     }
 
     /// Copies the oldest item of the queue with this key to the front of these octets and drops it, and says how many it has.
+    #[inline(always)]
     pub fn copy_out<C: Tick>(
         &mut self,
         key: u16,

@@ -72,6 +72,7 @@ pub enum TakeUnitFault {
 pub enum NotCopied {
     /// There is no queue with that key.
     NoQueue,
+    /// No item waits there.
     Empty,
     /// The item has so many octets, and there is room for fewer. It still waits.
     NoRoom(usize),

@@ -94,6 +94,7 @@ pub(crate) fn take_from<C: Tick>(
 }
 
 // Copies an item, where there is one, to the front of these octets, and says how many it has.
+#[inline(always)]
 fn copy_to_front(item: Option<&[u8]>, into: &mut [u8]) -> Result<usize, NotCopied>
     ensures count { result ≡ copied_in (length into.old) (option_map (λ octets. octets.now) item.entry) }
     ensures item { IfOk result (λ count. IsCopiedIn (option_map (λ octets. octets.now) item.entry) count into.old into.new) }
@@ -110,6 +111,7 @@ fn copy_to_front(item: Option<&[u8]>, into: &mut [u8]) -> Result<usize, NotCopie
 }
 
 /// Copies the oldest item of the queue with this key to the front of these octets and drops it, and says how many it has.
+#[inline(always)]
 #[tactic(auto, using(crate::proofs::Closing::at_place))]
 pub(crate) fn copy_from<R: Room, C: Tick>(
     queues: &mut BoxedSlice<Queue<R>>,

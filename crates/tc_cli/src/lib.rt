@@ -3,11 +3,13 @@
 //! `run_script` reads a script from a reader, does its lines in order, and writes an answer for each
 //! operation and then a report. `parallel_script` does the operations of each channel by a worker of its
 //! own, and writes the report alone. `run_and_give_back` and `parallel_and_give_back` also give the script
-//! back. `parse_line` reads one line.
+//! back; `run_input` and `parallel_input` do the script of standard input. `parse_line` reads one line.
 #![tactic(auto)]
 
 mod closing;
+mod fields;
 mod founding;
+mod input;
 mod laws;
 mod parallel;
 mod parting;
@@ -17,6 +19,7 @@ mod staffed;
 mod watchers;
 mod worked;
 
+pub use input::{parallel_input, run_input};
 pub use laws::{
     the_lines_before_memory_ran_out_are_good, what_a_script_does_follows_from_its_lines,
 };

@@ -1,4 +1,4 @@
--- What is decoded, and which errors that tells or corrects.
+-- What is decoded, and which errors that finds or corrects.
 use Rattle.std.proofs.Common.{◌≡◌, ◌≢◌, ◌⊎◌, ℕ, zero, suc, ◌+◌, ◌-◌, ◌*◌, ◌/◌, ◌%◌, ◌^◌, ◌<◌, ◌≤◌, Bool, List, [], ◌∷◌, ◌++◌, Option, Some, None, IfSome, bit_xor, length, length-append, get_or, set, if◌then◌else◌, subst, refl, ap, sym, ◌∙◌, arith, inl, inr}
 use Rattle.tc_cltu.proofs.Names.{Correct, Detect, IsOctets, Mode, again, bits-same, bits_of, cases_eq, cases_lt, differences, le-ltb, lt-ltb, twice, xor_assoc, xor_self}
 use Rattle.std.proofs.lemmas.Nat.{shr_le, xor_lt, xor_comm}

@@ -117,7 +117,7 @@ pub record IsTaken (room : ℕ) (before after : Receiver) (octets rest : List �
   pub state : after.state ≡ state_after before.mode room before.state (take count octets)
   pub frames : frames_of before.mode room before.state (take count octets) ≡ given
 
--- memory ran out at the end of a candidate frame: the octets up to there were taken, all candidates before it were given, and it is held
+-- memory ran out at the end of a candidate frame: the octets up to there were taken, all candidates before it were given, and it is still carried
 pub record StopsShort (room : ℕ) (before after : Receiver) (octets : List ℕ) (given : List (List ℕ)) : Type 0 where
   pub count : ℕ
   pub within : count ≤ length octets

@@ -27,7 +27,7 @@ pub guard_step : (all owned_desks ps : List AtLock) (hs next : List AtHand) (p :
 guard_step all owned_desks ps hs next p h popped grown is before =
     ap (λ (l : List AtHand). ps ++ reverse (owners_of l)) grown ∙ one_guard ps hs p h is ∙ sym (ap (λ (l : List AtLock). l ++ reverse (owners_of hs)) popped) ∙ before
 
--- one desk is let go
+-- one desk is left
 pub roll_back_step : (old ps next : List AtLock) (guard hs : List AtHand) (p : AtLock) (h : AtHand) → guard ≡ hs ++ h ∷ [] → next ≡ ps ++ p ∷ [] → p.lock ≡ h.owner.lock → p.own.seen.head ≡ h.owner.own.seen.head → p.own.issued ≡ h.owner.own.issued
     → AreSame old (ps ++ reverse (owners_of guard)) → AreSame old (next ++ reverse (owners_of hs))
 roll_back_step old ps next guard hs p h popped grown lock head issued same =

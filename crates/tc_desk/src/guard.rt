@@ -73,7 +73,7 @@ impl<J: Journal> DeskGuard<J> {
     }
 
     /// Gives the lock back.
-    pub(crate) fn let_go(self) -> (LockedDesk<J>, DeskOwner)
+    pub(crate) fn leave(self) -> (LockedDesk<J>, DeskOwner)
         requires { self.reported ≡ [] }
         ensures desk { result.0 ≡ self.desk }
         ensures own { result.1.lock ≡ self.desk.id }
@@ -104,12 +104,12 @@ impl<J: Journal> DeskGuard<J> {
     }
 
     /// Lets the owner know what an operator has seen and made.
-    pub(crate) fn tell(&mut self, operator: DeskOperator)
+    pub(crate) fn report(&mut self, operator: DeskOperator)
         requires { operator.lock ≡ self.old.owner.lock }
         ensures { self.new ≡ reported_at self.old (operator.own ∷ []) }
     {
         self.lock
-            .tell(&mut self.first, operator.into_badge().into_seat());
+            .report(&mut self.first, operator.into_badge().into_seat());
     }
 
     /// Takes the channel out of the desk.
@@ -127,7 +127,7 @@ impl<J: Journal> DeskGuard<J> {
             issued: _,
             owner: _,
         } = self;
-        lock.settle(&mut first);
+        lock.account(&mut first);
         let kept = lock.replace(&mut first, DeskSlot::new(None));
         kept.into_channel()
     }

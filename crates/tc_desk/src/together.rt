@@ -87,24 +87,24 @@ fn hold<J: Journal>(owned_desk: OwnedDesk<J>) -> Result<DeskGuard<J>, OwnedDesk<
 }
 
 // Gives it back.
-fn let_go<J: Journal>(guard: DeskGuard<J>) -> OwnedDesk<J>
+fn leave<J: Journal>(guard: DeskGuard<J>) -> OwnedDesk<J>
     requires { IsFresh guard }
     ensures lock { result.lock ≡ guard.owner.lock }
     ensures head { result.own.seen.head ≡ guard.owner.own.seen.head }
     ensures issued { result.own.issued ≡ guard.owner.own.issued }
 {
-    let (desk, owner) = guard.let_go();
+    let (desk, owner) = guard.leave();
     OwnedDesk { desk, owner }
 }
 
 // Takes the locks, beginning with the last desk, as long as they are free. The guards come in that order.
-fn hold_all<J: Journal>(owned_desks: &mut Vec<OwnedDesk<J>>, guard: &mut Vec<DeskGuard<J>>) -> bool
-    requires empty { guard.old.items ≡ [] }
-    requires room { vec_len owned_desks.old ≤ vec_capacity guard.old }
-    ensures all { owned_desks.new.items ++ reverse (owners_of guard.new.items) ≡ owned_desks.old.items }
+fn hold_all<J: Journal>(owned_desks: &mut Vec<OwnedDesk<J>>, guards: &mut Vec<DeskGuard<J>>) -> bool
+    requires empty { guards.old.items ≡ [] }
+    requires room { vec_len owned_desks.old ≤ vec_capacity guards.old }
+    ensures all { owned_desks.new.items ++ reverse (owners_of guards.new.items) ≡ owned_desks.old.items }
     ensures done { result ≡ true → owned_desks.new.items ≡ [] }
-    ensures fresh { All IsFresh guard.new.items }
-    ensures room { vec_len owned_desks.new + vec_len guard.new ≤ vec_capacity owned_desks.new }
+    ensures fresh { All IsFresh guards.new.items }
+    ensures room { vec_len owned_desks.new + vec_len guards.new ≤ vec_capacity owned_desks.new }
 {
     while let Some(owned_desk) = owned_desks.pop() {
         let desk = match hold(owned_desk) {
@@ -114,19 +114,19 @@ fn hold_all<J: Journal>(owned_desks: &mut Vec<OwnedDesk<J>>, guard: &mut Vec<Des
                 return false;
             }
         };
-        guard.push_reserved(desk);
+        guards.push_reserved(desk);
     }
     true
 }
 
 // Gives the locks back, beginning with the one that was taken last.
-fn let_all_go<J: Journal>(owned_desks: &mut Vec<OwnedDesk<J>>, mut guard: Vec<DeskGuard<J>>)
-    requires fresh { All IsFresh guard.items }
-    requires room { vec_len owned_desks.old + vec_len guard ≤ vec_capacity owned_desks.old }
-    ensures { AreSame (owned_desks.old.items ++ reverse (owners_of guard.items)) owned_desks.new.items }
+fn leave_all<J: Journal>(owned_desks: &mut Vec<OwnedDesk<J>>, mut guards: Vec<DeskGuard<J>>)
+    requires fresh { All IsFresh guards.items }
+    requires room { vec_len owned_desks.old + vec_len guards ≤ vec_capacity owned_desks.old }
+    ensures { AreSame (owned_desks.old.items ++ reverse (owners_of guards.items)) owned_desks.new.items }
 {
-    while let Some(desk) = guard.pop() {
-        owned_desks.push_reserved(let_go(desk));
+    while let Some(desk) = guards.pop() {
+        owned_desks.push_reserved(leave(desk));
     }
 }
 
@@ -143,11 +143,14 @@ fn count_at<C: OperatorList>(operator_lists: &[C], place: usize) -> u64
 }
 
 // Whether the operators at each of these desks can close it.
-fn can_close_each<J: Journal, C: OperatorList>(guard: &[DeskGuard<J>], operator_lists: &[C]) -> bool
-    requires { AreOurs (owners_of guard.now) (map C.at_desks operator_lists.now) }
-    ensures { MatchBool result (CanCloseEach guard.now (map C.at_desks operator_lists.now)) (CannotCloseOne guard.now (map C.at_desks operator_lists.now)) }
+fn can_close_each<J: Journal, C: OperatorList>(
+    guards: &[DeskGuard<J>],
+    operator_lists: &[C],
+) -> bool
+    requires { AreOurs (owners_of guards.now) (map C.at_desks operator_lists.now) }
+    ensures { MatchBool result (CanCloseEach guards.now (map C.at_desks operator_lists.now)) (CannotCloseOne guards.now (map C.at_desks operator_lists.now)) }
 {
-    for (place, desk) in guard.iter().enumerate() {
+    for (place, desk) in guards.iter().enumerate() {
         if !desk.can_close(operator_lists.len(), count_at(operator_lists, place)) {
             return false;
         }
@@ -156,35 +159,35 @@ fn can_close_each<J: Journal, C: OperatorList>(guard: &[DeskGuard<J>], operator_
 }
 
 // Lets the owner of each desk know what the operator there has seen and made.
-fn report_row<J: Journal>(guard: &mut [DeskGuard<J>], mut operators: Vec<DeskOperator>)
-    requires { locks_of operators.items ≡ locks_of (owners_of guard.old) }
-    ensures { guard.new ≡ reported_row guard.old operators.items }
+fn report_row<J: Journal>(guards: &mut [DeskGuard<J>], mut operators: Vec<DeskOperator>)
+    requires { locks_of operators.items ≡ locks_of (owners_of guards.old) }
+    ensures { guards.new ≡ reported_row guards.old operators.items }
 {
     while let Some(operator) = operators.pop() {
-        guard[operators.len()].tell(operator);
+        guards[operators.len()].report(operator);
     }
 }
 
 // The same of all lists of operators, in their order.
-fn report_rows<J: Journal, C: OperatorList>(guard: &mut [DeskGuard<J>], operator_lists: Vec<C>)
-    requires { AreOurs (owners_of guard.old) (map C.at_desks operator_lists.items) }
-    ensures { guard.new ≡ reported_rows guard.old (map C.at_desks operator_lists.items) }
+fn report_rows<J: Journal, C: OperatorList>(guards: &mut [DeskGuard<J>], operator_lists: Vec<C>)
+    requires { AreOurs (owners_of guards.old) (map C.at_desks operator_lists.items) }
+    ensures { guards.new ≡ reported_rows guards.old (map C.at_desks operator_lists.items) }
 {
     for operator_list in operator_lists {
-        report_row(guard, operator_list.into_operators());
+        report_row(guards, operator_list.into_operators());
     }
 }
 
 // Takes the channels out, into a list with room for them.
 fn take_all_out<J: Journal>(
-    guard: Vec<DeskGuard<J>>,
+    guards: Vec<DeskGuard<J>>,
     mut room: Vec<ChannelWith<J>>,
 ) -> Vec<ChannelWith<J>>
     requires empty { room.items ≡ [] }
-    requires room { vec_len guard ≤ vec_capacity room }
-    ensures { AreOut guard.items result.items }
+    requires room { vec_len guards ≤ vec_capacity room }
+    ensures { AreOut guards.items result.items }
 {
-    for desk in guard {
+    for desk in guards {
         room.push_reserved(desk.take_out());
     }
     room
@@ -193,35 +196,35 @@ fn take_all_out<J: Journal>(
 // Takes all locks, in the order of the desks; or none, and gives all back.
 fn take_locks<J: Journal>(
     mut owned_desks: Vec<OwnedDesk<J>>,
-    mut guard: Vec<DeskGuard<J>>,
+    mut guards: Vec<DeskGuard<J>>,
 ) -> Result<(Vec<OwnedDesk<J>>, Vec<DeskGuard<J>>), Vec<OwnedDesk<J>>>
-    requires empty { guard.items ≡ [] }
-    requires room { vec_len owned_desks ≤ vec_capacity guard }
+    requires empty { guards.items ≡ [] }
+    requires room { vec_len owned_desks ≤ vec_capacity guards }
     ensures guard { IfOk result (λ both. AreMoments owned_desks.items both.1.items) }
     ensures empty { IfOk result (λ both. both.0.items ≡ []) }
     ensures room { IfOk result (λ both. vec_len both.1 ≤ vec_capacity both.0) }
     ensures kept { IfErr result (λ left. AreSame owned_desks.items left.items) }
 {
-    if !hold_all(&mut owned_desks, &mut guard) {
-        let_all_go(&mut owned_desks, guard);
+    if !hold_all(&mut owned_desks, &mut guards) {
+        leave_all(&mut owned_desks, guards);
         return Err(owned_desks);
     }
-    guard.reverse();
-    Ok((owned_desks, guard))
+    guards.reverse();
+    Ok((owned_desks, guards))
 }
 
 // Gives all locks back, which came in the order of the desks.
 fn give_back<J: Journal>(
     mut owned_desks: Vec<OwnedDesk<J>>,
-    mut guard: Vec<DeskGuard<J>>,
+    mut guards: Vec<DeskGuard<J>>,
 ) -> Vec<OwnedDesk<J>>
-    requires fresh { All IsFresh guard.items }
+    requires fresh { All IsFresh guards.items }
     requires empty { owned_desks.items ≡ [] }
-    requires room { vec_len guard ≤ vec_capacity owned_desks }
-    ensures { AreSame (owners_of guard.items) result.items }
+    requires room { vec_len guards ≤ vec_capacity owned_desks }
+    ensures { AreSame (owners_of guards.items) result.items }
 {
-    guard.reverse();
-    let_all_go(&mut owned_desks, guard);
+    guards.reverse();
+    leave_all(&mut owned_desks, guards);
     owned_desks
 }
 
@@ -257,20 +260,20 @@ pub fn close_together<J: Journal, C: OperatorList>(
     let Ok((room, hands)) = rooms(alloc, owned_desks.len()) else {
         return Err(left_open(owned_desks, operator_lists, Refusal::NoMemory));
     };
-    let (owned_desks, mut guard) = match take_locks(owned_desks, hands) {
+    let (owned_desks, mut guards) = match take_locks(owned_desks, hands) {
         Ok(both) => both,
         Err(owned_desks) => return Err(left_open(owned_desks, operator_lists, Refusal::InUse)),
     };
-    let can_close = can_close_each(&guard, &operator_lists);
+    let can_close = can_close_each(&guards, &operator_lists);
     if !can_close {
         return Err(left_open(
-            give_back(owned_desks, guard),
+            give_back(owned_desks, guards),
             operator_lists,
             Refusal::Unbalanced,
         ));
     }
-    report_rows(&mut guard, operator_lists);
-    Ok(take_all_out(guard, room))
+    report_rows(&mut guards, operator_lists);
+    Ok(take_all_out(guards, room))
 }
 
 /// Takes the channels out of their locks, in the order of the desks, whoever made their events: nothing is said of

@@ -1,4 +1,4 @@
--- Which changes of bits the remainder tells.
+-- Which changes of bits the remainder shows.
 use Rattle.std.proofs.Common.{◌≡◌, ◌≢◌, ◌⊎◌, ℕ, zero, suc, ◌+◌, ◌-◌, ◌*◌, ◌%◌, ◌^◌, ◌<◌, ◌≤◌, Bool, true, eqb, not, ◌&&◌, List, [], ◌∷◌, bit_xor, length, get_or, drop, refl, ap, sym, ◌∙◌, arith, inl, inr}
 use Rattle.std.proofs.lemmas.Nat.{pow-add, xor_lt, xor_mod, xor_comm}
 use Rattle.std.proofs.Math.Nat.{pow-suc, add-mul, mul_assoc}

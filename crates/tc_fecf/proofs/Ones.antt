@@ -1,4 +1,4 @@
--- Octets that pass have an even number of ones, so an odd number of changes is told.
+-- Octets that pass have an even number of ones, so an odd number of changes is found.
 use Rattle.std.proofs.Common.{◌≡◌, ℕ, suc, ◌+◌, ◌*◌, ◌/◌, ◌%◌, ◌^◌, ◌<◌, ◌==◌, if◌then◌else◌, List, [], ◌∷◌, bit_xor, length, sum, refl, ap, sym, ◌∙◌, arith}
 use Rattle.std.proofs.lemmas.List.Sums.{sum_by-cons}
 use Rattle.tc_fecf.proofs.Names.{bits, bits_of, checksum_of, remainder, times_x, with_bit, xor_lt, xor_shifted, xor_shr}

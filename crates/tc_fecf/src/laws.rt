@@ -1,4 +1,4 @@
-//! What the field is, and which changes of bits it tells.
+//! What the field is, and which changes of bits it finds.
 
 ghost use Rattle.std.specs.Prelude.{◌≡◌, ◌≢◌, ◌⊎◌, ◌<◌, ◌≤◌, ◌+◌, ◌%◌, ◌++◌, ◌↔◌, ℕ, List, None, true, length, drop};
 ghost use Rattle.std.specs.List.{concat, AllByRecursion};
@@ -35,7 +35,7 @@ pub fn just_frames_with_room_for_the_field_have_no_fault()
 
 /// Two lists of as many octets that differ within 16 bits in a row don't both pass.
 ///
-/// So a change of one bit is told, and each burst of up to 16.
+/// So a change of one bit is found, and each burst of up to 16.
 pub fn a_burst_of_16_bits_is_detected()
     ensures { (one other : List ℕ) (i : ℕ) → SameOctets one other → SameBits one other (λ k. (k < i) ⊎ (i + 16 ≤ k)) → Passes one → Passes other → one ≡ other }
 {}

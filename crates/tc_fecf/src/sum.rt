@@ -45,7 +45,7 @@ fn with_four(sum: u16, a: u8, b: u8, c: u8, d: u8) -> u16
     (first ^ second) ^ (third ^ fourth)
 }
 
-/// Whether octets that end with a frame error control field are free of errors as far as it tells: no remainder is left
+/// Whether octets that end with a frame error control field are free of errors as far as it shows: no remainder is left
 /// of them, the field included (CCSDS 232.0-B, 4.1.4.3).
 ///
 /// It doesn't ask whether they are a frame, and allocates nothing.

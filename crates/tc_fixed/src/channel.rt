@@ -45,7 +45,7 @@ impl Tick for NoSteps {
 /// One virtual channel, as a [`ChannelWith`](tc_channel::ChannelWith): FARM-1, the buffer of accepted data fields, reassembly, the
 /// packet queues, the unit queues of chosen MAPs, and the journal of all that it answered. It has a room for each data field,
 /// packet, unit and open run that it may ever hold, and only `new` asks for memory. So no other call allocates, and none can be
-/// refused for want of memory. A call that is refused leaves the channel as it was.
+/// refused since memory ran out. A call that is refused leaves the channel as it was.
 #[derive(Drop)]
 pub struct FixedChannelWith<N: Noted> {
     settings: Settings,

@@ -1,4 +1,4 @@
-//! Why a call gives nothing. None of these is want of memory.
+//! Why a call gives nothing. None of these is that memory ran out.
 
 ghost use Rattle.std.specs.Prelude.{◌≡◌};
 

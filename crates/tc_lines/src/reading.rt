@@ -20,7 +20,7 @@ pub(crate) struct LineRead {
 
 /// Reads a line of any length, and keeps its octets without the line feed, at most as many as a line may have.
 ///
-/// A line ends at a line feed, or where the input ends. What was kept before is let go of. A read that is interrupted is done again.
+/// A line ends at a line feed, or where the input ends. What was kept before is dropped. A read that is interrupted is done again.
 pub(crate) fn read_line<R: BufRead>(
     reader: &mut R,
     limit: usize,

@@ -10,14 +10,15 @@ ghost use Rattle.tc_live.specs.Receiver.{IsReady};
 ghost use Rattle.tc_live.specs.Serving.{IsClosingFault, IsReceptionCutShort, IsFollowedBy, IsLineSaid, IsReportWritten, IsReported, IsReceptionWritten, fault_at_lines};
 
 use crate::answer::LiveAnswer;
+use crate::check::FrameCheck;
 use crate::ends::FrameEnds;
 use crate::hint::{hint_for, word_before};
 use crate::receiver::Receiver;
 use std::alloc::Global;
 use std::io;
-use std::io::{BufRead, Write};
+use std::io::{BufRead, BufReader, BufWriter, Write};
 use tc_lines::LineAnswerer;
-use tc_text::Reason;
+use tc_text::{Reason, SpacecraftId};
 use thiserror::Error;
 
 /// How many octets a line may have, without its line feed. A frame of 1,024 octets fits three times over.
@@ -66,6 +67,22 @@ impl LineAnswerer for Receiver {
     ) -> io::Result<()> {
         answer_line(alloc, self, octets, writer)
     }
+}
+
+/// Answers the lines of standard input on standard output, as [`answer_lines`] does, by a receiver for which nothing is set up.
+pub fn serve<R: AllocGlobal + Input + Print>(
+    rt: &R,
+    spacecraft: SpacecraftId,
+    check: FrameCheck,
+) -> Result<FrameEnds, ServingFault> {
+    let Ok(mut reader) = BufReader::new(rt.alloc(), rt.reader()) else {
+        return Err(ServingFault::NoMemory);
+    };
+    let Ok(mut writer) = BufWriter::new(rt.alloc(), io::writer(rt)) else {
+        return Err(ServingFault::NoMemory);
+    };
+    let receiver = Receiver::new(rt.alloc(), spacecraft, check);
+    answer_lines(rt.alloc(), receiver, &mut reader, &mut writer)
 }
 
 /// Answers lines until there are no more, and flushes after each answer; then writes the final report, and says how frames ended that

@@ -61,7 +61,7 @@ module _ (s : Start) (first window : ℕ) (frames : ℕ → List ℕ) (own : (i 
     long : length (session_before s) ≡ s.obeyed
     long = length-map (take s.obeyed s.session) (action_before s) ∙ length-take-le s.obeyed s.session (omega (arith, slice_get_within s.session s.obeyed (Arrive s.directive obeyed.0) obeyed.1))
 
-    -- what it hears tells no less than it knew when it asked
+    -- what it hears shows no less than it knew when it asked
     early : asked ≤ s.believed → s.believed < s.obeyed → known o (session_before s) asked ≤ accepted o (take made (session_before s))
     early since low =
         let at : slice_get (session_before s) s.believed ≡ Some (Hear made) = slice_get-map (action_before s) (take s.obeyed s.session) s.believed ∙ ap (option_map (action_before s)) (get-within s.session s.obeyed s.believed (Hear made) here low) in

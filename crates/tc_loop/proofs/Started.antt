@@ -1,7 +1,7 @@
 -- The era that Set V(R) starts is a loop.
 use Rattle.tc_loop.proofs.Names.{Action, Arrive, Bc, Bool, ChannelState, E1, E10, E8, Event, Frame, Hear, Idle, IsLawfulWithin, IsLoop, IsObeyed, IsOther, IsSession, IsStart, List, None, NoneSetsWithin, Option, Other, Release, Report, Row, S1, S3, Send, SetVr, Settings, Some, Start, State, [], ap, append-nil, arith, clcw_within, cond, drop, entry_at, era, era_action, era_actions, era_session, events, field_of, fields_of, flags-at_E1, has_room, header_of, inl, inr, journal, kind_of, known, known_from, known_since, lawful-before, length, nat_le, nat_lt, nat_tests, passed_on, receiver, refl, reported, row_of, run_within, set_at, set_by, slice_get, slice_get_within, step, subst, suc, sym, take, take-append-drop, take-take, take_all, unwrap_or, vr-below, zero, ℕ, ◌++◌, ◌+◌, ◌-◌, ◌<◌, ◌∙◌, ◌∷◌, ◌≡◌, ◌≢◌, ◌≤◌, ◌⊎◌, events_at, cases_lt, cases_eq, option_map, drop_all, length-take, drop-append-le}
 use Rattle.tc_loop.proofs.Actions.{known-append, take-some, take-none}
-use Rattle.tc_loop.proofs.Counted.{journal-append, known-step, one-at, clcw-tells}
+use Rattle.tc_loop.proofs.Counted.{journal-append, known-step, one-at, clcw-shows}
 
 -- what an action was that is this one in the era's loop: of other events, such an event or a frame of before
 abbrev WasSuch : Start → ℕ → Action → Action → Type 0
@@ -192,8 +192,8 @@ module _ (s : Start) (k : IsStart s) where
         let here = vr-at-start m (made-later t m since here) early in
         let vr : (receiver (era s) (take m (era_session s))).report.vr ≡ s.loop.first = ap (λ es. (run_within s.loop.limits s.loop.settings es).report.vr) same ∙ vr-obeyed s.again k.again.1 in
         let small : s.loop.first < 256 = subst (λ n. n < 256) here (vr-below s.loop.limits s.loop.settings (journal s.loop (take m s.session)) k.allowed.first (lawful-at m)) in
-        clcw-tells (era s) (take m (era_session s)) (s.loop.links m) (subst (λ n. n < 256) (sym vr) small) ∙ vr
-        ∙ sym (clcw-tells s.loop (take m s.session) (s.loop.links m) (subst (λ n. n < 256) (sym here) small) ∙ here)
+        clcw-shows (era s) (take m (era_session s)) (s.loop.links m) (subst (λ n. n < 256) (sym vr) small) ∙ vr
+        ∙ sym (clcw-shows s.loop (take m s.session) (s.loop.links m) (subst (λ n. n < 256) (sym here) small) ∙ here)
   ]
 
   -- other actions teach it nothing

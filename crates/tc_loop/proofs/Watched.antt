@@ -1,4 +1,4 @@
--- Two halves of a window of 2 K tell of a sender with a window of K.
+-- Two halves of a window of 2 K show a sender with a window of K.
 use Rattle.tc_loop.proofs.Names.{Ahead, Behind, Bool, Expected, IsTrue, Outside, above, ahead, ap, arith, behind, cond, eq-eqb, event_at, false, heard, inl, inr, is_here_or_ahead, is_here_or_behind, nat_tests, outside, place_of, refl, row_at, true, ℕ, ◌%◌, ◌*◌, ◌+◌, ◌-◌, ◌<◌, ◌↔◌, ◌≡◌, ◌≤◌, cases_lt, zero, suc}
 
 -- of a frame that is expected both are said

@@ -80,7 +80,7 @@ pub fn an_era_that_set_v_r_starts_is_a_loop()
 
 /// The sender can see to it: where its Set V(R) names none of the numbers from that of its first frame which it doesn't know to be accepted up to
 /// the one after the last that it sent, any CLCW with this number that it hears then was made after Set V(R) was obeyed.
-pub fn a_number_of_its_own_tells_that_set_v_r_was_obeyed()
+pub fn a_number_of_its_own_shows_that_set_v_r_was_obeyed()
     ensures { (s : Start) (first window : ℕ) (frames : ℕ → List ℕ) (asked made : ℕ) → ((i : ℕ) → i < s.directive → frames i ≡ s.loop.frames i)
         → IsLoop (era_before s first window frames) (session_before s) → KeepOrder s.session → IsObeyed s s.obeyed → asked ≤ s.obeyed → asked ≤ s.believed
         → NamesAnother s first window frames asked → slice_get s.session s.believed ≡ Some (Hear made) → reported s.loop s.session made ≡ s.loop.first → s.obeyed < made }
@@ -121,10 +121,10 @@ pub fn report_values_are_read_so()
     ensures widest { heard 0 255 255 254 ≡ 510 }
 {}
 
-/// FARM-1 tells of a sender with a window of K frames, if it is asked in a channel whose own window is 2 K: whether the sender may send a frame
+/// FARM-1 reports of a sender with a window of K frames, if it is asked in a channel whose own window is 2 K: whether the sender may send a frame
 /// (`may_send`), by the half ahead of the number of the first that it doesn't know to be accepted; and what it knows after it read an N(R)
 /// (`known_after`), by the half behind.
-pub fn a_window_twice_as_wide_tells_of_a_sender()
+pub fn a_window_twice_as_wide_shows_a_sender()
     ensures sends { (window first known index : ℕ) (room : Bool) → 1 ≤ window → window ≤ 127 → known ≤ index → index < known + 256
         → IsTrue (is_here_or_ahead (event_at window ((first + known) % 256) ((first + index) % 256) room)) ↔ (index < known + window) }
     ensures hears { (window first known report : ℕ) (room : Bool) → 1 ≤ window → window ≤ 127 → report < 256

@@ -7,8 +7,8 @@ use crate::form::{Form, Number};
 use std::error::Error;
 use std::fmt;
 
-/// Why nothing is made of a line. Where several apply, the first of this list is told; but want of memory is told as soon
-/// as it is met, and a frame that has no room for its frame error control field is told last.
+/// Why nothing is made of a line. Where several apply, the first of this list is reported; but being out of memory is reported as soon
+/// as it is met, and a frame that has no room for its frame error control field is reported last.
 #[derive(Clone, Copy, Debug, PartialEq, Eq)]
 pub enum Reason {
     /// The first word is no command.

@@ -1,8 +1,8 @@
 //! Frames and packets of one's own, for the bench: what a line of text asks for is made or explained, and answered in lines.
 //!
-//! [`answer_lines`] does lines, and [`answer_line`] one. [`parse_line`] says what a line asks for. What is made is made by
-//! [`make_packet`], [`make_frame`], [`make_command`], [`Parting::frame`] and [`Ending::end`], and what is explained is read by
-//! [`explain`].
+//! [`serve`] does the lines of standard input, [`answer_lines`] those of any reader, and [`answer_line`] one. [`parse_line`] says what
+//! a line asks for. What is made is made by [`make_packet`], [`make_frame`], [`make_command`], [`Parting::frame`] and [`Ending::end`],
+//! and what is explained is read by [`explain`].
 #![tactic(auto)]
 
 mod answer;
@@ -21,6 +21,7 @@ mod packets;
 mod parting;
 mod printed;
 mod serving;
+mod strict;
 
 pub use answer::answer_line;
 pub use decoders::Decoders;
@@ -34,5 +35,5 @@ pub use maker::Maker;
 pub use octets::Octets;
 pub use packets::make_packet;
 pub use parting::Parting;
-pub use serving::{MAX_LINE, answer_lines};
+pub use serving::{MAX_LINE, MakingFault, answer_lines, serve};
 pub use tc_lines::ServingFault;

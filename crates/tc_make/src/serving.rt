@@ -6,10 +6,12 @@ ghost use Rattle.tc_make.specs.Serving.{AreWritten, IsMakingCutShort};
 use crate::answer;
 use crate::ending::Ending;
 use crate::maker::Maker;
+use crate::strict::Strict;
 use std::alloc::Global;
 use std::io;
-use std::io::{BufRead, Write};
+use std::io::{BufRead, BufReader, BufWriter, Write};
 use tc_lines::{LineAnswerer, ServingFault};
+use thiserror::Error;
 
 /// How many octets a line may have, its line feed among them. The longest line that says something, a unit of 65,542
 /// octets, fits.
@@ -48,4 +50,38 @@ pub fn answer_lines<R: BufRead, W: Write>(
         return Err(ServingFault::NoMemory);
     };
     tc_lines::answer_lines(alloc, MAX_LINE - 1, &mut maker, reader, writer)
+}
+
+/// Why `tcmake` answers no more lines.
+#[derive(Clone, Copy, Debug, PartialEq, Eq, Error)]
+pub enum MakingFault {
+    #[error("{0}")]
+    Serving(ServingFault),
+    #[error("a line is bad, and no other was answered")]
+    BadLine,
+}
+
+/// Answers the lines of standard input on standard output, as [`answer_lines`] does; if it is strict, no line after the first bad one.
+pub fn serve<R: AllocGlobal + Input + Print>(
+    rt: &R,
+    ending: Ending,
+    strict: bool,
+) -> Result<(), MakingFault> {
+    let Ok(mut reader) = BufReader::new(rt.alloc(), rt.reader()) else {
+        return Err(MakingFault::Serving(ServingFault::NoMemory));
+    };
+    let Ok(mut writer) = BufWriter::new(rt.alloc(), io::writer(rt)) else {
+        return Err(MakingFault::Serving(ServingFault::NoMemory));
+    };
+    if !strict {
+        return answer_lines(rt.alloc(), ending, &mut reader, &mut writer).map_err(
+            MakingFault::Serving,
+        );
+    }
+    let mut strict = Strict::new(writer);
+    let served = answer_lines(rt.alloc(), ending, &mut reader, &mut strict);
+    if strict.has_bad() {
+        return Err(MakingFault::BadLine);
+    }
+    served.map_err(MakingFault::Serving)
 }

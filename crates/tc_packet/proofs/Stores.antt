@@ -65,7 +65,7 @@ unit-pushed n unit run fields field body part small part_is body_is unit_is left
 abbrev pub with_run : Store → ℕ → OpenRun → Store
 with_run store i next = record store { runs = set store.runs i next }
 
--- what is told of the unit is what lies there
+-- what is reported of the unit is what lies there
 ended-there : (store : Store) (i : ℕ) (next : OpenRun) (t : EndedKind) (field : List ℕ) → i < length store.runs → unit_in (ended_by_stream t i) (with_run store i next) field ≡ ended_kind t next (drop 1 field)
 ended-there store i next ended_kinds.Whole field inside = ap (option_map (λ (r : OpenRun). r.room.octets)) (slice_get-set_same store.runs i next inside)
 ended-there store i next _ field inside = refl

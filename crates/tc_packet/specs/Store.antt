@@ -57,7 +57,7 @@ ended_kind ended_kinds.Nothing run body = None
 ended_kind ended_kinds.Body run body = Some body
 ended_kind ended_kinds.Whole run body = Some run.room.octets
 
--- the run behind a segment that was told so: one that ended a unit is over once that is delivered
+-- the run behind a segment that was reported so: one that ended a unit is over once that is delivered
 abbrev pub behind : EndedKind → OpenRun → OpenRun
 behind ended_kinds.Nothing run = run
 behind ended_kinds.Body run = closed run
@@ -102,7 +102,7 @@ pub record IsWritten (place : ℕ) (old new : List OpenRun) : Type 0 where
   pub is : new ≡ set old place next
   pub sizes : sizes_of new ≡ sizes_of old
 
--- the run at this place followed a segment with this body, and it is told where the unit lies that it ended
+-- the run at this place followed a segment with this body, and it is reported where the unit lies that it ended
 pub record IsFollowed (place : ℕ) (part : Part) (body : List ℕ) (old new : List OpenRun) (t : EndedKind) : Type 0 where
   pub run : OpenRun
   pub next : OpenRun

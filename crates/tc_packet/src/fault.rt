@@ -1,4 +1,4 @@
-//! Want of memory.
+//! The fault that memory ran out.
 
 use std::alloc::{AllocError, AllocFailed};
 use thiserror::Error;

@@ -155,13 +155,12 @@ impl<R: Room> Slots<R> {
         if self.waiting == 0 {
             return;
         }
-        if self.waiting + self.staged == 1 {
+        self.waiting -= 1;
+        if self.waiting + self.staged == 0 {
             self.ring.clear(0, self.size);
-            self.waiting = 0;
             return;
         }
         self.ring.turn(self.size);
-        self.waiting -= 1;
     }
 }
 

@@ -25,7 +25,7 @@ IsLocateFault station octets (Frame f) = fault_of octets ≡ Some f
 IsLocateFault station octets OtherSpacecraft = (frame : List ℕ) × BeginsWith octets frame × ((header_of frame).scid ≢ station.scid)
 IsLocateFault station octets UnknownChannel = (frame : List ℕ) × IsOurs station octets frame × ¬ Contains station.vcids (header_of frame).vcid
 
--- why octets were not brought: want of memory only where they are for a channel of the station
+-- why octets were not brought: out of memory only where they are for a channel of the station
 abbrev pub IsBringFault : Roster → List ℕ → BringFault → Type 0
 IsBringFault station octets (Locate f) = IsLocateFault station octets f
 IsBringFault station octets NoMemory = (vcid : ℕ) × (frame : List ℕ) × IsLocated station octets vcid frame

@@ -79,9 +79,9 @@ impl Split<View> for Doubles {
 }
 
 /// Reports to the publisher what a watcher had seen, whose seat is spent.
-pub struct Tells;
+pub struct Reports;
 
-impl Join<View> for Tells {
+impl Join<View> for Reports {
     ghost use Rattle.tc_status.specs.Board.{with_reported, spent};
 
     ghost both = { with_reported };

@@ -5,7 +5,7 @@ ghost use Rattle.tc_channel.specs.Settings.{IsAllowed};
 ghost use Rattle.tc_channel.specs.Run.{IsLawful};
 ghost use Rattle.tc_status.specs.Board.{IsEarlier, status_word};
 
-use crate::board::{Board, BoardSeat, Compares, Doubles, Reads, Tells};
+use crate::board::{Board, BoardSeat, Compares, Doubles, Reads, Reports};
 use crate::publisher::Publisher;
 use std::marker::Model;
 use std::mem;
@@ -57,6 +57,6 @@ pub fn meet(publisher: &mut Publisher, watcher: &mut Watcher)
     let shared = &publisher.board.table.shared;
     let fresh = shared.split_seat::<Doubles>(&mut publisher.seat);
     let old = mem::replace(&mut watcher.seat, fresh);
-    shared.join_seat::<Tells>(&mut publisher.seat, old);
+    shared.join_seat::<Reports>(&mut publisher.seat, old);
     shared.load::<Compares>(&mut publisher.seat, 0);
 }

@@ -1,20 +1,26 @@
 //! `tclive`: a telecommand receiver that answers line by line.
 #![tactic(auto)]
 
-ghost use Rattle.std.specs.Prelude.{◌≤◌};
-
 use command_line::{Reception, asked_of_tclive};
-use std::alloc::Global;
-use std::io;
-use std::io::{BufReader, BufWriter};
 use std::process::ExitCode;
-use tc_live::{FrameCheck, FrameEnds, Receiver, ServingFault, answer_lines};
+use tc_live::{FrameCheck, FrameEnds, ServingFault, serve};
 use tc_text::SpacecraftId;
 
 fn main(rt: HostRuntime) -> ExitCode {
     match asked_of_tclive(&rt) {
-        Ok(asked) => report(&rt, serve(&rt, asked)),
+        Ok(asked) => {
+            let spacecraft = SpacecraftId { number: asked.scid };
+            report(&rt, serve(&rt, spacecraft, check_of(asked)))
+        }
         Err(status) => status,
+    }
+}
+
+fn check_of(asked: Reception) -> FrameCheck {
+    if asked.fecf {
+        FrameCheck::ErrorControl
+    } else {
+        FrameCheck::Nothing
     }
 }
 
@@ -35,35 +41,4 @@ fn report<R: Eprint>(rt: &R, served: Result<FrameEnds, ServingFault>) -> ExitCod
             ExitCode::FAILURE
         }
     }
-}
-
-fn serve<R: AllocGlobal + Input + Print>(
-    rt: &R,
-    asked: Reception,
-) -> Result<FrameEnds, ServingFault>
-    requires { asked.scid ≤ 1023 }
-{
-    let Ok(mut reader) = BufReader::new(rt.alloc(), rt.reader()) else {
-        return Err(ServingFault::NoMemory);
-    };
-    let Ok(mut writer) = BufWriter::new(rt.alloc(), io::writer(rt)) else {
-        return Err(ServingFault::NoMemory);
-    };
-    let receiver = receiver_for(rt.alloc(), asked);
-    answer_lines(rt.alloc(), receiver, &mut reader, &mut writer)
-}
-
-fn receiver_for(alloc: Global, asked: Reception) -> Receiver
-    requires { asked.scid ≤ 1023 }
-{
-    let spacecraft = match SpacecraftId::new(asked.scid) {
-        Some(spacecraft) => spacecraft,
-        None => unreachable!(),
-    };
-    let check = if asked.fecf {
-        FrameCheck::ErrorControl
-    } else {
-        FrameCheck::Nothing
-    };
-    Receiver::new(alloc, spacecraft, check)
 }

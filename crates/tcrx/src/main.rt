@@ -3,17 +3,11 @@
 
 ghost use Rattle.std.specs.Prelude.{◌≤◌};
 
-mod fields;
-
-use crate::fields::each_frame_has_its_field;
 use command_line::{ScriptRun, Way, asked_of_tcrx};
-use std::io;
-use std::io::BufWriter;
 use std::process::ExitCode;
 use std::sync::Wait;
 use std::thread::Threads;
-use tc_cli::{Reason, ScriptFault, parallel_and_give_back, run_and_give_back};
-use tc_station::FreeGate;
+use tc_cli::{ScriptFault, parallel_input, run_input};
 
 fn main(rt: HostRuntime) -> ExitCode {
     match asked_of_tcrx(&rt) {
@@ -22,53 +16,33 @@ fn main(rt: HostRuntime) -> ExitCode {
     }
 }
 
-// Reports on standard error why a script ended early, and gives the exit status.
-fn report<R: Eprint>(rt: &R, done: Result<(), ScriptFault>) -> ExitCode {
+fn obey<R: AllocGlobal + Input + Print + Threads + Wait + Sync>(
+    rt: &R,
+    asked: ScriptRun,
+) -> Result<bool, ScriptFault>
+    requires { asked.scid ≤ 1023 }
+{
+    match asked.way {
+        Way::InOrder => run_input(rt, asked.scid),
+        Way::Parallel => parallel_input(rt, asked.scid),
+    }
+}
+
+// Reports on standard error why a script ended early, or else, if so, that each of its frames ends with its field, on which no answer
+// depends; and gives the exit status.
+fn report<R: Eprint>(rt: &R, done: Result<bool, ScriptFault>) -> ExitCode {
     match done {
-        Ok(()) => ExitCode::SUCCESS,
+        Ok(has_fields) => {
+            if has_fields {
+                let _ = eprintln!(rt;
+                    "tcrx: each frame ends with its frame error control field, which is data here; tclive --fecf checks it and takes it off"
+                );
+            }
+            ExitCode::SUCCESS
+        }
         Err(fault) => {
             let _ = eprintln!(rt; "{fault}");
             ExitCode::FAILURE
         }
-    }
-}
-
-const NO_WRITER: ScriptFault = ScriptFault::Line {
-    line: 0,
-    reason: Reason::NoMemory,
-};
-
-// Runs the script of standard input.
-fn obey<R: AllocGlobal + Input + Print + Eprint + Threads + Wait + Sync>(
-    rt: &R,
-    asked: ScriptRun,
-) -> Result<(), ScriptFault>
-    requires { asked.scid ≤ 1023 }
-{
-    let Ok(mut writer) = BufWriter::new(rt.alloc(), io::writer(rt)) else {
-        return Err(NO_WRITER);
-    };
-    let mut reader = rt.reader();
-    let script = match asked.way {
-        Way::InOrder => run_and_give_back(rt, rt.alloc(), asked.scid, &mut reader, &mut writer)?,
-        Way::Parallel => parallel_and_give_back(
-            rt,
-            rt.alloc(),
-            &FreeGate,
-            asked.scid,
-            &mut reader,
-            &mut writer,
-        )?,
-    };
-    hint(rt, each_frame_has_its_field(rt.alloc(), script.as_slice()));
-    Ok(())
-}
-
-// Says on standard error, if so, that each frame of a script that was done ends with its field. No answer depends on it.
-fn hint<R: Eprint>(rt: &R, has_fields: bool) {
-    if has_fields {
-        let _ = eprintln!(rt;
-            "tcrx: each frame ends with its frame error control field, which is data here; tclive --fecf checks it and takes it off"
-        );
     }
 }

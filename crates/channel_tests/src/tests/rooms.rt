@@ -45,7 +45,7 @@ fn items_in_two_rooms(rt: HostRuntime) {
 
 // Of three items the first one waits, and the others are staged and rolled back.
 #[test]
-fn items_staged_and_let_go(rt: HostRuntime) {
+fn items_staged_and_rolled_back(rt: HostRuntime) {
     let mut slots: Slots<GrowingRoom> = Slots::with_capacity(rt.alloc(), 3, 3).expect(&rt, "rooms");
     assert!(&rt; slots.stage(&[1]).expect(&rt, "an item"));
     slots.commit();

@@ -123,7 +123,7 @@ fn work_by_four<R: Threads + Wait + Clock + Sync>(
 }
 
 // The first seat learns what both have seen and made.
-fn tell_of_both(lock: &BookLock, first: &mut BookSeat, pair: Pair)
+fn report_both(lock: &BookLock, first: &mut BookSeat, pair: Pair)
     requires first { (first.old.table_id ≡ lock.now.id) × (first.old.id ≡ 0) × (first.old.me.0.live ≡ true) }
     requires one { IsWriter lock.now pair.one.seat }
     requires two { IsWriter lock.now pair.two.seat }
@@ -131,8 +131,8 @@ fn tell_of_both(lock: &BookLock, first: &mut BookSeat, pair: Pair)
     ensures same { (first.new.me.0.locks ≡ first.old.me.0.locks) × (first.new.me.1 ≡ first.old.me.1) }
 {
     let Pair { one, two } = pair;
-    lock.tell(first, one.seat);
-    lock.tell(first, two.seat);
+    lock.report(first, one.seat);
+    lock.report(first, two.seat);
 }
 
 // The book of a lock that nobody else has: the first seat takes it, once it knows what the six have seen and made.
@@ -144,10 +144,10 @@ fn close<R: Wait>(rt: &R, alloc: Global, lock: &BookLock, mut first: BookSeat, s
 {
     lock.lock(rt, &mut first);
     let Six { one, two, three } = six;
-    tell_of_both(lock, &mut first, one);
-    tell_of_both(lock, &mut first, two);
-    tell_of_both(lock, &mut first, three);
-    lock.settle(&mut first);
+    report_both(lock, &mut first, one);
+    report_both(lock, &mut first, two);
+    report_both(lock, &mut first, three);
+    lock.account(&mut first);
     let blank = Book {
         title: 0,
         numbers: Vec::new(alloc),

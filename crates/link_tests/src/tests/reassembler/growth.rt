@@ -1,4 +1,4 @@
-//! Each call is made; where it answers want of memory, no run has changed, and the call is made again.
+//! Each call is made; where it answers that memory ran out, no run has changed, and the call is made again.
 
 use super::*;
 
@@ -53,7 +53,7 @@ fn made(rt: &(impl Abort + Print), alloc: Global, segmented: bool) -> Reassemble
 }
 
 // `push` was refused memory for this field.
-fn tell_refused(rt: &(impl Abort + Print), field: &[u8]) {
+fn report_refused(rt: &(impl Abort + Print), field: &[u8]) {
     assert!(rt; !field.is_empty());
     let part = read_segment(field[0]).part;
     let _ = println!(rt; "refused: push, {part:?}");
@@ -73,7 +73,7 @@ fn check_push(
     check_only_run(rt, reassembler, before);
     let mut answer = push(rt, reassembler, Service::Bd, field);
     if answer.is_err() {
-        tell_refused(rt, field);
+        report_refused(rt, field);
         check_only_run(rt, reassembler, before);
         answer = push(rt, reassembler, Service::Bd, field);
     }

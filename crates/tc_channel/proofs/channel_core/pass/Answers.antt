@@ -9,16 +9,16 @@ use Rattle.tc_channel.proofs.channel_core.pass.Goals as goal
 
 pub deliver_ended-requires-clause-within : goal.deliver_ended-requires-clause-within
 deliver_ended-requires-clause-within g c =
-    within-all c.args.runs.now (stream_place c.args.service c.args.field.now) (unit_in c.in_ok-ended.ended c.stage.new.self c.args.field.now) (place-below c.args.service c.args.field.now) c.requires.small c.in_ok-ended.ensures.within
+    within-all c.args.runs.now (stream_place c.args.service c.args.field.now) (unit_in c.in_ok-ended.ended c.stage.new.self c.args.field.now) (place-below c.args.service c.args.field.now) c.requires.rooms.small c.in_ok-ended.ensures.within
 
 pub deliver_ended-requires-clause-fits : goal.deliver_ended-requires-clause-fits
 deliver_ended-requires-clause-fits g c =
-    fits-unit c.args.runs.now (stream_place c.args.service c.args.field.now) c.args.field.now (unit_in c.in_ok-ended.ended c.stage.new.self c.args.field.now) _ (place-below c.args.service c.args.field.now) c.requires.small c.requires.sizes c.requires.within
+    fits-unit c.args.runs.now (stream_place c.args.service c.args.field.now) c.args.field.now (unit_in c.in_ok-ended.ended c.stage.new.self c.args.field.now) _ (place-below c.args.service c.args.field.now) c.requires.rooms.small c.requires.rooms.sizes c.requires.within
     c.in_ok-ended.ensures.within c.in_ok-ended.ensures.shorter
 
 pub deliver_ended-requires-clause-units_fit : goal.deliver_ended-requires-clause-units_fit
 deliver_ended-requires-clause-units_fit g c =
-    fits-unit c.args.runs.now (stream_place c.args.service c.args.field.now) c.args.field.now (unit_in c.in_ok-ended.ended c.stage.new.self c.args.field.now) _ (place-below c.args.service c.args.field.now) c.requires.small c.requires.unit_sizes c.requires.within
+    fits-unit c.args.runs.now (stream_place c.args.service c.args.field.now) c.args.field.now (unit_in c.in_ok-ended.ended c.stage.new.self c.args.field.now) _ (place-below c.args.service c.args.field.now) c.requires.rooms.small c.requires.rooms.unit_sizes c.requires.within
     c.in_ok-ended.ensures.within c.in_ok-ended.ensures.shorter
 
 pub returns-clause-follows : goal.returns-clause-follows
@@ -27,11 +27,15 @@ returns-clause-follows g c =
     committed-follows c.args.runs.now c.stage.new.self c.commit.new.self c.in_ok-ended.ended c.args.service c.args.field.now (place_of c.args.service c.read_segment-map.result.map) at c.commit.ensures
     c.stage.ensures.segmented c.stage.ensures.limits c.in_ok-ended.ensures.run c.stage.ensures.others
 
-pub returns-clause-limits : goal.returns-clause-limits
-returns-clause-limits g c = λ place. rw c.commit.ensures (committed-limits c.stage.new.self c.in_ok-ended.ended (place_of c.args.service c.read_segment-map.result.map) place ∙ c.stage.ensures.limits place)
-
-pub returns-clause-segmented : goal.returns-clause-segmented
-returns-clause-segmented g c = rw c.commit.ensures (committed-segmented c.stage.new.self c.in_ok-ended.ended (place_of c.args.service c.read_segment-map.result.map) ∙ c.stage.ensures.segmented)
+pub returns-clause-rooms : goal.returns-clause-rooms
+returns-clause-rooms g c = record {
+  limits_are = λ place. rw c.commit.ensures (committed-limits c.stage.new.self c.in_ok-ended.ended (place_of c.args.service c.read_segment-map.result.map) place ∙ c.stage.ensures.limits place);
+  segmented = rw c.commit.ensures (committed-segmented c.stage.new.self c.in_ok-ended.ended (place_of c.args.service c.read_segment-map.result.map) ∙ c.stage.ensures.segmented);
+  sizes = c.deliver_ended.ensures.sizes;
+  unit_sizes = c.deliver_ended.ensures.unit_sizes;
+  committed = c.deliver_ended.ensures.committed;
+  units_committed = c.deliver_ended.ensures.units_committed;
+}
 
 pub returns-clause-delivered : goal.returns-clause-delivered
 returns-clause-delivered g c =

@@ -3,7 +3,7 @@ use Rattle.tc_desk.proofs.Rows.{AreAt}
 use Rattle.tc_desk.proofs.together.report_row.Given as goal
 
 abbrev pub invariant-loop-operator : goal.invariant-loop-operator
-invariant-loop-operator g l = (reported_row l.guard l.operators.items ≡ reported_row l.fn.guard l.fn.operators.items) × AreAt l.guard l.operators.items
+invariant-loop-operator g l = (reported_row l.guards l.operators.items ≡ reported_row l.fn.guards l.fn.operators.items) × AreAt l.guards l.operators.items
 
 abbrev pub decreases-loop-operator : goal.decreases-loop-operator
 decreases-loop-operator g l = vec_len l.operators

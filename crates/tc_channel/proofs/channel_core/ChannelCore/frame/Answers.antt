@@ -2,19 +2,15 @@ use Rattle.tc_channel.proofs.Names.{drop, ◌≡◌, ◌∷◌, [], ◌++◌, na
 use Rattle.std.proofs.lemmas.List.{take_rest}
 use Rattle.tc_channel.specs.Reply.{frame_reply_within}
 use Rattle.tc_channel.specs.Steps.{frame_steps_within}
-use Rattle.tc_channel.proofs.AtWork.{holds-on, on-err, queue-count, still-holds, unit-count}
+use Rattle.tc_channel.proofs.AtWork.{can-pass, holds-on, on-err, queue-count, still-holds, unit-count}
 use Rattle.tc_channel.proofs.Stored.{row-is, can-enter, frame-keeps}
 use Rattle.tc_channel.proofs.Plain.{run-limit}
 use Rattle.tc_channel.proofs.Shares.{frame-delivery, frame-unit}
-use Rattle.tc_channel.proofs.Takes.{queues-distinct, units-distinct}
 use Rattle.tc_channel.proofs.Within.{ends-at-once-is, follows-kind-is}
 use Rattle.tc_channel.proofs.channel_core.ChannelCore.frame.Goals as goal
 
-pub pass_bypass-requires-clause-distinct : goal.pass_bypass-requires-clause-distinct
-pass_bypass-requires-clause-distinct g c = queues-distinct c.self.invariant.3.holds
-
-pub pass_bypass-requires-clause-units_distinct : goal.pass_bypass-requires-clause-units_distinct
-pass_bypass-requires-clause-units_distinct g c = units-distinct c.self.invariant.3.holds
+pub pass_bypass-requires-clause-rooms : goal.pass_bypass-requires-clause-rooms
+pass_bypass-requires-clause-rooms g c = can-pass c.self.invariant.3
 
 pub step-act-requires : goal.step-act-requires
 step-act-requires g c =
@@ -40,7 +36,7 @@ returns-clause-done g c = λ limits s journal k_now.
     (row-is c.args.frame.now c.kind-kind.result c.len.result c.capacity.result k.holds c.kind-kind.ensures c.len.ensures.len c.capacity.ensures.capacity)
     c.step-act.ensures.event c.step-act.ensures.accepted c.step-act.ensures.width c.step-act.ensures.report
     (rw (take_rest c.octets.result.now 5, c.octets.ensures.octets) at c.put_field.ensures.items) c.put_field.ensures.capacity)
-    c.put_field.ensures.size c.put_field.ensures.committed c.pass_bypass.ensures.limits c.pass_bypass.ensures.segmented c.pass_bypass.ensures.sizes c.pass_bypass.ensures.unit_sizes c.pass_bypass.ensures.committed c.pass_bypass.ensures.units_committed
+    c.put_field.ensures.size c.put_field.ensures.committed c.pass_bypass.ensures.rooms
 
 pub invariant_of-self-2 : goal.invariant_of-self-2
 invariant_of-self-2 g c =
@@ -65,13 +61,13 @@ pub returns-in_err-delivery-clause-refused : goal.returns-in_err-delivery-clause
 returns-in_err-delivery-clause-refused g c = on-err c.from_residual.result _ (λ limits s journal k_now.
     let k = rw (← c.self.view_is) at k_now in
     let same = c.in_err-delivery.ensures.refused in
-    still-holds c.pass_bypass.new.runs c.pass_bypass.new.queues c.pass_bypass.new.units k same.0 same.1 same.2 c.pass_bypass.ensures.limits c.pass_bypass.ensures.segmented c.pass_bypass.ensures.sizes c.pass_bypass.ensures.unit_sizes c.pass_bypass.ensures.committed c.pass_bypass.ensures.units_committed)
+    still-holds c.pass_bypass.new.runs c.pass_bypass.new.queues c.pass_bypass.new.units k same.0 same.1 same.2 c.pass_bypass.ensures.rooms)
 
 pub invariant_of-self : goal.invariant_of-self
 invariant_of-self g c =
     let i = c.self.invariant in
     let same = c.in_err-delivery.ensures.refused in
-    (i.0, i.1, i.2, still-holds c.pass_bypass.new.runs c.pass_bypass.new.queues c.pass_bypass.new.units i.3 same.0 same.1 same.2 c.pass_bypass.ensures.limits c.pass_bypass.ensures.segmented c.pass_bypass.ensures.sizes c.pass_bypass.ensures.unit_sizes c.pass_bypass.ensures.committed c.pass_bypass.ensures.units_committed)
+    (i.0, i.1, i.2, still-holds c.pass_bypass.new.runs c.pass_bypass.new.queues c.pass_bypass.new.units i.3 same.0 same.1 same.2 c.pass_bypass.ensures.rooms)
 
 pub returns-clause-cost : goal.returns-clause-cost
 unfolding frame_steps_within

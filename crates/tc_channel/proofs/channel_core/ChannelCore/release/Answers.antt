@@ -1,11 +1,10 @@
 use Rattle.tc_channel.proofs.Names.{◌≡◌, ◌≤◌, ◌∷◌, [], ◌++◌, length, ap, ◌∙◌, arith, inl, inr, Release, buffer, rings_in, run_within, first_of, Ad, Slotted, open_runs}
 use Rattle.tc_channel.specs.Reply.{release_reply_within}
 use Rattle.tc_channel.specs.Steps.{release_steps_within}
-use Rattle.tc_channel.proofs.AtWork.{first-is, holds-on, on-err, queue-count, still-holds, unit-count}
+use Rattle.tc_channel.proofs.AtWork.{can-pass, first-is, holds-on, on-err, queue-count, still-holds, unit-count}
 use Rattle.tc_channel.proofs.Stored.{release-keeps, oldest-filled}
 use Rattle.tc_channel.proofs.Plain.{run-limit}
 use Rattle.tc_channel.proofs.Shares.{ends-unit, release-delivery}
-use Rattle.tc_channel.proofs.Takes.{queues-distinct, units-distinct}
 use Rattle.tc_channel.proofs.Within.{ends-is, follows-is}
 use Rattle.tc_channel.proofs.channel_core.ChannelCore.release.Goals as goal
 
@@ -19,11 +18,8 @@ pass-requires-clause-within g c =
     let within : length c.unwrap-field.result.now ≤ c.self.inside.fields.size = rw c.unwrap-field.ensures at c.front.ensures.within in
     rw c.self.invariant.3.field_size at within
 
-pub pass-requires-clause-distinct : goal.pass-requires-clause-distinct
-pass-requires-clause-distinct g c = queues-distinct c.self.invariant.3.holds
-
-pub pass-requires-clause-units_distinct : goal.pass-requires-clause-units_distinct
-pass-requires-clause-units_distinct g c = units-distinct c.self.invariant.3.holds
+pub pass-requires-clause-rooms : goal.pass-requires-clause-rooms
+pass-requires-clause-rooms g c = can-pass c.self.invariant.3
 
 pub returns-clause-done : goal.returns-clause-done
 returns-clause-done g c = λ limits s journal k_now.
@@ -36,7 +32,7 @@ returns-clause-done g c = λ limits s journal k_now.
     (follows-is limits f.runs (open_runs c.pass.new.runs) Ad (first_of f.fields.ring.items) k.limits_are (rw first.0 at c.in_ok-delivery.ensures.follows)) (ends-is limits f.runs Ad (first_of f.fields.ring.items) d.0 k.limits_are (rw first.0 at d.1)) (rw first.0 at d.2) first.1
     c.step.ensures.width c.step.ensures.report (ap (λ (x : Slotted). x.ring) c.pop_front.ensures))
     (ap (λ (x : Slotted). x.size) c.pop_front.ensures) (ap (λ (x : Slotted). x.staged) c.pop_front.ensures ∙ k.fields_committed)
-    c.pass.ensures.limits c.pass.ensures.segmented c.pass.ensures.sizes c.pass.ensures.unit_sizes c.pass.ensures.committed c.pass.ensures.units_committed
+    c.pass.ensures.rooms
 
 pub invariant_of-self-2 : goal.invariant_of-self-2
 invariant_of-self-2 g c =
@@ -59,13 +55,13 @@ pub returns-in_err-delivery-clause-refused : goal.returns-in_err-delivery-clause
 returns-in_err-delivery-clause-refused g c = on-err c.from_residual.result _ (λ limits s journal k_now.
     let k = rw (← c.self.view_is) at k_now in
     let same = c.in_err-delivery.ensures.refused in
-    still-holds c.pass.new.runs c.pass.new.queues c.pass.new.units k same.0 same.1 same.2 c.pass.ensures.limits c.pass.ensures.segmented c.pass.ensures.sizes c.pass.ensures.unit_sizes c.pass.ensures.committed c.pass.ensures.units_committed)
+    still-holds c.pass.new.runs c.pass.new.queues c.pass.new.units k same.0 same.1 same.2 c.pass.ensures.rooms)
 
 pub invariant_of-self : goal.invariant_of-self
 invariant_of-self g c =
     let i = c.self.invariant in
     let same = c.in_err-delivery.ensures.refused in
-    (i.0, i.1, i.2, still-holds c.pass.new.runs c.pass.new.queues c.pass.new.units i.3 same.0 same.1 same.2 c.pass.ensures.limits c.pass.ensures.segmented c.pass.ensures.sizes c.pass.ensures.unit_sizes c.pass.ensures.committed c.pass.ensures.units_committed)
+    (i.0, i.1, i.2, still-holds c.pass.new.runs c.pass.new.queues c.pass.new.units i.3 same.0 same.1 same.2 c.pass.ensures.rooms)
 
 pub returns-clause-cost : goal.returns-clause-cost
 unfolding release_steps_within

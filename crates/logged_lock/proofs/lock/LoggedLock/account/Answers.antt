@@ -1,10 +1,10 @@
 use Rattle.std.proofs.Common.{rules}
 use Rattle.logged_lock.proofs.Merging.{merges, made-whole}
-use Rattle.logged_lock.proofs.Steps.{the_word, settles}
-use Rattle.logged_lock.proofs.lock.LoggedLock.settle.Goals as goal
+use Rattle.logged_lock.proofs.Steps.{the_word, accounts}
+use Rattle.logged_lock.proofs.lock.LoggedLock.account.Goals as goal
 
 pub load-requires : goal.load-requires
-load-requires g c = (search rules, the_word _ c.self.invariant.0, settles g.S.Logged.log g.S.Logged.fits _ _ _ _ c.requires.first c.requires.locks)
+load-requires g c = (search rules, the_word _ c.self.invariant.0, accounts g.S.Logged.log g.S.Logged.fits _ _ _ _ c.requires.first c.requires.locks)
 
 pub returns-clause-whole : goal.returns-clause-whole
 returns-clause-whole g c = λ idle back.

@@ -1,0 +1,49 @@
+//! The script of standard input.
+
+ghost use Rattle.std.specs.Prelude.{◌≤◌};
+
+use crate::fields::each_frame_has_its_field;
+use crate::parallel::parallel_and_give_back;
+use crate::script::run_and_give_back;
+use std::io;
+use std::io::BufWriter;
+use std::sync::Wait;
+use std::thread::Threads;
+use tc_station::FreeGate;
+use tc_text::{Reason, ScriptFault};
+
+const NO_WRITER: ScriptFault = ScriptFault::Line {
+    line: 0,
+    reason: Reason::NoMemory,
+};
+
+/// Runs the script of standard input, and writes to standard output, as [`run_script`](crate::run_script) does. If all of it was done,
+/// says whether each of its frames ended with its frame error control field.
+pub fn run_input<R: AllocGlobal + Input + Print + Wait>(
+    rt: &R,
+    scid: u16,
+) -> Result<bool, ScriptFault>
+    requires { scid ≤ 1023 }
+{
+    let Ok(mut writer) = BufWriter::new(rt.alloc(), io::writer(rt)) else {
+        return Err(NO_WRITER);
+    };
+    let mut reader = rt.reader();
+    let script = run_and_give_back(rt, rt.alloc(), scid, &mut reader, &mut writer)?;
+    Ok(each_frame_has_its_field(rt.alloc(), script.as_slice()))
+}
+
+/// The same, as [`parallel_script`](crate::parallel_script) does.
+pub fn parallel_input<R: AllocGlobal + Input + Print + Threads + Wait + Sync>(
+    rt: &R,
+    scid: u16,
+) -> Result<bool, ScriptFault>
+    requires { scid ≤ 1023 }
+{
+    let Ok(mut writer) = BufWriter::new(rt.alloc(), io::writer(rt)) else {
+        return Err(NO_WRITER);
+    };
+    let mut reader = rt.reader();
+    let script = parallel_and_give_back(rt, rt.alloc(), &FreeGate, scid, &mut reader, &mut writer)?;
+    Ok(each_frame_has_its_field(rt.alloc(), script.as_slice()))
+}
