@@ -14,7 +14,7 @@ from pathlib import Path
 from typing import Any, Callable, Dict, List, Sequence, Tuple
 
 from client_parts import word
-from comparing import PATIENCE, TOP, attempt, begun, close, need, run, same, tell, until
+from comparing import PATIENCE, TOP, attempt, begun, close, expect, need, run, same, until
 
 PROGRAM = TOP / "clients/python/tcrx_bench.py"
 # The programs of this tree, which must be built.
@@ -251,7 +251,7 @@ def same_lines(answer: str, wanted: str, what: str) -> None:
     """Compares texts of many lines, and shows the first that differ."""
     pairs = zip_longest(answer.split("\n"), wanted.split("\n"))
     found = next((f"line {place}: {one!r}, and not {other!r}" for place, (one, other) in enumerate(pairs, 1) if one != other), "")
-    tell(not found and wanted, f"{what}: {found or 'nothing to compare'}")
+    expect(not found and wanted, f"{what}: {found or 'nothing to compare'}")
 
 
 def replay(bench: Bench, *words: str, tclive: Path = TCLIVE) -> subprocess.CompletedProcess[str]:
@@ -263,7 +263,7 @@ def is_replayed(bench: Bench, what: str) -> None:
     """Compares the answers of a log with those of `tclive` by the bench itself."""
     ran = replay(bench)
     good = (ran.returncode, ran.stderr) == (0, "") and re.fullmatch(r"\d+ answers and the final report are those of the log\n", ran.stdout)
-    tell(good, f"{what}: the log by --replay: {ran}")
+    expect(good, f"{what}: the log by --replay: {ran}")
 
 
 def replays(bench: Bench, what: str) -> None:

@@ -24,7 +24,7 @@ from functools import partial
 from pathlib import Path
 from typing import Any, Callable, Dict, List, Tuple, Type
 
-from comparing import PATIENCE, TOP, close, run, tell
+from comparing import PATIENCE, TOP, close, expect, run
 from client_parts import NOTHING, ONE, UNLOCK, cltu, frame, packet, raises, same, whole
 import tcrx
 import tcrx_channel
@@ -89,7 +89,7 @@ def check_racks() -> None:
 
 def check_chain() -> None:
     """From CLTUs to packets: CLTUs of one to four frames, with their sum and without, each with a wrong bit; none is lost. What a CLTU
-    carries beyond as many frames as are taken is told."""
+    carries beyond as many frames as are taken is reported."""
     limits: Dict[str, Any] = {"limits": {0: 1024}, "width": 10, "buffer": 4, "first": 0, "queues": {5: 8}}
     for fecf in (False, True):
         with Channel(1, **limits) as channel:
@@ -216,7 +216,7 @@ def check_fields() -> None:
         same(str(clcw), f"vc 37 status {7 if place == 5 else 0} {said} farmb 2 vr 181", f"the CLCW {number:08x} as text")
     with Channel(1, width=10, buffer=1, first=250, limits={}, others=16) as channel:
         for octets, report in STEPS:
-            tell(channel.bring(octets), "a frame of a step")
+            expect(channel.bring(octets), "a frame of a step")
             same(channel.report(), report, "a report")
         for no_rf, no_bit_lock, number in ((True, False, 0x0104A2FB), (False, True, 0x010462FB)):
             channel.link(no_rf, no_bit_lock)
@@ -233,13 +233,13 @@ def check_refused() -> None:
     tried: Tuple[Dict[str, Any], ...] = (
         {"width": 9}, {"queues": {5: 0}}, {"maps": {64: 1}}, {"plain": True})
     texts = [str(raises(BadSettings, partial(Channel, 1, **changed(change)), f"{change}")) for change in tried]
-    tell(texts[0] == "the width of the window isn't even and 2 to 254" and all(texts), f"why settings are refused: {texts}")
+    expect(texts[0] == "the width of the window isn't even and 2 to 254" and all(texts), f"why settings are refused: {texts}")
     same(str(raises(BadSettings, lambda: storage(1, **changed({"width": 9})), "the storage of an odd window")), texts[0], "the same text")
-    tell(storage(1, **SETTINGS) > 65542, "a storage")
+    expect(storage(1, **SETTINGS) > 65542, "a storage")
     limited: Tuple[Dict[str, Any], ...] = ({"limits": {}, "others": 65543}, {"limits": {2: 0}}, {"limits": {}})
     for change in limited:
         why = [str(raises(BadSettings, partial(call, 1, **changed(change)), f"{change}")) for call in (Channel, storage)]
-        tell(why[0] == why[1] and "limit" in why[0], f"why limits are refused: {why}")
+        expect(why[0] == why[1] and "limit" in why[0], f"why limits are refused: {why}")
     same(storage(1, width=10, buffer=8, first=0, queues=dict.fromkeys((5, 6, 7, 8), 8), limits={0: 1024}), 49624, "the storage within limits")
     # 1,051 for the buffer, 5,120 and 2 * 64 * 65,542 for open runs, 64 for each queue, 65,574 for each packet, and 4,096 for the table.
     many: Dict[str, Any] = {"width": 10, "buffer": 1, "first": 0, "queues": dict.fromkeys(range(256), 256)}
@@ -254,7 +254,7 @@ def check_refused() -> None:
         wrongs: Tuple[Any, ...] = ("1", 5)
         for wrong in wrongs:
             fault = raises(TypeError, partial(channel.bring, wrong), f"{wrong!r} for octets")
-            tell(str(fault).startswith("octets are wanted, as bytes.fromhex makes them"), f"what {wrong!r} for octets is told: {fault}")
+            expect(str(fault).startswith("octets are wanted, as bytes.fromhex makes them"), f"what {wrong!r} for octets is answered: {fault}")
         refusals = [channel.bring(octets) for octets in (b"", b"\x00" * 4, b"\x40" + UNLOCK[1:], b"\x04" + UNLOCK[1:], UNLOCK[:5],
                                                          UNLOCK[:3] + b"\x04" + UNLOCK[4:])]
         same([refused.reason.value for refused in refusals if isinstance(refused, Refused)],
@@ -273,15 +273,17 @@ def check_ends() -> None:
     channel = Channel(1, **SETTINGS)
     raises(ValueError, lambda: channel.final, "the report of an open channel")
     final = channel.close()
-    tell(channel.close() is final and channel.final is final, "a second close")
+    expect(channel.close() is final and channel.final is final, "a second close")
     calls = (lambda: channel.bring(UNLOCK), channel.release, lambda: channel.take(5), lambda: channel.take_unit(2), channel.clcw,
              channel.report, lambda: channel.events, lambda: list(channel.packets(5)))
     for place, call in enumerate(calls):
         same(str(raises(Ended, call, f"call {place} after the close")), "the receiver has ended: it was closed", "why")
-    copies: Tuple[Callable[[Channel], object], ...] = (copy.copy, copy.deepcopy, pickle.dumps)
+    copies: Tuple[Callable[[object], object], ...] = (copy.copy, copy.deepcopy, pickle.dumps)
     for copied in copies:
         with Channel(1, **SETTINGS) as other:
-            raises(TypeError, partial(copied, other), "a copy of a channel")
+            kept: Tuple[object, ...] = (other, Rack(42, [other]), Rack(42, []), Decoder(correct=True))
+            for each in kept:
+                raises(TypeError, partial(copied, each), f"a copy of a {type(each).__name__}")
     try:
         with Channel(1, **SETTINGS) as other:
             raise KeyError
@@ -367,19 +369,19 @@ def check_growths(refusing: str) -> None:
             if memory.tcrx_refuse(-1) >= 0:
                 return answer
             refused += 1
-            tell(isinstance(answer, NoMemory) and isinstance(answer, MemoryError) and look() == before, f"{what}, growth {growth}: {answer!r}")
+            expect(isinstance(answer, NoMemory) and isinstance(answer, MemoryError) and look() == before, f"{what}, growth {growth}: {answer!r}")
         return None
     unlimited = done(lambda: Channel(1, **SETTINGS, library=refusing), memory.tcrx_blocks, "a channel")
     unlimited.close()
     channel = done(lambda: Channel(1, **SETTINGS, limits={0: 64, 2: 3}, library=refusing), memory.tcrx_blocks, "a channel within limits")
-    tell(refused >= 8, f"{refused} blocks were refused")
+    expect(refused >= 8, f"{refused} blocks were refused")
     print(f"channel in Python: {refused} blocks refused")
-    tell(memory.tcrx_blocks() > 0, "a channel has blocks")
+    expect(memory.tcrx_blocks() > 0, "a channel has blocks")
     del channel, unlimited
     gc.collect()
     same(memory.tcrx_blocks(), 0, "blocks of a channel that nothing refers to")
     with Channel(1, **SETTINGS, library=refusing):
-        tell(memory.tcrx_blocks() > 0, "a channel in a with has blocks")
+        expect(memory.tcrx_blocks() > 0, "a channel in a with has blocks")
     same(memory.tcrx_blocks(), 0, "blocks of a channel that was closed")
 
 
@@ -387,8 +389,6 @@ def check_growths(refusing: str) -> None:
 
 def name_in_c(kind: Type[ctypes.Structure]) -> str:
     """A record's name in the header: _FarmAnswer is tcrx_farm_answer."""
-    if kind.__name__ == "_Held":
-        return "tcrx_channel"
     return "tcrx_" + "_".join(word.lower() for word in re.findall(r"[A-Z][a-z]*", kind.__name__))
 
 
@@ -396,7 +396,7 @@ def check_places() -> None:
     """Each record's size, and the place and the size of each field, by a C program."""
     kinds = [kind for kind in vars(tcrx_channel).values() if isinstance(kind, type) and issubclass(kind, ctypes.Structure)
              and kind is not ctypes.Structure]
-    tell(len(kinds) > 10, f"{len(kinds)} records")
+    expect(len(kinds) > 10, f"{len(kinds)} records")
     lines = ['#include "tcrx.h"', "#include <stdio.h>", "int main(void) {"]
     wanted: List[str] = []
     for kind in kinds:

@@ -8,7 +8,7 @@ from collections.abc import Sequence
 from pathlib import Path
 from typing import Any, Callable
 
-from comparing import TOP, begun, tell
+from comparing import TOP, begun, expect
 
 CLIENT = TOP / "clients/python/tcrx.py"
 sys.path.insert(0, str(CLIENT.parent))
@@ -22,7 +22,7 @@ Start = Callable[..., Any]
 
 def same(answer: object, wanted: object, what: str) -> None:
     """Compares an answer and its type with what is wanted."""
-    tell(answer == wanted and type(answer) is type(wanted), f"{what}: {answer!r}, and not {wanted!r}")
+    expect(answer == wanted and type(answer) is type(wanted), f"{what}: {answer!r}, and not {wanted!r}")
 
 
 def raises(kind: type[BaseException], call: Callable[..., object], what: str) -> Any:
@@ -31,9 +31,9 @@ def raises(kind: type[BaseException], call: Callable[..., object], what: str) ->
         answer = call()
     except Exception as fault:  # pylint: disable=broad-exception-caught  # whichever comes is compared
         # pylint: disable-next=unidiomatic-typecheck  # a kind below it is another word
-        tell(type(fault) is kind, f"{what}: {fault!r}, and not {kind.__name__}")
+        expect(type(fault) is kind, f"{what}: {fault!r}, and not {kind.__name__}")
         return fault
-    tell(False, f"{what}: {answer!r}, and no {kind.__name__}")
+    expect(False, f"{what}: {answer!r}, and no {kind.__name__}")
     return None
 
 
@@ -41,7 +41,7 @@ def has_reason(call: Callable[..., object], reason: str, what: str) -> None:
     """Compares the reason of a bad line."""
     # pylint: disable=no-member  # raises() gives a fault of the kind that it is asked for
     fault = raises(BadLine, call, what)
-    tell(fault and fault.reason == reason and reason in str(fault) and fault.line, f"{what}: {fault!r}, and not {reason}")
+    expect(fault and fault.reason == reason and reason in str(fault) and fault.line, f"{what}: {fault!r}, and not {reason}")
 
 
 def begin(words: Sequence[str | Path], **streams: Any) -> subprocess.Popen[Any]:

@@ -10,7 +10,7 @@ export TCRX_BUILD=no
 need() { tools/launch --build "$@" >&2 || { echo "$0: nothing was compared"; exit 70; }; }
 
 # Counts a comparison: a title, and a command that must end well. Where it doesn't, what it printed is shown, with what there is to show.
-tell() {
+expect() {
   if "${@:2}" >"$work/said" 2>&1; then
     passed=$((passed + 1))
   else
@@ -65,6 +65,6 @@ has_helped() { [ "$status" = 0 ] && grep -qF -- "$1" "$work/out" && silent; }
 has_refused() { [ "$status" = 2 ] && [ ! -s "$work/out" ] && ! silent; }
 
 # Starts the program with the words that follow what it must end with.
-ends_with() { start "${@:4}" && tell "${program##*/} ${*:4}" has_ended_with "${@:1:3}"; }
-helps() { start "${@:2}" </dev/null && tell "${program##*/} ${*:2}, with $1" has_helped "$1"; }
-is_refused() { start "$@" </dev/null && tell "${program##*/} $*" has_refused; }
+ends_with() { start "${@:4}" && expect "${program##*/} ${*:4}" has_ended_with "${@:1:3}"; }
+helps() { start "${@:2}" </dev/null && expect "${program##*/} ${*:2}, with $1" has_helped "$1"; }
+is_refused() { start "$@" </dev/null && expect "${program##*/} $*" has_refused; }

@@ -65,7 +65,7 @@ def rows(page: str) -> Iterator[List[str]]:
             yield [cell.strip() for cell in line.strip("|").split(" | ")]
 
 
-def tell(good: object, what: str, why: str = "") -> None:
+def expect(good: object, what: str, why: str = "") -> None:
     """Counts a comparison, and names it where it failed, with what shows why."""
     counted[bool(good)] += 1
     if not good:
@@ -74,13 +74,13 @@ def tell(good: object, what: str, why: str = "") -> None:
 
 def same(found: object, wanted: object, what: str) -> None:
     """Compares a value with what is wanted, and shows both where they differ."""
-    tell(found == wanted, f"{what}: {found!r}, and not {wanted!r}")
+    expect(found == wanted, f"{what}: {found!r}, and not {wanted!r}")
 
 
 def in_time(what: str, holds: Callable[[], object]) -> None:
     """Compares something that a second is in, three times at most. The last line says so."""
     timed[what] = next((tried for tried in (1, 2, 3) if holds()), 0)
-    tell(timed[what], f"{what}: not in three tries")
+    expect(timed[what], f"{what}: not in three tries")
 
 
 def until(true: Callable[[], object], seconds: float = PATIENCE) -> bool:
@@ -124,7 +124,7 @@ def attempt(check: Callable[..., None], *given: object, keep: bool = False) -> N
     try:
         check(*given)
     except (Exception, Stuck) as fault:  # pylint: disable=broad-exception-caught  # whichever comes counts
-        tell(False, f"{check.__name__} ended with {fault!r}")
+        expect(False, f"{check.__name__} ended with {fault!r}")
     finally:
         signal.setitimer(signal.ITIMER_REAL, 0)
         for child in [] if keep else begun:

@@ -33,8 +33,8 @@ def unproved(printed: str) -> set[str]:
 
 def lacks(printed: str, function: str) -> list[str]:
     """What the check says is wrong with functions of this name, a pattern, except that they call one which isn't proved."""
-    told = re.findall(rf"^fn {function}: (?:(not proved)|no proof: (.*))", printed, re.M)
-    return [it for it in (one or ONLY_CALLS.sub("", other) for one, other in told) if it]
+    found = re.findall(rf"^fn {function}: (?:(not proved)|no proof: (.*))", printed, re.M)
+    return [it for it in (one or ONLY_CALLS.sub("", other) for one, other in found) if it]
 
 
 def messages(printed: str) -> list[str]:
@@ -65,14 +65,14 @@ def reason_alone(printed: str, edit: Edit) -> str | None:
     lines = messages(printed)
     if any(re.match(r"(\./)?(src|specs)/\S+: error: ", it) and NAMES_ALONE.search(it) for it in lines):
         return None
-    told = [it for it in lines if re.match(r"note: src/\S+: it is not proved that", it)]
-    told += [it for it in lines if re.match(r"(\./)?\S+:\d+:\d+: error: ", it) and not NAMES_ALONE.search(it)]
+    found = [it for it in lines if re.match(r"note: src/\S+: it is not proved that", it)]
+    found += [it for it in lines if re.match(r"(\./)?\S+:\d+:\d+: error: ", it) and not NAMES_ALONE.search(it)]
     if edit.needs_false_goal:
-        told = [it for it in told if IS_FALSE in it or re.match(r"(\./)?proofs/", it)]
-        return told[0].removeprefix("note: ") if told else None
-    told += [it for it in lines if re.match(r"(note: )?src/\S+:\d+:\d+:", it)]
-    told += [it for it in lacks(printed, r"\S+") if it != "not proved"]
-    return told[0].removeprefix("note: ") if told else None
+        found = [it for it in found if IS_FALSE in it or re.match(r"(\./)?proofs/", it)]
+        return found[0].removeprefix("note: ") if found else None
+    found += [it for it in lines if re.match(r"(note: )?src/\S+:\d+:\d+:", it)]
+    found += [it for it in lacks(printed, r"\S+") if it != "not proved"]
+    return found[0].removeprefix("note: ") if found else None
 
 
 def unread(printed: str, functions: list[tuple[Edit, Function | None]]) -> list[tuple[Edit, str]]:

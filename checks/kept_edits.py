@@ -32,8 +32,8 @@ def folder_here() -> Path | None:
 
 def sum_of(edit: Edit) -> str:
     """The sum of what an edit or control is: its kind, what it changes to what, and the clause that it turns."""
-    told = (edit.kind, edit.changes, sorted(edit.alikes.items()), edit.turned)
-    return hashlib.sha256(repr(told).encode()).hexdigest()
+    parts = (edit.kind, edit.changes, sorted(edit.alikes.items()), edit.turned)
+    return hashlib.sha256(repr(parts).encode()).hexdigest()
 
 
 class Kept:
@@ -48,14 +48,14 @@ class Kept:
 
     def state_of(self, crate: Crate) -> str:
         """The sum of all that a check of the crate's edits reads besides them, as it is now."""
-        told = hashlib.sha256(self.kit.encode())
+        total = hashlib.sha256(self.kit.encode())
         for tool in TOOLS:
-            told.update(hashlib.sha256((HERE / tool).read_bytes()).digest())
+            total.update(hashlib.sha256((HERE / tool).read_bytes()).digest())
         for it in (*crates_below(crate, self.crates), crate):
-            told.update(hashlib.sha256(it.line.encode()).digest())
+            total.update(hashlib.sha256(it.line.encode()).digest())
             for path, octets in sources_in(it.folder).items():
-                told.update(hashlib.sha256(path.encode()).digest() + hashlib.sha256(octets).digest())
-        return told.hexdigest()
+                total.update(hashlib.sha256(path.encode()).digest() + hashlib.sha256(octets).digest())
+        return total.hexdigest()
 
     def file_of(self, crate: Crate) -> Path:
         """The file of a crate in the state of the first look at it."""

@@ -41,7 +41,7 @@ class Function:
         return 8 * self.pushes + self.reserved + 8
 
     def take(self, lock: Optional[str], word: str, operands: str, before: List[str]) -> None:
-        """Takes an instruction in; those before it tell a table of places in this function from a call of any."""
+        """Takes an instruction in; those before it show whether a jump goes by a table of places in this function or calls any."""
         text = f"{word} {operands}".strip()
         places = operands.partition("#")[0]
         last = re.split(r",(?![^(]*\))", places.strip())[-1]

@@ -23,6 +23,8 @@ class Prover:
         self.crates = crates
         self.tree = TOP
         self.room = room
+        if not shutil.which("rt"):
+            raise Fault("the command rt isn't on the path: it is in the folder bin of the Rattle kit")
         # The kit has the page that `rt doc` names at its top.
         status, printed = run(["rt", "doc"], TOP)
         if status:

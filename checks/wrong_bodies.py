@@ -22,7 +22,7 @@ OF_ANY_TYPE = re.compile(r"impl(?:<(.*?)>)? (\w+)(?:<([^>]*)>)? (?:where|\{)")
 TYPE = re.compile(r"^(?:pub(?:\([a-z]+\))? )?(?:struct|enum) (\w+)", re.M)
 CALL = re.compile(r"\b([a-z_]\w*)(?:::<[^>]*>)?\(|::([a-z_]\w*)\b")
 # What keeps a function from a body that calls what ensures the false: a const one can't, one of a cycle of calls has a measure of
-# its own in its proofs, and one whose type is told by its body has none without it.
+# its own in its proofs, and one whose type is known by its body has none without it.
 KEEPS_ITS_BODY = re.compile(r"\bconst fn\b|#\[(?:cycle|measure)\b|-> [^{]*\bimpl\b")
 # The folders of a crate with edits: those that `rt ci` tries one by one, and those that are tried many at once.
 MUST_FAIL, WRONG = "must-fail", "wrong"
@@ -39,7 +39,7 @@ CLAUSE = re.compile(r"^ +(?:requires|ensures|ghost)\*?(?: (\w+))? \{|^ +ghost ")
 ANSWER = re.compile(r"^(?:pub |abbrev )*(returns[\w-]*) :", re.M)
 LOOP = re.compile(r"\b(?:for|while|loop)\b")
 # An answer to a goal that no function has.
-NO_GOAL = "told-briefly"
+NO_GOAL = "no-such-goal"
 NO_GOAL_TEXT = f"\npub {NO_GOAL} : goal.{NO_GOAL}\n{NO_GOAL} c = c\n"
 GIVEN = "crate::given_away::away(); unreachable!()"
 GIVEN_FILE = "src/given_away.rt"
@@ -118,7 +118,7 @@ class Function:
         return re.compile(rf"((?:{starts})/(?:[^/]+/)?)(\+?){self.name}/")
 
     def folder_of(self, name: str) -> str | None:
-        """Where answers of a function of this name stand that is written beside it, if that can be told."""
+        """Where answers of a function of this name stand that is written beside it, if that can be known."""
         if not self.block:
             return "/".join(["proofs", *self.modules[0], name])
         found = OF_ANY_TYPE.match(self.block)
@@ -299,13 +299,13 @@ class Crate:
         return sum(text.count("\n") for text in self.texts.values())
 
     def calls_of(self, function: Function) -> set[str]:
-        """The names of what its body calls, as far as the text tells."""
+        """The names of what its body calls, as far as the text shows."""
         lines = self.texts[function.file].split("\n")[function.body + 1 : function.last]
         return {one or other for one, other in CALL.findall("\n".join(lines))}
 
     @cached_property
     def reached(self) -> dict[str, set[str]]:
-        """The names of the crate's functions that one of a name calls, directly or through others, as far as the text tells."""
+        """The names of the crate's functions that one of a name calls, directly or through others, as far as the text shows."""
         names = {it.name for it in self.functions}
         calls: dict[str, set[str]] = {it: set() for it in names}
         for it in self.functions:
@@ -486,8 +486,8 @@ class Crate:
         answers = {path.rpartition("/")[2]: text for path, text in places.items()}
         is_plain = answers.keys() <= {"Answers.antt", "Invariants.antt"} and len(places) == len(answers)
         is_apart = all("-clause-" in it for it in ANSWER.findall(answers.get("Answers.antt", "")))
-        is_held = not LOOP.search(body) or "Invariants.antt" in answers
-        return bool(edit.turned) and is_one_of_more and is_plain and is_apart and is_held and f"self.{right.name}(" not in body
+        has_invariant = not LOOP.search(body) or "Invariants.antt" in answers
+        return bool(edit.turned) and is_one_of_more and is_plain and is_apart and has_invariant and f"self.{right.name}(" not in body
 
     def answers_of(self, edit: Edit, name: str) -> dict[str, str]:
         """The right function's files of answers for the wrong one, by their paths. One to a goal that no function has comes with

@@ -36,7 +36,7 @@ class Item:
     def parameters(self) -> List[Tuple[str, str]]:
         """The parameters of a call, each with what is said of it, if that is more than its name."""
         found = re.findall(r"^@param (\w+)\s+(.*?)(?=^@|\Z)", self.comment, re.M | re.S)
-        return [(name, sentence(told)) for name, told in found if told.strip().lower() != f"the {name}"]
+        return [(name, sentence(words)) for name, words in found if words.strip().lower() != f"the {name}"]
 
 
 @dataclass
@@ -74,8 +74,8 @@ def item_of(found: "re.Match[str]", comment: str) -> Item:
         parted = re.fullmatch(r"(.*?)" + BEHIND + r"\s*", found["value"].replace("\\\n", " "), re.S)
         assert parted
         value, behind = parted.groups()
-        told = uncommented(behind or "") or comment
-        return Item("macro", found["macro"], comment, [(found["macro"], " ".join(value.split()), told)])
+        words = uncommented(behind or "") or comment
+        return Item("macro", found["macro"], comment, [(found["macro"], " ".join(value.split()), words)])
     if found["record"]:
         return Item("record", found["record"], comment, fields_of(found["fields"]))
     if found["alias"]:
@@ -145,7 +145,7 @@ class Interface(NamedTuple):
 
     def statuses(self) -> Dict[str, str]:
         """The statuses, with what each means."""
-        return {name: told for item in self.enumerations for name, _, told in item.parts if item.parts[0][0] == "TCRX_DONE"}
+        return {name: words for item in self.enumerations for name, _, words in item.parts if item.parts[0][0] == "TCRX_DONE"}
 
 
 def parameter_of(text: str) -> Tuple[str, str]:
