@@ -11,7 +11,7 @@ from typing import NoReturn, Sequence
 
 sys.dont_write_bytecode = True
 TOP = Path(__file__).resolve().parent.parent
-# Callgrind counts a copy by one string instruction once an octet, so the C library is told to copy by moves.
+# Callgrind counts a copy by one string instruction once an octet, so the C library is made to copy by moves.
 MOVES = "glibc.cpu.x86_rep_movsb_threshold=10000000"
 # The loads of a bare channel: what a round is, its word, and how many rounds are made at least and at most.
 LOADS = (("a Type-AD frame of 13 octets, its release and its take", "sequenced", 1_000, 11_000),

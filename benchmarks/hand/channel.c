@@ -71,18 +71,18 @@ INLINE void pop(ring *r) {
 
 /* Cuts a unit into packets, each to its queue. */
 INLINE delivery deliver(channel *c, const uint8_t *unit, size_t count) {
-    delivery told = {0, 0, false};
+    delivery result = {0, 0, false};
     while (count >= 7 && unit[0] >> 5 == 0) {
         const uint32_t size = ((uint32_t)unit[4] << 8 | unit[5]) + 7;
         if (RARE(size > count)) break;
         const bool is_known = (unit[0] & 0x10) != 0 && c->places[(unit[0] & 7u) << 8 | unit[1]] != NONE;
-        if (is_known && push(&c->queue, unit, size)) told.queued++;
-        else told.dropped++;
+        if (is_known && push(&c->queue, unit, size)) result.queued++;
+        else result.dropped++;
         unit += size;
         count -= size;
     }
-    told.rest = count != 0;
-    return told;
+    result.rest = count != 0;
+    return result;
 }
 
 /* Takes a data field in on its stream, and delivers the unit that it ends. */
@@ -109,8 +109,8 @@ INLINE delivery pass(channel *c, unsigned service, const uint8_t *field, size_t 
 }
 
 static reply answer(uint8_t event) {
-    const reply told = {event, false, {0, 0, false}};
-    return told;
+    const reply result = {event, false, {0, 0, false}};
+    return result;
 }
 
 /* Type-AD: FARM-1's events 1 to 5. */
@@ -134,8 +134,8 @@ INLINE reply sequenced(channel *c, uint8_t number, const uint8_t *field, size_t 
     push(&c->buffer, field, (uint32_t)count);
     c->next++;
     c->retransmit = false;
-    const reply told = {1, true, {0, 0, false}};
-    return told;
+    const reply result = {1, true, {0, 0, false}};
+    return result;
 }
 
 /* Control commands: Unlock, Set V(R), and what is neither. */
@@ -160,21 +160,21 @@ reply channel_frame(channel *c, const uint8_t *octets, size_t count) {
     switch (octets[0] >> 4) {
     case 0: return sequenced(c, octets[4], field, length - 5);
     case 2: {
-        const reply told = {6, true, pass(c, 64, field, length - 5)};
+        const reply result = {6, true, pass(c, 64, field, length - 5)};
         c->farm_b = (c->farm_b + 1) & 3;
-        return told;
+        return result;
     }
     case 3: return command(c, field, length - 5);
     default: return answer(9);
     }
 }
 
-bool channel_release(channel *c, delivery *told) {
+bool channel_release(channel *c, delivery *result) {
     uint32_t count;
     if (RARE(c->buffer.waiting == 0)) return false;
     const uint8_t *const field = oldest(&c->buffer, &count);
     c->events++;
-    *told = pass(c, 0, field, count);
+    *result = pass(c, 0, field, count);
     pop(&c->buffer);
     c->wait = false;
     if (RARE(c->state == WAITING)) c->state = OPEN;

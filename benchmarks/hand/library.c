@@ -5,33 +5,33 @@
 #include <stdlib.h>
 
 struct channel {
-    tcrx_channel held;
+    tcrx_channel seat;
 };
 
 channel *channel_new(uint32_t buffer, uint16_t apid, uint32_t capacity) {
     const tcrx_settings settings = {1, 10, (uint8_t)buffer, 0, 1};
     const tcrx_queue queue = {apid, (uint16_t)capacity};
     channel *const c = calloc(1, sizeof *c);
-    if (tcrx_channel_new(&c->held, settings, &queue, 1, NULL, 0) != TCRX_DONE) abort();
+    if (tcrx_channel_new(&c->seat, settings, &queue, 1, NULL, 0) != TCRX_DONE) abort();
     return c;
 }
 
 reply channel_frame(channel *c, const uint8_t *octets, size_t count) {
-    const tcrx_reply told = tcrx_channel_frame(&c->held, octets, count);
-    const reply it = {told.event, told.accepted == 1, {told.queued, told.dropped, told.rest == 1}};
+    const tcrx_reply answer = tcrx_channel_frame(&c->seat, octets, count);
+    const reply it = {answer.event, answer.accepted == 1, {answer.queued, answer.dropped, answer.rest == 1}};
     return it;
 }
 
-bool channel_release(channel *c, delivery *told) {
-    const tcrx_delivery it = tcrx_channel_release(&c->held);
+bool channel_release(channel *c, delivery *result) {
+    const tcrx_delivery it = tcrx_channel_release(&c->seat);
     const delivery of_it = {it.queued, it.dropped, it.rest == 1};
-    *told = of_it;
+    *result = of_it;
     return it.status == TCRX_DONE;
 }
 
 size_t channel_take(channel *c, uint16_t apid, uint8_t *octets, size_t room) {
-    const tcrx_written it = tcrx_channel_take(&c->held, apid, octets, room);
+    const tcrx_written it = tcrx_channel_take(&c->seat, apid, octets, room);
     return it.status == TCRX_DONE ? it.length : 0;
 }
 
-uint64_t channel_events(channel *c) { return tcrx_channel_events(&c->held).count; }
+uint64_t channel_events(channel *c) { return tcrx_channel_events(&c->seat).count; }

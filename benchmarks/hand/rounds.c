@@ -23,10 +23,10 @@ static frame frames[256];
 
 static void add(uint64_t word) { score = score * UINT64_C(1099511628211) + word; }
 
-static void add_delivery(delivery told) {
-    add(told.queued);
-    add(told.dropped);
-    add(told.rest);
+static void add_delivery(delivery it) {
+    add(it.queued);
+    add(it.dropped);
+    add(it.rest);
 }
 
 /* The octets of a small packet; of another one its first and its last. */
@@ -40,16 +40,16 @@ static void add_packet(const uint8_t *octets, size_t count) {
 }
 
 static void bring(const frame *it) {
-    const reply told = channel_frame(c, it->octets, it->count);
+    const reply answer = channel_frame(c, it->octets, it->count);
     add(1);
-    add(told.event);
-    add(told.accepted);
-    add_delivery(told.packets);
+    add(answer.event);
+    add(answer.accepted);
+    add_delivery(answer.packets);
 }
 
 static void let_out(void) {
-    delivery told;
-    if (channel_release(c, &told)) add_delivery(told);
+    delivery result;
+    if (channel_release(c, &result)) add_delivery(result);
 }
 
 static void take(void) {

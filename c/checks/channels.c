@@ -19,13 +19,13 @@ static tcrx_status made(tcrx_channel *channel, tcrx_settings its, const tcrx_que
 static tcrx_rack_reply brought(tcrx_channel *channels, size_t count, uint16_t craft, uint8_t fecf, const uint8_t *from, size_t length);
 static tcrx_written packet_taken(tcrx_channel *channel, uint16_t key, uint8_t *to, size_t room);
 static tcrx_written unit_taken(tcrx_channel *channel, uint8_t key, uint8_t *to, size_t room);
-static tcrx_clcw_answer told(tcrx_channel *channel, uint8_t no_rf, uint8_t no_bit_lock);
+static tcrx_clcw_answer clcw_reported(tcrx_channel *channel, uint8_t no_rf, uint8_t no_bit_lock);
 
 #define tcrx_channel_new made
 #define tcrx_rack_frame brought
 #define tcrx_channel_take packet_taken
 #define tcrx_channel_take_unit unit_taken
-#define tcrx_channel_clcw told
+#define tcrx_channel_clcw clcw_reported
 #define main main_of_script
 #include "../examples/script.c"
 #undef tcrx_channel_new
@@ -138,7 +138,7 @@ static tcrx_written unit_taken(tcrx_channel *channel, uint8_t key, uint8_t *to, 
 }
 
 /* The channel is found in the rack by the id that its CLCW has. */
-static tcrx_clcw_answer told(tcrx_channel *channel, uint8_t no_rf, uint8_t no_bit_lock) {
+static tcrx_clcw_answer clcw_reported(tcrx_channel *channel, uint8_t no_rf, uint8_t no_bit_lock) {
     const tcrx_clcw_answer clcw = tcrx_channel_clcw(channel, no_rf, no_bit_lock);
     const uint8_t vcid = (uint8_t)(clcw.word >> 18 & 63);
     const tcrx_place found = tcrx_rack_find(rack, CHANNELS, vcid);

@@ -26,7 +26,7 @@ const std::array<tcrx::Map, 1> maps = {{{2, 3}}};
 int passed = 0;
 int failed = 0;
 
-void tell(bool good, const std::string &what) {
+void expect(bool good, const std::string &what) {
     (good ? passed : failed) += 1;
     if (!good) {
         std::printf("ends: %s: WRONG\n", what.c_str());
@@ -68,27 +68,27 @@ bool is_none(tcrx::Channel &channel) {
 
 void check_moves() {
     tcrx::Channel never;
-    tell(is_none(never), "a channel that was never made");
+    expect(is_none(never), "a channel that was never made");
     tcrx::Channel first = make();
     const long of_one = tcrx_blocks();
-    tell(first.frame(first_packet())->event == tcrx::Event::e1, "a frame before a move");
+    expect(first.frame(first_packet())->event == tcrx::Event::e1, "a frame before a move");
     const std::vector<std::uint64_t> before = look(first);
     tcrx::Channel second(std::move(first));
-    tell(is_none(first), "a channel that was moved from");  // NOLINT: it holds none
-    tell(look(second) == before, "what a move leaves");
+    expect(is_none(first), "a channel that was moved from");  // NOLINT: it holds none
+    expect(look(second) == before, "what a move leaves");
     tcrx::Channel third = make();
     third = std::move(second);
-    tell(look(third) == before && is_none(second), "a move over a channel that is held");
-    tell(tcrx_blocks() <= of_one + 2, "the channel below it is freed");
+    expect(look(third) == before && is_none(second), "a move over a channel that is held");
+    expect(tcrx_blocks() <= of_one + 2, "the channel below it is freed");
     tcrx::Channel &same = third;
     third = std::move(same);
-    tell(look(third) == before, "a move onto itself");
+    expect(look(third) == before, "a move onto itself");
     std::swap(third, second);
-    tell(look(second) == before && is_none(third), "a swap");
-    tell(second.free() == tcrx::Status::done && is_none(second), "a channel that was freed");
-    tell(tcrx_blocks() == 0, "no block is left of freed channels");
+    expect(look(second) == before && is_none(third), "a swap");
+    expect(second.free() == tcrx::Status::done && is_none(second), "a channel that was freed");
+    expect(tcrx_blocks() == 0, "no block is left of freed channels");
     second = make();
-    tell(second.is_held() && second.events().value() == 0, "a new one in its place");
+    expect(second.is_held() && second.events().value() == 0, "a new one in its place");
 }
 
 void check_drops() {
@@ -98,9 +98,9 @@ void check_drops() {
             channels.push_back(make());
             (void)channels.back().frame(first_packet());
         }
-        tell(channels.front().buffered().value() == 1 && tcrx_blocks() > 0, "channels in a vector that grows");
+        expect(channels.front().buffered().value() == 1 && tcrx_blocks() > 0, "channels in a vector that grows");
     }
-    tell(tcrx_blocks() == 0, "no block is left of channels that ended");
+    expect(tcrx_blocks() == 0, "no block is left of channels that ended");
 }
 
 // Each block of a channel that is made; that no other call asks for one is compared by growths.c.
@@ -123,10 +123,10 @@ void check_refused_growths() {
             break;
         }
         refusals += 1;
-        tell(status == tcrx::Status::no_memory && tcrx_blocks() == 0, "a channel that isn't made");
+        expect(status == tcrx::Status::no_memory && tcrx_blocks() == 0, "a channel that isn't made");
     }
-    tell(channel.is_held() && refusals > 0, "a channel that is made in the end");
-    tell(refusals >= 8, std::to_string(refusals) + " growths were refused");
+    expect(channel.is_held() && refusals > 0, "a channel that is made in the end");
+    expect(refusals >= 8, std::to_string(refusals) + " growths were refused");
     std::printf("ends: %d growths refused\n", refusals);
 }
 
@@ -153,29 +153,29 @@ void check_threads() {
     for (std::thread &thread : threads) {
         thread.join();
     }
-    tell(good[0] == 5000 && good[1] == 5000, "two channels in two threads");
+    expect(good[0] == 5000 && good[1] == 5000, "two channels in two threads");
 }
 
 void check_views() {
     tcrx::Channel channel = make();
-    tell(channel.frame({}).status() == tcrx::Status::too_short, "no octets");
-    tell(channel.frame({nullptr, 6}).status() == tcrx::Status::null, "six octets nowhere");
-    tell(tcrx::read_frame({}).status() == tcrx::Status::too_short, "no octets to be read");
-    tell(tcrx::read_packet({}).status() == tcrx::Status::no_packet, "no octets of a packet");
-    tell(tcrx::write_frame({}, {}, {}).status() == tcrx::Status::empty_data, "a frame of nothing");
+    expect(channel.frame({}).status() == tcrx::Status::too_short, "no octets");
+    expect(channel.frame({nullptr, 6}).status() == tcrx::Status::null, "six octets nowhere");
+    expect(tcrx::read_frame({}).status() == tcrx::Status::too_short, "no octets to be read");
+    expect(tcrx::read_packet({}).status() == tcrx::Status::no_packet, "no octets of a packet");
+    expect(tcrx::write_frame({}, {}, {}).status() == tcrx::Status::empty_data, "a frame of nothing");
     const Bytes field = {1, 2, 3};
     const tcrx::Result<tcrx::Octets> written = tcrx::write_frame({}, field, {});
-    tell(written.status() == tcrx::Status::no_room && written.error().needed == 8, "a frame into no room");
+    expect(written.status() == tcrx::Status::no_room && written.error().needed == 8, "a frame into no room");
     const Bytes sent = first_packet();
     const tcrx::Result<tcrx::Frame> read = tcrx::read_frame(sent);
-    tell(read->field().size() == 8 && read->field().data() == sent.data() + 5, "the data field of a frame");
-    tell(tcrx::Octets(sent).part(99).empty() && tcrx::Octets(sent).part(1, 2).size() == 2, "parts of a view");
+    expect(read->field().size() == 8 && read->field().data() == sent.data() + 5, "the data field of a frame");
+    expect(tcrx::Octets(sent).part(99).empty() && tcrx::Octets(sent).part(1, 2).size() == 2, "parts of a view");
     (void)channel.frame(sent);
     (void)channel.release();
     const tcrx::Result<tcrx::Octets> taken = channel.take(5, {});
-    tell(taken.status() == tcrx::Status::no_room && taken.error().needed == 7, "a packet into no room");
-    tell(channel.take(6, {}).status() == tcrx::Status::no_queue && channel.take_unit(3, {}).status() == tcrx::Status::no_map, "no such queue");
-    tell(taken.value_or(sent).size() == sent.size() && taken->empty(), "the value of a refused call");
+    expect(taken.status() == tcrx::Status::no_room && taken.error().needed == 7, "a packet into no room");
+    expect(channel.take(6, {}).status() == tcrx::Status::no_queue && channel.take_unit(3, {}).status() == tcrx::Status::no_map, "no such queue");
+    expect(taken.value_or(sent).size() == sent.size() && taken->empty(), "the value of a refused call");
 }
 
 // A rack: which channel a frame goes to, and each refusal.
@@ -197,31 +197,31 @@ void check_racks() {
         return ended ? Bytes(added->begin(), added->end()) : frame;
     };
     const tcrx::Result<tcrx::Located> first = rack.frame(frame_to(675, 5, false)), other = ended_rack.frame(frame_to(675, 8, true));
-    tell(first && first->vcid == 5 && first->brought.event == tcrx::Event::e1 && first->brought.accepted, "a frame of a rack");
-    tell(other && other->vcid == 8 && other->brought.event == tcrx::Event::e1, "a frame of a rack with its field");
-    tell(channels[1].events().value() == 1 && channels[2].events().value() == 0 && channels[3].events().value() == 1, "their events");
-    tell(rack.find(5) == &channels[1] && rack.find(8) == &channels[3] && rack.find(9) == nullptr, "channels by their ids");
-    tell(rack.frame(frame_to(676, 9, false)).status() == Status::other_spacecraft, "another spacecraft");
-    tell(rack.frame(frame_to(675, 9, false)).status() == Status::unknown_channel, "another channel");
+    expect(first && first->vcid == 5 && first->brought.event == tcrx::Event::e1 && first->brought.accepted, "a frame of a rack");
+    expect(other && other->vcid == 8 && other->brought.event == tcrx::Event::e1, "a frame of a rack with its field");
+    expect(channels[1].events().value() == 1 && channels[2].events().value() == 0 && channels[3].events().value() == 1, "their events");
+    expect(rack.find(5) == &channels[1] && rack.find(8) == &channels[3] && rack.find(9) == nullptr, "channels by their ids");
+    expect(rack.frame(frame_to(676, 9, false)).status() == Status::other_spacecraft, "another spacecraft");
+    expect(rack.frame(frame_to(675, 9, false)).status() == Status::unknown_channel, "another channel");
     Bytes wrong = frame_to(676, 9, true), fill = frame_to(675, 5, true);
     wrong.back() ^= 1;
     fill.push_back(0);
-    tell(ended_rack.frame(wrong).status() == Status::wrong_fecf && ended_rack.frame(fill).status() == Status::fill, "a wrong field, and fill");
-    tell(ended_rack.frame(frame_to(675, 5, false)).status() == Status::no_fecf, "no field");
-    tell(rack.frame({}).status() == Status::too_short, "no octets of a rack");
+    expect(ended_rack.frame(wrong).status() == Status::wrong_fecf && ended_rack.frame(fill).status() == Status::fill, "a wrong field, and fill");
+    expect(ended_rack.frame(frame_to(675, 5, false)).status() == Status::no_fecf, "no field");
+    expect(rack.frame({}).status() == Status::too_short, "no octets of a rack");
     const Bytes whole = frame_to(675, 8, true);
     Bytes candidate = whole;
     candidate.insert(candidate.end(), whole.begin(), whole.end());
     candidate.push_back(0x55);
     const tcrx::Carried one = ended_rack.candidate(candidate), last = ended_rack.candidate(one.rest);
-    tell(one.frame && one.frame->vcid == 8 && one.frame->brought.event == tcrx::Event::e4, "the first frame of a candidate");
-    tell(one.more && one.rest.size() == whole.size() + 1, "what follows the first frame of a candidate");
-    tell(last.frame && !last.more && last.rest.size() == 1, "the last frame of a candidate");
-    tell(ended_rack.candidate(wrong).frame.status() == Status::wrong_fecf, "a candidate with a wrong field");
-    tell(rack.candidate({}).frame.status() == Status::too_short, "a candidate of no octets");
-    tell(channels[1].free() == Status::done && rack.find(5) == &channels[2], "the next of that id");
-    tell(tcrx::Rack(675, {}).frame(frame_to(675, 5, false)).status() == Status::unknown_channel, "a rack of no channel");
-    tell(tcrx::Rack(675, {nullptr, 1}).frame(frame_to(675, 5, false)).status() == Status::null, "a rack nowhere");
+    expect(one.frame && one.frame->vcid == 8 && one.frame->brought.event == tcrx::Event::e4, "the first frame of a candidate");
+    expect(one.more && one.rest.size() == whole.size() + 1, "what follows the first frame of a candidate");
+    expect(last.frame && !last.more && last.rest.size() == 1, "the last frame of a candidate");
+    expect(ended_rack.candidate(wrong).frame.status() == Status::wrong_fecf, "a candidate with a wrong field");
+    expect(rack.candidate({}).frame.status() == Status::too_short, "a candidate of no octets");
+    expect(channels[1].free() == Status::done && rack.find(5) == &channels[2], "the next of that id");
+    expect(tcrx::Rack(675, {}).frame(frame_to(675, 5, false)).status() == Status::unknown_channel, "a rack of no channel");
+    expect(tcrx::Rack(675, {nullptr, 1}).frame(frame_to(675, 5, false)).status() == Status::null, "a rack nowhere");
 }
 
 // Whether these are the fields of a row.
@@ -241,11 +241,11 @@ void check_frames() {
         const tcrx::Header &header = read->header;
         const std::array<std::size_t, OF_FRAME> found = {header.scid,    header.vcid,         header.ns,     header.bypass,
                                                          header.control, read->octets.size(), row.fields[6], kind->number};
-        tell(read && are_fields(found, row.fields) && read->octets.data() == row.octets, "the fields of a frame");
-        tell(kind && kind->arrival == *arrival++, "the kind of a frame");
+        expect(read && are_fields(found, row.fields) && read->octets.data() == row.octets, "the fields of a frame");
+        expect(kind && kind->arrival == *arrival++, "the kind of a frame");
         Bytes room(MOST_OCTETS);
         const tcrx::Result<tcrx::Octets> written = tcrx::write_frame(header, read->field(), room);
-        tell(Bytes(written->begin(), written->end()) == Bytes(row.octets, row.octets + row.fields[5]), "a frame of fields");
+        expect(Bytes(written->begin(), written->end()) == Bytes(row.octets, row.octets + row.fields[5]), "a frame of fields");
     }
 }
 
@@ -256,17 +256,17 @@ void check_words_and_packets() {
         const std::array<std::size_t, OF_CLCW> found = {read->status_field(), read->vcid(),    read->no_rf(),
                                                         read->no_bit_lock(),  read->lockout(), read->wait(),
                                                         read->retransmit(),   read->farm_b(),  read->vr()};
-        tell(read && are_fields(found, row.fields) && read->word == row.word, "the fields of a CLCW");
+        expect(read && are_fields(found, row.fields) && read->word == row.word, "the fields of a CLCW");
     }
     for (const packet_row &row : packet_rows) {
         const tcrx::Result<tcrx::Packet> read = tcrx::read_packet({row.octets, row.count});
         const std::array<std::size_t, OF_PACKET> found = {read->octets.size(), read->apid,      read->count,
                                                           read->telecommand,   read->secondary, read->sequence};
-        tell(read && are_fields(found, row.fields) && read->octets.data() == row.octets, "the fields of a packet");
+        expect(read && are_fields(found, row.fields) && read->octets.data() == row.octets, "the fields of a packet");
         const tcrx::PacketHeader header = {read->apid, read->count, read->telecommand, read->secondary, read->sequence};
         Bytes room(MOST_OCTETS);
         const tcrx::Result<tcrx::Octets> written = tcrx::Packet::write(header, read->octets.part(6), room);
-        tell(Bytes(written->begin(), written->end()) == Bytes(row.octets, row.octets + row.fields[0]), "a packet of fields");
+        expect(Bytes(written->begin(), written->end()) == Bytes(row.octets, row.octets + row.fields[0]), "a packet of fields");
     }
 }
 
@@ -282,21 +282,21 @@ void check_made() {
     const tcrx::Segments three = {{675, 37, 255}, 37, 3}, whole = {{675, 37, 200, true}, 37};
     Bytes room(16), again(16);
     for (std::uint32_t place = 0; place < 3; place++) {
-        tell(is_made(tcrx::write_segment(three, place, made_unit, room), segment_rows[place]), "a segment");
+        expect(is_made(tcrx::write_segment(three, place, made_unit, room), segment_rows[place]), "a segment");
     }
-    tell(tcrx::write_segment(three, 3, made_unit, room).status() == Status::no_segment, "a segment behind the last one");
-    tell(is_made(tcrx::write_segment(whole, 0, made_unit, room), whole_row), "a unit in one segment");
-    tell(is_made(tcrx::write_command(675, 12, {Arrival::unlock, 77}, room), command_rows[0]), "Unlock");
-    tell(is_made(tcrx::write_command(675, 12, {Arrival::set_vr, 9}, room), command_rows[1]), "Set V(R)");
+    expect(tcrx::write_segment(three, 3, made_unit, room).status() == Status::no_segment, "a segment behind the last one");
+    expect(is_made(tcrx::write_segment(whole, 0, made_unit, room), whole_row), "a unit in one segment");
+    expect(is_made(tcrx::write_command(675, 12, {Arrival::unlock, 77}, room), command_rows[0]), "Unlock");
+    expect(is_made(tcrx::write_command(675, 12, {Arrival::set_vr, 9}, room), command_rows[1]), "Set V(R)");
     const tcrx::Octets plain = {frame_rows[0].octets, frame_rows[0].fields[5]};
-    tell(is_made(tcrx::add_fecf(plain, room), fecf_row), "a frame with its field");
+    expect(is_made(tcrx::add_fecf(plain, room), fecf_row), "a frame with its field");
     const tcrx::Result<tcrx::Octets> taken = tcrx::check_fecf({fecf_row.octets, fecf_row.count}, again);
-    tell(taken && Bytes(taken->begin(), taken->end()) == Bytes(plain.begin(), plain.end()), "a frame without its field");
-    tell(tcrx::write_segment(three, 0, {}, {}).status() == Status::empty_data, "a segment of nothing");
-    tell(tcrx::write_command(675, 12, {Arrival::bd, 0}, room).status() == Status::bad_command, "a command that is none");
-    tell(tcrx::Packet::write({}, {}, {}).status() == Status::empty_data, "a packet of nothing");
-    tell(tcrx::add_fecf(plain, {}).error().needed == 10, "no room for a field");
-    tell(tcrx::check_fecf(plain, {}).status() == Status::wrong_fecf, "a frame without a field");
+    expect(taken && Bytes(taken->begin(), taken->end()) == Bytes(plain.begin(), plain.end()), "a frame without its field");
+    expect(tcrx::write_segment(three, 0, {}, {}).status() == Status::empty_data, "a segment of nothing");
+    expect(tcrx::write_command(675, 12, {Arrival::bd, 0}, room).status() == Status::bad_command, "a command that is none");
+    expect(tcrx::Packet::write({}, {}, {}).status() == Status::empty_data, "a packet of nothing");
+    expect(tcrx::add_fecf(plain, {}).error().needed == 10, "no room for a field");
+    expect(tcrx::check_fecf(plain, {}).status() == Status::wrong_fecf, "a frame without a field");
 }
 
 // A CLTU amid other octets, without a wrong bit and with one, which is corrected in one mode, and rejected in the other.
@@ -310,7 +310,7 @@ void check_streams() {
         std::uint64_t corrected = 0, rejected = 0;
         for (tcrx::Octets rest = stream; rest.size() > 0;) {
             const tcrx::Fed fed = decoder.feed(rest);
-            tell(fed.ended == (fed.frame.size() > 0) && fed.rest.size() == (fed.ended ? 2u : 0u), "how far octets are taken");
+            expect(fed.ended == (fed.frame.size() > 0) && fed.rest.size() == (fed.ended ? 2u : 0u), "how far octets are taken");
             given.insert(given.end(), fed.frame.begin(), fed.frame.end());
             corrected += fed.corrected;
             rejected += fed.rejected;
@@ -318,17 +318,17 @@ void check_streams() {
         }
         Bytes carried(frame_rows[0].octets, frame_rows[0].octets + frame_rows[0].fields[5]);
         carried.resize(14, 0x55);
-        tell(corrected == (i == 1 ? 1u : 0u) && rejected == (i == 2 ? 1u : 0u), "what became of code blocks");
-        tell(given == (i == 2 ? Bytes() : carried), "what a CLTU carried");
+        expect(corrected == (i == 1 ? 1u : 0u) && rejected == (i == 2 ? 1u : 0u), "what became of code blocks");
+        expect(given == (i == 2 ? Bytes() : carried), "what a CLTU carried");
         decoder.feed(Bytes(cltu_octets, cltu_octets + 9));
         decoder.search();
-        tell(decoder.feed(Bytes(cltu_octets, cltu_octets + sizeof cltu_octets)).ended, "a CLTU behind a search anew");
+        expect(decoder.feed(Bytes(cltu_octets, cltu_octets + sizeof cltu_octets)).ended, "a CLTU behind a search anew");
         Bytes overlong = {0xeb, 0x90};
         for (unsigned block = 0; block < 148; block++) {
             overlong.insert(overlong.end(), {0, 0, 0, 0, 0, 0, 0, 0xfe});
         }
         const tcrx::Fed fed = decoder.feed(overlong);
-        tell(!fed.ended && fed.overlong == 1, "a CLTU that carries too much");
+        expect(!fed.ended && fed.overlong == 1, "a CLTU that carries too much");
     }
 }
 
@@ -339,20 +339,20 @@ void check_ends_of_the_link() {
     const tcrx::TmHeader header = {675, 5, 200, 77};
     Bytes room(32);
     const tcrx::Result<tcrx::Octets> cltu = tcrx::write_cltu(plain, room);
-    tell(cltu && Bytes(cltu->begin(), cltu->end()) == Bytes(cltu_octets, cltu_octets + sizeof cltu_octets), "a CLTU");
-    tell(is_made(tcrx::randomise(plain, room), random_row), "a frame with the random sequence");
-    tell(is_made(tcrx::write_tm(header, false, {TM_CLCW}, 13, room), tm_row), "a telemetry frame");
-    tell(is_made(tcrx::write_tm(header, true, {TM_CLCW}, 15, room), tm_fecf_row), "a telemetry frame with its field");
+    expect(cltu && Bytes(cltu->begin(), cltu->end()) == Bytes(cltu_octets, cltu_octets + sizeof cltu_octets), "a CLTU");
+    expect(is_made(tcrx::randomise(plain, room), random_row), "a frame with the random sequence");
+    expect(is_made(tcrx::write_tm(header, false, {TM_CLCW}, 13, room), tm_row), "a telemetry frame");
+    expect(is_made(tcrx::write_tm(header, true, {TM_CLCW}, 15, room), tm_fecf_row), "a telemetry frame with its field");
     const tcrx::Result<tcrx::Tm> read = tcrx::read_tm(true, {tm_fecf_row.octets, tm_fecf_row.count});
-    tell(read && read->clcw == TM_CLCW && read->pointer == 2046, "what a telemetry frame says");
+    expect(read && read->clcw == TM_CLCW && read->pointer == 2046, "what a telemetry frame says");
     const tcrx::TmHeader &found = read->header;
-    tell(found.scid == 675 && found.vcid == 5 && found.master_count == 200 && found.channel_count == 77, "its header");
-    tell(tcrx::write_cltu({}, room).status() == Status::empty_data, "a CLTU of nothing");
-    tell(tcrx::randomise(plain, {}).error().needed == 8, "no room for random octets");
-    tell(tcrx::write_cltu(tcrx::Octets(Bytes(1030)), room).status() == Status::long_cltu, "a CLTU of too much");
-    tell(tcrx::write_tm(header, true, {}, 12, room).status() == Status::bad_length, "a short telemetry frame");
-    tell(tcrx::read_tm(true, {tm_row.octets, tm_row.count}).status() == Status::wrong_fecf, "a telemetry frame without a field");
-    tell(tcrx::read_tm(false, tcrx::Octets(Bytes(11))).status() == Status::no_control, "one without a CLCW");
+    expect(found.scid == 675 && found.vcid == 5 && found.master_count == 200 && found.channel_count == 77, "its header");
+    expect(tcrx::write_cltu({}, room).status() == Status::empty_data, "a CLTU of nothing");
+    expect(tcrx::randomise(plain, {}).error().needed == 8, "no room for random octets");
+    expect(tcrx::write_cltu(tcrx::Octets(Bytes(1030)), room).status() == Status::long_cltu, "a CLTU of too much");
+    expect(tcrx::write_tm(header, true, {}, 12, room).status() == Status::bad_length, "a short telemetry frame");
+    expect(tcrx::read_tm(true, {tm_row.octets, tm_row.count}).status() == Status::wrong_fecf, "a telemetry frame without a field");
+    expect(tcrx::read_tm(false, tcrx::Octets(Bytes(11))).status() == Status::no_control, "one without a CLCW");
 }
 
 // What a channel reports after each step, whose states are in the order of the rows, and its CLCW with each flag of the link alone.
@@ -363,15 +363,15 @@ void check_reports() {
     constexpr State states[] = {State::open, State::open, State::wait, State::open, State::lockout};
     const State *state = states;
     for (const step_row &row : step_rows) {
-        tell(channel.frame(row.octets).status() == tcrx::Status::done, "a step");
+        expect(channel.frame(row.octets).status() == tcrx::Status::done, "a step");
         const tcrx::Farm farm = channel.report().value();
         const std::array<std::size_t, OF_FARM> found = {farm.width,   row.fields[1], farm.vr,        farm.farm_b,
                                                         farm.lockout, farm.wait,     farm.retransmit};
-        tell(are_fields(found, row.fields) && farm.state == *state++, "a report");
+        expect(are_fields(found, row.fields) && farm.state == *state++, "a report");
     }
     const tcrx::Farm farm = channel.report().value();
-    tell(channel.clcw(true, false)->word == link_words[0] && tcrx::clcw(farm, 1, true, false)->word == link_words[0], "no RF");
-    tell(channel.clcw(false, true)->word == link_words[1] && tcrx::clcw(farm, 1, false, true)->word == link_words[1], "no bit lock");
+    expect(channel.clcw(true, false)->word == link_words[0] && tcrx::clcw(farm, 1, true, false)->word == link_words[0], "no RF");
+    expect(channel.clcw(false, true)->word == link_words[1] && tcrx::clcw(farm, 1, false, true)->word == link_words[1], "no bit lock");
 }
 
 void check_settings() {
@@ -385,29 +385,29 @@ void check_settings() {
     };
     const tcrx::Limit of_two[] = {{2, 6}}, no_limit[] = {{2, 0}};
     using tcrx::Status;
-    tell(status({1, 9, 4, 0}, {}, {}) == Status::bad_width && status({1, 10, 4, 0, false}, {}, maps) == Status::plain_map, "bad settings");
-    tell(status(settings, {nullptr, 1}, {}) == Status::null && status(settings, {}, {}) == Status::done, "queues nowhere");
-    tell(tcrx::storage(settings, queues, maps).value() > 65542, "a storage");
-    tell(within({65543, {}}) == Status::bad_others && within({0, no_limit}) == Status::bad_limit, "bad limits");
-    tell(within({0, {}}) == Status::unlisted_map && within({0, of_two}) == Status::done, "a limit of each MAP");
-    tell(within({0, {nullptr, 1}}) == Status::null, "limits nowhere");
+    expect(status({1, 9, 4, 0}, {}, {}) == Status::bad_width && status({1, 10, 4, 0, false}, {}, maps) == Status::plain_map, "bad settings");
+    expect(status(settings, {nullptr, 1}, {}) == Status::null && status(settings, {}, {}) == Status::done, "queues nowhere");
+    expect(tcrx::storage(settings, queues, maps).value() > 65542, "a storage");
+    expect(within({65543, {}}) == Status::bad_others && within({0, no_limit}) == Status::bad_limit, "bad limits");
+    expect(within({0, {}}) == Status::unlisted_map && within({0, of_two}) == Status::done, "a limit of each MAP");
+    expect(within({0, {nullptr, 1}}) == Status::null, "limits nowhere");
     const tcrx::Settings eight = {1, 10, 8, 0};
     const tcrx::Queue four[] = {{5, 8}, {6, 8}, {7, 8}, {8, 8}};
     const tcrx::Limit one[] = {{0, 1024}};
-    tell(tcrx::storage(eight, four, {}, {0, one}).value() == 49624, "the storage of four queues of 8 with units of 1,024 octets");
+    expect(tcrx::storage(eight, four, {}, {0, one}).value() == 49624, "the storage of four queues of 8 with units of 1,024 octets");
     // 1,051 for the buffer, 5,120 and 2 * 64 * 65,542 for open runs, 64 for each queue, 65,574 for each packet, and 4,096 for the table.
     std::vector<tcrx::Queue> many;
     for (std::uint16_t apid = 0; apid < 256; apid++) {
         many.push_back({apid, 256});
     }
-    tell(tcrx::storage({1, 10, 1, 0}, many).value() == 4305873691, "a storage of more octets than 32 bits count");
-    tell(std::string(tcrx::text(Status::empty).c_str()) == "nothing waits there", "a text");
-    tell(tcrx::text(static_cast<Status>(99)).c_str()[0] == '\0', "the text of no status");
+    expect(tcrx::storage({1, 10, 1, 0}, many).value() == 4305873691, "a storage of more octets than 32 bits count");
+    expect(std::string(tcrx::text(Status::empty).c_str()) == "nothing waits there", "a text");
+    expect(tcrx::text(static_cast<Status>(99)).c_str()[0] == '\0', "the text of no status");
     const tcrx::Result<tcrx::Farm> farm = tcrx::start_farm(10, 7);
     const tcrx::Result<tcrx::Step> step = tcrx::step(*farm, {tcrx::Arrival::ad, 7}, true);
-    tell(step->accepted && step->event == tcrx::Event::e1 && step->farm.vr == 8 && step->farm.width == 10, "a step of FARM-1");
-    tell(tcrx::start_farm(9, 0).status() == Status::bad_width, "a FARM-1 of an odd width");
-    tell(tcrx::clcw(*farm, 64).status() == Status::bad_vcid && tcrx::read_clcw(0xffffffff).status() == Status::no_clcw, "no CLCW");
+    expect(step->accepted && step->event == tcrx::Event::e1 && step->farm.vr == 8 && step->farm.width == 10, "a step of FARM-1");
+    expect(tcrx::start_farm(9, 0).status() == Status::bad_width, "a FARM-1 of an odd width");
+    expect(tcrx::clcw(*farm, 64).status() == Status::bad_vcid && tcrx::read_clcw(0xffffffff).status() == Status::no_clcw, "no CLCW");
 }
 
 }  // namespace
@@ -426,7 +426,7 @@ int main() {
     check_ends_of_the_link();
     check_reports();
     check_settings();
-    tell(tcrx_blocks() == 0, "no block is left");
+    expect(tcrx_blocks() == 0, "no block is left");
     std::printf("ends: %d passed, %d failed\n", passed, failed);
     return failed == 0 && passed > 0 ? 0 : 1;
 }

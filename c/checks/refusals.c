@@ -397,7 +397,7 @@ static size_t rack_octets(uint16_t scid, uint8_t vcid, uint8_t ns, uint8_t fecf,
     return fecf == 1 ? tcrx_add_fecf(plain, count, octets, 10).length : count;
 }
 
-/* A candidate is refused by a rack, and of it is told how long its frame is, and whether more follows; no channel has an event. */
+/* A candidate is refused by a rack, which reports how long its frame is, and whether more follows; no channel has an event. */
 static void expect_no_candidate(uint16_t scid, uint8_t fecf, const uint8_t *octets, size_t count, tcrx_status status, size_t length, unsigned more) {
     const uint64_t events = rack_events();
     const tcrx_candidate_reply reply = tcrx_rack_candidate(rack, PLACES, scid, fecf, octets, count);
@@ -406,12 +406,12 @@ static void expect_no_candidate(uint16_t scid, uint8_t fecf, const uint8_t *octe
     expect(rack_events() == events, "the events after a refused candidate", count);
 }
 
-/* So is a frame, of which nothing else is told. */
+/* So is a frame, of which nothing else is reported. */
 static void expect_unracked(tcrx_rack_reply reply, tcrx_status status, unsigned long place) {
     static const tcrx_rack_reply none;
-    tcrx_rack_reply told = reply;
-    told.status = none.status;
-    expect(reply.status == status && memcmp(&told, &none, sizeof none) == 0, "a refusal of a rack", place);
+    tcrx_rack_reply bare = reply;
+    bare.status = none.status;
+    expect(reply.status == status && memcmp(&bare, &none, sizeof none) == 0, "a refusal of a rack", place);
 }
 
 static void check_rack_refusals(uint8_t fecf) {

@@ -145,7 +145,7 @@ class Bench:  # pylint: disable=too-many-instance-attributes  # it is made of th
             self.judge = self._engine_beside([self.words[0], "--scid", "0"], RECEIVER._replace(name="the judge of senders"))
             self.watches = Watches(self.options.sender, self.judge.ask_all, partial(self.craft.note_text, "sender"))
             for line in self.watches.setup():
-                self.judge.tell(line)
+                self.judge.write(line)
             self.craft.begun_channel, self.craft.senders, self.craft.is_behind = self.watches.begin, self.watches.state, self.watches.is_behind
             self.watches.went_on, self.watches.time = self._judged, self.craft.now
         assert self.watches
@@ -351,7 +351,7 @@ class Bench:  # pylint: disable=too-many-instance-attributes  # it is made of th
         if left:
             self._say_unanswered(left)
         if why:
-            self._tell_all(why)
+            self._report_all(why)
         if not own:
             self.journal.end(self.engine.report)
         if self.web:
@@ -417,8 +417,8 @@ class Bench:  # pylint: disable=too-many-instance-attributes  # it is made of th
             self.notes.say_once("the final report can't be written")
         return not octets
 
-    def _tell_all(self, why: str) -> None:
-        """Tells everyone why there are no more answers, and notes what was not answered."""
+    def _report_all(self, why: str) -> None:
+        """Reports to everyone why there are no more answers, and notes what was not answered."""
         self.notes.say_once(why)
         for line, _, _ in self.engine.pending:
             self.journal.unanswered(line.partition("\n")[0])

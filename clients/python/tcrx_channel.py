@@ -285,8 +285,8 @@ def write_cltu(frame: Octets, *, library: Library = None) -> bytes:
 
 
 class Decoder:
-    """Finds CLTUs in a stream that comes in any pieces. It counts the code blocks that it corrected and rejected, apart from tail
-    sequences, and the CLTUs that carried more than 1,029 octets, which give nothing."""
+    """Finds CLTUs in a stream that comes in any pieces. Its attributes `corrected` and `rejected` count the code blocks that it corrected
+    and rejected, apart from tail sequences, and `overlong` the CLTUs that carried more than 1,029 octets, which give nothing."""
 
     def __init__(self, *, correct: bool, library: Library = None) -> None:
         """With correction of one wrong bit in each code block, or with detection alone."""
@@ -317,6 +317,9 @@ class Decoder:
         was_decoding = bool(self._kept.decoding)
         self._kept = self._library.tcrx_cltu_search(self._kept).decoder
         return was_decoding
+
+    def __reduce__(self) -> NoReturn:
+        raise TypeError("a decoder can't be copied or pickled: a copy would share the octets that it keeps")
 
 
 def randomise(frame: Octets, *, library: Library = None) -> bytes:
@@ -378,7 +381,7 @@ def free(library: ctypes.PyDLL, held: _Channel) -> None:
 
 # pylint: disable-next=too-many-instance-attributes  # what a call needs is found once, where the channel is made
 class Channel:
-    """A virtual channel of a receiver, in this process."""
+    """A virtual channel of a receiver, in this process. Its attribute `vcid` is its virtual channel id."""
 
     def __init__(self, vcid: int, *, width: int, buffer: int, first: int, plain: bool = False,
                  queues: Optional[Mapping[int, int]] = None, maps: Optional[Mapping[int, int]] = None,
@@ -565,7 +568,8 @@ class Carried:
 
 class Rack:
     """The channels of a spacecraft, in this process: which of them a frame is for. Each is asked and closed by itself; one that is closed
-    is of the rack no more. A channel is of one rack at a time, that which was made of it last."""
+    is of the rack no more. A channel is of one rack at a time, that which was made of it last. Its attributes `scid` and `fecf` are as it
+    was made."""
 
     def __init__(self, scid: int, channels: Iterable[Channel], *, fecf: bool = False) -> None:
         """Makes a rack of channels for the spacecraft with the id `scid` (0 to 1,023). With `fecf` each frame must carry the frame error
@@ -579,6 +583,9 @@ class Rack:
         self._locks = [lock for _, lock in sorted({id(channel): channel._lock for channel in self._channels}.items())]
         for held, channel in zip(self._held, self._channels):
             channel._move_to(held)
+
+    def __reduce__(self) -> NoReturn:
+        raise TypeError("a rack can't be copied or pickled: its channels are in its memory alone")
 
     def _call(self, name: str, *given: Any) -> Any:
         """A call of the library, in turn with those of each channel."""

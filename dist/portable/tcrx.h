@@ -393,7 +393,7 @@ typedef struct {
 
 /**
  * What the frame at the front of a candidate came to, and the channel that took it in. Where a frame was found and is refused, its length
- * and what follows it are told nevertheless.
+ * and what follows it are reported nevertheless.
  */
 typedef struct {
     tcrx_status status; /**< #TCRX_DONE, or why not. */

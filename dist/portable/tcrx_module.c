@@ -577,7 +577,7 @@ DEFINE_TABLE_FILL(externref)
 
 static bool s_module_initialized = false;
 
-static u32 func_types[36];
+static u32 func_types[37];
 
 static void init_func_types(void) {
   func_types[0] = wasm_rt_register_func_type(4, 1, WASM_RT_I64, WASM_RT_I32, WASM_RT_I64, WASM_RT_I32, WASM_RT_I32);
@@ -591,10 +591,10 @@ static void init_func_types(void) {
   func_types[8] = wasm_rt_register_func_type(3, 1, WASM_RT_I32, WASM_RT_I64, WASM_RT_I32, WASM_RT_I32);
   func_types[9] = wasm_rt_register_func_type(1, 1, WASM_RT_I64, WASM_RT_I32);
   func_types[10] = wasm_rt_register_func_type(6, 0, WASM_RT_I64, WASM_RT_I64, WASM_RT_I64, WASM_RT_I64, WASM_RT_I64, WASM_RT_I64);
-  func_types[11] = wasm_rt_register_func_type(5, 0, WASM_RT_I64, WASM_RT_I64, WASM_RT_I32, WASM_RT_I64, WASM_RT_I64);
-  func_types[12] = wasm_rt_register_func_type(3, 1, WASM_RT_I64, WASM_RT_I64, WASM_RT_I64, WASM_RT_I64);
-  func_types[13] = wasm_rt_register_func_type(3, 0, WASM_RT_I64, WASM_RT_I64, WASM_RT_I32);
-  func_types[14] = wasm_rt_register_func_type(6, 0, WASM_RT_I64, WASM_RT_I64, WASM_RT_I64, WASM_RT_I32, WASM_RT_I64, WASM_RT_I64);
+  func_types[11] = wasm_rt_register_func_type(3, 1, WASM_RT_I64, WASM_RT_I64, WASM_RT_I64, WASM_RT_I64);
+  func_types[12] = wasm_rt_register_func_type(3, 0, WASM_RT_I64, WASM_RT_I64, WASM_RT_I32);
+  func_types[13] = wasm_rt_register_func_type(6, 0, WASM_RT_I64, WASM_RT_I64, WASM_RT_I64, WASM_RT_I32, WASM_RT_I64, WASM_RT_I64);
+  func_types[14] = wasm_rt_register_func_type(5, 0, WASM_RT_I64, WASM_RT_I64, WASM_RT_I32, WASM_RT_I64, WASM_RT_I64);
   func_types[15] = wasm_rt_register_func_type(2, 1, WASM_RT_I32, WASM_RT_I32, WASM_RT_I32);
   func_types[16] = wasm_rt_register_func_type(7, 1, WASM_RT_I64, WASM_RT_I32, WASM_RT_I64, WASM_RT_I32, WASM_RT_I32, WASM_RT_I64, WASM_RT_I32, WASM_RT_I32);
   func_types[17] = wasm_rt_register_func_type(5, 1, WASM_RT_I32, WASM_RT_I32, WASM_RT_I32, WASM_RT_I32, WASM_RT_I32, WASM_RT_I32);
@@ -605,17 +605,18 @@ static void init_func_types(void) {
   func_types[22] = wasm_rt_register_func_type(3, 1, WASM_RT_I64, WASM_RT_I32, WASM_RT_I64, WASM_RT_I64);
   func_types[23] = wasm_rt_register_func_type(4, 0, WASM_RT_I64, WASM_RT_I64, WASM_RT_I64, WASM_RT_I64);
   func_types[24] = wasm_rt_register_func_type(5, 1, WASM_RT_I64, WASM_RT_I64, WASM_RT_I32, WASM_RT_I64, WASM_RT_I64, WASM_RT_I32);
-  func_types[25] = wasm_rt_register_func_type(4, 0, WASM_RT_I64, WASM_RT_I32, WASM_RT_I32, WASM_RT_I64);
-  func_types[26] = wasm_rt_register_func_type(9, 0, WASM_RT_I64, WASM_RT_I64, WASM_RT_I64, WASM_RT_I64, WASM_RT_I64, WASM_RT_I64, WASM_RT_I32, WASM_RT_I64, WASM_RT_I64);
-  func_types[27] = wasm_rt_register_func_type(4, 0, WASM_RT_I64, WASM_RT_I64, WASM_RT_I64, WASM_RT_I32);
-  func_types[28] = wasm_rt_register_func_type(4, 0, WASM_RT_I64, WASM_RT_I32, WASM_RT_I64, WASM_RT_I64);
-  func_types[29] = wasm_rt_register_func_type(7, 0, WASM_RT_I64, WASM_RT_I32, WASM_RT_I32, WASM_RT_I32, WASM_RT_I32, WASM_RT_I64, WASM_RT_I64);
-  func_types[30] = wasm_rt_register_func_type(9, 0, WASM_RT_I64, WASM_RT_I64, WASM_RT_I32, WASM_RT_I32, WASM_RT_I32, WASM_RT_I64, WASM_RT_I64, WASM_RT_I64, WASM_RT_I64);
-  func_types[31] = wasm_rt_register_func_type(7, 0, WASM_RT_I64, WASM_RT_I64, WASM_RT_I32, WASM_RT_I32, WASM_RT_I32, WASM_RT_I64, WASM_RT_I64);
-  func_types[32] = wasm_rt_register_func_type(1, 1, WASM_RT_I32, WASM_RT_I64);
-  func_types[33] = wasm_rt_register_func_type(6, 1, WASM_RT_I32, WASM_RT_I32, WASM_RT_I32, WASM_RT_I32, WASM_RT_I64, WASM_RT_I32, WASM_RT_I32);
-  func_types[34] = wasm_rt_register_func_type(7, 1, WASM_RT_I32, WASM_RT_I32, WASM_RT_I32, WASM_RT_I64, WASM_RT_I32, WASM_RT_I64, WASM_RT_I32, WASM_RT_I32);
-  func_types[35] = wasm_rt_register_func_type(5, 1, WASM_RT_I32, WASM_RT_I32, WASM_RT_I32, WASM_RT_I64, WASM_RT_I32, WASM_RT_I32);
+  func_types[25] = wasm_rt_register_func_type(3, 1, WASM_RT_I32, WASM_RT_I32, WASM_RT_I32, WASM_RT_I32);
+  func_types[26] = wasm_rt_register_func_type(4, 0, WASM_RT_I64, WASM_RT_I32, WASM_RT_I32, WASM_RT_I64);
+  func_types[27] = wasm_rt_register_func_type(9, 0, WASM_RT_I64, WASM_RT_I64, WASM_RT_I64, WASM_RT_I64, WASM_RT_I64, WASM_RT_I64, WASM_RT_I32, WASM_RT_I64, WASM_RT_I64);
+  func_types[28] = wasm_rt_register_func_type(4, 0, WASM_RT_I64, WASM_RT_I64, WASM_RT_I64, WASM_RT_I32);
+  func_types[29] = wasm_rt_register_func_type(4, 0, WASM_RT_I64, WASM_RT_I32, WASM_RT_I64, WASM_RT_I64);
+  func_types[30] = wasm_rt_register_func_type(7, 0, WASM_RT_I64, WASM_RT_I32, WASM_RT_I32, WASM_RT_I32, WASM_RT_I32, WASM_RT_I64, WASM_RT_I64);
+  func_types[31] = wasm_rt_register_func_type(9, 0, WASM_RT_I64, WASM_RT_I64, WASM_RT_I32, WASM_RT_I32, WASM_RT_I32, WASM_RT_I64, WASM_RT_I64, WASM_RT_I64, WASM_RT_I64);
+  func_types[32] = wasm_rt_register_func_type(7, 0, WASM_RT_I64, WASM_RT_I64, WASM_RT_I32, WASM_RT_I32, WASM_RT_I32, WASM_RT_I64, WASM_RT_I64);
+  func_types[33] = wasm_rt_register_func_type(1, 1, WASM_RT_I32, WASM_RT_I64);
+  func_types[34] = wasm_rt_register_func_type(6, 1, WASM_RT_I32, WASM_RT_I32, WASM_RT_I32, WASM_RT_I32, WASM_RT_I64, WASM_RT_I32, WASM_RT_I32);
+  func_types[35] = wasm_rt_register_func_type(7, 1, WASM_RT_I32, WASM_RT_I32, WASM_RT_I32, WASM_RT_I64, WASM_RT_I32, WASM_RT_I64, WASM_RT_I32, WASM_RT_I32);
+  func_types[36] = wasm_rt_register_func_type(5, 1, WASM_RT_I32, WASM_RT_I32, WASM_RT_I32, WASM_RT_I64, WASM_RT_I32, WASM_RT_I32);
 }
 
 static u64 w2c_f0(Z_tcrx_instance_t*, u64, u64);
@@ -630,28 +631,28 @@ static void w2c_f8(Z_tcrx_instance_t*, u64, u64);
 static void w2c_f9(Z_tcrx_instance_t*, u64, u64);
 static void w2c_f10(Z_tcrx_instance_t*, u64, u64, u64, u64);
 static u32 w2c_f11(Z_tcrx_instance_t*, u64, u64, u32, u64, u64);
-static void w2c_f12(Z_tcrx_instance_t*, u64);
+static u32 w2c_f12(Z_tcrx_instance_t*, u32, u32, u32);
 static void w2c_f13(Z_tcrx_instance_t*, u64);
-static void w2c_f14(Z_tcrx_instance_t*, u64, u64);
+static void w2c_f14(Z_tcrx_instance_t*, u64);
 static void w2c_f15(Z_tcrx_instance_t*, u64, u64);
-static void w2c_f16(Z_tcrx_instance_t*, u64, u64, u64);
+static void w2c_f16(Z_tcrx_instance_t*, u64, u64);
 static void w2c_f17(Z_tcrx_instance_t*, u64, u64, u64);
-static void w2c_f18(Z_tcrx_instance_t*, u64, u32, u32, u64);
-static void w2c_f19(Z_tcrx_instance_t*, u64);
+static void w2c_f18(Z_tcrx_instance_t*, u64, u64, u64);
+static void w2c_f19(Z_tcrx_instance_t*, u64, u32, u32, u64);
 static void w2c_f20(Z_tcrx_instance_t*, u64);
 static void w2c_f21(Z_tcrx_instance_t*, u64);
-static void w2c_f22(Z_tcrx_instance_t*, u64, u64, u64);
-static void w2c_f23(Z_tcrx_instance_t*, u64, u64, u32);
-static u32 w2c_f24(Z_tcrx_instance_t*, u64);
-static void w2c_f25(Z_tcrx_instance_t*, u64, u64, u64, u64, u64, u64);
-static void w2c_f26(Z_tcrx_instance_t*, u64, u64, u64, u64, u64, u64, u32, u64, u64);
-static void w2c_f27(Z_tcrx_instance_t*, u64, u64, u32);
-static void w2c_f28(Z_tcrx_instance_t*, u64, u64, u64, u32, u64, u64);
-static void w2c_f29(Z_tcrx_instance_t*, u64, u64, u64);
-static void w2c_f30(Z_tcrx_instance_t*, u64, u64, u64, u32, u64, u64);
-static void w2c_f31(Z_tcrx_instance_t*, u64, u64, u64, u32);
-static void w2c_f32(Z_tcrx_instance_t*, u64, u64, u64, u64, u64);
-static void w2c_f33(Z_tcrx_instance_t*, u64, u64, u32, u64, u64);
+static void w2c_f22(Z_tcrx_instance_t*, u64);
+static void w2c_f23(Z_tcrx_instance_t*, u64, u64, u64);
+static void w2c_f24(Z_tcrx_instance_t*, u64, u64, u32);
+static u32 w2c_f25(Z_tcrx_instance_t*, u64);
+static void w2c_f26(Z_tcrx_instance_t*, u64, u64, u64, u64, u64, u64);
+static void w2c_f27(Z_tcrx_instance_t*, u64, u64, u64, u64, u64, u64, u32, u64, u64);
+static void w2c_f28(Z_tcrx_instance_t*, u64, u64, u32);
+static void w2c_f29(Z_tcrx_instance_t*, u64, u64, u64, u32, u64, u64);
+static void w2c_f30(Z_tcrx_instance_t*, u64, u64, u64);
+static void w2c_f31(Z_tcrx_instance_t*, u64, u64, u64, u32, u64, u64);
+static void w2c_f32(Z_tcrx_instance_t*, u64, u64, u64, u32);
+static void w2c_f33(Z_tcrx_instance_t*, u64, u64, u64, u64, u64);
 static void w2c_f34(Z_tcrx_instance_t*, u64, u64, u32, u64, u64);
 static void w2c_f35(Z_tcrx_instance_t*, u64, u64, u32, u64, u64);
 static void w2c_f36(Z_tcrx_instance_t*, u64, u64, u64, u64, u64);
@@ -3433,49 +3434,36 @@ static void w2c_f10(Z_tcrx_instance_t* instance, u64 w2c_p0, u64 w2c_p1, u64 w2c
     goto w2c_B12;
   UNREACHABLE;
   w2c_B21:;
-  w2c_j0 = w2c_p2;
-  w2c_i0 = (u32)(w2c_j0);
-  w2c_i0 = i32_load8_u(&instance->w2c_memory, (u64)(w2c_i0) + 4u);
+  w2c_i0 = 0u;
   w2c_l5 = w2c_i0;
+  w2c_i0 = 4u;
+  w2c_l7 = w2c_i0;
+  w2c_i0 = 0u;
+  w2c_l6 = w2c_i0;
+  w2c_j0 = w2c_l11;
+  w2c_j1 = 88ull;
+  w2c_j0 += w2c_j1;
+  w2c_i0 = (u32)(w2c_j0);
+  w2c_i0 = i32_load8_u(&instance->w2c_memory, (u64)(w2c_i0));
   w2c_j1 = w2c_l11;
   w2c_j2 = 90ull;
   w2c_j1 += w2c_j2;
   w2c_i1 = (u32)(w2c_j1);
   w2c_i1 = i32_load8_u(&instance->w2c_memory, (u64)(w2c_i1));
-  w2c_l6 = w2c_i1;
-  w2c_i0 = w2c_i0 == w2c_i1;
-  if (w2c_i0) {goto w2c_B40;}
-  w2c_i0 = w2c_l5;
-  w2c_i1 = w2c_l6;
-  w2c_i0 -= w2c_i1;
-  w2c_l6 = w2c_i0;
+  w2c_l8 = w2c_i1;
+  w2c_j2 = w2c_p2;
+  w2c_i2 = (u32)(w2c_j2);
+  w2c_i2 = i32_load8_u(&instance->w2c_memory, (u64)(w2c_i2) + 4u);
+  w2c_i0 = w2c_f12(instance, w2c_i0, w2c_i1, w2c_i2);
   w2c_i1 = 255u;
   w2c_i0 &= w2c_i1;
-  w2c_j1 = w2c_l11;
-  w2c_j2 = 88ull;
-  w2c_j1 += w2c_j2;
-  w2c_i1 = (u32)(w2c_j1);
-  w2c_i1 = i32_load8_u(&instance->w2c_memory, (u64)(w2c_i1));
-  w2c_i2 = 1u;
-  w2c_i1 >>= (w2c_i2 & 31);
-  w2c_l7 = w2c_i1;
-  w2c_i0 = w2c_i0 < w2c_i1;
-  if (w2c_i0) {goto w2c_B39;}
-  w2c_i0 = 0u;
-  w2c_l5 = w2c_i0;
-  w2c_i0 = w2c_l7;
-  w2c_i1 = 0u;
-  w2c_i2 = w2c_l6;
-  w2c_i1 -= w2c_i2;
-  w2c_i2 = 255u;
-  w2c_i1 &= w2c_i2;
-  w2c_i0 = w2c_i0 < w2c_i1;
-  if (w2c_i0) {goto w2c_B38;}
-  w2c_i0 = 4u;
-  w2c_l7 = w2c_i0;
-  w2c_i0 = 0u;
-  w2c_l6 = w2c_i0;
-  goto w2c_B9;
+  switch (w2c_i0) {
+    case 0: goto w2c_B40;
+    case 1: goto w2c_B39;
+    case 2: goto w2c_B9;
+    case 3: goto w2c_B38;
+    default: goto w2c_B40;
+  }
   w2c_B40:;
   w2c_j0 = w2c_l11;
   w2c_j1 = 89ull;
@@ -3591,7 +3579,7 @@ static void w2c_f10(Z_tcrx_instance_t* instance, u64 w2c_p0, u64 w2c_p1, u64 w2c
   w2c_j0 = w2c_l11;
   w2c_j1 = 89ull;
   w2c_j0 += w2c_j1;
-  w2c_f12(instance, w2c_j0);
+  w2c_f13(instance, w2c_j0);
   w2c_i0 = 0u;
   w2c_l5 = w2c_i0;
   w2c_i0 = 7u;
@@ -3711,7 +3699,7 @@ static void w2c_f10(Z_tcrx_instance_t* instance, u64 w2c_p0, u64 w2c_p1, u64 w2c
   w2c_j1 = 90ull;
   w2c_j0 += w2c_j1;
   w2c_i0 = (u32)(w2c_j0);
-  w2c_i1 = w2c_l5;
+  w2c_i1 = w2c_l8;
   w2c_i2 = 1u;
   w2c_i1 += w2c_i2;
   i32_store8(&instance->w2c_memory, (u64)(w2c_i0), w2c_i1);
@@ -4360,10 +4348,10 @@ static void w2c_f10(Z_tcrx_instance_t* instance, u64 w2c_p0, u64 w2c_p1, u64 w2c
   w2c_j1 = 32ull;
   w2c_j0 >>= (w2c_j1 & 63);
   w2c_i0 = (u32)(w2c_j0);
-  w2c_l8 = w2c_i0;
+  w2c_l9 = w2c_i0;
   w2c_j0 = w2c_p1;
   w2c_i0 = (u32)(w2c_j0);
-  w2c_l9 = w2c_i0;
+  w2c_l8 = w2c_i0;
   w2c_i0 = 0u;
   w2c_l4 = w2c_i0;
   goto w2c_B0;
@@ -4378,13 +4366,13 @@ static void w2c_f10(Z_tcrx_instance_t* instance, u64 w2c_p0, u64 w2c_p1, u64 w2c
   w2c_i0 = 0u;
   w2c_l6 = w2c_i0;
   w2c_i0 = 0u;
-  w2c_l9 = w2c_i0;
+  w2c_l8 = w2c_i0;
   w2c_i0 = 0u;
   w2c_l7 = w2c_i0;
   w2c_i0 = 0u;
   w2c_l5 = w2c_i0;
   w2c_i0 = 0u;
-  w2c_l8 = w2c_i0;
+  w2c_l9 = w2c_i0;
   w2c_B0:;
   w2c_j0 = w2c_p0;
   w2c_i0 = (u32)(w2c_j0);
@@ -4392,7 +4380,7 @@ static void w2c_f10(Z_tcrx_instance_t* instance, u64 w2c_p0, u64 w2c_p1, u64 w2c
   i32_store8(&instance->w2c_memory, (u64)(w2c_i0) + 15, w2c_i1);
   w2c_j0 = w2c_p0;
   w2c_i0 = (u32)(w2c_j0);
-  w2c_i1 = w2c_l8;
+  w2c_i1 = w2c_l9;
   i32_store8(&instance->w2c_memory, (u64)(w2c_i0) + 14, w2c_i1);
   w2c_j0 = w2c_p0;
   w2c_i0 = (u32)(w2c_j0);
@@ -4404,7 +4392,7 @@ static void w2c_f10(Z_tcrx_instance_t* instance, u64 w2c_p0, u64 w2c_p1, u64 w2c
   i32_store8(&instance->w2c_memory, (u64)(w2c_i0) + 12, w2c_i1);
   w2c_j0 = w2c_p0;
   w2c_i0 = (u32)(w2c_j0);
-  w2c_i1 = w2c_l9;
+  w2c_i1 = w2c_l8;
   i32_store(&instance->w2c_memory, (u64)(w2c_i0) + 8, w2c_i1);
   w2c_j0 = w2c_p0;
   w2c_i0 = (u32)(w2c_j0);
@@ -4972,7 +4960,54 @@ static u32 w2c_f11(Z_tcrx_instance_t* instance, u64 w2c_p0, u64 w2c_p1, u32 w2c_
   return w2c_i0;
 }
 
-static void w2c_f12(Z_tcrx_instance_t* instance, u64 w2c_p0) {
+static u32 w2c_f12(Z_tcrx_instance_t* instance, u32 w2c_p0, u32 w2c_p1, u32 w2c_p2) {
+  u32 w2c_l3 = 0;
+  FUNC_PROLOGUE;
+  u32 w2c_i0, w2c_i1, w2c_i2, w2c_i3, w2c_i4;
+  w2c_i0 = 0u;
+  w2c_l3 = w2c_i0;
+  w2c_i0 = w2c_p2;
+  w2c_i1 = 255u;
+  w2c_i0 &= w2c_i1;
+  w2c_i1 = w2c_p1;
+  w2c_i2 = 255u;
+  w2c_i1 &= w2c_i2;
+  w2c_i0 = w2c_i0 == w2c_i1;
+  if (w2c_i0) {goto w2c_B0;}
+  w2c_i0 = 1u;
+  w2c_l3 = w2c_i0;
+  w2c_i0 = w2c_p2;
+  w2c_i1 = w2c_p1;
+  w2c_i0 -= w2c_i1;
+  w2c_p1 = w2c_i0;
+  w2c_i1 = 255u;
+  w2c_i0 &= w2c_i1;
+  w2c_i1 = w2c_p0;
+  w2c_i2 = 254u;
+  w2c_i1 &= w2c_i2;
+  w2c_i2 = 1u;
+  w2c_i1 >>= (w2c_i2 & 31);
+  w2c_p2 = w2c_i1;
+  w2c_i0 = w2c_i0 < w2c_i1;
+  if (w2c_i0) {goto w2c_B0;}
+  w2c_i0 = 3u;
+  w2c_i1 = 2u;
+  w2c_i2 = w2c_p2;
+  w2c_i3 = 0u;
+  w2c_i4 = w2c_p1;
+  w2c_i3 -= w2c_i4;
+  w2c_i4 = 255u;
+  w2c_i3 &= w2c_i4;
+  w2c_i2 = w2c_i2 < w2c_i3;
+  w2c_i0 = w2c_i2 ? w2c_i0 : w2c_i1;
+  w2c_l3 = w2c_i0;
+  w2c_B0:;
+  w2c_i0 = w2c_l3;
+  FUNC_EPILOGUE;
+  return w2c_i0;
+}
+
+static void w2c_f13(Z_tcrx_instance_t* instance, u64 w2c_p0) {
   u64 w2c_l1 = 0;
   FUNC_PROLOGUE;
   u32 w2c_i0, w2c_i1, w2c_i2;
@@ -5038,12 +5073,12 @@ static void w2c_f12(Z_tcrx_instance_t* instance, u64 w2c_p0) {
   FUNC_EPILOGUE;
 }
 
-static void w2c_f13(Z_tcrx_instance_t* instance, u64 w2c_p0) {
+static void w2c_f14(Z_tcrx_instance_t* instance, u64 w2c_p0) {
   FUNC_PROLOGUE;
   FUNC_EPILOGUE;
 }
 
-static void w2c_f14(Z_tcrx_instance_t* instance, u64 w2c_p0, u64 w2c_p1) {
+static void w2c_f15(Z_tcrx_instance_t* instance, u64 w2c_p0, u64 w2c_p1) {
   u32 w2c_l9 = 0, w2c_l10 = 0, w2c_l11 = 0, w2c_l12 = 0, w2c_l13 = 0, w2c_l14 = 0;
   u64 w2c_l2 = 0, w2c_l3 = 0, w2c_l4 = 0, w2c_l5 = 0, w2c_l6 = 0, w2c_l7 = 0, w2c_l8 = 0;
   FUNC_PROLOGUE;
@@ -5393,7 +5428,7 @@ static void w2c_f14(Z_tcrx_instance_t* instance, u64 w2c_p0, u64 w2c_p1) {
   FUNC_EPILOGUE;
 }
 
-static void w2c_f15(Z_tcrx_instance_t* instance, u64 w2c_p0, u64 w2c_p1) {
+static void w2c_f16(Z_tcrx_instance_t* instance, u64 w2c_p0, u64 w2c_p1) {
   u32 w2c_l13 = 0, w2c_l14 = 0, w2c_l15 = 0, w2c_l16 = 0, w2c_l17 = 0;
   u64 w2c_l2 = 0, w2c_l3 = 0, w2c_l4 = 0, w2c_l5 = 0, w2c_l6 = 0, w2c_l7 = 0, w2c_l8 = 0, w2c_l9 = 0, 
       w2c_l10 = 0, w2c_l11 = 0, w2c_l12 = 0;
@@ -5464,7 +5499,7 @@ static void w2c_f15(Z_tcrx_instance_t* instance, u64 w2c_p0, u64 w2c_p1) {
   w2c_j1 <<= (w2c_j2 & 63);
   w2c_p1 = w2c_j1;
   w2c_j2 = 2ull;
-  w2c_f16(instance, w2c_j0, w2c_j1, w2c_j2);
+  w2c_f17(instance, w2c_j0, w2c_j1, w2c_j2);
   w2c_j0 = w2c_l2;
   w2c_i0 = (u32)(w2c_j0);
   w2c_j0 = i64_load(&instance->w2c_memory, (u64)(w2c_i0) + 24u);
@@ -5667,7 +5702,7 @@ static void w2c_f15(Z_tcrx_instance_t* instance, u64 w2c_p0, u64 w2c_p1) {
   w2c_j1 <<= (w2c_j2 & 63);
   w2c_p1 = w2c_j1;
   w2c_j2 = 2ull;
-  w2c_f16(instance, w2c_j0, w2c_j1, w2c_j2);
+  w2c_f17(instance, w2c_j0, w2c_j1, w2c_j2);
   w2c_j0 = w2c_l2;
   w2c_i0 = (u32)(w2c_j0);
   w2c_j0 = i64_load(&instance->w2c_memory, (u64)(w2c_i0) + 8u);
@@ -5938,7 +5973,7 @@ static void w2c_f15(Z_tcrx_instance_t* instance, u64 w2c_p0, u64 w2c_p1) {
   FUNC_EPILOGUE;
 }
 
-static void w2c_f16(Z_tcrx_instance_t* instance, u64 w2c_p0, u64 w2c_p1, u64 w2c_p2) {
+static void w2c_f17(Z_tcrx_instance_t* instance, u64 w2c_p0, u64 w2c_p1, u64 w2c_p2) {
   u32 w2c_l3 = 0;
   FUNC_PROLOGUE;
   u32 w2c_i0, w2c_i1, w2c_i3;
@@ -5964,7 +5999,7 @@ static void w2c_f16(Z_tcrx_instance_t* instance, u64 w2c_p0, u64 w2c_p1, u64 w2c
   FUNC_EPILOGUE;
 }
 
-static void w2c_f17(Z_tcrx_instance_t* instance, u64 w2c_p0, u64 w2c_p1, u64 w2c_p2) {
+static void w2c_f18(Z_tcrx_instance_t* instance, u64 w2c_p0, u64 w2c_p1, u64 w2c_p2) {
   u32 w2c_l27 = 0, w2c_l28 = 0, w2c_l29 = 0, w2c_l30 = 0, w2c_l31 = 0, w2c_l32 = 0, w2c_l33 = 0, w2c_l34 = 0, 
       w2c_l35 = 0, w2c_l36 = 0, w2c_l37 = 0, w2c_l38 = 0;
   u64 w2c_l3 = 0, w2c_l4 = 0, w2c_l5 = 0, w2c_l6 = 0, w2c_l7 = 0, w2c_l8 = 0, w2c_l9 = 0, w2c_l10 = 0, 
@@ -6414,7 +6449,7 @@ static void w2c_f17(Z_tcrx_instance_t* instance, u64 w2c_p0, u64 w2c_p1, u64 w2c
   w2c_j0 += w2c_j1;
   w2c_j1 = 5120ull;
   w2c_j2 = 8ull;
-  w2c_f16(instance, w2c_j0, w2c_j1, w2c_j2);
+  w2c_f17(instance, w2c_j0, w2c_j1, w2c_j2);
   w2c_j0 = w2c_l3;
   w2c_i0 = (u32)(w2c_j0);
   w2c_j0 = i64_load(&instance->w2c_memory, (u64)(w2c_i0) + 112u);
@@ -6460,7 +6495,7 @@ static void w2c_f17(Z_tcrx_instance_t* instance, u64 w2c_p0, u64 w2c_p1, u64 w2c
     w2c_j0 += w2c_j1;
     w2c_j1 = w2c_p2;
     w2c_j2 = 1ull;
-    w2c_f16(instance, w2c_j0, w2c_j1, w2c_j2);
+    w2c_f17(instance, w2c_j0, w2c_j1, w2c_j2);
     w2c_j0 = w2c_l3;
     w2c_i0 = (u32)(w2c_j0);
     w2c_j0 = i64_load(&instance->w2c_memory, (u64)(w2c_i0) + 96u);
@@ -6719,7 +6754,7 @@ static void w2c_f17(Z_tcrx_instance_t* instance, u64 w2c_p0, u64 w2c_p1, u64 w2c
   w2c_j2 = 5ull;
   w2c_j1 <<= (w2c_j2 & 63);
   w2c_j2 = 8ull;
-  w2c_f16(instance, w2c_j0, w2c_j1, w2c_j2);
+  w2c_f17(instance, w2c_j0, w2c_j1, w2c_j2);
   w2c_j0 = w2c_l3;
   w2c_i0 = (u32)(w2c_j0);
   w2c_j0 = i64_load(&instance->w2c_memory, (u64)(w2c_i0) + 80u);
@@ -6756,7 +6791,7 @@ static void w2c_f17(Z_tcrx_instance_t* instance, u64 w2c_p0, u64 w2c_p1, u64 w2c
     w2c_j0 += w2c_j1;
     w2c_j1 = 1019ull;
     w2c_j2 = 1ull;
-    w2c_f16(instance, w2c_j0, w2c_j1, w2c_j2);
+    w2c_f17(instance, w2c_j0, w2c_j1, w2c_j2);
     w2c_j0 = w2c_l3;
     w2c_i0 = (u32)(w2c_j0);
     w2c_j0 = i64_load(&instance->w2c_memory, (u64)(w2c_i0) + 64u);
@@ -6859,7 +6894,7 @@ static void w2c_f17(Z_tcrx_instance_t* instance, u64 w2c_p0, u64 w2c_p1, u64 w2c
   w2c_j2 = 6ull;
   w2c_j1 <<= (w2c_j2 & 63);
   w2c_j2 = 8ull;
-  w2c_f16(instance, w2c_j0, w2c_j1, w2c_j2);
+  w2c_f17(instance, w2c_j0, w2c_j1, w2c_j2);
   w2c_j0 = w2c_l3;
   w2c_i0 = (u32)(w2c_j0);
   w2c_j0 = i64_load(&instance->w2c_memory, (u64)(w2c_i0) + 48u);
@@ -6896,7 +6931,7 @@ static void w2c_f17(Z_tcrx_instance_t* instance, u64 w2c_p0, u64 w2c_p1, u64 w2c
     w2c_i2 = (u32)(w2c_j2);
     w2c_i2 = i32_load16_u(&instance->w2c_memory, (u64)(w2c_i2));
     w2c_j3 = w2c_l20;
-    w2c_f18(instance, w2c_j0, w2c_i1, w2c_i2, w2c_j3);
+    w2c_f19(instance, w2c_j0, w2c_i1, w2c_i2, w2c_j3);
     w2c_j0 = w2c_l3;
     w2c_i0 = (u32)(w2c_j0);
     w2c_i0 = i32_load8_u(&instance->w2c_memory, (u64)(w2c_i0) + 648u);
@@ -6983,7 +7018,7 @@ static void w2c_f17(Z_tcrx_instance_t* instance, u64 w2c_p0, u64 w2c_p1, u64 w2c
   w2c_j0 += w2c_j1;
   w2c_j1 = 4096ull;
   w2c_j2 = 2ull;
-  w2c_f16(instance, w2c_j0, w2c_j1, w2c_j2);
+  w2c_f17(instance, w2c_j0, w2c_j1, w2c_j2);
   w2c_j0 = w2c_l3;
   w2c_i0 = (u32)(w2c_j0);
   w2c_j0 = i64_load(&instance->w2c_memory, (u64)(w2c_i0) + 32u);
@@ -7143,7 +7178,7 @@ static void w2c_f17(Z_tcrx_instance_t* instance, u64 w2c_p0, u64 w2c_p1, u64 w2c
   w2c_j2 = 6ull;
   w2c_j1 <<= (w2c_j2 & 63);
   w2c_j2 = 8ull;
-  w2c_f16(instance, w2c_j0, w2c_j1, w2c_j2);
+  w2c_f17(instance, w2c_j0, w2c_j1, w2c_j2);
   w2c_j0 = w2c_l3;
   w2c_i0 = (u32)(w2c_j0);
   w2c_j0 = i64_load(&instance->w2c_memory, (u64)(w2c_i0) + 16u);
@@ -7180,7 +7215,7 @@ static void w2c_f17(Z_tcrx_instance_t* instance, u64 w2c_p0, u64 w2c_p1, u64 w2c
     w2c_i2 = (u32)(w2c_j2);
     w2c_i2 = i32_load16_u(&instance->w2c_memory, (u64)(w2c_i2));
     w2c_j3 = w2c_l20;
-    w2c_f18(instance, w2c_j0, w2c_i1, w2c_i2, w2c_j3);
+    w2c_f19(instance, w2c_j0, w2c_i1, w2c_i2, w2c_j3);
     w2c_j0 = w2c_l3;
     w2c_i0 = (u32)(w2c_j0);
     w2c_i0 = i32_load8_u(&instance->w2c_memory, (u64)(w2c_i0) + 648u);
@@ -7265,7 +7300,7 @@ static void w2c_f17(Z_tcrx_instance_t* instance, u64 w2c_p0, u64 w2c_p1, u64 w2c
   w2c_j0 = w2c_l3;
   w2c_j1 = 4096ull;
   w2c_j2 = 2ull;
-  w2c_f16(instance, w2c_j0, w2c_j1, w2c_j2);
+  w2c_f17(instance, w2c_j0, w2c_j1, w2c_j2);
   w2c_j0 = w2c_l3;
   w2c_i0 = (u32)(w2c_j0);
   w2c_j0 = i64_load(&instance->w2c_memory, (u64)(w2c_i0));
@@ -7411,7 +7446,7 @@ static void w2c_f17(Z_tcrx_instance_t* instance, u64 w2c_p0, u64 w2c_p1, u64 w2c
   w2c_j0 = w2c_l3;
   w2c_j1 = 1184ull;
   w2c_j0 += w2c_j1;
-  w2c_f19(instance, w2c_j0);
+  w2c_f20(instance, w2c_j0);
   goto w2c_B2;
   w2c_B34:;
   w2c_j0 = w2c_l3;
@@ -7429,7 +7464,7 @@ static void w2c_f17(Z_tcrx_instance_t* instance, u64 w2c_p0, u64 w2c_p1, u64 w2c
   w2c_j0 = w2c_l3;
   w2c_j1 = 648ull;
   w2c_j0 += w2c_j1;
-  w2c_f19(instance, w2c_j0);
+  w2c_f20(instance, w2c_j0);
   w2c_j0 = w2c_l3;
   w2c_i0 = (u32)(w2c_j0);
   w2c_j1 = w2c_l11;
@@ -7445,7 +7480,7 @@ static void w2c_f17(Z_tcrx_instance_t* instance, u64 w2c_p0, u64 w2c_p1, u64 w2c
   w2c_j0 = w2c_l3;
   w2c_j1 = 1160ull;
   w2c_j0 += w2c_j1;
-  w2c_f19(instance, w2c_j0);
+  w2c_f20(instance, w2c_j0);
   w2c_j0 = w2c_l3;
   w2c_i0 = (u32)(w2c_j0);
   w2c_j1 = 0ull;
@@ -7465,7 +7500,7 @@ static void w2c_f17(Z_tcrx_instance_t* instance, u64 w2c_p0, u64 w2c_p1, u64 w2c
   w2c_j0 = w2c_l3;
   w2c_j1 = 136ull;
   w2c_j0 += w2c_j1;
-  w2c_f20(instance, w2c_j0);
+  w2c_f21(instance, w2c_j0);
   goto w2c_B2;
   w2c_B6:;
   w2c_j0 = w2c_p0;
@@ -7495,7 +7530,7 @@ static void w2c_f17(Z_tcrx_instance_t* instance, u64 w2c_p0, u64 w2c_p1, u64 w2c
   w2c_j0 = w2c_l3;
   w2c_j1 = 648ull;
   w2c_j0 += w2c_j1;
-  w2c_f19(instance, w2c_j0);
+  w2c_f20(instance, w2c_j0);
   goto w2c_B2;
   w2c_B4:;
   UNREACHABLE;
@@ -7515,7 +7550,7 @@ static void w2c_f17(Z_tcrx_instance_t* instance, u64 w2c_p0, u64 w2c_p1, u64 w2c
   w2c_j0 = w2c_l3;
   w2c_j1 = 1184ull;
   w2c_j0 += w2c_j1;
-  w2c_f19(instance, w2c_j0);
+  w2c_f20(instance, w2c_j0);
   w2c_B2:;
   w2c_j0 = w2c_p0;
   w2c_i0 = (u32)(w2c_j0);
@@ -7836,7 +7871,7 @@ static void w2c_f17(Z_tcrx_instance_t* instance, u64 w2c_p0, u64 w2c_p1, u64 w2c
   FUNC_EPILOGUE;
 }
 
-static void w2c_f18(Z_tcrx_instance_t* instance, u64 w2c_p0, u32 w2c_p1, u32 w2c_p2, u64 w2c_p3) {
+static void w2c_f19(Z_tcrx_instance_t* instance, u64 w2c_p0, u32 w2c_p1, u32 w2c_p2, u64 w2c_p3) {
   u64 w2c_l4 = 0, w2c_l5 = 0, w2c_l6 = 0, w2c_l7 = 0, w2c_l8 = 0, w2c_l9 = 0, w2c_l10 = 0, w2c_l11 = 0, 
       w2c_l12 = 0;
   FUNC_PROLOGUE;
@@ -7858,7 +7893,7 @@ static void w2c_f18(Z_tcrx_instance_t* instance, u64 w2c_p0, u32 w2c_p1, u32 w2c
   w2c_j2 = 5ull;
   w2c_j1 <<= (w2c_j2 & 63);
   w2c_j2 = 8ull;
-  w2c_f16(instance, w2c_j0, w2c_j1, w2c_j2);
+  w2c_f17(instance, w2c_j0, w2c_j1, w2c_j2);
   w2c_j0 = w2c_l4;
   w2c_i0 = (u32)(w2c_j0);
   w2c_j0 = i64_load(&instance->w2c_memory, (u64)(w2c_i0) + 40u);
@@ -7959,7 +7994,7 @@ static void w2c_f18(Z_tcrx_instance_t* instance, u64 w2c_p0, u32 w2c_p1, u32 w2c
     w2c_j0 += w2c_j1;
     w2c_j1 = 1ull;
     w2c_j2 = 1ull;
-    w2c_f16(instance, w2c_j0, w2c_j1, w2c_j2);
+    w2c_f17(instance, w2c_j0, w2c_j1, w2c_j2);
     w2c_j0 = w2c_l4;
     w2c_i0 = (u32)(w2c_j0);
     w2c_j0 = i64_load(&instance->w2c_memory, (u64)(w2c_i0) + 24u);
@@ -8034,7 +8069,7 @@ static void w2c_f18(Z_tcrx_instance_t* instance, u64 w2c_p0, u32 w2c_p1, u32 w2c
     w2c_j0 += w2c_j1;
     w2c_j1 = w2c_p3;
     w2c_j2 = 1ull;
-    w2c_f16(instance, w2c_j0, w2c_j1, w2c_j2);
+    w2c_f17(instance, w2c_j0, w2c_j1, w2c_j2);
     w2c_j0 = w2c_l4;
     w2c_i0 = (u32)(w2c_j0);
     w2c_j0 = i64_load(&instance->w2c_memory, (u64)(w2c_i0) + 8u);
@@ -8225,11 +8260,6 @@ static void w2c_f18(Z_tcrx_instance_t* instance, u64 w2c_p0, u32 w2c_p1, u32 w2c
   FUNC_EPILOGUE;
 }
 
-static void w2c_f19(Z_tcrx_instance_t* instance, u64 w2c_p0) {
-  FUNC_PROLOGUE;
-  FUNC_EPILOGUE;
-}
-
 static void w2c_f20(Z_tcrx_instance_t* instance, u64 w2c_p0) {
   FUNC_PROLOGUE;
   FUNC_EPILOGUE;
@@ -8240,7 +8270,12 @@ static void w2c_f21(Z_tcrx_instance_t* instance, u64 w2c_p0) {
   FUNC_EPILOGUE;
 }
 
-static void w2c_f22(Z_tcrx_instance_t* instance, u64 w2c_p0, u64 w2c_p1, u64 w2c_p2) {
+static void w2c_f22(Z_tcrx_instance_t* instance, u64 w2c_p0) {
+  FUNC_PROLOGUE;
+  FUNC_EPILOGUE;
+}
+
+static void w2c_f23(Z_tcrx_instance_t* instance, u64 w2c_p0, u64 w2c_p1, u64 w2c_p2) {
   u32 w2c_l10 = 0, w2c_l11 = 0, w2c_l12 = 0, w2c_l13 = 0, w2c_l14 = 0, w2c_l15 = 0, w2c_l16 = 0;
   u64 w2c_l3 = 0, w2c_l4 = 0, w2c_l5 = 0, w2c_l6 = 0, w2c_l7 = 0, w2c_l8 = 0, w2c_l9 = 0;
   FUNC_PROLOGUE;
@@ -8312,7 +8347,7 @@ static void w2c_f22(Z_tcrx_instance_t* instance, u64 w2c_p0, u64 w2c_p1, u64 w2c
   w2c_j1 = w2c_l3;
   w2c_j2 = 8ull;
   w2c_j1 += w2c_j2;
-  w2c_f14(instance, w2c_j0, w2c_j1);
+  w2c_f15(instance, w2c_j0, w2c_j1);
   w2c_j0 = w2c_l3;
   w2c_i0 = (u32)(w2c_j0);
   w2c_i0 = i32_load8_u(&instance->w2c_memory, (u64)(w2c_i0));
@@ -8577,7 +8612,7 @@ static void w2c_f22(Z_tcrx_instance_t* instance, u64 w2c_p0, u64 w2c_p1, u64 w2c
   FUNC_EPILOGUE;
 }
 
-static void w2c_f23(Z_tcrx_instance_t* instance, u64 w2c_p0, u64 w2c_p1, u32 w2c_p2) {
+static void w2c_f24(Z_tcrx_instance_t* instance, u64 w2c_p0, u64 w2c_p1, u32 w2c_p2) {
   u64 w2c_l3 = 0, w2c_l4 = 0, w2c_l5 = 0, w2c_l6 = 0;
   FUNC_PROLOGUE;
   u32 w2c_i0, w2c_i1;
@@ -8704,7 +8739,7 @@ static void w2c_f23(Z_tcrx_instance_t* instance, u64 w2c_p0, u64 w2c_p1, u32 w2c
   FUNC_EPILOGUE;
 }
 
-static u32 w2c_f24(Z_tcrx_instance_t* instance, u64 w2c_p0) {
+static u32 w2c_f25(Z_tcrx_instance_t* instance, u64 w2c_p0) {
   FUNC_PROLOGUE;
   u32 w2c_i0, w2c_i1, w2c_i2, w2c_i3;
   u64 w2c_j0, w2c_j1, w2c_j2, w2c_j3;
@@ -8773,7 +8808,7 @@ static u32 w2c_f24(Z_tcrx_instance_t* instance, u64 w2c_p0) {
   return w2c_i0;
 }
 
-static void w2c_f25(Z_tcrx_instance_t* instance, u64 w2c_p0, u64 w2c_p1, u64 w2c_p2, u64 w2c_p3, u64 w2c_p4, u64 w2c_p5) {
+static void w2c_f26(Z_tcrx_instance_t* instance, u64 w2c_p0, u64 w2c_p1, u64 w2c_p2, u64 w2c_p3, u64 w2c_p4, u64 w2c_p5) {
   u32 w2c_l17 = 0, w2c_l18 = 0;
   u64 w2c_l6 = 0, w2c_l7 = 0, w2c_l8 = 0, w2c_l9 = 0, w2c_l10 = 0, w2c_l11 = 0, w2c_l12 = 0, w2c_l13 = 0, 
       w2c_l14 = 0, w2c_l15 = 0, w2c_l16 = 0;
@@ -8851,7 +8886,7 @@ static void w2c_f25(Z_tcrx_instance_t* instance, u64 w2c_p0, u64 w2c_p1, u64 w2c
   w2c_j1 = w2c_l6;
   w2c_j2 = 24ull;
   w2c_j1 += w2c_j2;
-  w2c_f14(instance, w2c_j0, w2c_j1);
+  w2c_f15(instance, w2c_j0, w2c_j1);
   w2c_j0 = w2c_l6;
   w2c_i0 = (u32)(w2c_j0);
   w2c_i0 = i32_load8_u(&instance->w2c_memory, (u64)(w2c_i0) + 16u);
@@ -9286,7 +9321,7 @@ static void w2c_f25(Z_tcrx_instance_t* instance, u64 w2c_p0, u64 w2c_p1, u64 w2c
   FUNC_EPILOGUE;
 }
 
-static void w2c_f26(Z_tcrx_instance_t* instance, u64 w2c_p0, u64 w2c_p1, u64 w2c_p2, u64 w2c_p3, u64 w2c_p4, u64 w2c_p5, u32 w2c_p6, u64 w2c_p7, 
+static void w2c_f27(Z_tcrx_instance_t* instance, u64 w2c_p0, u64 w2c_p1, u64 w2c_p2, u64 w2c_p3, u64 w2c_p4, u64 w2c_p5, u32 w2c_p6, u64 w2c_p7, 
     u64 w2c_p8) {
   u32 w2c_l23 = 0, w2c_l24 = 0, w2c_l25 = 0, w2c_l26 = 0, w2c_l27 = 0, w2c_l28 = 0;
   u64 w2c_l9 = 0, w2c_l10 = 0, w2c_l11 = 0, w2c_l12 = 0, w2c_l13 = 0, w2c_l14 = 0, w2c_l15 = 0, w2c_l16 = 0, 
@@ -9426,7 +9461,7 @@ static void w2c_f26(Z_tcrx_instance_t* instance, u64 w2c_p0, u64 w2c_p1, u64 w2c
   w2c_j2 = w2c_l9;
   w2c_j3 = 24ull;
   w2c_j2 += w2c_j3;
-  w2c_f22(instance, w2c_j0, w2c_j1, w2c_j2);
+  w2c_f23(instance, w2c_j0, w2c_j1, w2c_j2);
   w2c_j0 = w2c_l9;
   w2c_i0 = (u32)(w2c_j0);
   w2c_i0 = i32_load8_u(&instance->w2c_memory, (u64)(w2c_i0) + 92u);
@@ -10132,7 +10167,7 @@ static void w2c_f26(Z_tcrx_instance_t* instance, u64 w2c_p0, u64 w2c_p1, u64 w2c
   FUNC_EPILOGUE;
 }
 
-static void w2c_f27(Z_tcrx_instance_t* instance, u64 w2c_p0, u64 w2c_p1, u32 w2c_p2) {
+static void w2c_f28(Z_tcrx_instance_t* instance, u64 w2c_p0, u64 w2c_p1, u32 w2c_p2) {
   u64 w2c_l3 = 0, w2c_l4 = 0, w2c_l5 = 0, w2c_l6 = 0;
   FUNC_PROLOGUE;
   u32 w2c_i0, w2c_i1;
@@ -10259,7 +10294,7 @@ static void w2c_f27(Z_tcrx_instance_t* instance, u64 w2c_p0, u64 w2c_p1, u32 w2c
   FUNC_EPILOGUE;
 }
 
-static void w2c_f28(Z_tcrx_instance_t* instance, u64 w2c_p0, u64 w2c_p1, u64 w2c_p2, u32 w2c_p3, u64 w2c_p4, u64 w2c_p5) {
+static void w2c_f29(Z_tcrx_instance_t* instance, u64 w2c_p0, u64 w2c_p1, u64 w2c_p2, u32 w2c_p3, u64 w2c_p4, u64 w2c_p5) {
   u32 w2c_l7 = 0, w2c_l8 = 0, w2c_l9 = 0, w2c_l10 = 0, w2c_l11 = 0, w2c_l12 = 0;
   u64 w2c_l6 = 0;
   FUNC_PROLOGUE;
@@ -10283,7 +10318,7 @@ static void w2c_f28(Z_tcrx_instance_t* instance, u64 w2c_p0, u64 w2c_p1, u64 w2c
   w2c_j0 += w2c_j1;
   w2c_j1 = w2c_p4;
   w2c_j2 = w2c_p5;
-  w2c_f29(instance, w2c_j0, w2c_j1, w2c_j2);
+  w2c_f30(instance, w2c_j0, w2c_j1, w2c_j2);
   w2c_j0 = w2c_l6;
   w2c_i0 = (u32)(w2c_j0);
   w2c_i0 = i32_load8_u(&instance->w2c_memory, (u64)(w2c_i0) + 14u);
@@ -10587,7 +10622,7 @@ static void w2c_f28(Z_tcrx_instance_t* instance, u64 w2c_p0, u64 w2c_p1, u64 w2c
   FUNC_EPILOGUE;
 }
 
-static void w2c_f29(Z_tcrx_instance_t* instance, u64 w2c_p0, u64 w2c_p1, u64 w2c_p2) {
+static void w2c_f30(Z_tcrx_instance_t* instance, u64 w2c_p0, u64 w2c_p1, u64 w2c_p2) {
   u32 w2c_l3 = 0, w2c_l4 = 0, w2c_l5 = 0;
   u64 w2c_l6 = 0;
   FUNC_PROLOGUE;
@@ -10833,7 +10868,7 @@ static void w2c_f29(Z_tcrx_instance_t* instance, u64 w2c_p0, u64 w2c_p1, u64 w2c
   FUNC_EPILOGUE;
 }
 
-static void w2c_f30(Z_tcrx_instance_t* instance, u64 w2c_p0, u64 w2c_p1, u64 w2c_p2, u32 w2c_p3, u64 w2c_p4, u64 w2c_p5) {
+static void w2c_f31(Z_tcrx_instance_t* instance, u64 w2c_p0, u64 w2c_p1, u64 w2c_p2, u32 w2c_p3, u64 w2c_p4, u64 w2c_p5) {
   u32 w2c_l8 = 0, w2c_l9 = 0, w2c_l10 = 0, w2c_l11 = 0, w2c_l12 = 0, w2c_l13 = 0;
   u64 w2c_l6 = 0, w2c_l7 = 0;
   FUNC_PROLOGUE;
@@ -11055,7 +11090,7 @@ static void w2c_f30(Z_tcrx_instance_t* instance, u64 w2c_p0, u64 w2c_p1, u64 w2c
   FUNC_EPILOGUE;
 }
 
-static void w2c_f31(Z_tcrx_instance_t* instance, u64 w2c_p0, u64 w2c_p1, u64 w2c_p2, u32 w2c_p3) {
+static void w2c_f32(Z_tcrx_instance_t* instance, u64 w2c_p0, u64 w2c_p1, u64 w2c_p2, u32 w2c_p3) {
   u64 w2c_l4 = 0, w2c_l5 = 0;
   FUNC_PROLOGUE;
   u32 w2c_i0, w2c_i1, w2c_i3;
@@ -11127,7 +11162,7 @@ static void w2c_f31(Z_tcrx_instance_t* instance, u64 w2c_p0, u64 w2c_p1, u64 w2c
   FUNC_EPILOGUE;
 }
 
-static void w2c_f32(Z_tcrx_instance_t* instance, u64 w2c_p0, u64 w2c_p1, u64 w2c_p2, u64 w2c_p3, u64 w2c_p4) {
+static void w2c_f33(Z_tcrx_instance_t* instance, u64 w2c_p0, u64 w2c_p1, u64 w2c_p2, u64 w2c_p3, u64 w2c_p4) {
   u32 w2c_l9 = 0, w2c_l10 = 0, w2c_l11 = 0;
   u64 w2c_l5 = 0, w2c_l6 = 0, w2c_l7 = 0, w2c_l8 = 0;
   FUNC_PROLOGUE;
@@ -11517,161 +11552,44 @@ static void w2c_f32(Z_tcrx_instance_t* instance, u64 w2c_p0, u64 w2c_p1, u64 w2c
   FUNC_EPILOGUE;
 }
 
-static void w2c_f33(Z_tcrx_instance_t* instance, u64 w2c_p0, u64 w2c_p1, u32 w2c_p2, u64 w2c_p3, u64 w2c_p4) {
-  u64 w2c_l5 = 0, w2c_l6 = 0;
+static void w2c_f34(Z_tcrx_instance_t* instance, u64 w2c_p0, u64 w2c_p1, u32 w2c_p2, u64 w2c_p3, u64 w2c_p4) {
+  u32 w2c_l14 = 0;
+  u64 w2c_l5 = 0, w2c_l6 = 0, w2c_l7 = 0, w2c_l8 = 0, w2c_l9 = 0, w2c_l10 = 0, w2c_l11 = 0, w2c_l12 = 0, 
+      w2c_l13 = 0;
   FUNC_PROLOGUE;
-  u32 w2c_i0, w2c_i1, w2c_i2, w2c_i3, w2c_i6;
+  u32 w2c_i0, w2c_i1, w2c_i2, w2c_i3, w2c_i4, w2c_i5;
   u64 w2c_j0, w2c_j1, w2c_j2, w2c_j3, w2c_j4, w2c_j5, w2c_j6;
-  w2c_j0 = instance->w2c_g0;
-  w2c_j1 = 32ull;
-  w2c_j0 -= w2c_j1;
+  w2c_j0 = 70ull;
   w2c_l5 = w2c_j0;
-  instance->w2c_g0 = w2c_j0;
   w2c_j0 = w2c_p1;
   w2c_i0 = (u32)(w2c_j0);
   w2c_i0 = i32_load8_u(&instance->w2c_memory, (u64)(w2c_i0));
   w2c_i1 = 1u;
   w2c_i0 = w2c_i0 == w2c_i1;
-  if (w2c_i0) {goto w2c_B1;}
+  if (w2c_i0) {goto w2c_B2;}
   w2c_j0 = 0ull;
   w2c_p1 = w2c_j0;
-  w2c_j0 = 70ull;
-  w2c_p3 = w2c_j0;
-  goto w2c_B0;
-  w2c_B1:;
+  goto w2c_B1;
+  w2c_B2:;
   w2c_j0 = w2c_p1;
   w2c_j1 = 8ull;
   w2c_j0 += w2c_j1;
   w2c_i0 = (u32)(w2c_j0);
   w2c_j0 = i64_load(&instance->w2c_memory, (u64)(w2c_i0));
   w2c_l6 = w2c_j0;
-  w2c_j0 = w2c_l5;
-  w2c_i0 = (u32)(w2c_j0);
-  w2c_j1 = 0ull;
-  i64_store(&instance->w2c_memory, (u64)(w2c_i0) + 24, w2c_j1);
-  w2c_j0 = w2c_l5;
-  w2c_i0 = (u32)(w2c_j0);
-  w2c_j1 = 0ull;
-  i64_store(&instance->w2c_memory, (u64)(w2c_i0) + 16, w2c_j1);
-  w2c_j0 = w2c_l5;
-  w2c_i0 = (u32)(w2c_j0);
-  w2c_j1 = 0ull;
-  i64_store(&instance->w2c_memory, (u64)(w2c_i0) + 8, w2c_j1);
-  w2c_j0 = w2c_l5;
-  w2c_j1 = 8ull;
-  w2c_j0 += w2c_j1;
-  w2c_j1 = w2c_l6;
-  w2c_j2 = 192ull;
-  w2c_j1 += w2c_j2;
-  w2c_i2 = w2c_p2;
-  w2c_j3 = w2c_p3;
-  w2c_j4 = 4096ull;
-  w2c_j5 = 0ull;
-  w2c_j6 = w2c_p3;
-  w2c_i6 = !(w2c_j6);
-  w2c_j4 = w2c_i6 ? w2c_j4 : w2c_j5;
-  w2c_j3 += w2c_j4;
-  w2c_j4 = w2c_p4;
-  w2c_f34(instance, w2c_j0, w2c_j1, w2c_i2, w2c_j3, w2c_j4);
-  w2c_j0 = w2c_l5;
-  w2c_i0 = (u32)(w2c_j0);
-  w2c_j0 = i64_load(&instance->w2c_memory, (u64)(w2c_i0) + 16u);
-  w2c_p1 = w2c_j0;
-  w2c_j0 = w2c_l5;
-  w2c_i0 = (u32)(w2c_j0);
-  w2c_i0 = i32_load8_u(&instance->w2c_memory, (u64)(w2c_i0) + 8u);
-  if (w2c_i0) {goto w2c_B3;}
-  w2c_j0 = w2c_l6;
-  w2c_j1 = 288ull;
-  w2c_j0 += w2c_j1;
-  w2c_p3 = w2c_j0;
-  w2c_i0 = (u32)(w2c_j0);
-  w2c_j1 = 18446744073709551615ull;
-  w2c_j2 = w2c_p3;
-  w2c_i2 = (u32)(w2c_j2);
-  w2c_j2 = i64_load(&instance->w2c_memory, (u64)(w2c_i2));
-  w2c_j3 = 1ull;
-  w2c_j2 += w2c_j3;
-  w2c_p3 = w2c_j2;
-  w2c_j3 = w2c_p3;
-  w2c_i3 = !(w2c_j3);
-  w2c_j1 = w2c_i3 ? w2c_j1 : w2c_j2;
-  i64_store(&instance->w2c_memory, (u64)(w2c_i0), w2c_j1);
-  w2c_i0 = 0u;
-  w2c_p2 = w2c_i0;
-  goto w2c_B2;
-  w2c_B3:;
-  w2c_j0 = w2c_p1;
-  w2c_j1 = 255ull;
-  w2c_j0 &= w2c_j1;
-  w2c_p3 = w2c_j0;
-  w2c_j0 = 0ull;
-  w2c_p1 = w2c_j0;
-  w2c_i0 = 72u;
-  w2c_p2 = w2c_i0;
-  w2c_j0 = w2c_p3;
-  w2c_i0 = (u32)(w2c_j0);
-  switch (w2c_i0) {
-    case 0: goto w2c_B2;
-    case 1: goto w2c_B4;
-    case 2: goto w2c_B5;
-    default: goto w2c_B2;
-  }
-  w2c_B5:;
-  w2c_j0 = w2c_l5;
-  w2c_i0 = (u32)(w2c_j0);
-  w2c_j0 = i64_load(&instance->w2c_memory, (u64)(w2c_i0) + 24u);
-  w2c_j1 = 0ull;
-  w2c_j2 = w2c_p3;
-  w2c_j3 = 2ull;
-  w2c_i2 = w2c_j2 == w2c_j3;
-  w2c_j0 = w2c_i2 ? w2c_j0 : w2c_j1;
-  w2c_p1 = w2c_j0;
-  w2c_i0 = 50u;
-  w2c_p2 = w2c_i0;
-  goto w2c_B2;
-  w2c_B4:;
-  w2c_j0 = 0ull;
-  w2c_p1 = w2c_j0;
-  w2c_i0 = 74u;
-  w2c_p2 = w2c_i0;
-  w2c_B2:;
-  w2c_i0 = w2c_p2;
-  w2c_j0 = (u64)(w2c_i0);
-  w2c_p3 = w2c_j0;
-  w2c_B0:;
-  w2c_j0 = w2c_p0;
-  w2c_i0 = (u32)(w2c_j0);
-  w2c_j1 = w2c_p1;
-  i64_store(&instance->w2c_memory, (u64)(w2c_i0) + 8, w2c_j1);
-  w2c_j0 = w2c_p0;
-  w2c_i0 = (u32)(w2c_j0);
-  w2c_j1 = w2c_p3;
-  i64_store(&instance->w2c_memory, (u64)(w2c_i0), w2c_j1);
-  w2c_j0 = w2c_l5;
-  w2c_j1 = 32ull;
-  w2c_j0 += w2c_j1;
-  instance->w2c_g0 = w2c_j0;
-  FUNC_EPILOGUE;
-}
-
-static void w2c_f34(Z_tcrx_instance_t* instance, u64 w2c_p0, u64 w2c_p1, u32 w2c_p2, u64 w2c_p3, u64 w2c_p4) {
-  u64 w2c_l5 = 0, w2c_l6 = 0, w2c_l7 = 0, w2c_l8 = 0, w2c_l9 = 0, w2c_l10 = 0, w2c_l11 = 0, w2c_l12 = 0;
-  FUNC_PROLOGUE;
-  u32 w2c_i0, w2c_i1, w2c_i2, w2c_i3, w2c_i4, w2c_i5;
-  u64 w2c_j0, w2c_j1, w2c_j2, w2c_j3, w2c_j4, w2c_j5, w2c_j6;
-  w2c_j0 = w2c_p1;
-  w2c_j1 = 8ull;
+  w2c_j1 = 200ull;
   w2c_j0 += w2c_j1;
   w2c_i0 = (u32)(w2c_j0);
   w2c_j0 = i64_load(&instance->w2c_memory, (u64)(w2c_i0));
   w2c_l5 = w2c_j0;
-  w2c_j0 = w2c_p1;
+  w2c_j0 = w2c_l6;
+  w2c_j1 = 192ull;
+  w2c_j0 += w2c_j1;
   w2c_i0 = (u32)(w2c_j0);
   w2c_j0 = i64_load(&instance->w2c_memory, (u64)(w2c_i0));
-  w2c_l6 = w2c_j0;
-  w2c_j0 = w2c_p1;
-  w2c_j1 = 32ull;
+  w2c_l7 = w2c_j0;
+  w2c_j0 = w2c_l6;
+  w2c_j1 = 224ull;
   w2c_j0 += w2c_j1;
   w2c_i0 = (u32)(w2c_j0);
   w2c_j0 = i64_load(&instance->w2c_memory, (u64)(w2c_i0));
@@ -11679,29 +11597,29 @@ static void w2c_f34(Z_tcrx_instance_t* instance, u64 w2c_p0, u64 w2c_p1, u32 w2c
   w2c_j1 = (u64)(w2c_i1);
   w2c_j2 = 65535ull;
   w2c_j1 &= w2c_j2;
-  w2c_l7 = w2c_j1;
+  w2c_p1 = w2c_j1;
   w2c_i0 = w2c_j0 > w2c_j1;
-  if (w2c_i0) {goto w2c_B4;}
-  w2c_j0 = 1ull;
-  w2c_l8 = w2c_j0;
-  w2c_j0 = w2c_l5;
-  w2c_i0 = !(w2c_j0);
-  if (w2c_i0) {goto w2c_B2;}
+  if (w2c_i0) {goto w2c_B5;}
   w2c_j0 = 0ull;
   w2c_p1 = w2c_j0;
+  w2c_i0 = 72u;
+  w2c_l14 = w2c_i0;
+  w2c_j0 = w2c_l5;
+  w2c_i0 = !(w2c_j0);
+  if (w2c_i0) {goto w2c_B3;}
   w2c_i0 = w2c_p2;
   w2c_i1 = 65535u;
   w2c_i0 &= w2c_i1;
   w2c_p2 = w2c_i0;
-  w2c_L5: 
+  w2c_L6: 
     w2c_i0 = w2c_p2;
-    w2c_j1 = w2c_l6;
+    w2c_j1 = w2c_l7;
     w2c_j2 = w2c_p1;
     w2c_j1 += w2c_j2;
     w2c_i1 = (u32)(w2c_j1);
     w2c_i1 = i32_load16_u(&instance->w2c_memory, (u64)(w2c_i1));
     w2c_i0 = w2c_i0 == w2c_i1;
-    if (w2c_i0) {goto w2c_B3;}
+    if (w2c_i0) {goto w2c_B4;}
     w2c_j0 = w2c_p1;
     w2c_j1 = 64ull;
     w2c_j0 += w2c_j1;
@@ -11711,73 +11629,78 @@ static void w2c_f34(Z_tcrx_instance_t* instance, u64 w2c_p0, u64 w2c_p1, u32 w2c
     w2c_j0 += w2c_j1;
     w2c_l5 = w2c_j0;
     w2c_i0 = !(w2c_j0);
-    if (w2c_i0) {goto w2c_B2;}
-    goto w2c_L5;
-  UNREACHABLE;
-  w2c_B4:;
-  w2c_j0 = 1ull;
-  w2c_l8 = w2c_j0;
+    w2c_i0 = !(w2c_i0);
+    if (w2c_i0) {goto w2c_L6;}
+  w2c_j0 = 0ull;
+  w2c_p1 = w2c_j0;
+  goto w2c_B3;
+  w2c_B5:;
   w2c_j0 = w2c_l5;
-  w2c_j1 = w2c_p1;
-  w2c_j2 = 24ull;
+  w2c_j1 = w2c_l6;
+  w2c_j2 = 216ull;
   w2c_j1 += w2c_j2;
   w2c_i1 = (u32)(w2c_j1);
   w2c_j1 = i64_load(&instance->w2c_memory, (u64)(w2c_i1));
-  w2c_j2 = w2c_l7;
+  w2c_j2 = w2c_p1;
   w2c_j3 = 1ull;
   w2c_j2 <<= (w2c_j3 & 63);
   w2c_j1 += w2c_j2;
   w2c_i1 = (u32)(w2c_j1);
   w2c_j1 = i64_load16_u(&instance->w2c_memory, (u64)(w2c_i1));
   w2c_p1 = w2c_j1;
-  w2c_i0 = w2c_j0 <= w2c_j1;
-  if (w2c_i0) {goto w2c_B2;}
+  w2c_i0 = w2c_j0 > w2c_j1;
+  if (w2c_i0) {goto w2c_B7;}
+  w2c_j0 = 0ull;
+  w2c_p1 = w2c_j0;
+  w2c_i0 = 72u;
+  w2c_l14 = w2c_i0;
+  goto w2c_B3;
+  w2c_B7:;
   w2c_j0 = w2c_p1;
   w2c_j1 = 6ull;
   w2c_j0 <<= (w2c_j1 & 63);
   w2c_p1 = w2c_j0;
-  w2c_B3:;
-  w2c_j0 = 1ull;
-  w2c_l8 = w2c_j0;
-  w2c_j0 = w2c_l6;
+  w2c_B4:;
+  w2c_j0 = w2c_l7;
   w2c_j1 = w2c_p1;
   w2c_j0 += w2c_j1;
-  w2c_l9 = w2c_j0;
+  w2c_l8 = w2c_j0;
+  w2c_j0 = 0ull;
+  w2c_p1 = w2c_j0;
+  w2c_j0 = w2c_l8;
   w2c_j1 = 40ull;
   w2c_j0 += w2c_j1;
   w2c_i0 = (u32)(w2c_j0);
   w2c_j0 = i64_load(&instance->w2c_memory, (u64)(w2c_i0));
   w2c_i0 = !(w2c_j0);
   w2c_i0 = !(w2c_i0);
-  if (w2c_i0) {goto w2c_B6;}
-  w2c_j0 = 0ull;
-  w2c_l7 = w2c_j0;
-  w2c_j0 = 1ull;
-  w2c_p1 = w2c_j0;
-  goto w2c_B0;
-  w2c_B6:;
-  w2c_j0 = w2c_l9;
+  if (w2c_i0) {goto w2c_B8;}
+  w2c_i0 = 74u;
+  w2c_l14 = w2c_i0;
+  goto w2c_B3;
+  w2c_B8:;
+  w2c_j0 = w2c_l8;
   w2c_j1 = 24ull;
   w2c_j0 += w2c_j1;
   w2c_i0 = (u32)(w2c_j0);
   w2c_j0 = i64_load(&instance->w2c_memory, (u64)(w2c_i0));
   w2c_j1 = 0ull;
   w2c_i0 = w2c_j0 == w2c_j1;
-  if (w2c_i0) {goto w2c_B7;}
+  if (w2c_i0) {goto w2c_B0;}
   w2c_j0 = w2c_p4;
-  w2c_j1 = w2c_l9;
+  w2c_j1 = w2c_l8;
   w2c_j2 = 8ull;
   w2c_j1 += w2c_j2;
   w2c_i1 = (u32)(w2c_j1);
   w2c_j1 = i64_load(&instance->w2c_memory, (u64)(w2c_i1));
-  w2c_j2 = w2c_l9;
+  w2c_j2 = w2c_l8;
   w2c_j3 = 32ull;
   w2c_j2 += w2c_j3;
   w2c_i2 = (u32)(w2c_j2);
   w2c_j2 = i64_load(&instance->w2c_memory, (u64)(w2c_i2));
   w2c_p1 = w2c_j2;
   w2c_j3 = 0ull;
-  w2c_j4 = w2c_l9;
+  w2c_j4 = w2c_l8;
   w2c_j5 = 16ull;
   w2c_j4 += w2c_j5;
   w2c_i4 = (u32)(w2c_j4);
@@ -11791,187 +11714,201 @@ static void w2c_f34(Z_tcrx_instance_t* instance, u64 w2c_p0, u64 w2c_p1, u32 w2c
   w2c_j3 = 5ull;
   w2c_j2 <<= (w2c_j3 & 63);
   w2c_j1 += w2c_j2;
-  w2c_p1 = w2c_j1;
+  w2c_l5 = w2c_j1;
   w2c_j2 = 24ull;
   w2c_j1 += w2c_j2;
   w2c_i1 = (u32)(w2c_j1);
   w2c_j1 = i64_load(&instance->w2c_memory, (u64)(w2c_i1));
-  w2c_l7 = w2c_j1;
-  w2c_i0 = w2c_j0 >= w2c_j1;
-  if (w2c_i0) {goto w2c_B8;}
-  w2c_j0 = 2ull;
-  w2c_p1 = w2c_j0;
-  goto w2c_B0;
-  w2c_B8:;
-  w2c_j0 = w2c_p3;
-  w2c_j1 = w2c_p1;
-  w2c_i1 = (u32)(w2c_j1);
-  w2c_j1 = i64_load(&instance->w2c_memory, (u64)(w2c_i1));
-  w2c_p4 = w2c_j1;
-  w2c_j0 -= w2c_j1;
-  w2c_j1 = w2c_l7;
-  w2c_i0 = w2c_j0 >= w2c_j1;
-  if (w2c_i0) {goto w2c_B10;}
-  w2c_j0 = w2c_l7;
-  w2c_j1 = 3ull;
-  w2c_j0 &= w2c_j1;
-  w2c_l8 = w2c_j0;
-  w2c_j0 = 0ull;
-  w2c_l5 = w2c_j0;
-  w2c_j0 = w2c_l7;
-  w2c_j1 = 4ull;
+  w2c_p1 = w2c_j1;
   w2c_i0 = w2c_j0 < w2c_j1;
   if (w2c_i0) {goto w2c_B11;}
-  w2c_j0 = w2c_l7;
+  w2c_j0 = w2c_p3;
+  w2c_j1 = 4096ull;
+  w2c_j2 = 0ull;
+  w2c_j3 = w2c_p3;
+  w2c_i3 = !(w2c_j3);
+  w2c_j1 = w2c_i3 ? w2c_j1 : w2c_j2;
+  w2c_l9 = w2c_j1;
+  w2c_j0 += w2c_j1;
+  w2c_l10 = w2c_j0;
+  w2c_j1 = w2c_l5;
+  w2c_i1 = (u32)(w2c_j1);
+  w2c_j1 = i64_load(&instance->w2c_memory, (u64)(w2c_i1));
+  w2c_l11 = w2c_j1;
+  w2c_j0 -= w2c_j1;
+  w2c_j1 = w2c_p1;
+  w2c_i0 = w2c_j0 >= w2c_j1;
+  if (w2c_i0) {goto w2c_B10;}
+  w2c_j0 = w2c_p1;
+  w2c_j1 = 3ull;
+  w2c_j0 &= w2c_j1;
+  w2c_l12 = w2c_j0;
+  w2c_j0 = 0ull;
+  w2c_l7 = w2c_j0;
+  w2c_j0 = w2c_p1;
+  w2c_j1 = 4ull;
+  w2c_i0 = w2c_j0 < w2c_j1;
+  if (w2c_i0) {goto w2c_B12;}
+  w2c_j0 = w2c_p1;
   w2c_j1 = 18446744073709551612ull;
   w2c_j0 &= w2c_j1;
-  w2c_l10 = w2c_j0;
+  w2c_l13 = w2c_j0;
   w2c_j0 = 0ull;
-  w2c_l5 = w2c_j0;
-  w2c_L12: 
-    w2c_j0 = w2c_p3;
-    w2c_j1 = w2c_l5;
+  w2c_l7 = w2c_j0;
+  w2c_L13: 
+    w2c_j0 = w2c_l10;
+    w2c_j1 = w2c_l7;
     w2c_j0 += w2c_j1;
-    w2c_p1 = w2c_j0;
+    w2c_l5 = w2c_j0;
     w2c_i0 = (u32)(w2c_j0);
-    w2c_j1 = w2c_p4;
-    w2c_j2 = w2c_l5;
+    w2c_j1 = w2c_l11;
+    w2c_j2 = w2c_l7;
     w2c_j1 += w2c_j2;
-    w2c_l6 = w2c_j1;
+    w2c_p4 = w2c_j1;
     w2c_i1 = (u32)(w2c_j1);
     w2c_i1 = i32_load8_u(&instance->w2c_memory, (u64)(w2c_i1));
     i32_store8(&instance->w2c_memory, (u64)(w2c_i0), w2c_i1);
-    w2c_j0 = w2c_p1;
+    w2c_j0 = w2c_l5;
     w2c_j1 = 1ull;
     w2c_j0 += w2c_j1;
     w2c_i0 = (u32)(w2c_j0);
-    w2c_j1 = w2c_l6;
+    w2c_j1 = w2c_p4;
     w2c_j2 = 1ull;
     w2c_j1 += w2c_j2;
     w2c_i1 = (u32)(w2c_j1);
     w2c_i1 = i32_load8_u(&instance->w2c_memory, (u64)(w2c_i1));
     i32_store8(&instance->w2c_memory, (u64)(w2c_i0), w2c_i1);
-    w2c_j0 = w2c_p1;
+    w2c_j0 = w2c_l5;
     w2c_j1 = 2ull;
     w2c_j0 += w2c_j1;
     w2c_i0 = (u32)(w2c_j0);
-    w2c_j1 = w2c_l6;
+    w2c_j1 = w2c_p4;
     w2c_j2 = 2ull;
     w2c_j1 += w2c_j2;
     w2c_i1 = (u32)(w2c_j1);
     w2c_i1 = i32_load8_u(&instance->w2c_memory, (u64)(w2c_i1));
     i32_store8(&instance->w2c_memory, (u64)(w2c_i0), w2c_i1);
-    w2c_j0 = w2c_p1;
+    w2c_j0 = w2c_l5;
     w2c_j1 = 3ull;
     w2c_j0 += w2c_j1;
     w2c_i0 = (u32)(w2c_j0);
-    w2c_j1 = w2c_l6;
+    w2c_j1 = w2c_p4;
     w2c_j2 = 3ull;
     w2c_j1 += w2c_j2;
     w2c_i1 = (u32)(w2c_j1);
     w2c_i1 = i32_load8_u(&instance->w2c_memory, (u64)(w2c_i1));
     i32_store8(&instance->w2c_memory, (u64)(w2c_i0), w2c_i1);
-    w2c_j0 = w2c_l10;
-    w2c_j1 = w2c_l5;
+    w2c_j0 = w2c_l13;
+    w2c_j1 = w2c_l7;
     w2c_j2 = 4ull;
     w2c_j1 += w2c_j2;
-    w2c_l5 = w2c_j1;
+    w2c_l7 = w2c_j1;
     w2c_i0 = w2c_j0 != w2c_j1;
-    if (w2c_i0) {goto w2c_L12;}
-  w2c_j0 = w2c_l8;
+    if (w2c_i0) {goto w2c_L13;}
+  w2c_j0 = w2c_l12;
   w2c_i0 = !(w2c_j0);
   if (w2c_i0) {goto w2c_B9;}
-  w2c_B11:;
-  w2c_j0 = w2c_p3;
-  w2c_j1 = w2c_l5;
-  w2c_j0 += w2c_j1;
-  w2c_p1 = w2c_j0;
-  w2c_j0 = w2c_p4;
-  w2c_j1 = w2c_l5;
+  w2c_B12:;
+  w2c_j0 = w2c_l11;
+  w2c_j1 = w2c_l7;
   w2c_j0 += w2c_j1;
   w2c_l5 = w2c_j0;
-  w2c_L13: 
-    w2c_j0 = w2c_p1;
+  w2c_j0 = w2c_p3;
+  w2c_j1 = w2c_l9;
+  w2c_j2 = w2c_l7;
+  w2c_j1 += w2c_j2;
+  w2c_j0 += w2c_j1;
+  w2c_l7 = w2c_j0;
+  w2c_L14: 
+    w2c_j0 = w2c_l7;
     w2c_i0 = (u32)(w2c_j0);
     w2c_j1 = w2c_l5;
     w2c_i1 = (u32)(w2c_j1);
     w2c_i1 = i32_load8_u(&instance->w2c_memory, (u64)(w2c_i1));
     i32_store8(&instance->w2c_memory, (u64)(w2c_i0), w2c_i1);
-    w2c_j0 = w2c_p1;
+    w2c_j0 = w2c_l7;
     w2c_j1 = 1ull;
     w2c_j0 += w2c_j1;
-    w2c_p1 = w2c_j0;
+    w2c_l7 = w2c_j0;
     w2c_j0 = w2c_l5;
     w2c_j1 = 1ull;
     w2c_j0 += w2c_j1;
     w2c_l5 = w2c_j0;
-    w2c_j0 = w2c_l8;
+    w2c_j0 = w2c_l12;
     w2c_j1 = 18446744073709551615ull;
     w2c_j0 += w2c_j1;
-    w2c_l8 = w2c_j0;
+    w2c_l12 = w2c_j0;
     w2c_j1 = 0ull;
     w2c_i0 = w2c_j0 != w2c_j1;
-    if (w2c_i0) {goto w2c_L13;}
+    if (w2c_i0) {goto w2c_L14;}
     goto w2c_B9;
   UNREACHABLE;
+  w2c_B11:;
+  w2c_i0 = 50u;
+  w2c_l14 = w2c_i0;
+  goto w2c_B3;
   w2c_B10:;
-  w2c_j0 = w2c_p3;
-  w2c_j1 = w2c_p4;
-  w2c_j2 = w2c_l7;
+  w2c_j0 = w2c_l10;
+  w2c_j1 = w2c_l11;
+  w2c_j2 = w2c_p1;
   w2c_j0 = w2c_f4(instance, w2c_j0, w2c_j1, w2c_j2);
   w2c_B9:;
-  w2c_j0 = 0ull;
-  w2c_l8 = w2c_j0;
-  w2c_j0 = w2c_l9;
+  w2c_j0 = w2c_l8;
   w2c_j1 = 40ull;
   w2c_j0 += w2c_j1;
+  w2c_l5 = w2c_j0;
   w2c_i0 = (u32)(w2c_j0);
   w2c_j0 = i64_load(&instance->w2c_memory, (u64)(w2c_i0));
-  w2c_p1 = w2c_j0;
+  w2c_l7 = w2c_j0;
   w2c_i0 = !(w2c_j0);
-  if (w2c_i0) {goto w2c_B14;}
-  w2c_j0 = w2c_l9;
+  if (w2c_i0) {goto w2c_B15;}
+  w2c_j0 = w2c_l5;
+  w2c_i0 = (u32)(w2c_j0);
+  w2c_j1 = w2c_l7;
+  w2c_j2 = 18446744073709551615ull;
+  w2c_j1 += w2c_j2;
+  w2c_l7 = w2c_j1;
+  i64_store(&instance->w2c_memory, (u64)(w2c_i0), w2c_j1);
+  w2c_j0 = w2c_l8;
   w2c_j1 = 24ull;
   w2c_j0 += w2c_j1;
   w2c_i0 = (u32)(w2c_j0);
   w2c_j0 = i64_load(&instance->w2c_memory, (u64)(w2c_i0));
   w2c_l5 = w2c_j0;
-  w2c_j0 = w2c_l9;
-  w2c_j1 = 48ull;
-  w2c_j0 += w2c_j1;
-  w2c_i0 = (u32)(w2c_j0);
-  w2c_j0 = i64_load(&instance->w2c_memory, (u64)(w2c_i0));
-  w2c_j1 = w2c_p1;
-  w2c_j0 += w2c_j1;
-  w2c_j1 = 1ull;
+  w2c_j0 = w2c_l7;
+  w2c_j1 = 0ull;
+  w2c_j2 = w2c_l8;
+  w2c_j3 = 48ull;
+  w2c_j2 += w2c_j3;
+  w2c_i2 = (u32)(w2c_j2);
+  w2c_j2 = i64_load(&instance->w2c_memory, (u64)(w2c_i2));
+  w2c_j1 -= w2c_j2;
   w2c_i0 = w2c_j0 != w2c_j1;
   if (w2c_i0) {goto w2c_B16;}
-  w2c_j0 = 0ull;
-  w2c_p1 = w2c_j0;
   w2c_j0 = w2c_l5;
   w2c_j1 = 0ull;
   w2c_i0 = w2c_j0 == w2c_j1;
-  if (w2c_i0) {goto w2c_B7;}
-  w2c_j0 = w2c_l9;
+  if (w2c_i0) {goto w2c_B0;}
+  w2c_j0 = w2c_l8;
   w2c_j1 = 8ull;
   w2c_j0 += w2c_j1;
   w2c_i0 = (u32)(w2c_j0);
   w2c_j0 = i64_load(&instance->w2c_memory, (u64)(w2c_i0));
-  w2c_j1 = w2c_l9;
+  w2c_j1 = w2c_l8;
   w2c_j2 = 32ull;
   w2c_j1 += w2c_j2;
   w2c_i1 = (u32)(w2c_j1);
   w2c_j1 = i64_load(&instance->w2c_memory, (u64)(w2c_i1));
   w2c_l5 = w2c_j1;
   w2c_j2 = 0ull;
-  w2c_j3 = w2c_l9;
+  w2c_j3 = w2c_l8;
   w2c_j4 = 16ull;
   w2c_j3 += w2c_j4;
   w2c_i3 = (u32)(w2c_j3);
   w2c_j3 = i64_load(&instance->w2c_memory, (u64)(w2c_i3));
-  w2c_l6 = w2c_j3;
+  w2c_l7 = w2c_j3;
   w2c_j4 = w2c_l5;
-  w2c_j5 = w2c_l6;
+  w2c_j5 = w2c_l7;
   w2c_i4 = w2c_j4 < w2c_j5;
   w2c_j2 = w2c_i4 ? w2c_j2 : w2c_j3;
   w2c_j1 -= w2c_j2;
@@ -11988,290 +11925,654 @@ static void w2c_f34(Z_tcrx_instance_t* instance, u64 w2c_p0, u64 w2c_p1, u32 w2c
   w2c_j0 = w2c_l5;
   w2c_j1 = 0ull;
   w2c_i0 = w2c_j0 == w2c_j1;
-  if (w2c_i0) {goto w2c_B7;}
-  w2c_j0 = w2c_l9;
+  if (w2c_i0) {goto w2c_B0;}
+  w2c_j0 = w2c_l8;
   w2c_j1 = 24ull;
   w2c_j0 += w2c_j1;
-  w2c_l6 = w2c_j0;
+  w2c_p4 = w2c_j0;
   w2c_i0 = (u32)(w2c_j0);
   w2c_j1 = w2c_l5;
   w2c_j2 = 18446744073709551615ull;
   w2c_j1 += w2c_j2;
-  w2c_l5 = w2c_j1;
+  w2c_l7 = w2c_j1;
   i64_store(&instance->w2c_memory, (u64)(w2c_i0), w2c_j1);
-  w2c_j0 = w2c_l9;
+  w2c_j0 = w2c_l8;
   w2c_j1 = 32ull;
   w2c_j0 += w2c_j1;
-  w2c_p1 = w2c_j0;
+  w2c_l5 = w2c_j0;
   w2c_i0 = (u32)(w2c_j0);
-  w2c_j1 = w2c_p1;
+  w2c_j1 = w2c_l5;
   w2c_i1 = (u32)(w2c_j1);
   w2c_j1 = i64_load(&instance->w2c_memory, (u64)(w2c_i1));
-  w2c_p4 = w2c_j1;
+  w2c_p3 = w2c_j1;
   w2c_j2 = 1ull;
   w2c_j1 += w2c_j2;
-  w2c_p3 = w2c_j1;
+  w2c_l12 = w2c_j1;
   w2c_j2 = 0ull;
-  w2c_j3 = w2c_l9;
+  w2c_j3 = w2c_l8;
   w2c_j4 = 16ull;
   w2c_j3 += w2c_j4;
   w2c_i3 = (u32)(w2c_j3);
   w2c_j3 = i64_load(&instance->w2c_memory, (u64)(w2c_i3));
-  w2c_p1 = w2c_j3;
-  w2c_j4 = w2c_p3;
-  w2c_j5 = w2c_p1;
+  w2c_l5 = w2c_j3;
+  w2c_j4 = w2c_l12;
+  w2c_j5 = w2c_l5;
   w2c_i4 = w2c_j4 < w2c_j5;
   w2c_j2 = w2c_i4 ? w2c_j2 : w2c_j3;
   w2c_j1 -= w2c_j2;
-  w2c_l10 = w2c_j1;
+  w2c_l11 = w2c_j1;
   i64_store(&instance->w2c_memory, (u64)(w2c_i0), w2c_j1);
-  w2c_j0 = w2c_p1;
-  w2c_j1 = w2c_l5;
+  w2c_j0 = w2c_l5;
+  w2c_j1 = w2c_l7;
   w2c_i0 = w2c_j0 <= w2c_j1;
-  if (w2c_i0) {goto w2c_B7;}
-  w2c_j0 = w2c_l9;
+  if (w2c_i0) {goto w2c_B0;}
+  w2c_j0 = w2c_l8;
   w2c_j1 = 8ull;
   w2c_j0 += w2c_j1;
   w2c_i0 = (u32)(w2c_j0);
   w2c_j0 = i64_load(&instance->w2c_memory, (u64)(w2c_i0));
-  w2c_l11 = w2c_j0;
-  w2c_j1 = w2c_p4;
+  w2c_l8 = w2c_j0;
+  w2c_j1 = w2c_p3;
   w2c_j2 = 5ull;
   w2c_j1 <<= (w2c_j2 & 63);
   w2c_j0 += w2c_j1;
-  w2c_p3 = w2c_j0;
+  w2c_l12 = w2c_j0;
   w2c_i0 = (u32)(w2c_j0);
   w2c_j0 = i64_load(&instance->w2c_memory, (u64)(w2c_i0));
-  w2c_p4 = w2c_j0;
-  w2c_j0 = w2c_p3;
+  w2c_p3 = w2c_j0;
+  w2c_j0 = w2c_l12;
   w2c_i0 = (u32)(w2c_j0);
   w2c_j0 = i64_load(&instance->w2c_memory, (u64)(w2c_i0) + 8u);
-  w2c_l12 = w2c_j0;
-  w2c_j0 = w2c_l11;
-  w2c_j1 = w2c_l10;
-  w2c_j2 = w2c_l5;
+  w2c_l10 = w2c_j0;
+  w2c_j0 = w2c_l8;
+  w2c_j1 = w2c_l11;
+  w2c_j2 = w2c_l7;
   w2c_j1 += w2c_j2;
-  w2c_l5 = w2c_j1;
+  w2c_l7 = w2c_j1;
   w2c_j2 = 0ull;
-  w2c_j3 = w2c_p1;
-  w2c_j4 = w2c_l5;
-  w2c_j5 = w2c_p1;
+  w2c_j3 = w2c_l5;
+  w2c_j4 = w2c_l7;
+  w2c_j5 = w2c_l5;
   w2c_i4 = w2c_j4 < w2c_j5;
   w2c_j2 = w2c_i4 ? w2c_j2 : w2c_j3;
   w2c_j1 -= w2c_j2;
   w2c_j2 = 5ull;
   w2c_j1 <<= (w2c_j2 & 63);
   w2c_j0 += w2c_j1;
-  w2c_p1 = w2c_j0;
+  w2c_l5 = w2c_j0;
   w2c_i0 = (u32)(w2c_j0);
-  w2c_j1 = w2c_p3;
+  w2c_j1 = w2c_l12;
   w2c_i1 = (u32)(w2c_j1);
   w2c_j1 = i64_load(&instance->w2c_memory, (u64)(w2c_i1) + 16u);
   i64_store(&instance->w2c_memory, (u64)(w2c_i0) + 16, w2c_j1);
-  w2c_j0 = w2c_p1;
+  w2c_j0 = w2c_l5;
   w2c_i0 = (u32)(w2c_j0);
-  w2c_j1 = w2c_l12;
+  w2c_j1 = w2c_l10;
   i64_store(&instance->w2c_memory, (u64)(w2c_i0) + 8, w2c_j1);
-  w2c_j0 = w2c_p1;
+  w2c_j0 = w2c_l5;
   w2c_i0 = (u32)(w2c_j0);
-  w2c_j1 = w2c_p4;
+  w2c_j1 = w2c_p3;
   i64_store(&instance->w2c_memory, (u64)(w2c_i0), w2c_j1);
-  w2c_j0 = w2c_p1;
+  w2c_j0 = w2c_l5;
   w2c_i0 = (u32)(w2c_j0);
   w2c_j1 = 0ull;
   i64_store(&instance->w2c_memory, (u64)(w2c_i0) + 24, w2c_j1);
-  w2c_j0 = w2c_l6;
+  w2c_j0 = w2c_p4;
   w2c_i0 = (u32)(w2c_j0);
-  w2c_j1 = w2c_l6;
+  w2c_j1 = w2c_p4;
   w2c_i1 = (u32)(w2c_j1);
   w2c_j1 = i64_load(&instance->w2c_memory, (u64)(w2c_i1));
   w2c_j2 = 1ull;
   w2c_j1 += w2c_j2;
   i64_store(&instance->w2c_memory, (u64)(w2c_i0), w2c_j1);
-  w2c_j0 = w2c_l9;
-  w2c_j1 = 40ull;
-  w2c_j0 += w2c_j1;
-  w2c_i0 = (u32)(w2c_j0);
-  w2c_j0 = i64_load(&instance->w2c_memory, (u64)(w2c_i0));
-  w2c_j1 = 18446744073709551615ull;
-  w2c_j0 += w2c_j1;
-  w2c_p1 = w2c_j0;
   w2c_B15:;
-  w2c_j0 = w2c_l9;
-  w2c_j1 = 40ull;
+  w2c_j0 = w2c_l6;
+  w2c_j1 = 288ull;
   w2c_j0 += w2c_j1;
+  w2c_l5 = w2c_j0;
   w2c_i0 = (u32)(w2c_j0);
-  w2c_j1 = w2c_p1;
+  w2c_j1 = 18446744073709551615ull;
+  w2c_j2 = w2c_l5;
+  w2c_i2 = (u32)(w2c_j2);
+  w2c_j2 = i64_load(&instance->w2c_memory, (u64)(w2c_i2));
+  w2c_j3 = 1ull;
+  w2c_j2 += w2c_j3;
+  w2c_l5 = w2c_j2;
+  w2c_j3 = w2c_l5;
+  w2c_i3 = !(w2c_j3);
+  w2c_j1 = w2c_i3 ? w2c_j1 : w2c_j2;
   i64_store(&instance->w2c_memory, (u64)(w2c_i0), w2c_j1);
-  w2c_B14:;
-  w2c_j0 = w2c_l7;
-  w2c_p1 = w2c_j0;
-  goto w2c_B1;
-  w2c_B7:;
-  UNREACHABLE;
-  w2c_B2:;
-  w2c_j0 = 0ull;
-  w2c_p1 = w2c_j0;
+  w2c_i0 = 0u;
+  w2c_l14 = w2c_i0;
+  w2c_B3:;
+  w2c_i0 = w2c_l14;
+  w2c_j0 = (u64)(w2c_i0);
+  w2c_l5 = w2c_j0;
   w2c_B1:;
-  w2c_j0 = 0ull;
-  w2c_l7 = w2c_j0;
-  w2c_B0:;
   w2c_j0 = w2c_p0;
-  w2c_i0 = (u32)(w2c_j0);
-  w2c_j1 = w2c_l8;
-  i64_store(&instance->w2c_memory, (u64)(w2c_i0), w2c_j1);
-  w2c_j0 = w2c_p0;
-  w2c_j1 = 16ull;
-  w2c_j0 += w2c_j1;
-  w2c_i0 = (u32)(w2c_j0);
-  w2c_j1 = w2c_l7;
-  i64_store(&instance->w2c_memory, (u64)(w2c_i0), w2c_j1);
-  w2c_j0 = w2c_p0;
-  w2c_j1 = 8ull;
-  w2c_j0 += w2c_j1;
   w2c_i0 = (u32)(w2c_j0);
   w2c_j1 = w2c_p1;
+  i64_store(&instance->w2c_memory, (u64)(w2c_i0) + 8, w2c_j1);
+  w2c_j0 = w2c_p0;
+  w2c_i0 = (u32)(w2c_j0);
+  w2c_j1 = w2c_l5;
   i64_store(&instance->w2c_memory, (u64)(w2c_i0), w2c_j1);
+  goto w2c_Bfunc;
+  w2c_B0:;
+  UNREACHABLE;
+  w2c_Bfunc:;
   FUNC_EPILOGUE;
 }
 
 static void w2c_f35(Z_tcrx_instance_t* instance, u64 w2c_p0, u64 w2c_p1, u32 w2c_p2, u64 w2c_p3, u64 w2c_p4) {
-  u64 w2c_l5 = 0, w2c_l6 = 0;
+  u32 w2c_l14 = 0;
+  u64 w2c_l5 = 0, w2c_l6 = 0, w2c_l7 = 0, w2c_l8 = 0, w2c_l9 = 0, w2c_l10 = 0, w2c_l11 = 0, w2c_l12 = 0, 
+      w2c_l13 = 0;
   FUNC_PROLOGUE;
-  u32 w2c_i0, w2c_i1, w2c_i2, w2c_i3, w2c_i6;
+  u32 w2c_i0, w2c_i1, w2c_i2, w2c_i3, w2c_i4, w2c_i5;
   u64 w2c_j0, w2c_j1, w2c_j2, w2c_j3, w2c_j4, w2c_j5, w2c_j6;
-  w2c_j0 = instance->w2c_g0;
-  w2c_j1 = 32ull;
-  w2c_j0 -= w2c_j1;
+  w2c_j0 = 70ull;
   w2c_l5 = w2c_j0;
-  instance->w2c_g0 = w2c_j0;
   w2c_j0 = w2c_p1;
   w2c_i0 = (u32)(w2c_j0);
   w2c_i0 = i32_load8_u(&instance->w2c_memory, (u64)(w2c_i0));
   w2c_i1 = 1u;
   w2c_i0 = w2c_i0 == w2c_i1;
-  if (w2c_i0) {goto w2c_B1;}
+  if (w2c_i0) {goto w2c_B2;}
   w2c_j0 = 0ull;
   w2c_p1 = w2c_j0;
-  w2c_j0 = 70ull;
-  w2c_p3 = w2c_j0;
-  goto w2c_B0;
-  w2c_B1:;
+  goto w2c_B1;
+  w2c_B2:;
   w2c_j0 = w2c_p1;
   w2c_j1 = 8ull;
   w2c_j0 += w2c_j1;
   w2c_i0 = (u32)(w2c_j0);
   w2c_j0 = i64_load(&instance->w2c_memory, (u64)(w2c_i0));
   w2c_l6 = w2c_j0;
+  w2c_j1 = 248ull;
+  w2c_j0 += w2c_j1;
+  w2c_i0 = (u32)(w2c_j0);
+  w2c_j0 = i64_load(&instance->w2c_memory, (u64)(w2c_i0));
+  w2c_l5 = w2c_j0;
+  w2c_j0 = w2c_l6;
+  w2c_j1 = 240ull;
+  w2c_j0 += w2c_j1;
+  w2c_i0 = (u32)(w2c_j0);
+  w2c_j0 = i64_load(&instance->w2c_memory, (u64)(w2c_i0));
+  w2c_l7 = w2c_j0;
+  w2c_j0 = w2c_l6;
+  w2c_j1 = 272ull;
+  w2c_j0 += w2c_j1;
+  w2c_i0 = (u32)(w2c_j0);
+  w2c_j0 = i64_load(&instance->w2c_memory, (u64)(w2c_i0));
+  w2c_i1 = w2c_p2;
+  w2c_j1 = (u64)(w2c_i1);
+  w2c_j2 = 255ull;
+  w2c_j1 &= w2c_j2;
+  w2c_p1 = w2c_j1;
+  w2c_i0 = w2c_j0 > w2c_j1;
+  if (w2c_i0) {goto w2c_B5;}
+  w2c_j0 = 0ull;
+  w2c_p1 = w2c_j0;
+  w2c_i0 = 73u;
+  w2c_l14 = w2c_i0;
+  w2c_j0 = w2c_l5;
+  w2c_i0 = !(w2c_j0);
+  if (w2c_i0) {goto w2c_B3;}
+  w2c_i0 = w2c_p2;
+  w2c_i1 = 255u;
+  w2c_i0 &= w2c_i1;
+  w2c_p2 = w2c_i0;
+  w2c_L6: 
+    w2c_j0 = w2c_l7;
+    w2c_j1 = w2c_p1;
+    w2c_j0 += w2c_j1;
+    w2c_i0 = (u32)(w2c_j0);
+    w2c_i0 = i32_load16_u(&instance->w2c_memory, (u64)(w2c_i0));
+    w2c_i1 = w2c_p2;
+    w2c_i0 = w2c_i0 == w2c_i1;
+    if (w2c_i0) {goto w2c_B4;}
+    w2c_j0 = w2c_p1;
+    w2c_j1 = 64ull;
+    w2c_j0 += w2c_j1;
+    w2c_p1 = w2c_j0;
+    w2c_j0 = w2c_l5;
+    w2c_j1 = 18446744073709551615ull;
+    w2c_j0 += w2c_j1;
+    w2c_l5 = w2c_j0;
+    w2c_i0 = !(w2c_j0);
+    w2c_i0 = !(w2c_i0);
+    if (w2c_i0) {goto w2c_L6;}
+  w2c_j0 = 0ull;
+  w2c_p1 = w2c_j0;
+  goto w2c_B3;
+  w2c_B5:;
+  w2c_j0 = w2c_l5;
+  w2c_j1 = w2c_l6;
+  w2c_j2 = 264ull;
+  w2c_j1 += w2c_j2;
+  w2c_i1 = (u32)(w2c_j1);
+  w2c_j1 = i64_load(&instance->w2c_memory, (u64)(w2c_i1));
+  w2c_j2 = w2c_p1;
+  w2c_j3 = 1ull;
+  w2c_j2 <<= (w2c_j3 & 63);
+  w2c_j1 += w2c_j2;
+  w2c_i1 = (u32)(w2c_j1);
+  w2c_j1 = i64_load16_u(&instance->w2c_memory, (u64)(w2c_i1));
+  w2c_p1 = w2c_j1;
+  w2c_i0 = w2c_j0 > w2c_j1;
+  if (w2c_i0) {goto w2c_B7;}
+  w2c_j0 = 0ull;
+  w2c_p1 = w2c_j0;
+  w2c_i0 = 73u;
+  w2c_l14 = w2c_i0;
+  goto w2c_B3;
+  w2c_B7:;
+  w2c_j0 = w2c_p1;
+  w2c_j1 = 6ull;
+  w2c_j0 <<= (w2c_j1 & 63);
+  w2c_p1 = w2c_j0;
+  w2c_B4:;
+  w2c_j0 = w2c_l7;
+  w2c_j1 = w2c_p1;
+  w2c_j0 += w2c_j1;
+  w2c_l8 = w2c_j0;
+  w2c_j0 = 0ull;
+  w2c_p1 = w2c_j0;
+  w2c_j0 = w2c_l8;
+  w2c_j1 = 40ull;
+  w2c_j0 += w2c_j1;
+  w2c_i0 = (u32)(w2c_j0);
+  w2c_j0 = i64_load(&instance->w2c_memory, (u64)(w2c_i0));
+  w2c_i0 = !(w2c_j0);
+  w2c_i0 = !(w2c_i0);
+  if (w2c_i0) {goto w2c_B8;}
+  w2c_i0 = 74u;
+  w2c_l14 = w2c_i0;
+  goto w2c_B3;
+  w2c_B8:;
+  w2c_j0 = w2c_l8;
+  w2c_j1 = 24ull;
+  w2c_j0 += w2c_j1;
+  w2c_i0 = (u32)(w2c_j0);
+  w2c_j0 = i64_load(&instance->w2c_memory, (u64)(w2c_i0));
+  w2c_j1 = 0ull;
+  w2c_i0 = w2c_j0 == w2c_j1;
+  if (w2c_i0) {goto w2c_B0;}
+  w2c_j0 = w2c_p4;
+  w2c_j1 = w2c_l8;
+  w2c_j2 = 8ull;
+  w2c_j1 += w2c_j2;
+  w2c_i1 = (u32)(w2c_j1);
+  w2c_j1 = i64_load(&instance->w2c_memory, (u64)(w2c_i1));
+  w2c_j2 = w2c_l8;
+  w2c_j3 = 32ull;
+  w2c_j2 += w2c_j3;
+  w2c_i2 = (u32)(w2c_j2);
+  w2c_j2 = i64_load(&instance->w2c_memory, (u64)(w2c_i2));
+  w2c_p1 = w2c_j2;
+  w2c_j3 = 0ull;
+  w2c_j4 = w2c_l8;
+  w2c_j5 = 16ull;
+  w2c_j4 += w2c_j5;
+  w2c_i4 = (u32)(w2c_j4);
+  w2c_j4 = i64_load(&instance->w2c_memory, (u64)(w2c_i4));
+  w2c_l5 = w2c_j4;
+  w2c_j5 = w2c_p1;
+  w2c_j6 = w2c_l5;
+  w2c_i5 = w2c_j5 < w2c_j6;
+  w2c_j3 = w2c_i5 ? w2c_j3 : w2c_j4;
+  w2c_j2 -= w2c_j3;
+  w2c_j3 = 5ull;
+  w2c_j2 <<= (w2c_j3 & 63);
+  w2c_j1 += w2c_j2;
+  w2c_l5 = w2c_j1;
+  w2c_j2 = 24ull;
+  w2c_j1 += w2c_j2;
+  w2c_i1 = (u32)(w2c_j1);
+  w2c_j1 = i64_load(&instance->w2c_memory, (u64)(w2c_i1));
+  w2c_p1 = w2c_j1;
+  w2c_i0 = w2c_j0 < w2c_j1;
+  if (w2c_i0) {goto w2c_B11;}
+  w2c_j0 = w2c_p3;
+  w2c_j1 = 4096ull;
+  w2c_j2 = 0ull;
+  w2c_j3 = w2c_p3;
+  w2c_i3 = !(w2c_j3);
+  w2c_j1 = w2c_i3 ? w2c_j1 : w2c_j2;
+  w2c_l9 = w2c_j1;
+  w2c_j0 += w2c_j1;
+  w2c_l10 = w2c_j0;
+  w2c_j1 = w2c_l5;
+  w2c_i1 = (u32)(w2c_j1);
+  w2c_j1 = i64_load(&instance->w2c_memory, (u64)(w2c_i1));
+  w2c_l11 = w2c_j1;
+  w2c_j0 -= w2c_j1;
+  w2c_j1 = w2c_p1;
+  w2c_i0 = w2c_j0 >= w2c_j1;
+  if (w2c_i0) {goto w2c_B10;}
+  w2c_j0 = w2c_p1;
+  w2c_j1 = 3ull;
+  w2c_j0 &= w2c_j1;
+  w2c_l12 = w2c_j0;
+  w2c_j0 = 0ull;
+  w2c_l7 = w2c_j0;
+  w2c_j0 = w2c_p1;
+  w2c_j1 = 4ull;
+  w2c_i0 = w2c_j0 < w2c_j1;
+  if (w2c_i0) {goto w2c_B12;}
+  w2c_j0 = w2c_p1;
+  w2c_j1 = 18446744073709551612ull;
+  w2c_j0 &= w2c_j1;
+  w2c_l13 = w2c_j0;
+  w2c_j0 = 0ull;
+  w2c_l7 = w2c_j0;
+  w2c_L13: 
+    w2c_j0 = w2c_l10;
+    w2c_j1 = w2c_l7;
+    w2c_j0 += w2c_j1;
+    w2c_l5 = w2c_j0;
+    w2c_i0 = (u32)(w2c_j0);
+    w2c_j1 = w2c_l11;
+    w2c_j2 = w2c_l7;
+    w2c_j1 += w2c_j2;
+    w2c_p4 = w2c_j1;
+    w2c_i1 = (u32)(w2c_j1);
+    w2c_i1 = i32_load8_u(&instance->w2c_memory, (u64)(w2c_i1));
+    i32_store8(&instance->w2c_memory, (u64)(w2c_i0), w2c_i1);
+    w2c_j0 = w2c_l5;
+    w2c_j1 = 1ull;
+    w2c_j0 += w2c_j1;
+    w2c_i0 = (u32)(w2c_j0);
+    w2c_j1 = w2c_p4;
+    w2c_j2 = 1ull;
+    w2c_j1 += w2c_j2;
+    w2c_i1 = (u32)(w2c_j1);
+    w2c_i1 = i32_load8_u(&instance->w2c_memory, (u64)(w2c_i1));
+    i32_store8(&instance->w2c_memory, (u64)(w2c_i0), w2c_i1);
+    w2c_j0 = w2c_l5;
+    w2c_j1 = 2ull;
+    w2c_j0 += w2c_j1;
+    w2c_i0 = (u32)(w2c_j0);
+    w2c_j1 = w2c_p4;
+    w2c_j2 = 2ull;
+    w2c_j1 += w2c_j2;
+    w2c_i1 = (u32)(w2c_j1);
+    w2c_i1 = i32_load8_u(&instance->w2c_memory, (u64)(w2c_i1));
+    i32_store8(&instance->w2c_memory, (u64)(w2c_i0), w2c_i1);
+    w2c_j0 = w2c_l5;
+    w2c_j1 = 3ull;
+    w2c_j0 += w2c_j1;
+    w2c_i0 = (u32)(w2c_j0);
+    w2c_j1 = w2c_p4;
+    w2c_j2 = 3ull;
+    w2c_j1 += w2c_j2;
+    w2c_i1 = (u32)(w2c_j1);
+    w2c_i1 = i32_load8_u(&instance->w2c_memory, (u64)(w2c_i1));
+    i32_store8(&instance->w2c_memory, (u64)(w2c_i0), w2c_i1);
+    w2c_j0 = w2c_l13;
+    w2c_j1 = w2c_l7;
+    w2c_j2 = 4ull;
+    w2c_j1 += w2c_j2;
+    w2c_l7 = w2c_j1;
+    w2c_i0 = w2c_j0 != w2c_j1;
+    if (w2c_i0) {goto w2c_L13;}
+  w2c_j0 = w2c_l12;
+  w2c_i0 = !(w2c_j0);
+  if (w2c_i0) {goto w2c_B9;}
+  w2c_B12:;
+  w2c_j0 = w2c_l11;
+  w2c_j1 = w2c_l7;
+  w2c_j0 += w2c_j1;
+  w2c_l5 = w2c_j0;
+  w2c_j0 = w2c_p3;
+  w2c_j1 = w2c_l9;
+  w2c_j2 = w2c_l7;
+  w2c_j1 += w2c_j2;
+  w2c_j0 += w2c_j1;
+  w2c_l7 = w2c_j0;
+  w2c_L14: 
+    w2c_j0 = w2c_l7;
+    w2c_i0 = (u32)(w2c_j0);
+    w2c_j1 = w2c_l5;
+    w2c_i1 = (u32)(w2c_j1);
+    w2c_i1 = i32_load8_u(&instance->w2c_memory, (u64)(w2c_i1));
+    i32_store8(&instance->w2c_memory, (u64)(w2c_i0), w2c_i1);
+    w2c_j0 = w2c_l7;
+    w2c_j1 = 1ull;
+    w2c_j0 += w2c_j1;
+    w2c_l7 = w2c_j0;
+    w2c_j0 = w2c_l5;
+    w2c_j1 = 1ull;
+    w2c_j0 += w2c_j1;
+    w2c_l5 = w2c_j0;
+    w2c_j0 = w2c_l12;
+    w2c_j1 = 18446744073709551615ull;
+    w2c_j0 += w2c_j1;
+    w2c_l12 = w2c_j0;
+    w2c_j1 = 0ull;
+    w2c_i0 = w2c_j0 != w2c_j1;
+    if (w2c_i0) {goto w2c_L14;}
+    goto w2c_B9;
+  UNREACHABLE;
+  w2c_B11:;
+  w2c_i0 = 50u;
+  w2c_l14 = w2c_i0;
+  goto w2c_B3;
+  w2c_B10:;
+  w2c_j0 = w2c_l10;
+  w2c_j1 = w2c_l11;
+  w2c_j2 = w2c_p1;
+  w2c_j0 = w2c_f4(instance, w2c_j0, w2c_j1, w2c_j2);
+  w2c_B9:;
+  w2c_j0 = w2c_l8;
+  w2c_j1 = 40ull;
+  w2c_j0 += w2c_j1;
+  w2c_l5 = w2c_j0;
+  w2c_i0 = (u32)(w2c_j0);
+  w2c_j0 = i64_load(&instance->w2c_memory, (u64)(w2c_i0));
+  w2c_l7 = w2c_j0;
+  w2c_i0 = !(w2c_j0);
+  if (w2c_i0) {goto w2c_B15;}
+  w2c_j0 = w2c_l5;
+  w2c_i0 = (u32)(w2c_j0);
+  w2c_j1 = w2c_l7;
+  w2c_j2 = 18446744073709551615ull;
+  w2c_j1 += w2c_j2;
+  w2c_l7 = w2c_j1;
+  i64_store(&instance->w2c_memory, (u64)(w2c_i0), w2c_j1);
+  w2c_j0 = w2c_l8;
+  w2c_j1 = 24ull;
+  w2c_j0 += w2c_j1;
+  w2c_i0 = (u32)(w2c_j0);
+  w2c_j0 = i64_load(&instance->w2c_memory, (u64)(w2c_i0));
+  w2c_l5 = w2c_j0;
+  w2c_j0 = w2c_l7;
+  w2c_j1 = 0ull;
+  w2c_j2 = w2c_l8;
+  w2c_j3 = 48ull;
+  w2c_j2 += w2c_j3;
+  w2c_i2 = (u32)(w2c_j2);
+  w2c_j2 = i64_load(&instance->w2c_memory, (u64)(w2c_i2));
+  w2c_j1 -= w2c_j2;
+  w2c_i0 = w2c_j0 != w2c_j1;
+  if (w2c_i0) {goto w2c_B16;}
+  w2c_j0 = w2c_l5;
+  w2c_j1 = 0ull;
+  w2c_i0 = w2c_j0 == w2c_j1;
+  if (w2c_i0) {goto w2c_B0;}
+  w2c_j0 = w2c_l8;
+  w2c_j1 = 8ull;
+  w2c_j0 += w2c_j1;
+  w2c_i0 = (u32)(w2c_j0);
+  w2c_j0 = i64_load(&instance->w2c_memory, (u64)(w2c_i0));
+  w2c_j1 = w2c_l8;
+  w2c_j2 = 32ull;
+  w2c_j1 += w2c_j2;
+  w2c_i1 = (u32)(w2c_j1);
+  w2c_j1 = i64_load(&instance->w2c_memory, (u64)(w2c_i1));
+  w2c_l5 = w2c_j1;
+  w2c_j2 = 0ull;
+  w2c_j3 = w2c_l8;
+  w2c_j4 = 16ull;
+  w2c_j3 += w2c_j4;
+  w2c_i3 = (u32)(w2c_j3);
+  w2c_j3 = i64_load(&instance->w2c_memory, (u64)(w2c_i3));
+  w2c_l7 = w2c_j3;
+  w2c_j4 = w2c_l5;
+  w2c_j5 = w2c_l7;
+  w2c_i4 = w2c_j4 < w2c_j5;
+  w2c_j2 = w2c_i4 ? w2c_j2 : w2c_j3;
+  w2c_j1 -= w2c_j2;
+  w2c_j2 = 5ull;
+  w2c_j1 <<= (w2c_j2 & 63);
+  w2c_j0 += w2c_j1;
+  w2c_j1 = 24ull;
+  w2c_j0 += w2c_j1;
+  w2c_i0 = (u32)(w2c_j0);
+  w2c_j1 = 0ull;
+  i64_store(&instance->w2c_memory, (u64)(w2c_i0), w2c_j1);
+  goto w2c_B15;
+  w2c_B16:;
+  w2c_j0 = w2c_l5;
+  w2c_j1 = 0ull;
+  w2c_i0 = w2c_j0 == w2c_j1;
+  if (w2c_i0) {goto w2c_B0;}
+  w2c_j0 = w2c_l8;
+  w2c_j1 = 24ull;
+  w2c_j0 += w2c_j1;
+  w2c_p4 = w2c_j0;
+  w2c_i0 = (u32)(w2c_j0);
+  w2c_j1 = w2c_l5;
+  w2c_j2 = 18446744073709551615ull;
+  w2c_j1 += w2c_j2;
+  w2c_l7 = w2c_j1;
+  i64_store(&instance->w2c_memory, (u64)(w2c_i0), w2c_j1);
+  w2c_j0 = w2c_l8;
+  w2c_j1 = 32ull;
+  w2c_j0 += w2c_j1;
+  w2c_l5 = w2c_j0;
+  w2c_i0 = (u32)(w2c_j0);
+  w2c_j1 = w2c_l5;
+  w2c_i1 = (u32)(w2c_j1);
+  w2c_j1 = i64_load(&instance->w2c_memory, (u64)(w2c_i1));
+  w2c_p3 = w2c_j1;
+  w2c_j2 = 1ull;
+  w2c_j1 += w2c_j2;
+  w2c_l12 = w2c_j1;
+  w2c_j2 = 0ull;
+  w2c_j3 = w2c_l8;
+  w2c_j4 = 16ull;
+  w2c_j3 += w2c_j4;
+  w2c_i3 = (u32)(w2c_j3);
+  w2c_j3 = i64_load(&instance->w2c_memory, (u64)(w2c_i3));
+  w2c_l5 = w2c_j3;
+  w2c_j4 = w2c_l12;
+  w2c_j5 = w2c_l5;
+  w2c_i4 = w2c_j4 < w2c_j5;
+  w2c_j2 = w2c_i4 ? w2c_j2 : w2c_j3;
+  w2c_j1 -= w2c_j2;
+  w2c_l11 = w2c_j1;
+  i64_store(&instance->w2c_memory, (u64)(w2c_i0), w2c_j1);
+  w2c_j0 = w2c_l5;
+  w2c_j1 = w2c_l7;
+  w2c_i0 = w2c_j0 <= w2c_j1;
+  if (w2c_i0) {goto w2c_B0;}
+  w2c_j0 = w2c_l8;
+  w2c_j1 = 8ull;
+  w2c_j0 += w2c_j1;
+  w2c_i0 = (u32)(w2c_j0);
+  w2c_j0 = i64_load(&instance->w2c_memory, (u64)(w2c_i0));
+  w2c_l8 = w2c_j0;
+  w2c_j1 = w2c_p3;
+  w2c_j2 = 5ull;
+  w2c_j1 <<= (w2c_j2 & 63);
+  w2c_j0 += w2c_j1;
+  w2c_l12 = w2c_j0;
+  w2c_i0 = (u32)(w2c_j0);
+  w2c_j0 = i64_load(&instance->w2c_memory, (u64)(w2c_i0));
+  w2c_p3 = w2c_j0;
+  w2c_j0 = w2c_l12;
+  w2c_i0 = (u32)(w2c_j0);
+  w2c_j0 = i64_load(&instance->w2c_memory, (u64)(w2c_i0) + 8u);
+  w2c_l10 = w2c_j0;
+  w2c_j0 = w2c_l8;
+  w2c_j1 = w2c_l11;
+  w2c_j2 = w2c_l7;
+  w2c_j1 += w2c_j2;
+  w2c_l7 = w2c_j1;
+  w2c_j2 = 0ull;
+  w2c_j3 = w2c_l5;
+  w2c_j4 = w2c_l7;
+  w2c_j5 = w2c_l5;
+  w2c_i4 = w2c_j4 < w2c_j5;
+  w2c_j2 = w2c_i4 ? w2c_j2 : w2c_j3;
+  w2c_j1 -= w2c_j2;
+  w2c_j2 = 5ull;
+  w2c_j1 <<= (w2c_j2 & 63);
+  w2c_j0 += w2c_j1;
+  w2c_l5 = w2c_j0;
+  w2c_i0 = (u32)(w2c_j0);
+  w2c_j1 = w2c_l12;
+  w2c_i1 = (u32)(w2c_j1);
+  w2c_j1 = i64_load(&instance->w2c_memory, (u64)(w2c_i1) + 16u);
+  i64_store(&instance->w2c_memory, (u64)(w2c_i0) + 16, w2c_j1);
+  w2c_j0 = w2c_l5;
+  w2c_i0 = (u32)(w2c_j0);
+  w2c_j1 = w2c_l10;
+  i64_store(&instance->w2c_memory, (u64)(w2c_i0) + 8, w2c_j1);
+  w2c_j0 = w2c_l5;
+  w2c_i0 = (u32)(w2c_j0);
+  w2c_j1 = w2c_p3;
+  i64_store(&instance->w2c_memory, (u64)(w2c_i0), w2c_j1);
   w2c_j0 = w2c_l5;
   w2c_i0 = (u32)(w2c_j0);
   w2c_j1 = 0ull;
   i64_store(&instance->w2c_memory, (u64)(w2c_i0) + 24, w2c_j1);
-  w2c_j0 = w2c_l5;
+  w2c_j0 = w2c_p4;
   w2c_i0 = (u32)(w2c_j0);
-  w2c_j1 = 0ull;
-  i64_store(&instance->w2c_memory, (u64)(w2c_i0) + 16, w2c_j1);
-  w2c_j0 = w2c_l5;
-  w2c_i0 = (u32)(w2c_j0);
-  w2c_j1 = 0ull;
-  i64_store(&instance->w2c_memory, (u64)(w2c_i0) + 8, w2c_j1);
-  w2c_j0 = w2c_l5;
-  w2c_j1 = 8ull;
-  w2c_j0 += w2c_j1;
-  w2c_j1 = w2c_l6;
-  w2c_j2 = 240ull;
+  w2c_j1 = w2c_p4;
+  w2c_i1 = (u32)(w2c_j1);
+  w2c_j1 = i64_load(&instance->w2c_memory, (u64)(w2c_i1));
+  w2c_j2 = 1ull;
   w2c_j1 += w2c_j2;
-  w2c_i2 = w2c_p2;
-  w2c_i3 = 255u;
-  w2c_i2 &= w2c_i3;
-  w2c_j3 = w2c_p3;
-  w2c_j4 = 4096ull;
-  w2c_j5 = 0ull;
-  w2c_j6 = w2c_p3;
-  w2c_i6 = !(w2c_j6);
-  w2c_j4 = w2c_i6 ? w2c_j4 : w2c_j5;
-  w2c_j3 += w2c_j4;
-  w2c_j4 = w2c_p4;
-  w2c_f34(instance, w2c_j0, w2c_j1, w2c_i2, w2c_j3, w2c_j4);
-  w2c_j0 = w2c_l5;
-  w2c_i0 = (u32)(w2c_j0);
-  w2c_j0 = i64_load(&instance->w2c_memory, (u64)(w2c_i0) + 16u);
-  w2c_p1 = w2c_j0;
-  w2c_j0 = w2c_l5;
-  w2c_i0 = (u32)(w2c_j0);
-  w2c_i0 = i32_load8_u(&instance->w2c_memory, (u64)(w2c_i0) + 8u);
-  if (w2c_i0) {goto w2c_B3;}
+  i64_store(&instance->w2c_memory, (u64)(w2c_i0), w2c_j1);
+  w2c_B15:;
   w2c_j0 = w2c_l6;
   w2c_j1 = 288ull;
   w2c_j0 += w2c_j1;
-  w2c_p3 = w2c_j0;
+  w2c_l5 = w2c_j0;
   w2c_i0 = (u32)(w2c_j0);
   w2c_j1 = 18446744073709551615ull;
-  w2c_j2 = w2c_p3;
+  w2c_j2 = w2c_l5;
   w2c_i2 = (u32)(w2c_j2);
   w2c_j2 = i64_load(&instance->w2c_memory, (u64)(w2c_i2));
   w2c_j3 = 1ull;
   w2c_j2 += w2c_j3;
-  w2c_p3 = w2c_j2;
-  w2c_j3 = w2c_p3;
+  w2c_l5 = w2c_j2;
+  w2c_j3 = w2c_l5;
   w2c_i3 = !(w2c_j3);
   w2c_j1 = w2c_i3 ? w2c_j1 : w2c_j2;
   i64_store(&instance->w2c_memory, (u64)(w2c_i0), w2c_j1);
   w2c_i0 = 0u;
-  w2c_p2 = w2c_i0;
-  goto w2c_B2;
+  w2c_l14 = w2c_i0;
   w2c_B3:;
-  w2c_j0 = w2c_p1;
-  w2c_j1 = 255ull;
-  w2c_j0 &= w2c_j1;
-  w2c_p3 = w2c_j0;
-  w2c_j0 = 0ull;
-  w2c_p1 = w2c_j0;
-  w2c_i0 = 73u;
-  w2c_p2 = w2c_i0;
-  w2c_j0 = w2c_p3;
-  w2c_i0 = (u32)(w2c_j0);
-  switch (w2c_i0) {
-    case 0: goto w2c_B2;
-    case 1: goto w2c_B4;
-    case 2: goto w2c_B5;
-    default: goto w2c_B2;
-  }
-  w2c_B5:;
-  w2c_j0 = w2c_l5;
-  w2c_i0 = (u32)(w2c_j0);
-  w2c_j0 = i64_load(&instance->w2c_memory, (u64)(w2c_i0) + 24u);
-  w2c_j1 = 0ull;
-  w2c_j2 = w2c_p3;
-  w2c_j3 = 2ull;
-  w2c_i2 = w2c_j2 == w2c_j3;
-  w2c_j0 = w2c_i2 ? w2c_j0 : w2c_j1;
-  w2c_p1 = w2c_j0;
-  w2c_i0 = 50u;
-  w2c_p2 = w2c_i0;
-  goto w2c_B2;
-  w2c_B4:;
-  w2c_j0 = 0ull;
-  w2c_p1 = w2c_j0;
-  w2c_i0 = 74u;
-  w2c_p2 = w2c_i0;
-  w2c_B2:;
-  w2c_i0 = w2c_p2;
+  w2c_i0 = w2c_l14;
   w2c_j0 = (u64)(w2c_i0);
-  w2c_p3 = w2c_j0;
-  w2c_B0:;
+  w2c_l5 = w2c_j0;
+  w2c_B1:;
   w2c_j0 = w2c_p0;
   w2c_i0 = (u32)(w2c_j0);
   w2c_j1 = w2c_p1;
   i64_store(&instance->w2c_memory, (u64)(w2c_i0) + 8, w2c_j1);
   w2c_j0 = w2c_p0;
   w2c_i0 = (u32)(w2c_j0);
-  w2c_j1 = w2c_p3;
+  w2c_j1 = w2c_l5;
   i64_store(&instance->w2c_memory, (u64)(w2c_i0), w2c_j1);
-  w2c_j0 = w2c_l5;
-  w2c_j1 = 32ull;
-  w2c_j0 += w2c_j1;
-  instance->w2c_g0 = w2c_j0;
+  goto w2c_Bfunc;
+  w2c_B0:;
+  UNREACHABLE;
+  w2c_Bfunc:;
   FUNC_EPILOGUE;
 }
 
@@ -12308,7 +12609,7 @@ static void w2c_f36(Z_tcrx_instance_t* instance, u64 w2c_p0, u64 w2c_p1, u64 w2c
   w2c_j1 += w2c_j2;
   w2c_l7 = w2c_j1;
   w2c_j2 = w2c_p2;
-  w2c_f29(instance, w2c_j0, w2c_j1, w2c_j2);
+  w2c_f30(instance, w2c_j0, w2c_j1, w2c_j2);
   w2c_j0 = w2c_l5;
   w2c_i0 = (u32)(w2c_j0);
   w2c_i0 = i32_load8_u(&instance->w2c_memory, (u64)(w2c_i0) + 12u);
@@ -15389,7 +15690,7 @@ static u32 w2c_module_add_fecf(Z_tcrx_instance_t* instance, u64 w2c_p0, u32 w2c_
   w2c_j3 = w2c_p2;
   w2c_i4 = w2c_p3;
   w2c_j4 = (u64)(w2c_i4);
-  w2c_f32(instance, w2c_j0, w2c_j1, w2c_j2, w2c_j3, w2c_j4);
+  w2c_f33(instance, w2c_j0, w2c_j1, w2c_j2, w2c_j3, w2c_j4);
   w2c_j0 = 0ull;
   w2c_i0 = (u32)(w2c_j0);
   w2c_j1 = w2c_l4;
@@ -15745,7 +16046,7 @@ static u32 w2c_module_channel_new(Z_tcrx_instance_t* instance, u64 w2c_p0, u32 w
   w2c_i5 = w2c_p3;
   w2c_j5 = (u64)(w2c_i5);
   w2c_l9 = w2c_j5;
-  w2c_f25(instance, w2c_j0, w2c_j1, w2c_j2, w2c_j3, w2c_j4, w2c_j5);
+  w2c_f26(instance, w2c_j0, w2c_j1, w2c_j2, w2c_j3, w2c_j4, w2c_j5);
   w2c_j0 = w2c_l4;
   w2c_i0 = (u32)(w2c_j0);
   w2c_i0 = i32_load(&instance->w2c_memory, (u64)(w2c_i0) + 24u);
@@ -15964,7 +16265,7 @@ static u32 w2c_module_channel_new(Z_tcrx_instance_t* instance, u64 w2c_p0, u32 w
   w2c_j1 = w2c_l4;
   w2c_j2 = 512ull;
   w2c_j1 += w2c_j2;
-  w2c_f14(instance, w2c_j0, w2c_j1);
+  w2c_f15(instance, w2c_j0, w2c_j1);
   w2c_j0 = w2c_l4;
   w2c_i0 = (u32)(w2c_j0);
   w2c_i0 = i32_load8_u(&instance->w2c_memory, (u64)(w2c_i0) + 16u);
@@ -16031,7 +16332,7 @@ static u32 w2c_module_channel_new(Z_tcrx_instance_t* instance, u64 w2c_p0, u32 w
   w2c_j1 = w2c_l4;
   w2c_j2 = 320ull;
   w2c_j1 += w2c_j2;
-  w2c_f15(instance, w2c_j0, w2c_j1);
+  w2c_f16(instance, w2c_j0, w2c_j1);
   w2c_j0 = 12ull;
   w2c_l10 = w2c_j0;
   w2c_j0 = w2c_l4;
@@ -16138,7 +16439,7 @@ static u32 w2c_module_channel_new(Z_tcrx_instance_t* instance, u64 w2c_p0, u32 w
   w2c_j1 = w2c_l4;
   w2c_j2 = 816ull;
   w2c_j1 += w2c_j2;
-  w2c_f14(instance, w2c_j0, w2c_j1);
+  w2c_f15(instance, w2c_j0, w2c_j1);
   w2c_j0 = w2c_l4;
   w2c_i0 = (u32)(w2c_j0);
   w2c_i0 = i32_load8_u(&instance->w2c_memory, (u64)(w2c_i0) + 8u);
@@ -16226,7 +16527,7 @@ static u32 w2c_module_channel_new(Z_tcrx_instance_t* instance, u64 w2c_p0, u32 w
   w2c_j2 = w2c_l4;
   w2c_j3 = 424ull;
   w2c_j2 += w2c_j3;
-  w2c_f17(instance, w2c_j0, w2c_j1, w2c_j2);
+  w2c_f18(instance, w2c_j0, w2c_j1, w2c_j2);
   w2c_j0 = w2c_l4;
   w2c_i0 = (u32)(w2c_j0);
   w2c_i0 = i32_load8_u(&instance->w2c_memory, (u64)(w2c_i0) + 512u);
@@ -16349,15 +16650,15 @@ static u32 w2c_module_channel_new(Z_tcrx_instance_t* instance, u64 w2c_p0, u32 w
   w2c_j0 += w2c_j1;
   w2c_j1 = 8ull;
   w2c_j0 += w2c_j1;
-  w2c_f21(instance, w2c_j0);
+  w2c_f22(instance, w2c_j0);
   w2c_j0 = w2c_l4;
   w2c_j1 = 144ull;
   w2c_j0 += w2c_j1;
-  w2c_f13(instance, w2c_j0);
+  w2c_f14(instance, w2c_j0);
   w2c_j0 = w2c_l4;
   w2c_j1 = 168ull;
   w2c_j0 += w2c_j1;
-  w2c_f13(instance, w2c_j0);
+  w2c_f14(instance, w2c_j0);
   w2c_B6:;
   w2c_j0 = w2c_l10;
   w2c_j1 = 2ull;
@@ -16559,7 +16860,7 @@ static u32 w2c_module_channel_new_with_limits(Z_tcrx_instance_t* instance, u64 w
   w2c_i8 = w2c_p6;
   w2c_j8 = (u64)(w2c_i8);
   w2c_l13 = w2c_j8;
-  w2c_f26(instance, w2c_j0, w2c_j1, w2c_j2, w2c_j3, w2c_j4, w2c_j5, w2c_i6, w2c_j7, w2c_j8);
+  w2c_f27(instance, w2c_j0, w2c_j1, w2c_j2, w2c_j3, w2c_j4, w2c_j5, w2c_i6, w2c_j7, w2c_j8);
   w2c_j0 = w2c_l7;
   w2c_i0 = (u32)(w2c_j0);
   w2c_i0 = i32_load(&instance->w2c_memory, (u64)(w2c_i0));
@@ -16830,7 +17131,7 @@ static u32 w2c_module_channel_new_with_limits(Z_tcrx_instance_t* instance, u64 w
   w2c_j2 = w2c_l7;
   w2c_j3 = 360ull;
   w2c_j2 += w2c_j3;
-  w2c_f22(instance, w2c_j0, w2c_j1, w2c_j2);
+  w2c_f23(instance, w2c_j0, w2c_j1, w2c_j2);
   w2c_j0 = w2c_l7;
   w2c_i0 = (u32)(w2c_j0);
   w2c_i0 = i32_load8_u(&instance->w2c_memory, (u64)(w2c_i0) + 664u);
@@ -16923,7 +17224,7 @@ static u32 w2c_module_channel_new_with_limits(Z_tcrx_instance_t* instance, u64 w
   w2c_j1 = w2c_l7;
   w2c_j2 = 168ull;
   w2c_j1 += w2c_j2;
-  w2c_f15(instance, w2c_j0, w2c_j1);
+  w2c_f16(instance, w2c_j0, w2c_j1);
   w2c_j0 = 12ull;
   w2c_p5 = w2c_j0;
   w2c_j0 = w2c_l7;
@@ -17250,7 +17551,7 @@ static u32 w2c_module_channel_new_with_limits(Z_tcrx_instance_t* instance, u64 w
   w2c_j2 = w2c_l7;
   w2c_j3 = 664ull;
   w2c_j2 += w2c_j3;
-  w2c_f22(instance, w2c_j0, w2c_j1, w2c_j2);
+  w2c_f23(instance, w2c_j0, w2c_j1, w2c_j2);
   w2c_j0 = w2c_l7;
   w2c_i0 = (u32)(w2c_j0);
   w2c_i0 = i32_load8_u(&instance->w2c_memory, (u64)(w2c_i0) + 728u);
@@ -17343,7 +17644,7 @@ static u32 w2c_module_channel_new_with_limits(Z_tcrx_instance_t* instance, u64 w
   w2c_j2 = w2c_l7;
   w2c_j3 = 272ull;
   w2c_j2 += w2c_j3;
-  w2c_f17(instance, w2c_j0, w2c_j1, w2c_j2);
+  w2c_f18(instance, w2c_j0, w2c_j1, w2c_j2);
   w2c_j0 = w2c_l7;
   w2c_i0 = (u32)(w2c_j0);
   w2c_i0 = i32_load8_u(&instance->w2c_memory, (u64)(w2c_i0) + 360u);
@@ -17458,15 +17759,15 @@ static u32 w2c_module_channel_new_with_limits(Z_tcrx_instance_t* instance, u64 w
   w2c_j0 += w2c_j1;
   w2c_j1 = 8ull;
   w2c_j0 += w2c_j1;
-  w2c_f21(instance, w2c_j0);
+  w2c_f22(instance, w2c_j0);
   w2c_j0 = w2c_l7;
   w2c_j1 = 144ull;
   w2c_j0 += w2c_j1;
-  w2c_f13(instance, w2c_j0);
+  w2c_f14(instance, w2c_j0);
   w2c_j0 = w2c_l7;
   w2c_j1 = 16ull;
   w2c_j0 += w2c_j1;
-  w2c_f13(instance, w2c_j0);
+  w2c_f14(instance, w2c_j0);
   w2c_B6:;
   w2c_j0 = w2c_p5;
   w2c_j1 = 2ull;
@@ -17617,7 +17918,7 @@ static u32 w2c_module_channel_queued(Z_tcrx_instance_t* instance, u32 w2c_p0) {
   w2c_i2 = w2c_p0;
   w2c_i3 = 65535u;
   w2c_i2 &= w2c_i3;
-  w2c_f23(instance, w2c_j0, w2c_j1, w2c_i2);
+  w2c_f24(instance, w2c_j0, w2c_j1, w2c_i2);
   w2c_j0 = 0ull;
   w2c_i0 = (u32)(w2c_j0);
   w2c_j1 = w2c_l1;
@@ -18476,30 +18777,36 @@ static u32 w2c_module_channel_release(Z_tcrx_instance_t* instance) {
   w2c_j0 = w2c_l2;
   w2c_j1 = 128ull;
   w2c_j0 += w2c_j1;
+  w2c_l0 = w2c_j0;
   w2c_i0 = (u32)(w2c_j0);
   w2c_j0 = i64_load(&instance->w2c_memory, (u64)(w2c_i0));
-  w2c_l0 = w2c_j0;
+  w2c_l3 = w2c_j0;
   w2c_i0 = !(w2c_j0);
   if (w2c_i0) {goto w2c_B36;}
+  w2c_j0 = w2c_l0;
+  w2c_i0 = (u32)(w2c_j0);
+  w2c_j1 = w2c_l3;
+  w2c_j2 = 18446744073709551615ull;
+  w2c_j1 += w2c_j2;
+  w2c_l3 = w2c_j1;
+  i64_store(&instance->w2c_memory, (u64)(w2c_i0), w2c_j1);
   w2c_j0 = w2c_l2;
   w2c_j1 = 112ull;
   w2c_j0 += w2c_j1;
   w2c_i0 = (u32)(w2c_j0);
   w2c_j0 = i64_load(&instance->w2c_memory, (u64)(w2c_i0));
-  w2c_l3 = w2c_j0;
-  w2c_j0 = w2c_l2;
-  w2c_j1 = 136ull;
-  w2c_j0 += w2c_j1;
-  w2c_i0 = (u32)(w2c_j0);
-  w2c_j0 = i64_load(&instance->w2c_memory, (u64)(w2c_i0));
-  w2c_j1 = w2c_l0;
-  w2c_j0 += w2c_j1;
-  w2c_j1 = 1ull;
-  w2c_i0 = w2c_j0 != w2c_j1;
-  if (w2c_i0) {goto w2c_B38;}
-  w2c_j0 = 0ull;
   w2c_l0 = w2c_j0;
   w2c_j0 = w2c_l3;
+  w2c_j1 = 0ull;
+  w2c_j2 = w2c_l2;
+  w2c_j3 = 136ull;
+  w2c_j2 += w2c_j3;
+  w2c_i2 = (u32)(w2c_j2);
+  w2c_j2 = i64_load(&instance->w2c_memory, (u64)(w2c_i2));
+  w2c_j1 -= w2c_j2;
+  w2c_i0 = w2c_j0 != w2c_j1;
+  if (w2c_i0) {goto w2c_B37;}
+  w2c_j0 = w2c_l0;
   w2c_j1 = 0ull;
   w2c_i0 = w2c_j0 == w2c_j1;
   if (w2c_i0) {goto w2c_B0;}
@@ -18513,16 +18820,16 @@ static u32 w2c_module_channel_release(Z_tcrx_instance_t* instance) {
   w2c_j1 += w2c_j2;
   w2c_i1 = (u32)(w2c_j1);
   w2c_j1 = i64_load(&instance->w2c_memory, (u64)(w2c_i1));
-  w2c_l3 = w2c_j1;
+  w2c_l0 = w2c_j1;
   w2c_j2 = 0ull;
   w2c_j3 = w2c_l2;
   w2c_j4 = 104ull;
   w2c_j3 += w2c_j4;
   w2c_i3 = (u32)(w2c_j3);
   w2c_j3 = i64_load(&instance->w2c_memory, (u64)(w2c_i3));
-  w2c_l4 = w2c_j3;
-  w2c_j4 = w2c_l3;
-  w2c_j5 = w2c_l4;
+  w2c_l3 = w2c_j3;
+  w2c_j4 = w2c_l0;
+  w2c_j5 = w2c_l3;
   w2c_i4 = w2c_j4 < w2c_j5;
   w2c_j2 = w2c_i4 ? w2c_j2 : w2c_j3;
   w2c_j1 -= w2c_j2;
@@ -18534,9 +18841,9 @@ static u32 w2c_module_channel_release(Z_tcrx_instance_t* instance) {
   w2c_i0 = (u32)(w2c_j0);
   w2c_j1 = 0ull;
   i64_store(&instance->w2c_memory, (u64)(w2c_i0), w2c_j1);
-  goto w2c_B37;
-  w2c_B38:;
-  w2c_j0 = w2c_l3;
+  goto w2c_B36;
+  w2c_B37:;
+  w2c_j0 = w2c_l0;
   w2c_j1 = 0ull;
   w2c_i0 = w2c_j0 == w2c_j1;
   if (w2c_i0) {goto w2c_B0;}
@@ -18545,7 +18852,7 @@ static u32 w2c_module_channel_release(Z_tcrx_instance_t* instance) {
   w2c_j0 += w2c_j1;
   w2c_l4 = w2c_j0;
   w2c_i0 = (u32)(w2c_j0);
-  w2c_j1 = w2c_l3;
+  w2c_j1 = w2c_l0;
   w2c_j2 = 18446744073709551615ull;
   w2c_j1 += w2c_j2;
   w2c_l3 = w2c_j1;
@@ -18639,21 +18946,6 @@ static u32 w2c_module_channel_release(Z_tcrx_instance_t* instance) {
   w2c_j2 = 1ull;
   w2c_j1 += w2c_j2;
   i64_store(&instance->w2c_memory, (u64)(w2c_i0), w2c_j1);
-  w2c_j0 = w2c_l2;
-  w2c_j1 = 128ull;
-  w2c_j0 += w2c_j1;
-  w2c_i0 = (u32)(w2c_j0);
-  w2c_j0 = i64_load(&instance->w2c_memory, (u64)(w2c_i0));
-  w2c_j1 = 18446744073709551615ull;
-  w2c_j0 += w2c_j1;
-  w2c_l0 = w2c_j0;
-  w2c_B37:;
-  w2c_j0 = w2c_l2;
-  w2c_j1 = 128ull;
-  w2c_j0 += w2c_j1;
-  w2c_i0 = (u32)(w2c_j0);
-  w2c_j1 = w2c_l0;
-  i64_store(&instance->w2c_memory, (u64)(w2c_i0), w2c_j1);
   w2c_B36:;
   w2c_j0 = w2c_l2;
   w2c_j1 = 89ull;
@@ -18663,24 +18955,24 @@ static u32 w2c_module_channel_release(Z_tcrx_instance_t* instance) {
   w2c_j0 = i64_load8_u(&instance->w2c_memory, (u64)(w2c_i0));
   w2c_i0 = (u32)(w2c_j0);
   switch (w2c_i0) {
-    case 0: goto w2c_B39;
-    case 1: goto w2c_B41;
-    case 2: goto w2c_B40;
-    default: goto w2c_B39;
+    case 0: goto w2c_B38;
+    case 1: goto w2c_B40;
+    case 2: goto w2c_B39;
+    default: goto w2c_B38;
   }
-  w2c_B41:;
+  w2c_B40:;
   w2c_j0 = w2c_l0;
   w2c_i0 = (u32)(w2c_j0);
   w2c_i1 = 0u;
   i32_store8(&instance->w2c_memory, (u64)(w2c_i0), w2c_i1);
-  w2c_B40:;
+  w2c_B39:;
   w2c_j0 = w2c_l2;
   w2c_j1 = 92ull;
   w2c_j0 += w2c_j1;
   w2c_i0 = (u32)(w2c_j0);
   w2c_i1 = 0u;
   i32_store8(&instance->w2c_memory, (u64)(w2c_i0), w2c_i1);
-  w2c_B39:;
+  w2c_B38:;
   w2c_j0 = w2c_l2;
   w2c_j1 = 288ull;
   w2c_j0 += w2c_j1;
@@ -18882,7 +19174,7 @@ static u32 w2c_module_channel_take(Z_tcrx_instance_t* instance, u32 w2c_p0, u64 
   w2c_j3 = w2c_p1;
   w2c_i4 = w2c_p2;
   w2c_j4 = (u64)(w2c_i4);
-  w2c_f33(instance, w2c_j0, w2c_j1, w2c_i2, w2c_j3, w2c_j4);
+  w2c_f34(instance, w2c_j0, w2c_j1, w2c_i2, w2c_j3, w2c_j4);
   w2c_j0 = 0ull;
   w2c_i0 = (u32)(w2c_j0);
   w2c_j1 = w2c_l3;
@@ -18955,7 +19247,7 @@ static u32 w2c_module_channel_units(Z_tcrx_instance_t* instance, u32 w2c_p0) {
   w2c_i2 = w2c_p0;
   w2c_i3 = 255u;
   w2c_i2 &= w2c_i3;
-  w2c_f27(instance, w2c_j0, w2c_j1, w2c_i2);
+  w2c_f28(instance, w2c_j0, w2c_j1, w2c_i2);
   w2c_j0 = 0ull;
   w2c_i0 = (u32)(w2c_j0);
   w2c_j1 = w2c_l1;
@@ -19667,7 +19959,7 @@ static u32 w2c_module_cltu_octets(Z_tcrx_instance_t* instance, u64 w2c_p0, u32 w
       w2c_j2 = w2c_l4;
       w2c_j3 = 8ull;
       w2c_j2 += w2c_j3;
-      w2c_i2 = w2c_f24(instance, w2c_j2);
+      w2c_i2 = w2c_f25(instance, w2c_j2);
       w2c_i0 = w2c_i2 ? w2c_i0 : w2c_i1;
       w2c_l19 = w2c_i0;
       w2c_B24:;
@@ -19835,7 +20127,7 @@ static u32 w2c_module_cltu_octets(Z_tcrx_instance_t* instance, u64 w2c_p0, u32 w
       w2c_j2 = w2c_l4;
       w2c_j3 = 8ull;
       w2c_j2 += w2c_j3;
-      w2c_i2 = w2c_f24(instance, w2c_j2);
+      w2c_i2 = w2c_f25(instance, w2c_j2);
       w2c_i0 = w2c_i2 ? w2c_i0 : w2c_i1;
       w2c_l19 = w2c_i0;
       w2c_B26:;
@@ -20267,13 +20559,21 @@ static u32 w2c_module_farm_step(Z_tcrx_instance_t* instance, u32 w2c_p0, u32 w2c
       w2c_l19 = 0;
   u64 w2c_l5 = 0, w2c_l6 = 0, w2c_l7 = 0, w2c_l8 = 0, w2c_l9 = 0, w2c_l10 = 0;
   FUNC_PROLOGUE;
-  u32 w2c_i0, w2c_i1, w2c_i2, w2c_i3, w2c_i4;
+  u32 w2c_i0, w2c_i1, w2c_i2, w2c_i3;
   u64 w2c_j0, w2c_j1, w2c_j2, w2c_j3, w2c_j4;
   w2c_j0 = instance->w2c_g0;
   w2c_j1 = 32ull;
   w2c_j0 -= w2c_j1;
   w2c_l5 = w2c_j0;
   instance->w2c_g0 = w2c_j0;
+  w2c_j0 = w2c_l5;
+  w2c_i0 = (u32)(w2c_j0);
+  w2c_i1 = 0u;
+  i32_store(&instance->w2c_memory, (u64)(w2c_i0) + 27, w2c_i1);
+  w2c_j0 = w2c_l5;
+  w2c_i0 = (u32)(w2c_j0);
+  w2c_i1 = 0u;
+  i32_store(&instance->w2c_memory, (u64)(w2c_i0) + 24, w2c_i1);
   w2c_i0 = w2c_p0;
   w2c_i1 = 16u;
   w2c_i0 >>= (w2c_i1 & 31);
@@ -20423,15 +20723,36 @@ static u32 w2c_module_farm_step(Z_tcrx_instance_t* instance, u32 w2c_p0, u32 w2c
   w2c_j0 = 22ull;
   w2c_l6 = w2c_j0;
   w2c_i0 = w2c_p4;
-  w2c_i1 = 254u;
+  w2c_i1 = 255u;
   w2c_i0 &= w2c_i1;
+  w2c_i1 = 1u;
+  w2c_i0 = w2c_i0 > w2c_i1;
   if (w2c_i0) {goto w2c_B1;}
-  w2c_i0 = 0u;
+  w2c_j0 = w2c_l7;
+  w2c_i0 = (u32)(w2c_j0);
+  w2c_i1 = 8u;
+  w2c_i0 <<= (w2c_i1 & 31);
+  w2c_i1 = 256u;
+  w2c_i0 &= w2c_i1;
+  w2c_j1 = w2c_l8;
+  w2c_i1 = (u32)(w2c_j1);
+  w2c_i2 = 16u;
+  w2c_i1 <<= (w2c_i2 & 31);
+  w2c_i0 |= w2c_i1;
+  w2c_j1 = w2c_l10;
+  w2c_i1 = (u32)(w2c_j1);
+  w2c_i2 = 24u;
+  w2c_i1 <<= (w2c_i2 & 31);
+  w2c_i2 = w2c_p1;
+  w2c_i3 = 1u;
+  w2c_i2 &= w2c_i3;
+  w2c_i1 |= w2c_i2;
+  w2c_i0 |= w2c_i1;
   w2c_l17 = w2c_i0;
-  w2c_j0 = 24ull;
-  w2c_l6 = w2c_j0;
   w2c_i0 = 0u;
   w2c_l18 = w2c_i0;
+  w2c_j0 = 24ull;
+  w2c_l6 = w2c_j0;
   w2c_i0 = 0u;
   w2c_l19 = w2c_i0;
   w2c_i0 = w2c_p2;
@@ -20440,240 +20761,169 @@ static u32 w2c_module_farm_step(Z_tcrx_instance_t* instance, u32 w2c_p0, u32 w2c
   w2c_i1 = 4294967295u;
   w2c_i0 += w2c_i1;
   switch (w2c_i0) {
-    case 0: goto w2c_B9;
-    case 1: goto w2c_B14;
-    case 2: goto w2c_B13;
-    case 3: goto w2c_B12;
-    case 4: goto w2c_B11;
-    case 5: goto w2c_B8;
+    case 0: goto w2c_B10;
+    case 1: goto w2c_B15;
+    case 2: goto w2c_B14;
+    case 3: goto w2c_B13;
+    case 4: goto w2c_B12;
+    case 5: goto w2c_B9;
     default: goto w2c_B1;
   }
+  w2c_B15:;
+  w2c_i0 = 0u;
+  w2c_p3 = w2c_i0;
+  w2c_i0 = 1u;
+  w2c_l18 = w2c_i0;
+  goto w2c_B11;
   w2c_B14:;
   w2c_i0 = 0u;
   w2c_p3 = w2c_i0;
-  w2c_i0 = 1u;
-  w2c_l17 = w2c_i0;
-  goto w2c_B10;
-  w2c_B13:;
-  w2c_i0 = 0u;
-  w2c_p3 = w2c_i0;
   w2c_i0 = 2u;
-  w2c_l17 = w2c_i0;
+  w2c_l18 = w2c_i0;
+  goto w2c_B11;
+  w2c_B13:;
+  w2c_i0 = 2u;
+  w2c_l18 = w2c_i0;
+  w2c_i0 = w2c_p3;
+  w2c_l19 = w2c_i0;
+  w2c_i0 = 1u;
+  w2c_p3 = w2c_i0;
   goto w2c_B10;
   w2c_B12:;
-  w2c_i0 = w2c_p3;
-  w2c_i1 = 16u;
-  w2c_i0 <<= (w2c_i1 & 31);
-  w2c_i1 = 16711680u;
-  w2c_i0 &= w2c_i1;
-  w2c_l18 = w2c_i0;
-  w2c_i0 = 1u;
-  w2c_p3 = w2c_i0;
-  w2c_i0 = 2u;
-  w2c_l17 = w2c_i0;
-  goto w2c_B9;
-  w2c_B11:;
   w2c_i0 = 0u;
   w2c_p3 = w2c_i0;
   w2c_i0 = 3u;
-  w2c_l17 = w2c_i0;
-  w2c_B10:;
-  w2c_i0 = 0u;
   w2c_l18 = w2c_i0;
-  w2c_B9:;
-  w2c_i0 = w2c_p3;
-  w2c_i1 = 8u;
-  w2c_i0 <<= (w2c_i1 & 31);
-  w2c_i1 = 65280u;
-  w2c_i0 &= w2c_i1;
-  w2c_i1 = w2c_l17;
-  w2c_i0 |= w2c_i1;
-  w2c_i1 = w2c_l18;
-  w2c_i0 |= w2c_i1;
-  w2c_i1 = w2c_p4;
-  w2c_i2 = 24u;
-  w2c_i1 <<= (w2c_i2 & 31);
-  w2c_i0 |= w2c_i1;
+  w2c_B11:;
+  w2c_i0 = 0u;
   w2c_l19 = w2c_i0;
-  w2c_i0 = 1u;
-  w2c_l17 = w2c_i0;
-  w2c_B8:;
-  w2c_i0 = w2c_l19;
-  w2c_i1 = 8u;
-  w2c_i0 >>= (w2c_i1 & 31);
-  w2c_p4 = w2c_i0;
+  w2c_B10:;
   w2c_i0 = w2c_l16;
   w2c_i1 = 255u;
   w2c_i0 &= w2c_i1;
   w2c_i1 = 1u;
   w2c_i0 = w2c_i0 != w2c_i1;
-  if (w2c_i0) {goto w2c_B15;}
-  w2c_i0 = w2c_l17;
-  w2c_i0 = !(w2c_i0);
-  if (w2c_i0) {goto w2c_B15;}
-  w2c_i0 = w2c_l19;
-  w2c_i1 = 16777471u;
-  w2c_i0 &= w2c_i1;
+  if (w2c_i0) {goto w2c_B16;}
+  w2c_i0 = w2c_p4;
+  w2c_i1 = 24u;
+  w2c_i0 <<= (w2c_i1 & 31);
+  w2c_i1 = w2c_l18;
+  w2c_i0 |= w2c_i1;
   w2c_i1 = 16777216u;
   w2c_i0 = w2c_i0 != w2c_i1;
-  if (w2c_i0) {goto w2c_B15;}
-  w2c_i0 = w2c_l11;
+  if (w2c_i0) {goto w2c_B16;}
+  w2c_i0 = w2c_p0;
+  w2c_i1 = w2c_l11;
+  w2c_i2 = w2c_p3;
+  w2c_i0 = w2c_f12(instance, w2c_i0, w2c_i1, w2c_i2);
   w2c_i1 = 255u;
   w2c_i0 &= w2c_i1;
-  w2c_i1 = w2c_p4;
-  w2c_i2 = 255u;
-  w2c_i1 &= w2c_i2;
-  w2c_i0 = w2c_i0 != w2c_i1;
-  if (w2c_i0) {goto w2c_B15;}
+  if (w2c_i0) {goto w2c_B16;}
   w2c_j0 = 25ull;
   w2c_l6 = w2c_j0;
   goto w2c_B1;
-  w2c_B15:;
+  w2c_B16:;
   w2c_j0 = w2c_l5;
   w2c_i0 = (u32)(w2c_j0);
-  w2c_j1 = w2c_l7;
-  w2c_i1 = (u32)(w2c_j1);
-  w2c_i2 = 8u;
-  w2c_i1 <<= (w2c_i2 & 31);
-  w2c_i2 = 256u;
-  w2c_i1 &= w2c_i2;
-  w2c_j2 = w2c_l8;
-  w2c_i2 = (u32)(w2c_j2);
-  w2c_i3 = 16u;
-  w2c_i2 <<= (w2c_i3 & 31);
-  w2c_i1 |= w2c_i2;
-  w2c_j2 = w2c_l10;
-  w2c_i2 = (u32)(w2c_j2);
-  w2c_i3 = 24u;
-  w2c_i2 <<= (w2c_i3 & 31);
-  w2c_i3 = w2c_p1;
-  w2c_i4 = 1u;
-  w2c_i3 &= w2c_i4;
-  w2c_i2 |= w2c_i3;
-  w2c_i1 |= w2c_i2;
-  i32_store(&instance->w2c_memory, (u64)(w2c_i0) + 28, w2c_i1);
+  w2c_i1 = w2c_l17;
+  i32_store(&instance->w2c_memory, (u64)(w2c_i0) + 27, w2c_i1);
   w2c_j0 = w2c_l5;
   w2c_i0 = (u32)(w2c_j0);
   w2c_i1 = w2c_l11;
-  i32_store8(&instance->w2c_memory, (u64)(w2c_i0) + 27, w2c_i1);
-  w2c_j0 = w2c_l5;
-  w2c_i0 = (u32)(w2c_j0);
-  w2c_i1 = w2c_l16;
   i32_store8(&instance->w2c_memory, (u64)(w2c_i0) + 26, w2c_i1);
   w2c_j0 = w2c_l5;
   w2c_i0 = (u32)(w2c_j0);
-  w2c_i1 = w2c_p0;
+  w2c_i1 = w2c_l16;
   i32_store8(&instance->w2c_memory, (u64)(w2c_i0) + 25, w2c_i1);
-  w2c_i0 = w2c_l17;
-  w2c_i0 = !(w2c_i0);
-  if (w2c_i0) {goto w2c_B17;}
+  w2c_j0 = w2c_l5;
+  w2c_i0 = (u32)(w2c_j0);
+  w2c_i1 = w2c_p0;
+  i32_store8(&instance->w2c_memory, (u64)(w2c_i0) + 24, w2c_i1);
   w2c_j0 = 150994944ull;
   w2c_l6 = w2c_j0;
-  w2c_i0 = w2c_l19;
-  w2c_j0 = (u64)(w2c_i0);
-  w2c_j1 = 255ull;
-  w2c_j0 &= w2c_j1;
-  w2c_i0 = (u32)(w2c_j0);
+  w2c_i0 = w2c_l18;
   switch (w2c_i0) {
-    case 0: goto w2c_B20;
-    case 1: goto w2c_B19;
-    case 2: goto w2c_B18;
-    case 3: goto w2c_B16;
-    default: goto w2c_B20;
+    case 0: goto w2c_B19;
+    case 1: goto w2c_B18;
+    case 2: goto w2c_B17;
+    case 3: goto w2c_B8;
+    default: goto w2c_B19;
   }
-  w2c_B20:;
-  w2c_i0 = w2c_p4;
-  w2c_i1 = 255u;
-  w2c_i0 &= w2c_i1;
-  w2c_i1 = w2c_l11;
-  w2c_i2 = 255u;
-  w2c_i1 &= w2c_i2;
-  w2c_i0 = w2c_i0 == w2c_i1;
-  if (w2c_i0) {goto w2c_B23;}
-  w2c_i0 = w2c_p4;
-  w2c_i1 = w2c_l11;
-  w2c_i0 -= w2c_i1;
-  w2c_p1 = w2c_i0;
-  w2c_i1 = 255u;
-  w2c_i0 &= w2c_i1;
-  w2c_i1 = w2c_p0;
-  w2c_i2 = 254u;
-  w2c_i1 &= w2c_i2;
-  w2c_i2 = 1u;
-  w2c_i1 >>= (w2c_i2 & 31);
-  w2c_p0 = w2c_i1;
-  w2c_i0 = w2c_i0 < w2c_i1;
-  if (w2c_i0) {goto w2c_B22;}
-  w2c_i0 = w2c_p0;
-  w2c_i1 = 0u;
-  w2c_i2 = w2c_p1;
-  w2c_i1 -= w2c_i2;
-  w2c_i2 = 255u;
-  w2c_i1 &= w2c_i2;
-  w2c_i0 = w2c_i0 < w2c_i1;
-  if (w2c_i0) {goto w2c_B21;}
+  w2c_B19:;
   w2c_j0 = 67108864ull;
   w2c_l6 = w2c_j0;
-  goto w2c_B16;
-  w2c_B23:;
-  w2c_i0 = w2c_l19;
-  w2c_i1 = 16777216u;
+  w2c_i0 = w2c_p0;
+  w2c_i1 = w2c_l11;
+  w2c_i2 = w2c_p3;
+  w2c_i0 = w2c_f12(instance, w2c_i0, w2c_i1, w2c_i2);
+  w2c_i1 = 255u;
+  w2c_i0 &= w2c_i1;
+  switch (w2c_i0) {
+    case 0: goto w2c_B22;
+    case 1: goto w2c_B21;
+    case 2: goto w2c_B8;
+    case 3: goto w2c_B20;
+    default: goto w2c_B22;
+  }
+  w2c_B22:;
+  w2c_i0 = w2c_p4;
+  w2c_i1 = 255u;
   w2c_i0 &= w2c_i1;
   w2c_i0 = !(w2c_i0);
-  if (w2c_i0) {goto w2c_B24;}
+  if (w2c_i0) {goto w2c_B23;}
   w2c_i0 = w2c_l16;
   w2c_i1 = 255u;
   w2c_i0 &= w2c_i1;
   w2c_i0 = !(w2c_i0);
-  if (w2c_i0) {goto w2c_B25;}
+  if (w2c_i0) {goto w2c_B24;}
   w2c_j0 = 16777216ull;
   w2c_l6 = w2c_j0;
-  goto w2c_B16;
-  w2c_B25:;
+  goto w2c_B8;
+  w2c_B24:;
   w2c_i0 = 0u;
   w2c_l16 = w2c_i0;
   w2c_j0 = w2c_l5;
   w2c_i0 = (u32)(w2c_j0);
   w2c_i1 = 0u;
-  i32_store8(&instance->w2c_memory, (u64)(w2c_i0) + 30, w2c_i1);
+  i32_store8(&instance->w2c_memory, (u64)(w2c_i0) + 29, w2c_i1);
   w2c_j0 = w2c_l5;
   w2c_i0 = (u32)(w2c_j0);
   w2c_i1 = w2c_l11;
   w2c_i2 = 1u;
   w2c_i1 += w2c_i2;
-  i32_store8(&instance->w2c_memory, (u64)(w2c_i0) + 27, w2c_i1);
+  i32_store8(&instance->w2c_memory, (u64)(w2c_i0) + 26, w2c_i1);
   w2c_j0 = 4311744512ull;
   w2c_l6 = w2c_j0;
-  goto w2c_B16;
-  w2c_B24:;
+  goto w2c_B8;
+  w2c_B23:;
   w2c_j0 = 33554432ull;
   w2c_l6 = w2c_j0;
   w2c_i0 = w2c_l16;
   w2c_i1 = 255u;
   w2c_i0 &= w2c_i1;
-  if (w2c_i0) {goto w2c_B16;}
+  if (w2c_i0) {goto w2c_B8;}
   w2c_j0 = w2c_l5;
   w2c_i0 = (u32)(w2c_j0);
   w2c_i1 = 257u;
-  i32_store16(&instance->w2c_memory, (u64)(w2c_i0) + 29, w2c_i1);
+  i32_store16(&instance->w2c_memory, (u64)(w2c_i0) + 28, w2c_i1);
   w2c_i0 = 1u;
   w2c_l16 = w2c_i0;
-  goto w2c_B16;
-  w2c_B22:;
+  goto w2c_B8;
+  w2c_B21:;
   w2c_j0 = 50331648ull;
   w2c_l6 = w2c_j0;
   w2c_i0 = w2c_l16;
   w2c_i1 = 255u;
   w2c_i0 &= w2c_i1;
-  if (w2c_i0) {goto w2c_B16;}
+  if (w2c_i0) {goto w2c_B8;}
   w2c_j0 = w2c_l5;
   w2c_i0 = (u32)(w2c_j0);
   w2c_i1 = 1u;
-  i32_store8(&instance->w2c_memory, (u64)(w2c_i0) + 30, w2c_i1);
+  i32_store8(&instance->w2c_memory, (u64)(w2c_i0) + 29, w2c_i1);
   w2c_i0 = 0u;
   w2c_l16 = w2c_i0;
-  goto w2c_B16;
-  w2c_B21:;
+  goto w2c_B8;
+  w2c_B20:;
   w2c_i0 = w2c_l16;
   w2c_i1 = 255u;
   w2c_i0 &= w2c_i1;
@@ -20685,13 +20935,13 @@ static u32 w2c_module_farm_step(Z_tcrx_instance_t* instance, u32 w2c_p0, u32 w2c
   w2c_i0 = w2c_p0;
   w2c_i1 = 2u;
   w2c_i0 = w2c_i0 == w2c_i1;
-  if (w2c_i0) {goto w2c_B16;}
+  if (w2c_i0) {goto w2c_B8;}
   w2c_j0 = w2c_l5;
   w2c_i0 = (u32)(w2c_j0);
   w2c_i1 = 1u;
-  i32_store8(&instance->w2c_memory, (u64)(w2c_i0) + 28, w2c_i1);
-  goto w2c_B16;
-  w2c_B19:;
+  i32_store8(&instance->w2c_memory, (u64)(w2c_i0) + 27, w2c_i1);
+  goto w2c_B8;
+  w2c_B18:;
   w2c_j0 = w2c_l5;
   w2c_i0 = (u32)(w2c_j0);
   w2c_i1 = w2c_l15;
@@ -20699,33 +20949,31 @@ static u32 w2c_module_farm_step(Z_tcrx_instance_t* instance, u32 w2c_p0, u32 w2c
   w2c_i1 += w2c_i2;
   w2c_i2 = 3u;
   w2c_i1 &= w2c_i2;
-  i32_store8(&instance->w2c_memory, (u64)(w2c_i0) + 31, w2c_i1);
+  i32_store8(&instance->w2c_memory, (u64)(w2c_i0) + 30, w2c_i1);
   w2c_j0 = 4395630592ull;
   w2c_l6 = w2c_j0;
-  goto w2c_B16;
-  w2c_B18:;
+  goto w2c_B8;
+  w2c_B17:;
   w2c_j0 = w2c_l5;
-  w2c_j1 = 26ull;
+  w2c_j1 = 24ull;
   w2c_j0 += w2c_j1;
+  w2c_j1 = 1ull;
+  w2c_j0 |= w2c_j1;
   w2c_l7 = w2c_j0;
-  w2c_i0 = w2c_p4;
+  w2c_i0 = w2c_p3;
   w2c_i1 = 255u;
   w2c_i0 &= w2c_i1;
-  if (w2c_i0) {goto w2c_B26;}
+  if (w2c_i0) {goto w2c_B25;}
   w2c_j0 = w2c_l7;
-  w2c_f12(instance, w2c_j0);
+  w2c_f13(instance, w2c_j0);
   w2c_j0 = 117440512ull;
   w2c_l6 = w2c_j0;
   w2c_j0 = w2c_l5;
   w2c_i0 = (u32)(w2c_j0);
-  w2c_i0 = i32_load8_u(&instance->w2c_memory, (u64)(w2c_i0) + 26u);
+  w2c_i0 = i32_load8_u(&instance->w2c_memory, (u64)(w2c_i0) + 25u);
   w2c_l16 = w2c_i0;
-  goto w2c_B16;
-  w2c_B26:;
-  w2c_i0 = w2c_l19;
-  w2c_i1 = 16u;
-  w2c_i0 >>= (w2c_i1 & 31);
-  w2c_p0 = w2c_i0;
+  goto w2c_B8;
+  w2c_B25:;
   w2c_j0 = w2c_l5;
   w2c_i0 = (u32)(w2c_j0);
   w2c_i1 = w2c_l15;
@@ -20733,7 +20981,7 @@ static u32 w2c_module_farm_step(Z_tcrx_instance_t* instance, u32 w2c_p0, u32 w2c
   w2c_i1 += w2c_i2;
   w2c_i2 = 3u;
   w2c_i1 &= w2c_i2;
-  i32_store8(&instance->w2c_memory, (u64)(w2c_i0) + 31, w2c_i1);
+  i32_store8(&instance->w2c_memory, (u64)(w2c_i0) + 30, w2c_i1);
   w2c_j0 = 134217728ull;
   w2c_l6 = w2c_j0;
   w2c_i0 = 2u;
@@ -20748,23 +20996,23 @@ static u32 w2c_module_farm_step(Z_tcrx_instance_t* instance, u32 w2c_p0, u32 w2c
   w2c_i1 = 4294967295u;
   w2c_i0 += w2c_i1;
   switch (w2c_i0) {
-    case 0: goto w2c_B27;
-    case 1: goto w2c_B28;
-    case 2: goto w2c_B16;
-    default: goto w2c_B27;
+    case 0: goto w2c_B26;
+    case 1: goto w2c_B27;
+    case 2: goto w2c_B8;
+    default: goto w2c_B26;
   }
-  w2c_B28:;
+  w2c_B27:;
   w2c_j0 = w2c_l5;
   w2c_i0 = (u32)(w2c_j0);
-  w2c_i1 = w2c_p0;
-  i32_store8(&instance->w2c_memory, (u64)(w2c_i0) + 27, w2c_i1);
+  w2c_i1 = w2c_l19;
+  i32_store8(&instance->w2c_memory, (u64)(w2c_i0) + 26, w2c_i1);
   w2c_j0 = 3ull;
   w2c_l8 = w2c_j0;
   w2c_i0 = 0u;
-  w2c_p0 = w2c_i0;
+  w2c_l19 = w2c_i0;
   w2c_j0 = 4ull;
   w2c_l10 = w2c_j0;
-  w2c_B27:;
+  w2c_B26:;
   w2c_i0 = 0u;
   w2c_l16 = w2c_i0;
   w2c_j0 = w2c_l7;
@@ -20777,10 +21025,18 @@ static u32 w2c_module_farm_step(Z_tcrx_instance_t* instance, u32 w2c_p0, u32 w2c
   w2c_j1 = w2c_l10;
   w2c_j0 += w2c_j1;
   w2c_i0 = (u32)(w2c_j0);
-  w2c_i1 = w2c_p0;
+  w2c_i1 = w2c_l19;
   i32_store8(&instance->w2c_memory, (u64)(w2c_i0), w2c_i1);
-  goto w2c_B16;
-  w2c_B17:;
+  goto w2c_B8;
+  w2c_B9:;
+  w2c_j0 = w2c_l5;
+  w2c_i0 = (u32)(w2c_j0);
+  w2c_i1 = w2c_l17;
+  i32_store(&instance->w2c_memory, (u64)(w2c_i0) + 27, w2c_i1);
+  w2c_j0 = w2c_l5;
+  w2c_i0 = (u32)(w2c_j0);
+  w2c_i1 = w2c_l11;
+  i32_store8(&instance->w2c_memory, (u64)(w2c_i0) + 26, w2c_i1);
   w2c_i0 = 2u;
   w2c_p0 = w2c_i0;
   w2c_j0 = 167772160ull;
@@ -20793,37 +21049,37 @@ static u32 w2c_module_farm_step(Z_tcrx_instance_t* instance, u32 w2c_p0, u32 w2c
   w2c_i1 = 4294967295u;
   w2c_i0 += w2c_i1;
   switch (w2c_i0) {
-    case 0: goto w2c_B16;
-    case 1: goto w2c_B30;
-    case 2: goto w2c_B29;
-    default: goto w2c_B16;
+    case 0: goto w2c_B8;
+    case 1: goto w2c_B29;
+    case 2: goto w2c_B28;
+    default: goto w2c_B8;
   }
-  w2c_B30:;
+  w2c_B29:;
   w2c_i0 = 0u;
   w2c_p0 = w2c_i0;
-  w2c_B29:;
+  w2c_B28:;
   w2c_j0 = w2c_l5;
   w2c_i0 = (u32)(w2c_j0);
   w2c_i1 = 0u;
-  i32_store8(&instance->w2c_memory, (u64)(w2c_i0) + 29, w2c_i1);
+  i32_store8(&instance->w2c_memory, (u64)(w2c_i0) + 28, w2c_i1);
   w2c_i0 = w2c_p0;
   w2c_l16 = w2c_i0;
-  w2c_B16:;
-  w2c_j0 = w2c_l5;
-  w2c_i0 = (u32)(w2c_j0);
-  w2c_i0 = i32_load8_u(&instance->w2c_memory, (u64)(w2c_i0) + 30u);
-  w2c_i1 = 1u;
-  w2c_i0 &= w2c_i1;
-  w2c_l13 = w2c_i0;
+  w2c_B8:;
   w2c_j0 = w2c_l5;
   w2c_i0 = (u32)(w2c_j0);
   w2c_i0 = i32_load8_u(&instance->w2c_memory, (u64)(w2c_i0) + 29u);
   w2c_i1 = 1u;
   w2c_i0 &= w2c_i1;
-  w2c_l14 = w2c_i0;
+  w2c_l13 = w2c_i0;
   w2c_j0 = w2c_l5;
   w2c_i0 = (u32)(w2c_j0);
   w2c_i0 = i32_load8_u(&instance->w2c_memory, (u64)(w2c_i0) + 28u);
+  w2c_i1 = 1u;
+  w2c_i0 &= w2c_i1;
+  w2c_l14 = w2c_i0;
+  w2c_j0 = w2c_l5;
+  w2c_i0 = (u32)(w2c_j0);
+  w2c_i0 = i32_load8_u(&instance->w2c_memory, (u64)(w2c_i0) + 27u);
   w2c_i1 = 1u;
   w2c_i0 &= w2c_i1;
   w2c_p1 = w2c_i0;
@@ -20835,11 +21091,11 @@ static u32 w2c_module_farm_step(Z_tcrx_instance_t* instance, u32 w2c_p0, u32 w2c
   w2c_l7 = w2c_j0;
   w2c_j0 = w2c_l5;
   w2c_i0 = (u32)(w2c_j0);
-  w2c_i0 = i32_load8_u(&instance->w2c_memory, (u64)(w2c_i0) + 31u);
+  w2c_i0 = i32_load8_u(&instance->w2c_memory, (u64)(w2c_i0) + 30u);
   w2c_l15 = w2c_i0;
   w2c_j0 = w2c_l5;
   w2c_i0 = (u32)(w2c_j0);
-  w2c_i0 = i32_load8_u(&instance->w2c_memory, (u64)(w2c_i0) + 27u);
+  w2c_i0 = i32_load8_u(&instance->w2c_memory, (u64)(w2c_i0) + 26u);
   w2c_l11 = w2c_i0;
   goto w2c_B0;
   w2c_B1:;
@@ -21298,7 +21554,7 @@ static u32 w2c_module_rack_candidate(Z_tcrx_instance_t* instance, u32 w2c_p0, u3
   w2c_i3 = w2c_p0;
   w2c_j4 = w2c_p2;
   w2c_j5 = w2c_l6;
-  w2c_f28(instance, w2c_j0, w2c_j1, w2c_j2, w2c_i3, w2c_j4, w2c_j5);
+  w2c_f29(instance, w2c_j0, w2c_j1, w2c_j2, w2c_i3, w2c_j4, w2c_j5);
   goto w2c_B9;
   w2c_B10:;
   w2c_j0 = w2c_l4;
@@ -21307,7 +21563,7 @@ static u32 w2c_module_rack_candidate(Z_tcrx_instance_t* instance, u32 w2c_p0, u3
   w2c_i3 = w2c_p0;
   w2c_j4 = w2c_p2;
   w2c_j5 = w2c_l6;
-  w2c_f30(instance, w2c_j0, w2c_j1, w2c_j2, w2c_i3, w2c_j4, w2c_j5);
+  w2c_f31(instance, w2c_j0, w2c_j1, w2c_j2, w2c_i3, w2c_j4, w2c_j5);
   w2c_B9:;
   w2c_i0 = 1u;
   w2c_l14 = w2c_i0;
@@ -21467,7 +21723,7 @@ static u32 w2c_module_rack_find(Z_tcrx_instance_t* instance, u32 w2c_p0) {
   w2c_i3 = w2c_p0;
   w2c_i4 = 255u;
   w2c_i3 &= w2c_i4;
-  w2c_f31(instance, w2c_j0, w2c_j1, w2c_j2, w2c_i3);
+  w2c_f32(instance, w2c_j0, w2c_j1, w2c_j2, w2c_i3);
   w2c_j0 = 0ull;
   w2c_i0 = (u32)(w2c_j0);
   w2c_j1 = w2c_l1;
@@ -21534,7 +21790,7 @@ static u32 w2c_module_rack_frame(Z_tcrx_instance_t* instance, u32 w2c_p0, u32 w2
   w2c_i3 = w2c_p0;
   w2c_j4 = w2c_p2;
   w2c_j5 = w2c_l5;
-  w2c_f28(instance, w2c_j0, w2c_j1, w2c_j2, w2c_i3, w2c_j4, w2c_j5);
+  w2c_f29(instance, w2c_j0, w2c_j1, w2c_j2, w2c_i3, w2c_j4, w2c_j5);
   goto w2c_B0;
   w2c_B4:;
   w2c_i0 = w2c_p3;
@@ -22719,7 +22975,7 @@ static u32 w2c_module_storage(Z_tcrx_instance_t* instance, u64 w2c_p0, u32 w2c_p
   w2c_j4 = w2c_p2;
   w2c_i5 = w2c_p3;
   w2c_j5 = (u64)(w2c_i5);
-  w2c_f25(instance, w2c_j0, w2c_j1, w2c_j2, w2c_j3, w2c_j4, w2c_j5);
+  w2c_f26(instance, w2c_j0, w2c_j1, w2c_j2, w2c_j3, w2c_j4, w2c_j5);
   w2c_j0 = 0ull;
   w2c_i0 = (u32)(w2c_j0);
   w2c_j1 = w2c_l4;
@@ -22792,7 +23048,7 @@ static u32 w2c_module_storage_with_limits(Z_tcrx_instance_t* instance, u64 w2c_p
   w2c_j7 = w2c_p5;
   w2c_i8 = w2c_p6;
   w2c_j8 = (u64)(w2c_i8);
-  w2c_f26(instance, w2c_j0, w2c_j1, w2c_j2, w2c_j3, w2c_j4, w2c_j5, w2c_i6, w2c_j7, w2c_j8);
+  w2c_f27(instance, w2c_j0, w2c_j1, w2c_j2, w2c_j3, w2c_j4, w2c_j5, w2c_i6, w2c_j7, w2c_j8);
   w2c_j0 = 0ull;
   w2c_i0 = (u32)(w2c_j0);
   w2c_j1 = w2c_l7;

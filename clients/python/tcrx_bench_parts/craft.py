@@ -110,7 +110,7 @@ class Craft:  # pylint: disable=too-many-instance-attributes  # what is known of
         self.edges: Callable[[], Dict[str, object]] = lambda: {"cltu": None, "telemetry": None}
         """What is known of CLTUs and telemetry frames, as values of JSON."""
         self.senders: Callable[[], List[Dict[str, object]]] = list
-        """What is told of senders, as values of JSON."""
+        """What is reported of senders, as values of JSON."""
         self.begun_channel: Callable[[int, int], None] = lambda vcid, first: None
         """Called with a channel that is set up, and its V(R)."""
         self.is_behind: Callable[[], bool] = lambda: False
@@ -126,7 +126,7 @@ class Craft:  # pylint: disable=too-many-instance-attributes  # what is known of
         """From the end on nothing is written that nobody asked for; and once it is closed, only what is under way leads to lines."""
         self.next_in_turn = 0
         self.active: Optional[int] = None
-        """The channel that took in the last frame, until telemetry has told of it."""
+        """The channel that took in the last frame, until telemetry has reported it."""
         self.renew: Callable[[Turn], None] = lambda turn: None
         """Called to have the receiver begun anew."""
         self.is_renewing = False

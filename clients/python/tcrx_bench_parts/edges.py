@@ -77,7 +77,7 @@ class Decoding:
         """The next octets of a stream."""
         if not stream.begun:
             stream.begun = True
-            self.maker.tell(f"decoder {stream.number} {self.mode}")
+            self.maker.write(f"decoder {stream.number} {self.mode}")
         self._ask(f"octets {stream.number} {octets.hex()}", self._decoded, Piece(port, source, len(octets)))
 
     def feed_datagram(self, port: Port, source: str, octets: bytes) -> None:

@@ -125,7 +125,7 @@ class Engine:  # pylint: disable=too-many-instance-attributes  # both ways of on
             self.ask(line, lambda answer: None)
         self.ask(lines[-1], answered)
 
-    def tell(self, line: str) -> None:
+    def write(self, line: str) -> None:
         """Writes a line that has no answer, in front of the next one that has."""
         if not self._ending:
             self._out.append(line)

@@ -338,7 +338,7 @@ class Judge:
         self.child = subprocess.Popen([program, "--scid", "0"], stdin=subprocess.PIPE, stdout=subprocess.PIPE, text=True, bufsize=1,
                                       env={**os.environ, **NO_BUILD})
 
-    def tell(self, lines: List[str]) -> None:
+    def write(self, lines: List[str]) -> None:
         """Writes lines."""
         assert self.child.stdin
         self.child.stdin.writelines(line + "\n" for line in lines)
@@ -348,7 +348,7 @@ class Judge:
         del answered
         assert self.child.stdout
         try:
-            self.tell(lines)
+            self.write(lines)
             answer = [self.child.stdout.readline() for _ in lines][-1]
         except OSError:
             answer = ""
@@ -373,7 +373,7 @@ def replay(path: Path, program: Optional[str], senders: Sequence[Sequence[int]] 
         judge = Judge(named)
         try:
             watches = Watches(senders, judge.ask, lambda text, time: print(f"{time:.6f} s: {text}"))
-            judge.tell(watches.setup())
+            judge.write(watches.setup())
             print("\n".join([run_again(log, [named, *log.words], watches), *watches.texts()]))
         finally:
             judge.end()

@@ -34,9 +34,9 @@ DATAGRAM_BUFFER, SO_MEMINFO, DROPS = 1 << 22, 55, 8
 # After 60 seconds of silence the other end's machine is asked whether it is there, three times; else its place is given back.
 KEEPALIVE = ((socket.SOL_SOCKET, socket.SO_KEEPALIVE, 1), (socket.IPPROTO_TCP, socket.TCP_KEEPIDLE, 60),
              (socket.IPPROTO_TCP, socket.TCP_KEEPINTVL, 10), (socket.IPPROTO_TCP, socket.TCP_KEEPCNT, 3))
-# Seconds that a connection that was told why it is closed has to read that, and how many such there are at most.
+# Seconds that a connection that was sent why it is closed has to read that, and how many such there are at most.
 LINGER, MOST_LINGERING = 0.5, 256
-# Files that may be open besides the connections that are taken: those that are told why they are closed, and the bench's own.
+# Files that may be open besides the connections that are taken: those that were sent why they are closed, and the bench's own.
 OTHER_FILES = MOST_LINGERING + 64
 
 Network = Union[ipaddress.IPv4Network, ipaddress.IPv6Network]
@@ -191,7 +191,7 @@ class Hub:  # pylint: disable=too-many-instance-attributes  # what ports share
         self.datagrams: List[Datagrams] = []
         self.loop = asyncio.get_running_loop()
         self.lingering: Dict[Connection, None] = {}
-        """Those that were told why they are closed, in that order."""
+        """Those that were sent why they are closed, in that order."""
         self.closed = False
         self.turn = 0
         """How often something was read, on all ports."""

@@ -1,9 +1,9 @@
-"""What is told of the sender of a channel: whether each Type-AD frame that arrives is one that a sliding window and links that keep order let
+"""What is reported of the sender of a channel: whether each Type-AD frame that arrives is one that a sliding window and links that keep order let
 come. Then every packet comes once and in order.
 
 Nothing is reckoned here. A second `tclive` has a channel whose window is twice the sender's: its half ahead of V(R) is the sender's window where
 V(R) is the first number that the sender doesn't know to be accepted, and its half behind V(R) has the numbers from which a sender learns by a
-report value of V(R). So FARM-1, which is proved, says of a frame by its event whether it may be sent, and of a CLCW whether it tells something.
+report value of V(R). So FARM-1, which is proved, says of a frame by its event whether it may be sent, and of a CLCW whether it says something new.
 """
 from __future__ import annotations
 
@@ -55,7 +55,7 @@ class Watch:  # pylint: disable=too-many-instance-attributes  # what is known of
         """The first frame since V(R) was set that broke the rule."""
         self.waiting: Deque[Seen] = deque()
         self.is_asked = self.is_set = False
-        """Whether an answer is under way; and whether a Set V(R) came, of which the next CLCW tells if it was obeyed."""
+        """Whether an answer is under way; and whether a Set V(R) came, of which the next CLCW says if it was obeyed."""
         self.numbers: List[int] = []
         """That of the first frame which the sender didn't know to be accepted, and the N(R) of each CLCW that it may have read since."""
 
@@ -64,7 +64,7 @@ class Watch:  # pylint: disable=too-many-instance-attributes  # what is known of
         return f"channel {self.channel} {2 * self.window} 1 0 plain"
 
     def go_on(self) -> None:
-        """Has what waits judged, up to a frame whose answers come later. Another CLCW with the same N(R) tells a sender nothing."""
+        """Has what waits judged, up to a frame whose answers come later. Another CLCW with the same N(R) says nothing new to a sender."""
         while self.waiting and not self.is_asked:
             seen = self.waiting.popleft()
             if seen.what == "frame" and self.numbers:
@@ -107,14 +107,14 @@ class Watch:  # pylint: disable=too-many-instance-attributes  # what is known of
             self.breaks(self, seen)
 
     def state(self) -> Dict[str, object]:
-        """What is told, as values of JSON."""
+        """What is reported, as values of JSON."""
         return {"channel": self.channel, "window": self.window, "frames": self.frames, "breaches": self.breaches, "in_order": self.broken is None,
                 "broken_by": self.broken and {"number": self.broken.number, "time": round(self.broken.time, 6)}}
 
     def text(self) -> str:
         """The same as a line."""
-        told = f"no promise since frame {self.broken.number} at {self.broken.time:.6f} s" if self.broken else "every packet once and in order"
-        return f"sender of channel {self.channel}, window {self.window}: {self.frames} frames, {self.breaches} breaches; {told}"
+        order = f"no promise since frame {self.broken.number} at {self.broken.time:.6f} s" if self.broken else "every packet once and in order"
+        return f"sender of channel {self.channel}, window {self.window}: {self.frames} frames, {self.breaches} breaches; {order}"
 
 
 class Watches:
@@ -172,13 +172,13 @@ class Watches:
 
     def _ask(self, ask: Ask, lines: List[str], answered: Answered) -> Optional[str]:
         """Asks, and says when the answer has come."""
-        def told(answer: str) -> None:
+        def came(answer: str) -> None:
             answered(answer)
             self.went_on()
-        return ask(lines, told)
+        return ask(lines, came)
 
     def state(self) -> List[Dict[str, object]]:
-        """What is told of all, as values of JSON."""
+        """What is reported of all, as values of JSON."""
         return [watch.state() for watch in self.all.values()]
 
     def texts(self) -> List[str]:

@@ -464,7 +464,7 @@ records! {
         vcid: u8,
     }
     /// What the frame at the front of a candidate came to, and the channel that took it in. Where a frame was found and is refused,
-    /// its length and what follows it are told nevertheless.
+    /// its length and what follows it are reported nevertheless.
     CandidateReply as "tcrx_candidate_reply" {
         /// `TCRX_DONE`, or why not.
         status: Status,
