@@ -17,7 +17,7 @@ const compiled = new WebAssembly.Module(Buffer.from(given.module, "base64"));
 
 let good = 0;
 let bad = 0;
-function tell(isGood, what) {
+function expect(isGood, what) {
   good += isGood ? 1 : 0;
   bad += isGood ? 0 : 1;
   if (!isGood) console.log(`${what} isn't as stored`);
@@ -28,17 +28,17 @@ function checkCases(index) {
   for (const line of fs.readFileSync(index, "latin1").trimEnd().split("\n")) {
     const [, name, scid, fault] = line.match(/^(\S+) (\S+) ?(.*)$/);
     const done = runWhole(compiled, Number(scid), fs.readFileSync(path.join(folder, `${name}.script`), "latin1"));
-    tell(done.output === fs.readFileSync(path.join(folder, `${name}.out`), "latin1") && (done.fault || "") === fault, `case ${name}`);
+    expect(done.output === fs.readFileSync(path.join(folder, `${name}.out`), "latin1") && (done.fault || "") === fault, `case ${name}`);
   }
 }
 
 function checkExamples(folder) {
   const names = fs.readdirSync(folder).filter((it) => it.endsWith(".tcs")).map((it) => it.slice(0, -4));
-  tell(names.sort().join() === Object.keys(given.examples).sort().join() && names.length > 0, "the list of examples");
+  expect(names.sort().join() === Object.keys(given.examples).sort().join() && names.length > 0, "the list of examples");
   for (const name of names) {
     const script = fs.readFileSync(path.join(folder, `${name}.tcs`), "utf8");
     const {output, fault} = runWhole(compiled, 42, given.examples[name]);
-    tell(script === given.examples[name] && fault === null && output === fs.readFileSync(path.join(folder, `${name}.out`), "utf8"), `example ${name}`);
+    expect(script === given.examples[name] && fault === null && output === fs.readFileSync(path.join(folder, `${name}.out`), "utf8"), `example ${name}`);
   }
 }
 
