@@ -108,8 +108,8 @@ impl Room for FixedRoom {
 
     #[inline(always)]
     fn fill(&mut self, octets: &[u8]) -> Result<(), AllocError> {
-        write_at(&mut self.block, 0, octets);
         self.len = octets.len();
+        write_at(&mut self.block, 0, octets);
         Ok(())
     }
 
