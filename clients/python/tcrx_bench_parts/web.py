@@ -51,7 +51,8 @@ class Web:
         self.begun = time.time()
         self.receiver = "running"
         self.followers: List[Follower] = []
-        self.shown = -1
+        self.shown = 0
+        """How many changes the state has that was asked for last."""
         self.asked = False
         self._tick()
 
@@ -70,8 +71,7 @@ class Web:
         """Looks from time to time whether something changed that is to be sent."""
         if self.hub.closed:
             return
-        followers = [each for each in self.followers if not each.paused]
-        if followers and not self.asked and (self.craft.changes != self.shown or any(each.is_new() for each in followers)):
+        if not self.asked and any(each.is_behind(self.craft.changes) for each in self.followers):
             self.asked = True
             self.shown = self.craft.changes
             self.craft.refresh(self.send)
@@ -86,7 +86,7 @@ class Web:
                 # It is made once for all that have seen the same events.
                 if each.seen not in texts:
                     texts[each.seen] = f"data: {json.dumps(self.state(each.seen))}\n\n".encode()
-                each.send(texts[each.seen], self.craft.count_of_events)
+                each.send(texts[each.seen], self.craft.count_of_events, self.shown)
 
     def end(self, why: str) -> None:
         """Says that the receiver is no more."""
@@ -203,7 +203,7 @@ class Follower:
 
     def __init__(self, visitor: Visitor) -> None:
         self.visitor = visitor
-        self.seen, self.sent = 0, 0.0
+        self.seen, self.shown, self.sent = 0, -1, 0.0
         visitor.port.count("requests")
         visitor.transport.set_write_buffer_limits(1 << 16)
         visitor.transport.write(f"HTTP/1.1 200 OK\r\nContent-Type: text/event-stream; charset=utf-8\r\n{HEADERS}\r\nretry: 2000\n\n".encode())
@@ -214,13 +214,13 @@ class Follower:
         """Whether what was sent before isn't read yet."""
         return self.visitor.paused
 
-    def is_new(self) -> bool:
-        """Whether nothing was sent to it yet."""
-        return self.sent == 0.0
+    def is_behind(self, changes: int) -> bool:
+        """Whether it reads, and what was sent to it last hasn't so many changes."""
+        return not self.paused and self.shown != changes
 
-    def send(self, text: bytes, seen: int) -> None:
-        """Sends a state, up to an event of this number."""
-        self.seen, self.sent = seen, time.monotonic()
+    def send(self, text: bytes, seen: int, shown: int) -> None:
+        """Sends a state, up to an event of this number, with so many changes."""
+        self.seen, self.shown, self.sent = seen, shown, time.monotonic()
         self.visitor.transport.write(text)
 
     def breathe(self) -> None:
