@@ -16,14 +16,14 @@ use Rattle.tc_channel.proofs.Given.{fields-in-order, packets-in-order, units-in-
 use Rattle.tc_channel.proofs.Through.{packets-are-made, units-are-made, part-whole}
 use Rattle.tc_channel.proofs.Octets.{fields-fit, packets-fit, units-fit, waits-within, packets-within, units-within}
 use Rattle.std.proofs.lemmas.List.{set-get_or}
-use Rattle.tc_channel.proofs.InRooms.{fit-at, key-in, staged-of-none-at, put-in, same-rings, same-sizes, committed-at, committed-set}
+use Rattle.tc_channel.proofs.InRooms.{fit-at, key-in, staged-of-none-at, put-in, same-rings, same-sizes, committed-at, committed-set, full-at}
 use Rattle.tc_channel.proofs.Found.{copied-first, empty-in, first-here, found-in, keys-set, none-more, none-waits, not-found, oldest-in, one-waits, popped-in}
 use Rattle.tc_channel.proofs.Contents.{staged-at, passed-none, committed-one}
 use Rattle.tc_channel.proofs.Passes.{not-telecommand}
 use Rattle.tc_channel.proofs.Tables.{first-key, keys-length, reported-first, reported-none}
 use Rattle.tc_channel.proofs.AtWork.{none-touched, packet-is, unit-is}
 
-pub ruleset at_place = (fit-at, staged-of-none-at, put-in, same-rings, same-sizes, committed-at, committed-set, copied-first, empty-in, keys-set, none-waits, oldest-in, one-waits, popped-in, staged-at, map-set_same, set-get_or)
+pub ruleset at_place = (fit-at, staged-of-none-at, put-in, same-rings, same-sizes, committed-at, committed-set, full-at, copied-first, empty-in, keys-set, none-waits, oldest-in, one-waits, popped-in, staged-at, map-set_same, set-get_or)
 
 pub ruleset by_key = (found-in, not-found)
 

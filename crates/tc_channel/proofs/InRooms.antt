@@ -1,5 +1,5 @@
 -- Queues in rooms, read and written at one place.
-use Rattle.tc_channel.proofs.Names.{◌≡◌, ℕ, zero, suc, ◌-◌, ◌<◌, ◌≤◌, Bool, List, [], ◌∷◌, length, map, get_or, refl, sym, ap, subst, ◌∙◌, arith, set, map-set_same, map-map, append-nil, length-map, map-set, get_or-map, keys_of, room_in, StoredQueue, Keyed, ring_in, rings_in, staged_in, all_staged_in, room_sizes, Fit, AreCommitted, room_at}
+use Rattle.tc_channel.proofs.Names.{◌≡◌, ℕ, zero, suc, ◌-◌, ◌<◌, ◌≤◌, Bool, List, [], ◌∷◌, ◌++◌, length, map, get_or, refl, sym, ap, subst, ◌∙◌, arith, set, map-set_same, map-map, append-nil, length-append, length-map, map-set, get_or-map, keys_of, room_in, StoredQueue, Keyed, ring_in, rings_in, staged_in, all_staged_in, room_sizes, Fit, AreCommitted, room_at}
 use Rattle.circular_buffer.specs.Buffer.{buffer}
 use Rattle.tc_channel.specs.Keyed.{IsPutBehind}
 use Rattle.tc_channel.specs.Delivering.{IsPutAt}
@@ -67,3 +67,11 @@ staged-of-none-at (r ∷ qs) (suc i) q all inside is = staged-of-none-at qs i q 
 -- nothing is staged in the others, nor in the one that is written
 pub committed-set : (qs : List Keyed) (i : ℕ) (q next : Keyed) → AreCommitted qs → i < length qs → q ≡ get_or qs i q → next.slots.staged ≡ q.slots.staged → AreCommitted (set qs i next)
 committed-set qs i q next all inside is same = committed-at qs i next all (same ∙ staged-of-none-at qs i q all inside is)
+
+-- a queue as many of whose items wait as may has no room
+pub full-at : (qs : List Keyed) (i : ℕ) (q : Keyed) → i < length qs → q ≡ get_or qs i q → q.slots.ring.capacity ≤ length q.slots.ring.items → room_at i (all_staged_in qs) ≡ 0
+full-at qs i q inside is full =
+    let here : staged_in q ≡ get_or (all_staged_in qs) i (staged_in q) = ap staged_in is ∙ sym (get_or-map staged_in qs i q (staged_in q) inside) in
+    let room : room_at i (all_staged_in qs) ≡ q.slots.ring.capacity - length (q.slots.ring.items ++ q.slots.staged) =
+    get_or-map room_in (all_staged_in qs) i (staged_in q) 0 (omega (arith, length-map qs staged_in)) ∙ ap room_in (sym here) in
+    room ∙ omega (arith, length-append q.slots.ring.items q.slots.staged)

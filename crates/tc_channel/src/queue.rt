@@ -1,6 +1,6 @@
 //! One queue in rooms.
 
-ghost use Rattle.std.specs.Prelude.{◌≡◌, ◌≤◌, ◌+◌, [], length, drop, true, false, IfOk, IsOk, OnErr, None, slice_get, option_map};
+ghost use Rattle.std.specs.Prelude.{◌≡◌, ◌<◌, ◌≤◌, ◌+◌, [], length, drop, true, false, IfOk, IsOk, OnErr, None, slice_get, option_map};
 ghost use Rattle.tc_rooms.specs.Rooms.{slotted};
 ghost use Rattle.tc_channel.specs.Keyed.{ring_in, staged_in, committed, roll_back as rolled_back_of, IsPutBehind};
 
@@ -54,6 +54,15 @@ impl<R: Room> Queue<R> {
         ensures { result ≡ length self.now.slots.ring.items }
     {
         self.slots.len()
+    }
+
+    /// Whether as many items wait as may.
+    #[inline(always)]
+    pub(crate) fn is_full(&self) -> bool
+        ensures full { result ≡ true → self.now.slots.ring.capacity ≤ length self.now.slots.ring.items }
+        ensures free { result ≡ false → length self.now.slots.ring.items < self.now.slots.ring.capacity }
+    {
+        self.slots.len() >= self.slots.capacity()
     }
 
     /// The oldest item, lent.

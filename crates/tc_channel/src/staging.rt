@@ -8,7 +8,7 @@ ghost use Rattle.tc_channel.specs.Admission.{is_for};
 ghost use Rattle.tc_channel.specs.StoredQueues.{keys_of, AreDistinct, StoredQueue};
 ghost use Rattle.tc_channel.specs.Keyed.{rings_in, all_staged_in, room_sizes, Fit, AreCommitted};
 ghost use Rattle.tc_channel.specs.Places.{IsTableOf};
-ghost use Rattle.tc_channel.specs.Delivering.{IsOnItsWay, IsPutAt, ArePut, IsAmong, AreStagedOf};
+ghost use Rattle.tc_channel.specs.Delivering.{IsOnItsWay, IsPutAt, ArePut, IsAmong, AreStagedOf, room_at};
 ghost use Rattle.tc_channel.specs.Steps.{looks, pass_steps};
 
 use crate::places::place_of;
@@ -45,6 +45,19 @@ fn stage_at<R: Room>(
     queue.stage(octets)
 }
 
+// Whether the queue at this place is seen to be full before a packet is copied: where no memory can be refused.
+#[inline(always)]
+#[tactic(auto, using(crate::proofs::Closing::at_place))]
+fn is_full_at<R: Room>(queues: &BoxedSlice<Queue<R>>, place: usize) -> bool
+    requires place { place < length (boxed_slice_items queues.now) }
+    ensures full { result ≡ true → room_at place (all_staged_in (boxed_slice_items queues.now)) ≡ 0 }
+{
+    if R::may_ask() {
+        return false;
+    }
+    queues[place].is_full()
+}
+
 // Stages a packet into its queue, where one takes it, and says how many packets that were.
 #[inline(always)]
 fn stage_packet<R: Room, C: Tick>(
@@ -77,6 +90,10 @@ fn stage_packet<R: Room, C: Tick>(
     let Some(place) = place_of(queues, table, packet.apid, steps) else {
         return Ok(0);
     };
+    let full = is_full_at(queues, place);
+    if full {
+        return Ok(0);
+    }
     let put = stage_at(queues, place, packet.octets)?;
     if put {
         return Ok(1);

@@ -84,7 +84,9 @@ impl Journal for Unrecorded {
 
     fn append(&mut self, event: &LentEvent<'_>, _entry: ()) {
         self.seen.note(event);
-        self.count = self.count.saturating_add(1);
+        if let Some(next) = self.count.checked_add(1) {
+            self.count = next;
+        }
     }
 
     fn seen(&self) -> EventsSeen {

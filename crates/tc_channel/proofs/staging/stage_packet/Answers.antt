@@ -12,6 +12,17 @@ pub returns-in_default-clause-way : goal.returns-in_default-clause-way
 returns-in_default-clause-way g c = λ base left all n k. way-none base (all_staged_in (boxed_slice_items c.args.queues.now)) c.args.packet.now.octets.now left all n
     (subst (NoneFor c.args.packet.now.octets.now) (sym (same-keys (boxed_slice_items c.args.queues.now))) (no-queue c.args.packet.now (keys_of (rings_in (boxed_slice_items c.args.queues.now))) c.requires.fields (rw c.deref.ensures.value at c.in_default.ensures.none))) k
 
+pub returns-then-full-clause-way : goal.returns-then-full-clause-way
+returns-then-full-clause-way g c = λ base left all n k.
+    let keys = sym (same-keys (boxed_slice_items c.args.queues.now)) in
+    let full = c.is_full_at-full.ensures.full c.if-full.true in
+    let some = rw c.deref.ensures.value at c.in-Some.ensures.some in
+    let lt = some.0 in
+    let inside : c.in-Some.place < length (all_staged_in (boxed_slice_items c.args.queues.now)) = omega (arith, length-map (boxed_slice_items c.args.queues.now) staged_in, lt) in
+    way-full base (all_staged_in (boxed_slice_items c.args.queues.now)) c.args.packet.now.octets.now left all n c.in-Some.place c.args.packet.now.apid (subst AreDistinct keys c.requires.distinct) inside
+    (rw keys at some.1)
+    (is-for c.args.packet.now c.args.packet.now.apid c.requires.fields c.if-not-packet.false refl) full k
+
 pub returns-then-put-clause-way : goal.returns-then-put-clause-way
 returns-then-put-clause-way g c = λ base left all n k.
     let keys = sym (same-keys (boxed_slice_items c.args.queues.now)) in
