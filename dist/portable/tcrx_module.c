@@ -2932,8 +2932,7 @@ static void w2c_f9(Z_tcrx_instance_t* instance, u64 w2c_p0, u64 w2c_p1) {
 static void w2c_f10(Z_tcrx_instance_t* instance, u64 w2c_p0, u64 w2c_p1, u64 w2c_p2, u64 w2c_p3) {
   u32 w2c_l4 = 0, w2c_l5 = 0, w2c_l6 = 0, w2c_l7 = 0, w2c_l8 = 0, w2c_l9 = 0;
   u64 w2c_l10 = 0, w2c_l11 = 0, w2c_l12 = 0, w2c_l13 = 0, w2c_l14 = 0, w2c_l15 = 0, w2c_l16 = 0, w2c_l17 = 0, 
-      w2c_l18 = 0, w2c_l19 = 0, w2c_l20 = 0, w2c_l21 = 0, w2c_l22 = 0, w2c_l23 = 0, w2c_l24 = 0, w2c_l25 = 0, 
-      w2c_l26 = 0, w2c_l27 = 0, w2c_l28 = 0;
+      w2c_l18 = 0, w2c_l19 = 0, w2c_l20 = 0, w2c_l21 = 0, w2c_l22 = 0, w2c_l23 = 0, w2c_l24 = 0, w2c_l25 = 0;
   FUNC_PROLOGUE;
   u32 w2c_i0, w2c_i1, w2c_i2, w2c_i3, w2c_i4;
   u64 w2c_j0, w2c_j1, w2c_j2, w2c_j3, w2c_j4, w2c_j5;
@@ -3324,7 +3323,13 @@ static void w2c_f10(Z_tcrx_instance_t* instance, u64 w2c_p0, u64 w2c_p1, u64 w2c
   w2c_j2 = 5ull;
   w2c_j1 <<= (w2c_j2 & 63);
   w2c_j0 += w2c_j1;
-  w2c_l18 = w2c_j0;
+  w2c_p3 = w2c_j0;
+  w2c_j1 = 24ull;
+  w2c_j0 += w2c_j1;
+  w2c_i0 = (u32)(w2c_j0);
+  w2c_j1 = w2c_l13;
+  i64_store(&instance->w2c_memory, (u64)(w2c_i0), w2c_j1);
+  w2c_j0 = w2c_p3;
   w2c_i0 = (u32)(w2c_j0);
   w2c_j0 = i64_load(&instance->w2c_memory, (u64)(w2c_i0));
   w2c_l14 = w2c_j0;
@@ -3344,7 +3349,7 @@ static void w2c_f10(Z_tcrx_instance_t* instance, u64 w2c_p0, u64 w2c_p1, u64 w2c
   w2c_j0 = w2c_l13;
   w2c_j1 = 18446744073709551612ull;
   w2c_j0 &= w2c_j1;
-  w2c_l19 = w2c_j0;
+  w2c_l13 = w2c_j0;
   w2c_j0 = 0ull;
   w2c_p2 = w2c_j0;
   w2c_L36: 
@@ -3390,7 +3395,7 @@ static void w2c_f10(Z_tcrx_instance_t* instance, u64 w2c_p0, u64 w2c_p1, u64 w2c
     w2c_i1 = (u32)(w2c_j1);
     w2c_i1 = i32_load8_u(&instance->w2c_memory, (u64)(w2c_i1));
     i32_store8(&instance->w2c_memory, (u64)(w2c_i0), w2c_i1);
-    w2c_j0 = w2c_l19;
+    w2c_j0 = w2c_l13;
     w2c_j1 = w2c_p2;
     w2c_j2 = 4ull;
     w2c_j1 += w2c_j2;
@@ -3733,22 +3738,28 @@ static void w2c_f10(Z_tcrx_instance_t* instance, u64 w2c_p0, u64 w2c_p1, u64 w2c
   w2c_j2 = 5ull;
   w2c_j1 <<= (w2c_j2 & 63);
   w2c_j0 += w2c_j1;
-  w2c_l17 = w2c_j0;
+  w2c_l13 = w2c_j0;
+  w2c_j1 = 24ull;
+  w2c_j0 += w2c_j1;
+  w2c_i0 = (u32)(w2c_j0);
+  w2c_j1 = w2c_l10;
+  w2c_j2 = 18446744073709551611ull;
+  w2c_j1 += w2c_j2;
+  w2c_p1 = w2c_j1;
+  i64_store(&instance->w2c_memory, (u64)(w2c_i0), w2c_j1);
+  w2c_j0 = w2c_l13;
   w2c_i0 = (u32)(w2c_j0);
   w2c_j0 = i64_load(&instance->w2c_memory, (u64)(w2c_i0));
   w2c_l12 = w2c_j0;
   w2c_j1 = w2c_p2;
   w2c_j2 = 5ull;
   w2c_j1 += w2c_j2;
-  w2c_p1 = w2c_j1;
+  w2c_l10 = w2c_j1;
   w2c_j0 -= w2c_j1;
-  w2c_j1 = w2c_l10;
-  w2c_j2 = 18446744073709551611ull;
-  w2c_j1 += w2c_j2;
-  w2c_l19 = w2c_j1;
+  w2c_j1 = w2c_p1;
   w2c_i0 = w2c_j0 >= w2c_j1;
   if (w2c_i0) {goto w2c_B15;}
-  w2c_j0 = w2c_l19;
+  w2c_j0 = w2c_p1;
   w2c_j1 = 3ull;
   w2c_j0 &= w2c_j1;
   w2c_l13 = w2c_j0;
@@ -3758,7 +3769,7 @@ static void w2c_f10(Z_tcrx_instance_t* instance, u64 w2c_p0, u64 w2c_p1, u64 w2c
   w2c_i1 = 3u;
   w2c_i0 = w2c_i0 < w2c_i1;
   if (w2c_i0) {goto w2c_B47;}
-  w2c_j0 = w2c_l19;
+  w2c_j0 = w2c_p1;
   w2c_j1 = 18446744073709551612ull;
   w2c_j0 &= w2c_j1;
   w2c_l14 = w2c_j0;
@@ -3862,16 +3873,10 @@ static void w2c_f10(Z_tcrx_instance_t* instance, u64 w2c_p0, u64 w2c_p1, u64 w2c
   goto w2c_B12;
   w2c_B15:;
   w2c_j0 = w2c_l12;
-  w2c_j1 = w2c_p1;
-  w2c_j2 = w2c_l19;
+  w2c_j1 = w2c_l10;
+  w2c_j2 = w2c_p1;
   w2c_j0 = w2c_f4(instance, w2c_j0, w2c_j1, w2c_j2);
   w2c_B14:;
-  w2c_j0 = w2c_l17;
-  w2c_j1 = 24ull;
-  w2c_j0 += w2c_j1;
-  w2c_i0 = (u32)(w2c_j0);
-  w2c_j1 = w2c_l19;
-  i64_store(&instance->w2c_memory, (u64)(w2c_i0), w2c_j1);
   w2c_j0 = w2c_l11;
   w2c_j1 = 128ull;
   w2c_j0 += w2c_j1;
@@ -3899,12 +3904,6 @@ static void w2c_f10(Z_tcrx_instance_t* instance, u64 w2c_p0, u64 w2c_p1, u64 w2c
   w2c_l6 = w2c_i0;
   goto w2c_B9;
   w2c_B12:;
-  w2c_j0 = w2c_l18;
-  w2c_j1 = 24ull;
-  w2c_j0 += w2c_j1;
-  w2c_i0 = (u32)(w2c_j0);
-  w2c_j1 = w2c_l13;
-  i64_store(&instance->w2c_memory, (u64)(w2c_i0), w2c_j1);
   w2c_j0 = w2c_l17;
   w2c_j1 = 40ull;
   w2c_j0 += w2c_j1;
@@ -3927,9 +3926,9 @@ static void w2c_f10(Z_tcrx_instance_t* instance, u64 w2c_p0, u64 w2c_p1, u64 w2c
   w2c_i0 = w2c_j0 >= w2c_j1;
   if (w2c_i0) {goto w2c_B52;}
   w2c_j0 = 0ull;
-  w2c_l17 = w2c_j0;
-  w2c_j0 = 0ull;
   w2c_l18 = w2c_j0;
+  w2c_j0 = 0ull;
+  w2c_l19 = w2c_j0;
   goto w2c_B51;
   w2c_B52:;
   w2c_j0 = w2c_l11;
@@ -3941,9 +3940,9 @@ static void w2c_f10(Z_tcrx_instance_t* instance, u64 w2c_p0, u64 w2c_p1, u64 w2c
   w2c_j0 += w2c_j1;
   w2c_l21 = w2c_j0;
   w2c_j0 = 0ull;
-  w2c_l18 = w2c_j0;
+  w2c_l19 = w2c_j0;
   w2c_j0 = 0ull;
-  w2c_l17 = w2c_j0;
+  w2c_l18 = w2c_j0;
   w2c_L53: 
     w2c_j0 = w2c_p1;
     w2c_i0 = (u32)(w2c_j0);
@@ -3966,12 +3965,12 @@ static void w2c_f10(Z_tcrx_instance_t* instance, u64 w2c_p0, u64 w2c_p1, u64 w2c
     w2c_j1 |= w2c_j2;
     w2c_j2 = 7ull;
     w2c_j1 += w2c_j2;
-    w2c_l19 = w2c_j1;
+    w2c_l17 = w2c_j1;
     w2c_i0 = w2c_j0 >= w2c_j1;
     if (w2c_i0) {goto w2c_B54;}
     w2c_B55:;
-    w2c_j0 = w2c_l18;
-    w2c_j1 = w2c_l17;
+    w2c_j0 = w2c_l19;
+    w2c_j1 = w2c_l18;
     w2c_j0 -= w2c_j1;
     w2c_p1 = w2c_j0;
     w2c_j0 = 4294967296ull;
@@ -3979,11 +3978,11 @@ static void w2c_f10(Z_tcrx_instance_t* instance, u64 w2c_p0, u64 w2c_p1, u64 w2c
     goto w2c_B50;
     w2c_B54:;
     w2c_j0 = w2c_l13;
-    w2c_j1 = w2c_l19;
+    w2c_j1 = w2c_l17;
     w2c_j0 -= w2c_j1;
     w2c_l13 = w2c_j0;
     w2c_j0 = 0ull;
-    w2c_p3 = w2c_j0;
+    w2c_l12 = w2c_j0;
     w2c_i0 = w2c_l5;
     w2c_i1 = 16u;
     w2c_i0 = w2c_i0 < w2c_i1;
@@ -4008,7 +4007,7 @@ static void w2c_f10(Z_tcrx_instance_t* instance, u64 w2c_p0, u64 w2c_p1, u64 w2c
     w2c_i1 |= w2c_i2;
     w2c_l5 = w2c_i1;
     w2c_j1 = (u64)(w2c_i1);
-    w2c_l12 = w2c_j1;
+    w2c_p3 = w2c_j1;
     w2c_i0 = w2c_j0 > w2c_j1;
     if (w2c_i0) {goto w2c_B58;}
     w2c_j0 = w2c_p2;
@@ -4037,21 +4036,21 @@ static void w2c_f10(Z_tcrx_instance_t* instance, u64 w2c_p0, u64 w2c_p1, u64 w2c
       w2c_i0 = !(w2c_i0);
       if (w2c_i0) {goto w2c_L59;}
     w2c_j0 = 0ull;
-    w2c_p3 = w2c_j0;
+    w2c_l12 = w2c_j0;
     goto w2c_B56;
     w2c_B58:;
     w2c_j0 = w2c_p2;
     w2c_j1 = w2c_l16;
-    w2c_j2 = w2c_l12;
+    w2c_j2 = w2c_p3;
     w2c_j3 = 1ull;
     w2c_j2 <<= (w2c_j3 & 63);
     w2c_j1 += w2c_j2;
     w2c_i1 = (u32)(w2c_j1);
     w2c_j1 = i64_load16_u(&instance->w2c_memory, (u64)(w2c_i1));
-    w2c_l12 = w2c_j1;
+    w2c_p3 = w2c_j1;
     w2c_i0 = w2c_j0 <= w2c_j1;
     if (w2c_i0) {goto w2c_B56;}
-    w2c_j0 = w2c_l12;
+    w2c_j0 = w2c_p3;
     w2c_j1 = 6ull;
     w2c_j0 <<= (w2c_j1 & 63);
     w2c_p3 = w2c_j0;
@@ -4064,16 +4063,15 @@ static void w2c_f10(Z_tcrx_instance_t* instance, u64 w2c_p0, u64 w2c_p1, u64 w2c
     w2c_j0 += w2c_j1;
     w2c_i0 = (u32)(w2c_j0);
     w2c_j0 = i64_load(&instance->w2c_memory, (u64)(w2c_i0));
-    w2c_l24 = w2c_j0;
     w2c_j1 = w2c_p3;
     w2c_j2 = 40ull;
     w2c_j1 += w2c_j2;
-    w2c_l25 = w2c_j1;
+    w2c_l24 = w2c_j1;
     w2c_i1 = (u32)(w2c_j1);
     w2c_j1 = i64_load(&instance->w2c_memory, (u64)(w2c_i1));
-    w2c_l26 = w2c_j1;
+    w2c_p2 = w2c_j1;
     w2c_i0 = w2c_j0 <= w2c_j1;
-    if (w2c_i0) {goto w2c_B60;}
+    if (w2c_i0) {goto w2c_B56;}
     w2c_j0 = w2c_p3;
     w2c_j1 = 8ull;
     w2c_j0 += w2c_j1;
@@ -4084,7 +4082,7 @@ static void w2c_f10(Z_tcrx_instance_t* instance, u64 w2c_p0, u64 w2c_p1, u64 w2c
     w2c_j1 += w2c_j2;
     w2c_i1 = (u32)(w2c_j1);
     w2c_j1 = i64_load(&instance->w2c_memory, (u64)(w2c_i1));
-    w2c_j2 = w2c_l26;
+    w2c_j2 = w2c_p2;
     w2c_j1 += w2c_j2;
     w2c_p2 = w2c_j1;
     w2c_j2 = 0ull;
@@ -4102,20 +4100,26 @@ static void w2c_f10(Z_tcrx_instance_t* instance, u64 w2c_p0, u64 w2c_p1, u64 w2c
     w2c_j2 = 5ull;
     w2c_j1 <<= (w2c_j2 & 63);
     w2c_j0 += w2c_j1;
-    w2c_l27 = w2c_j0;
+    w2c_p3 = w2c_j0;
+    w2c_j1 = 24ull;
+    w2c_j0 += w2c_j1;
+    w2c_i0 = (u32)(w2c_j0);
+    w2c_j1 = w2c_l17;
+    i64_store(&instance->w2c_memory, (u64)(w2c_i0), w2c_j1);
+    w2c_j0 = w2c_p3;
     w2c_i0 = (u32)(w2c_j0);
     w2c_j0 = i64_load(&instance->w2c_memory, (u64)(w2c_i0));
-    w2c_l28 = w2c_j0;
+    w2c_l25 = w2c_j0;
     w2c_j1 = w2c_p1;
     w2c_j0 -= w2c_j1;
-    w2c_j1 = w2c_l19;
+    w2c_j1 = w2c_l17;
     w2c_i0 = w2c_j0 >= w2c_j1;
-    if (w2c_i0) {goto w2c_B62;}
+    if (w2c_i0) {goto w2c_B61;}
     w2c_j0 = w2c_p1;
     w2c_j1 = 4ull;
     w2c_j0 += w2c_j1;
     w2c_l12 = w2c_j0;
-    w2c_j0 = w2c_l28;
+    w2c_j0 = w2c_l25;
     w2c_j1 = 4ull;
     w2c_j0 += w2c_j1;
     w2c_l14 = w2c_j0;
@@ -4130,8 +4134,8 @@ static void w2c_f10(Z_tcrx_instance_t* instance, u64 w2c_p0, u64 w2c_p1, u64 w2c
     w2c_l22 = w2c_j0;
     w2c_j0 = 0ull;
     w2c_p3 = w2c_j0;
-    w2c_L63: 
-      w2c_j0 = w2c_l28;
+    w2c_L62: 
+      w2c_j0 = w2c_l25;
       w2c_j1 = w2c_p3;
       w2c_j0 += w2c_j1;
       w2c_p2 = w2c_j0;
@@ -4189,14 +4193,14 @@ static void w2c_f10(Z_tcrx_instance_t* instance, u64 w2c_p0, u64 w2c_p1, u64 w2c
       w2c_j1 += w2c_j2;
       w2c_p3 = w2c_j1;
       w2c_i0 = w2c_j0 != w2c_j1;
-      if (w2c_i0) {goto w2c_L63;}
+      if (w2c_i0) {goto w2c_L62;}
     w2c_j0 = w2c_l23;
     w2c_j1 = 3ull;
     w2c_j0 &= w2c_j1;
     w2c_p3 = w2c_j0;
     w2c_i0 = !(w2c_j0);
-    if (w2c_i0) {goto w2c_B61;}
-    w2c_L64: 
+    if (w2c_i0) {goto w2c_B60;}
+    w2c_L63: 
       w2c_j0 = w2c_p2;
       w2c_i0 = (u32)(w2c_j0);
       w2c_j1 = w2c_l10;
@@ -4217,48 +4221,38 @@ static void w2c_f10(Z_tcrx_instance_t* instance, u64 w2c_p0, u64 w2c_p1, u64 w2c
       w2c_p3 = w2c_j0;
       w2c_j1 = 0ull;
       w2c_i0 = w2c_j0 != w2c_j1;
-      if (w2c_i0) {goto w2c_L64;}
-      goto w2c_B61;
+      if (w2c_i0) {goto w2c_L63;}
+      goto w2c_B60;
     UNREACHABLE;
-    w2c_B62:;
-    w2c_j0 = w2c_l28;
-    w2c_j1 = w2c_p1;
-    w2c_j2 = w2c_l19;
-    w2c_j0 = w2c_f4(instance, w2c_j0, w2c_j1, w2c_j2);
     w2c_B61:;
-    w2c_j0 = w2c_l27;
-    w2c_j1 = 24ull;
-    w2c_j0 += w2c_j1;
-    w2c_i0 = (u32)(w2c_j0);
-    w2c_j1 = w2c_l19;
-    i64_store(&instance->w2c_memory, (u64)(w2c_i0), w2c_j1);
     w2c_j0 = w2c_l25;
+    w2c_j1 = w2c_p1;
+    w2c_j2 = w2c_l17;
+    w2c_j0 = w2c_f4(instance, w2c_j0, w2c_j1, w2c_j2);
+    w2c_B60:;
+    w2c_j0 = 1ull;
+    w2c_l12 = w2c_j0;
+    w2c_j0 = w2c_l24;
     w2c_i0 = (u32)(w2c_j0);
-    w2c_j1 = w2c_l25;
+    w2c_j1 = w2c_l24;
     w2c_i1 = (u32)(w2c_j1);
     w2c_j1 = i64_load(&instance->w2c_memory, (u64)(w2c_i1));
     w2c_j2 = 1ull;
     w2c_j1 += w2c_j2;
     i64_store(&instance->w2c_memory, (u64)(w2c_i0), w2c_j1);
-    w2c_B60:;
-    w2c_j0 = w2c_l24;
-    w2c_j1 = w2c_l26;
-    w2c_i0 = w2c_j0 > w2c_j1;
-    w2c_j0 = (u64)(w2c_i0);
-    w2c_p3 = w2c_j0;
     w2c_B56:;
     w2c_j0 = w2c_p1;
-    w2c_j1 = w2c_l19;
-    w2c_j0 += w2c_j1;
-    w2c_p1 = w2c_j0;
-    w2c_j0 = w2c_l18;
-    w2c_j1 = 1ull;
-    w2c_j0 += w2c_j1;
-    w2c_l18 = w2c_j0;
-    w2c_j0 = w2c_p3;
     w2c_j1 = w2c_l17;
     w2c_j0 += w2c_j1;
-    w2c_l17 = w2c_j0;
+    w2c_p1 = w2c_j0;
+    w2c_j0 = w2c_l19;
+    w2c_j1 = 1ull;
+    w2c_j0 += w2c_j1;
+    w2c_l19 = w2c_j0;
+    w2c_j0 = w2c_l12;
+    w2c_j1 = w2c_l18;
+    w2c_j0 += w2c_j1;
+    w2c_l18 = w2c_j0;
     w2c_j0 = w2c_l13;
     w2c_j1 = 6ull;
     w2c_i0 = w2c_j0 > w2c_j1;
@@ -4270,8 +4264,8 @@ static void w2c_f10(Z_tcrx_instance_t* instance, u64 w2c_p0, u64 w2c_p1, u64 w2c
   w2c_i2 = !(w2c_j2);
   w2c_j0 = w2c_i2 ? w2c_j0 : w2c_j1;
   w2c_p3 = w2c_j0;
-  w2c_j0 = w2c_l18;
-  w2c_j1 = w2c_l17;
+  w2c_j0 = w2c_l19;
+  w2c_j1 = w2c_l18;
   w2c_j0 -= w2c_j1;
   w2c_p1 = w2c_j0;
   w2c_B50:;
@@ -4281,7 +4275,7 @@ static void w2c_f10(Z_tcrx_instance_t* instance, u64 w2c_p0, u64 w2c_p1, u64 w2c
   w2c_j1 &= w2c_j2;
   w2c_j0 |= w2c_j1;
   w2c_p1 = w2c_j0;
-  w2c_j0 = w2c_l17;
+  w2c_j0 = w2c_l18;
   w2c_i0 = (u32)(w2c_j0);
   w2c_l6 = w2c_i0;
   w2c_B10:;
@@ -4296,7 +4290,7 @@ static void w2c_f10(Z_tcrx_instance_t* instance, u64 w2c_p0, u64 w2c_p1, u64 w2c
   w2c_j1 = (u64)(w2c_i1);
   w2c_p3 = w2c_j1;
   w2c_i0 = w2c_j0 <= w2c_j1;
-  if (w2c_i0) {goto w2c_B65;}
+  if (w2c_i0) {goto w2c_B64;}
   w2c_j0 = w2c_l11;
   w2c_j1 = 168ull;
   w2c_j0 += w2c_j1;
@@ -4309,7 +4303,7 @@ static void w2c_f10(Z_tcrx_instance_t* instance, u64 w2c_p0, u64 w2c_p1, u64 w2c
   w2c_i0 = (u32)(w2c_j0);
   w2c_i1 = 0u;
   i32_store8(&instance->w2c_memory, (u64)(w2c_i0), w2c_i1);
-  w2c_B65:;
+  w2c_B64:;
   w2c_i0 = 1u;
   w2c_l5 = w2c_i0;
   w2c_j0 = w2c_l11;
@@ -4333,17 +4327,18 @@ static void w2c_f10(Z_tcrx_instance_t* instance, u64 w2c_p0, u64 w2c_p1, u64 w2c
   w2c_j0 += w2c_j1;
   w2c_p3 = w2c_j0;
   w2c_i0 = (u32)(w2c_j0);
+  w2c_j0 = i64_load(&instance->w2c_memory, (u64)(w2c_i0));
+  w2c_p2 = w2c_j0;
   w2c_j1 = 18446744073709551615ull;
-  w2c_j2 = w2c_p3;
-  w2c_i2 = (u32)(w2c_j2);
-  w2c_j2 = i64_load(&instance->w2c_memory, (u64)(w2c_i2));
-  w2c_j3 = 1ull;
-  w2c_j2 += w2c_j3;
-  w2c_p3 = w2c_j2;
-  w2c_j3 = w2c_p3;
-  w2c_i3 = !(w2c_j3);
-  w2c_j1 = w2c_i3 ? w2c_j1 : w2c_j2;
+  w2c_i0 = w2c_j0 == w2c_j1;
+  if (w2c_i0) {goto w2c_B65;}
+  w2c_j0 = w2c_p3;
+  w2c_i0 = (u32)(w2c_j0);
+  w2c_j1 = w2c_p2;
+  w2c_j2 = 1ull;
+  w2c_j1 += w2c_j2;
   i64_store(&instance->w2c_memory, (u64)(w2c_i0), w2c_j1);
+  w2c_B65:;
   w2c_j0 = w2c_p1;
   w2c_j1 = 32ull;
   w2c_j0 >>= (w2c_j1 & 63);
@@ -4437,6 +4432,12 @@ static u32 w2c_f11(Z_tcrx_instance_t* instance, u64 w2c_p0, u64 w2c_p1, u32 w2c_
   w2c_j1 = w2c_p4;
   w2c_i0 = w2c_j0 < w2c_j1;
   if (w2c_i0) {goto w2c_B7;}
+  w2c_j0 = w2c_l5;
+  w2c_j1 = 32ull;
+  w2c_j0 += w2c_j1;
+  w2c_i0 = (u32)(w2c_j0);
+  w2c_j1 = w2c_p4;
+  i64_store(&instance->w2c_memory, (u64)(w2c_i0), w2c_j1);
   w2c_j0 = w2c_l5;
   w2c_j1 = 8ull;
   w2c_j0 += w2c_j1;
@@ -4948,12 +4949,6 @@ static u32 w2c_f11(Z_tcrx_instance_t* instance, u64 w2c_p0, u64 w2c_p1, u32 w2c_
   w2c_i0 = (u32)(w2c_j0);
   w2c_j1 = w2c_p4;
   i64_store32(&instance->w2c_memory, (u64)(w2c_i0), w2c_j1);
-  w2c_j0 = w2c_l5;
-  w2c_j1 = 32ull;
-  w2c_j0 += w2c_j1;
-  w2c_i0 = (u32)(w2c_j0);
-  w2c_j1 = w2c_p4;
-  i64_store(&instance->w2c_memory, (u64)(w2c_i0), w2c_j1);
   w2c_i0 = 0u;
   w2c_Bfunc:;
   FUNC_EPILOGUE;
@@ -12031,17 +12026,18 @@ static void w2c_f34(Z_tcrx_instance_t* instance, u64 w2c_p0, u64 w2c_p1, u32 w2c
   w2c_j0 += w2c_j1;
   w2c_l5 = w2c_j0;
   w2c_i0 = (u32)(w2c_j0);
+  w2c_j0 = i64_load(&instance->w2c_memory, (u64)(w2c_i0));
+  w2c_l7 = w2c_j0;
   w2c_j1 = 18446744073709551615ull;
-  w2c_j2 = w2c_l5;
-  w2c_i2 = (u32)(w2c_j2);
-  w2c_j2 = i64_load(&instance->w2c_memory, (u64)(w2c_i2));
-  w2c_j3 = 1ull;
-  w2c_j2 += w2c_j3;
-  w2c_l5 = w2c_j2;
-  w2c_j3 = w2c_l5;
-  w2c_i3 = !(w2c_j3);
-  w2c_j1 = w2c_i3 ? w2c_j1 : w2c_j2;
+  w2c_i0 = w2c_j0 == w2c_j1;
+  if (w2c_i0) {goto w2c_B17;}
+  w2c_j0 = w2c_l5;
+  w2c_i0 = (u32)(w2c_j0);
+  w2c_j1 = w2c_l7;
+  w2c_j2 = 1ull;
+  w2c_j1 += w2c_j2;
   i64_store(&instance->w2c_memory, (u64)(w2c_i0), w2c_j1);
+  w2c_B17:;
   w2c_i0 = 0u;
   w2c_l14 = w2c_i0;
   w2c_B3:;
@@ -12543,17 +12539,18 @@ static void w2c_f35(Z_tcrx_instance_t* instance, u64 w2c_p0, u64 w2c_p1, u32 w2c
   w2c_j0 += w2c_j1;
   w2c_l5 = w2c_j0;
   w2c_i0 = (u32)(w2c_j0);
+  w2c_j0 = i64_load(&instance->w2c_memory, (u64)(w2c_i0));
+  w2c_l7 = w2c_j0;
   w2c_j1 = 18446744073709551615ull;
-  w2c_j2 = w2c_l5;
-  w2c_i2 = (u32)(w2c_j2);
-  w2c_j2 = i64_load(&instance->w2c_memory, (u64)(w2c_i2));
-  w2c_j3 = 1ull;
-  w2c_j2 += w2c_j3;
-  w2c_l5 = w2c_j2;
-  w2c_j3 = w2c_l5;
-  w2c_i3 = !(w2c_j3);
-  w2c_j1 = w2c_i3 ? w2c_j1 : w2c_j2;
+  w2c_i0 = w2c_j0 == w2c_j1;
+  if (w2c_i0) {goto w2c_B17;}
+  w2c_j0 = w2c_l5;
+  w2c_i0 = (u32)(w2c_j0);
+  w2c_j1 = w2c_l7;
+  w2c_j2 = 1ull;
+  w2c_j1 += w2c_j2;
   i64_store(&instance->w2c_memory, (u64)(w2c_i0), w2c_j1);
+  w2c_B17:;
   w2c_i0 = 0u;
   w2c_l14 = w2c_i0;
   w2c_B3:;
@@ -17939,10 +17936,10 @@ static u32 w2c_module_channel_queued(Z_tcrx_instance_t* instance, u32 w2c_p0) {
 }
 
 static u32 w2c_module_channel_release(Z_tcrx_instance_t* instance) {
-  u32 w2c_l23 = 0, w2c_l24 = 0;
+  u32 w2c_l20 = 0, w2c_l21 = 0;
   u64 w2c_l0 = 0, w2c_l1 = 0, w2c_l2 = 0, w2c_l3 = 0, w2c_l4 = 0, w2c_l5 = 0, w2c_l6 = 0, w2c_l7 = 0, 
       w2c_l8 = 0, w2c_l9 = 0, w2c_l10 = 0, w2c_l11 = 0, w2c_l12 = 0, w2c_l13 = 0, w2c_l14 = 0, w2c_l15 = 0, 
-      w2c_l16 = 0, w2c_l17 = 0, w2c_l18 = 0, w2c_l19 = 0, w2c_l20 = 0, w2c_l21 = 0, w2c_l22 = 0;
+      w2c_l16 = 0, w2c_l17 = 0, w2c_l18 = 0, w2c_l19 = 0;
   FUNC_PROLOGUE;
   u32 w2c_i0, w2c_i1, w2c_i2, w2c_i3, w2c_i4;
   u64 w2c_j0, w2c_j1, w2c_j2, w2c_j3, w2c_j4, w2c_j5;
@@ -18015,10 +18012,10 @@ static u32 w2c_module_channel_release(Z_tcrx_instance_t* instance) {
   w2c_l3 = w2c_j0;
   w2c_i0 = (u32)(w2c_j0);
   w2c_i0 = i32_load8_u(&instance->w2c_memory, (u64)(w2c_i0));
-  w2c_l23 = w2c_i0;
+  w2c_l20 = w2c_i0;
   w2c_i1 = 63u;
   w2c_i0 &= w2c_i1;
-  w2c_l24 = w2c_i0;
+  w2c_l21 = w2c_i0;
   w2c_j0 = w2c_l0;
   w2c_j1 = 24ull;
   w2c_j0 += w2c_j1;
@@ -18043,11 +18040,11 @@ static u32 w2c_module_channel_release(Z_tcrx_instance_t* instance) {
   w2c_l5 = w2c_j0;
   w2c_i0 = (u32)(w2c_j0);
   w2c_j0 = i64_load(&instance->w2c_memory, (u64)(w2c_i0));
-  w2c_i1 = w2c_l24;
+  w2c_i1 = w2c_l21;
   w2c_j1 = (u64)(w2c_i1);
   w2c_l6 = w2c_j1;
   w2c_i2 = 50462721u;
-  w2c_i3 = w2c_l23;
+  w2c_i3 = w2c_l20;
   w2c_i4 = 3u;
   w2c_i3 >>= (w2c_i4 & 31);
   w2c_i4 = 24u;
@@ -18062,7 +18059,7 @@ static u32 w2c_module_channel_release(Z_tcrx_instance_t* instance) {
   w2c_i0 = w2c_f11(instance, w2c_j0, w2c_j1, w2c_i2, w2c_j3, w2c_j4);
   w2c_i1 = 255u;
   w2c_i0 &= w2c_i1;
-  w2c_l23 = w2c_i0;
+  w2c_l20 = w2c_i0;
   switch (w2c_i0) {
     case 0: goto w2c_B4;
     case 1: goto w2c_B7;
@@ -18081,10 +18078,10 @@ static u32 w2c_module_channel_release(Z_tcrx_instance_t* instance) {
   w2c_j0 = 0ull;
   w2c_l1 = w2c_j0;
   w2c_i0 = 0u;
-  w2c_l23 = w2c_i0;
+  w2c_l20 = w2c_i0;
   goto w2c_B4;
   w2c_B9:;
-  w2c_i0 = w2c_l24;
+  w2c_i0 = w2c_l21;
   w2c_j0 = (u64)(w2c_i0);
   w2c_l6 = w2c_j0;
   w2c_j0 = 0ull;
@@ -18163,7 +18160,7 @@ static u32 w2c_module_channel_release(Z_tcrx_instance_t* instance) {
     w2c_j0 += w2c_j1;
     w2c_i0 = (u32)(w2c_j0);
     w2c_i0 = i32_load16_u(&instance->w2c_memory, (u64)(w2c_i0));
-    w2c_i1 = w2c_l24;
+    w2c_i1 = w2c_l21;
     w2c_i0 = w2c_i0 == w2c_i1;
     if (w2c_i0) {goto w2c_B12;}
     w2c_j0 = w2c_l1;
@@ -18219,7 +18216,7 @@ static u32 w2c_module_channel_release(Z_tcrx_instance_t* instance) {
   w2c_j0 = 1ull;
   w2c_l1 = w2c_j0;
   w2c_i0 = 0u;
-  w2c_l23 = w2c_i0;
+  w2c_l20 = w2c_i0;
   goto w2c_B10;
   w2c_B15:;
   w2c_j0 = 0ull;
@@ -18252,10 +18249,16 @@ static u32 w2c_module_channel_release(Z_tcrx_instance_t* instance) {
   w2c_j2 = 5ull;
   w2c_j1 <<= (w2c_j2 & 63);
   w2c_j0 += w2c_j1;
-  w2c_l10 = w2c_j0;
+  w2c_l1 = w2c_j0;
+  w2c_j1 = 24ull;
+  w2c_j0 += w2c_j1;
+  w2c_i0 = (u32)(w2c_j0);
+  w2c_j1 = w2c_l5;
+  i64_store(&instance->w2c_memory, (u64)(w2c_i0), w2c_j1);
+  w2c_j0 = w2c_l1;
   w2c_i0 = (u32)(w2c_j0);
   w2c_j0 = i64_load(&instance->w2c_memory, (u64)(w2c_i0));
-  w2c_l11 = w2c_j0;
+  w2c_l10 = w2c_j0;
   w2c_j1 = w2c_l0;
   w2c_j0 -= w2c_j1;
   w2c_j1 = w2c_l5;
@@ -18264,7 +18267,7 @@ static u32 w2c_module_channel_release(Z_tcrx_instance_t* instance) {
   w2c_j0 = w2c_l5;
   w2c_j1 = 3ull;
   w2c_j0 &= w2c_j1;
-  w2c_l12 = w2c_j0;
+  w2c_l11 = w2c_j0;
   w2c_j0 = w2c_l5;
   w2c_j1 = 4ull;
   w2c_i0 = w2c_j0 < w2c_j1;
@@ -18272,11 +18275,11 @@ static u32 w2c_module_channel_release(Z_tcrx_instance_t* instance) {
   w2c_j0 = w2c_l5;
   w2c_j1 = 18446744073709551612ull;
   w2c_j0 &= w2c_j1;
-  w2c_l13 = w2c_j0;
+  w2c_l5 = w2c_j0;
   w2c_j0 = 0ull;
   w2c_l3 = w2c_j0;
   w2c_L19: 
-    w2c_j0 = w2c_l11;
+    w2c_j0 = w2c_l10;
     w2c_j1 = w2c_l3;
     w2c_j0 += w2c_j1;
     w2c_l1 = w2c_j0;
@@ -18318,18 +18321,18 @@ static u32 w2c_module_channel_release(Z_tcrx_instance_t* instance) {
     w2c_i1 = (u32)(w2c_j1);
     w2c_i1 = i32_load8_u(&instance->w2c_memory, (u64)(w2c_i1));
     i32_store8(&instance->w2c_memory, (u64)(w2c_i0), w2c_i1);
-    w2c_j0 = w2c_l13;
+    w2c_j0 = w2c_l5;
     w2c_j1 = w2c_l3;
     w2c_j2 = 4ull;
     w2c_j1 += w2c_j2;
     w2c_l3 = w2c_j1;
     w2c_i0 = w2c_j0 != w2c_j1;
     if (w2c_i0) {goto w2c_L19;}
-  w2c_j0 = w2c_l12;
+  w2c_j0 = w2c_l11;
   w2c_i0 = !(w2c_j0);
   if (w2c_i0) {goto w2c_B16;}
   w2c_B18:;
-  w2c_j0 = w2c_l11;
+  w2c_j0 = w2c_l10;
   w2c_j1 = w2c_l3;
   w2c_j0 += w2c_j1;
   w2c_l1 = w2c_j0;
@@ -18352,27 +18355,21 @@ static u32 w2c_module_channel_release(Z_tcrx_instance_t* instance) {
     w2c_j1 = 1ull;
     w2c_j0 += w2c_j1;
     w2c_l0 = w2c_j0;
-    w2c_j0 = w2c_l12;
+    w2c_j0 = w2c_l11;
     w2c_j1 = 18446744073709551615ull;
     w2c_j0 += w2c_j1;
-    w2c_l12 = w2c_j0;
+    w2c_l11 = w2c_j0;
     w2c_j1 = 0ull;
     w2c_i0 = w2c_j0 != w2c_j1;
     if (w2c_i0) {goto w2c_L20;}
     goto w2c_B16;
   UNREACHABLE;
   w2c_B17:;
-  w2c_j0 = w2c_l11;
+  w2c_j0 = w2c_l10;
   w2c_j1 = w2c_l0;
   w2c_j2 = w2c_l5;
   w2c_j0 = w2c_f4(instance, w2c_j0, w2c_j1, w2c_j2);
   w2c_B16:;
-  w2c_j0 = w2c_l10;
-  w2c_j1 = 24ull;
-  w2c_j0 += w2c_j1;
-  w2c_i0 = (u32)(w2c_j0);
-  w2c_j1 = w2c_l5;
-  i64_store(&instance->w2c_memory, (u64)(w2c_i0), w2c_j1);
   w2c_j0 = w2c_l9;
   w2c_j1 = 40ull;
   w2c_j0 += w2c_j1;
@@ -18387,7 +18384,7 @@ static u32 w2c_module_channel_release(Z_tcrx_instance_t* instance) {
   w2c_j0 = 0ull;
   w2c_l1 = w2c_j0;
   w2c_i0 = 1u;
-  w2c_l23 = w2c_i0;
+  w2c_l20 = w2c_i0;
   goto w2c_B10;
   w2c_B11:;
   w2c_j0 = w2c_l5;
@@ -18395,9 +18392,9 @@ static u32 w2c_module_channel_release(Z_tcrx_instance_t* instance) {
   w2c_i0 = w2c_j0 >= w2c_j1;
   if (w2c_i0) {goto w2c_B23;}
   w2c_j0 = 0ull;
-  w2c_l9 = w2c_j0;
+  w2c_l12 = w2c_j0;
   w2c_j0 = 0ull;
-  w2c_l10 = w2c_j0;
+  w2c_l13 = w2c_j0;
   goto w2c_B22;
   w2c_B23:;
   w2c_j0 = w2c_l2;
@@ -18409,14 +18406,14 @@ static u32 w2c_module_channel_release(Z_tcrx_instance_t* instance) {
   w2c_j0 += w2c_j1;
   w2c_l15 = w2c_j0;
   w2c_j0 = 0ull;
-  w2c_l10 = w2c_j0;
+  w2c_l13 = w2c_j0;
   w2c_j0 = 0ull;
-  w2c_l9 = w2c_j0;
+  w2c_l12 = w2c_j0;
   w2c_L24: 
     w2c_j0 = w2c_l0;
     w2c_i0 = (u32)(w2c_j0);
     w2c_i0 = i32_load8_u(&instance->w2c_memory, (u64)(w2c_i0));
-    w2c_l24 = w2c_i0;
+    w2c_l21 = w2c_i0;
     w2c_i1 = 31u;
     w2c_i0 = w2c_i0 > w2c_i1;
     if (w2c_i0) {goto w2c_B26;}
@@ -18434,12 +18431,12 @@ static u32 w2c_module_channel_release(Z_tcrx_instance_t* instance) {
     w2c_j1 |= w2c_j2;
     w2c_j2 = 7ull;
     w2c_j1 += w2c_j2;
-    w2c_l13 = w2c_j1;
+    w2c_l9 = w2c_j1;
     w2c_i0 = w2c_j0 >= w2c_j1;
     if (w2c_i0) {goto w2c_B25;}
     w2c_B26:;
-    w2c_j0 = w2c_l10;
-    w2c_j1 = w2c_l9;
+    w2c_j0 = w2c_l13;
+    w2c_j1 = w2c_l12;
     w2c_j0 -= w2c_j1;
     w2c_l0 = w2c_j0;
     w2c_j0 = 4294967296ull;
@@ -18447,12 +18444,12 @@ static u32 w2c_module_channel_release(Z_tcrx_instance_t* instance) {
     goto w2c_B21;
     w2c_B25:;
     w2c_j0 = w2c_l5;
-    w2c_j1 = w2c_l13;
+    w2c_j1 = w2c_l9;
     w2c_j0 -= w2c_j1;
     w2c_l5 = w2c_j0;
     w2c_j0 = 0ull;
-    w2c_l1 = w2c_j0;
-    w2c_i0 = w2c_l24;
+    w2c_l11 = w2c_j0;
+    w2c_i0 = w2c_l21;
     w2c_i1 = 16u;
     w2c_i0 = w2c_i0 < w2c_i1;
     if (w2c_i0) {goto w2c_B27;}
@@ -18465,7 +18462,7 @@ static u32 w2c_module_channel_release(Z_tcrx_instance_t* instance) {
     w2c_j0 = i64_load(&instance->w2c_memory, (u64)(w2c_i0));
     w2c_l4 = w2c_j0;
     w2c_j0 = w2c_l7;
-    w2c_i1 = w2c_l24;
+    w2c_i1 = w2c_l21;
     w2c_i2 = 8u;
     w2c_i1 <<= (w2c_i2 & 31);
     w2c_i2 = 1792u;
@@ -18474,9 +18471,9 @@ static u32 w2c_module_channel_release(Z_tcrx_instance_t* instance) {
     w2c_i2 = (u32)(w2c_j2);
     w2c_i2 = i32_load8_u(&instance->w2c_memory, (u64)(w2c_i2) + 1u);
     w2c_i1 |= w2c_i2;
-    w2c_l24 = w2c_i1;
+    w2c_l21 = w2c_i1;
     w2c_j1 = (u64)(w2c_i1);
-    w2c_l12 = w2c_j1;
+    w2c_l1 = w2c_j1;
     w2c_i0 = w2c_j0 > w2c_j1;
     if (w2c_i0) {goto w2c_B29;}
     w2c_j0 = w2c_l3;
@@ -18485,7 +18482,7 @@ static u32 w2c_module_channel_release(Z_tcrx_instance_t* instance) {
     w2c_j0 = 0ull;
     w2c_l1 = w2c_j0;
     w2c_L30: 
-      w2c_i0 = w2c_l24;
+      w2c_i0 = w2c_l21;
       w2c_j1 = w2c_l4;
       w2c_j2 = w2c_l1;
       w2c_j1 += w2c_j2;
@@ -18505,21 +18502,21 @@ static u32 w2c_module_channel_release(Z_tcrx_instance_t* instance) {
       w2c_i0 = !(w2c_i0);
       if (w2c_i0) {goto w2c_L30;}
     w2c_j0 = 0ull;
-    w2c_l1 = w2c_j0;
+    w2c_l11 = w2c_j0;
     goto w2c_B27;
     w2c_B29:;
     w2c_j0 = w2c_l3;
     w2c_j1 = w2c_l8;
-    w2c_j2 = w2c_l12;
+    w2c_j2 = w2c_l1;
     w2c_j3 = 1ull;
     w2c_j2 <<= (w2c_j3 & 63);
     w2c_j1 += w2c_j2;
     w2c_i1 = (u32)(w2c_j1);
     w2c_j1 = i64_load16_u(&instance->w2c_memory, (u64)(w2c_i1));
-    w2c_l12 = w2c_j1;
+    w2c_l1 = w2c_j1;
     w2c_i0 = w2c_j0 <= w2c_j1;
     if (w2c_i0) {goto w2c_B27;}
-    w2c_j0 = w2c_l12;
+    w2c_j0 = w2c_l1;
     w2c_j1 = 6ull;
     w2c_j0 <<= (w2c_j1 & 63);
     w2c_l1 = w2c_j0;
@@ -18532,16 +18529,15 @@ static u32 w2c_module_channel_release(Z_tcrx_instance_t* instance) {
     w2c_j0 += w2c_j1;
     w2c_i0 = (u32)(w2c_j0);
     w2c_j0 = i64_load(&instance->w2c_memory, (u64)(w2c_i0));
-    w2c_l18 = w2c_j0;
     w2c_j1 = w2c_l1;
     w2c_j2 = 40ull;
     w2c_j1 += w2c_j2;
-    w2c_l19 = w2c_j1;
+    w2c_l18 = w2c_j1;
     w2c_i1 = (u32)(w2c_j1);
     w2c_j1 = i64_load(&instance->w2c_memory, (u64)(w2c_i1));
-    w2c_l20 = w2c_j1;
+    w2c_l3 = w2c_j1;
     w2c_i0 = w2c_j0 <= w2c_j1;
-    if (w2c_i0) {goto w2c_B31;}
+    if (w2c_i0) {goto w2c_B27;}
     w2c_j0 = w2c_l1;
     w2c_j1 = 8ull;
     w2c_j0 += w2c_j1;
@@ -18552,7 +18548,7 @@ static u32 w2c_module_channel_release(Z_tcrx_instance_t* instance) {
     w2c_j1 += w2c_j2;
     w2c_i1 = (u32)(w2c_j1);
     w2c_j1 = i64_load(&instance->w2c_memory, (u64)(w2c_i1));
-    w2c_j2 = w2c_l20;
+    w2c_j2 = w2c_l3;
     w2c_j1 += w2c_j2;
     w2c_l3 = w2c_j1;
     w2c_j2 = 0ull;
@@ -18570,23 +18566,29 @@ static u32 w2c_module_channel_release(Z_tcrx_instance_t* instance) {
     w2c_j2 = 5ull;
     w2c_j1 <<= (w2c_j2 & 63);
     w2c_j0 += w2c_j1;
-    w2c_l21 = w2c_j0;
+    w2c_l1 = w2c_j0;
+    w2c_j1 = 24ull;
+    w2c_j0 += w2c_j1;
+    w2c_i0 = (u32)(w2c_j0);
+    w2c_j1 = w2c_l9;
+    i64_store(&instance->w2c_memory, (u64)(w2c_i0), w2c_j1);
+    w2c_j0 = w2c_l1;
     w2c_i0 = (u32)(w2c_j0);
     w2c_j0 = i64_load(&instance->w2c_memory, (u64)(w2c_i0));
-    w2c_l22 = w2c_j0;
+    w2c_l19 = w2c_j0;
     w2c_j1 = w2c_l0;
     w2c_j0 -= w2c_j1;
-    w2c_j1 = w2c_l13;
+    w2c_j1 = w2c_l9;
     w2c_i0 = w2c_j0 >= w2c_j1;
-    if (w2c_i0) {goto w2c_B33;}
+    if (w2c_i0) {goto w2c_B32;}
     w2c_j0 = w2c_l0;
     w2c_j1 = 4ull;
     w2c_j0 += w2c_j1;
-    w2c_l12 = w2c_j0;
-    w2c_j0 = w2c_l22;
+    w2c_l11 = w2c_j0;
+    w2c_j0 = w2c_l19;
     w2c_j1 = 4ull;
     w2c_j0 += w2c_j1;
-    w2c_l11 = w2c_j0;
+    w2c_l10 = w2c_j0;
     w2c_j0 = w2c_l17;
     w2c_j1 = w2c_l16;
     w2c_j0 += w2c_j1;
@@ -18598,8 +18600,8 @@ static u32 w2c_module_channel_release(Z_tcrx_instance_t* instance) {
     w2c_l16 = w2c_j0;
     w2c_j0 = 0ull;
     w2c_l1 = w2c_j0;
-    w2c_L34: 
-      w2c_j0 = w2c_l22;
+    w2c_L33: 
+      w2c_j0 = w2c_l19;
       w2c_j1 = w2c_l1;
       w2c_j0 += w2c_j1;
       w2c_l3 = w2c_j0;
@@ -18641,30 +18643,30 @@ static u32 w2c_module_channel_release(Z_tcrx_instance_t* instance) {
       w2c_i1 = (u32)(w2c_j1);
       w2c_i1 = i32_load8_u(&instance->w2c_memory, (u64)(w2c_i1));
       i32_store8(&instance->w2c_memory, (u64)(w2c_i0), w2c_i1);
-      w2c_j0 = w2c_l11;
+      w2c_j0 = w2c_l10;
       w2c_l3 = w2c_j0;
       w2c_j1 = 4ull;
       w2c_j0 += w2c_j1;
-      w2c_l11 = w2c_j0;
-      w2c_j0 = w2c_l12;
+      w2c_l10 = w2c_j0;
+      w2c_j0 = w2c_l11;
       w2c_l4 = w2c_j0;
       w2c_j1 = 4ull;
       w2c_j0 += w2c_j1;
-      w2c_l12 = w2c_j0;
+      w2c_l11 = w2c_j0;
       w2c_j0 = w2c_l16;
       w2c_j1 = w2c_l1;
       w2c_j2 = 4ull;
       w2c_j1 += w2c_j2;
       w2c_l1 = w2c_j1;
       w2c_i0 = w2c_j0 != w2c_j1;
-      if (w2c_i0) {goto w2c_L34;}
+      if (w2c_i0) {goto w2c_L33;}
     w2c_j0 = w2c_l17;
     w2c_j1 = 3ull;
     w2c_j0 &= w2c_j1;
     w2c_l1 = w2c_j0;
     w2c_i0 = !(w2c_j0);
-    if (w2c_i0) {goto w2c_B32;}
-    w2c_L35: 
+    if (w2c_i0) {goto w2c_B31;}
+    w2c_L34: 
       w2c_j0 = w2c_l3;
       w2c_i0 = (u32)(w2c_j0);
       w2c_j1 = w2c_l4;
@@ -18685,48 +18687,38 @@ static u32 w2c_module_channel_release(Z_tcrx_instance_t* instance) {
       w2c_l1 = w2c_j0;
       w2c_j1 = 0ull;
       w2c_i0 = w2c_j0 != w2c_j1;
-      if (w2c_i0) {goto w2c_L35;}
-      goto w2c_B32;
+      if (w2c_i0) {goto w2c_L34;}
+      goto w2c_B31;
     UNREACHABLE;
-    w2c_B33:;
-    w2c_j0 = w2c_l22;
-    w2c_j1 = w2c_l0;
-    w2c_j2 = w2c_l13;
-    w2c_j0 = w2c_f4(instance, w2c_j0, w2c_j1, w2c_j2);
     w2c_B32:;
-    w2c_j0 = w2c_l21;
-    w2c_j1 = 24ull;
-    w2c_j0 += w2c_j1;
-    w2c_i0 = (u32)(w2c_j0);
-    w2c_j1 = w2c_l13;
-    i64_store(&instance->w2c_memory, (u64)(w2c_i0), w2c_j1);
     w2c_j0 = w2c_l19;
+    w2c_j1 = w2c_l0;
+    w2c_j2 = w2c_l9;
+    w2c_j0 = w2c_f4(instance, w2c_j0, w2c_j1, w2c_j2);
+    w2c_B31:;
+    w2c_j0 = 1ull;
+    w2c_l11 = w2c_j0;
+    w2c_j0 = w2c_l18;
     w2c_i0 = (u32)(w2c_j0);
-    w2c_j1 = w2c_l19;
+    w2c_j1 = w2c_l18;
     w2c_i1 = (u32)(w2c_j1);
     w2c_j1 = i64_load(&instance->w2c_memory, (u64)(w2c_i1));
     w2c_j2 = 1ull;
     w2c_j1 += w2c_j2;
     i64_store(&instance->w2c_memory, (u64)(w2c_i0), w2c_j1);
-    w2c_B31:;
-    w2c_j0 = w2c_l18;
-    w2c_j1 = w2c_l20;
-    w2c_i0 = w2c_j0 > w2c_j1;
-    w2c_j0 = (u64)(w2c_i0);
-    w2c_l1 = w2c_j0;
     w2c_B27:;
     w2c_j0 = w2c_l0;
-    w2c_j1 = w2c_l13;
-    w2c_j0 += w2c_j1;
-    w2c_l0 = w2c_j0;
-    w2c_j0 = w2c_l10;
-    w2c_j1 = 1ull;
-    w2c_j0 += w2c_j1;
-    w2c_l10 = w2c_j0;
-    w2c_j0 = w2c_l1;
     w2c_j1 = w2c_l9;
     w2c_j0 += w2c_j1;
-    w2c_l9 = w2c_j0;
+    w2c_l0 = w2c_j0;
+    w2c_j0 = w2c_l13;
+    w2c_j1 = 1ull;
+    w2c_j0 += w2c_j1;
+    w2c_l13 = w2c_j0;
+    w2c_j0 = w2c_l11;
+    w2c_j1 = w2c_l12;
+    w2c_j0 += w2c_j1;
+    w2c_l12 = w2c_j0;
     w2c_j0 = w2c_l5;
     w2c_j1 = 6ull;
     w2c_i0 = w2c_j0 > w2c_j1;
@@ -18738,8 +18730,8 @@ static u32 w2c_module_channel_release(Z_tcrx_instance_t* instance) {
   w2c_i2 = !(w2c_j2);
   w2c_j0 = w2c_i2 ? w2c_j0 : w2c_j1;
   w2c_l1 = w2c_j0;
-  w2c_j0 = w2c_l10;
-  w2c_j1 = w2c_l9;
+  w2c_j0 = w2c_l13;
+  w2c_j1 = w2c_l12;
   w2c_j0 -= w2c_j1;
   w2c_l0 = w2c_j0;
   w2c_B21:;
@@ -18749,9 +18741,9 @@ static u32 w2c_module_channel_release(Z_tcrx_instance_t* instance) {
   w2c_j1 &= w2c_j2;
   w2c_j0 |= w2c_j1;
   w2c_l1 = w2c_j0;
-  w2c_j0 = w2c_l9;
+  w2c_j0 = w2c_l12;
   w2c_i0 = (u32)(w2c_j0);
-  w2c_l23 = w2c_i0;
+  w2c_l20 = w2c_i0;
   w2c_B10:;
   w2c_j0 = w2c_l2;
   w2c_j1 = 176ull;
@@ -18782,7 +18774,7 @@ static u32 w2c_module_channel_release(Z_tcrx_instance_t* instance) {
   w2c_j0 = i64_load(&instance->w2c_memory, (u64)(w2c_i0));
   w2c_l3 = w2c_j0;
   w2c_i0 = !(w2c_j0);
-  if (w2c_i0) {goto w2c_B36;}
+  if (w2c_i0) {goto w2c_B35;}
   w2c_j0 = w2c_l0;
   w2c_i0 = (u32)(w2c_j0);
   w2c_j1 = w2c_l3;
@@ -18805,7 +18797,7 @@ static u32 w2c_module_channel_release(Z_tcrx_instance_t* instance) {
   w2c_j2 = i64_load(&instance->w2c_memory, (u64)(w2c_i2));
   w2c_j1 -= w2c_j2;
   w2c_i0 = w2c_j0 != w2c_j1;
-  if (w2c_i0) {goto w2c_B37;}
+  if (w2c_i0) {goto w2c_B36;}
   w2c_j0 = w2c_l0;
   w2c_j1 = 0ull;
   w2c_i0 = w2c_j0 == w2c_j1;
@@ -18841,8 +18833,8 @@ static u32 w2c_module_channel_release(Z_tcrx_instance_t* instance) {
   w2c_i0 = (u32)(w2c_j0);
   w2c_j1 = 0ull;
   i64_store(&instance->w2c_memory, (u64)(w2c_i0), w2c_j1);
-  goto w2c_B36;
-  w2c_B37:;
+  goto w2c_B35;
+  w2c_B36:;
   w2c_j0 = w2c_l0;
   w2c_j1 = 0ull;
   w2c_i0 = w2c_j0 == w2c_j1;
@@ -18865,7 +18857,7 @@ static u32 w2c_module_channel_release(Z_tcrx_instance_t* instance) {
   w2c_j1 = w2c_l0;
   w2c_i1 = (u32)(w2c_j1);
   w2c_j1 = i64_load(&instance->w2c_memory, (u64)(w2c_i1));
-  w2c_l12 = w2c_j1;
+  w2c_l11 = w2c_j1;
   w2c_j2 = 1ull;
   w2c_j1 += w2c_j2;
   w2c_l5 = w2c_j1;
@@ -18881,7 +18873,7 @@ static u32 w2c_module_channel_release(Z_tcrx_instance_t* instance) {
   w2c_i4 = w2c_j4 < w2c_j5;
   w2c_j2 = w2c_i4 ? w2c_j2 : w2c_j3;
   w2c_j1 -= w2c_j2;
-  w2c_l11 = w2c_j1;
+  w2c_l10 = w2c_j1;
   i64_store(&instance->w2c_memory, (u64)(w2c_i0), w2c_j1);
   w2c_j0 = w2c_l0;
   w2c_j1 = w2c_l3;
@@ -18892,21 +18884,21 @@ static u32 w2c_module_channel_release(Z_tcrx_instance_t* instance) {
   w2c_j0 += w2c_j1;
   w2c_i0 = (u32)(w2c_j0);
   w2c_j0 = i64_load(&instance->w2c_memory, (u64)(w2c_i0));
-  w2c_l13 = w2c_j0;
-  w2c_j1 = w2c_l12;
+  w2c_l9 = w2c_j0;
+  w2c_j1 = w2c_l11;
   w2c_j2 = 5ull;
   w2c_j1 <<= (w2c_j2 & 63);
   w2c_j0 += w2c_j1;
   w2c_l5 = w2c_j0;
   w2c_i0 = (u32)(w2c_j0);
   w2c_j0 = i64_load(&instance->w2c_memory, (u64)(w2c_i0));
-  w2c_l12 = w2c_j0;
+  w2c_l11 = w2c_j0;
   w2c_j0 = w2c_l5;
   w2c_i0 = (u32)(w2c_j0);
   w2c_j0 = i64_load(&instance->w2c_memory, (u64)(w2c_i0) + 8u);
-  w2c_l9 = w2c_j0;
-  w2c_j0 = w2c_l13;
-  w2c_j1 = w2c_l11;
+  w2c_l12 = w2c_j0;
+  w2c_j0 = w2c_l9;
+  w2c_j1 = w2c_l10;
   w2c_j2 = w2c_l3;
   w2c_j1 += w2c_j2;
   w2c_l3 = w2c_j1;
@@ -18928,11 +18920,11 @@ static u32 w2c_module_channel_release(Z_tcrx_instance_t* instance) {
   i64_store(&instance->w2c_memory, (u64)(w2c_i0) + 16, w2c_j1);
   w2c_j0 = w2c_l0;
   w2c_i0 = (u32)(w2c_j0);
-  w2c_j1 = w2c_l9;
+  w2c_j1 = w2c_l12;
   i64_store(&instance->w2c_memory, (u64)(w2c_i0) + 8, w2c_j1);
   w2c_j0 = w2c_l0;
   w2c_i0 = (u32)(w2c_j0);
-  w2c_j1 = w2c_l12;
+  w2c_j1 = w2c_l11;
   i64_store(&instance->w2c_memory, (u64)(w2c_i0), w2c_j1);
   w2c_j0 = w2c_l0;
   w2c_i0 = (u32)(w2c_j0);
@@ -18946,7 +18938,7 @@ static u32 w2c_module_channel_release(Z_tcrx_instance_t* instance) {
   w2c_j2 = 1ull;
   w2c_j1 += w2c_j2;
   i64_store(&instance->w2c_memory, (u64)(w2c_i0), w2c_j1);
-  w2c_B36:;
+  w2c_B35:;
   w2c_j0 = w2c_l2;
   w2c_j1 = 89ull;
   w2c_j0 += w2c_j1;
@@ -18955,41 +18947,42 @@ static u32 w2c_module_channel_release(Z_tcrx_instance_t* instance) {
   w2c_j0 = i64_load8_u(&instance->w2c_memory, (u64)(w2c_i0));
   w2c_i0 = (u32)(w2c_j0);
   switch (w2c_i0) {
-    case 0: goto w2c_B38;
-    case 1: goto w2c_B40;
-    case 2: goto w2c_B39;
-    default: goto w2c_B38;
+    case 0: goto w2c_B37;
+    case 1: goto w2c_B39;
+    case 2: goto w2c_B38;
+    default: goto w2c_B37;
   }
-  w2c_B40:;
+  w2c_B39:;
   w2c_j0 = w2c_l0;
   w2c_i0 = (u32)(w2c_j0);
   w2c_i1 = 0u;
   i32_store8(&instance->w2c_memory, (u64)(w2c_i0), w2c_i1);
-  w2c_B39:;
+  w2c_B38:;
   w2c_j0 = w2c_l2;
   w2c_j1 = 92ull;
   w2c_j0 += w2c_j1;
   w2c_i0 = (u32)(w2c_j0);
   w2c_i1 = 0u;
   i32_store8(&instance->w2c_memory, (u64)(w2c_i0), w2c_i1);
-  w2c_B38:;
+  w2c_B37:;
   w2c_j0 = w2c_l2;
   w2c_j1 = 288ull;
   w2c_j0 += w2c_j1;
   w2c_l0 = w2c_j0;
   w2c_i0 = (u32)(w2c_j0);
+  w2c_j0 = i64_load(&instance->w2c_memory, (u64)(w2c_i0));
+  w2c_l2 = w2c_j0;
   w2c_j1 = 18446744073709551615ull;
-  w2c_j2 = w2c_l0;
-  w2c_i2 = (u32)(w2c_j2);
-  w2c_j2 = i64_load(&instance->w2c_memory, (u64)(w2c_i2));
-  w2c_j3 = 1ull;
-  w2c_j2 += w2c_j3;
-  w2c_l0 = w2c_j2;
-  w2c_j3 = w2c_l0;
-  w2c_i3 = !(w2c_j3);
-  w2c_j1 = w2c_i3 ? w2c_j1 : w2c_j2;
+  w2c_i0 = w2c_j0 == w2c_j1;
+  if (w2c_i0) {goto w2c_B40;}
+  w2c_j0 = w2c_l0;
+  w2c_i0 = (u32)(w2c_j0);
+  w2c_j1 = w2c_l2;
+  w2c_j2 = 1ull;
+  w2c_j1 += w2c_j2;
   i64_store(&instance->w2c_memory, (u64)(w2c_i0), w2c_j1);
-  w2c_i0 = w2c_l23;
+  w2c_B40:;
+  w2c_i0 = w2c_l20;
   w2c_j0 = (u64)(w2c_i0);
   w2c_j1 = 32ull;
   w2c_j0 <<= (w2c_j1 & 63);
