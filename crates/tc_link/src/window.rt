@@ -45,9 +45,7 @@ impl Window {
         }
     }
 
-    /// Where N(S) lies, as seen from V(R). It is compiled as a function of its own, so that who compares the machine code before and
-    /// after a change of it finds that change in one place.
-    #[inline(never)]
+    /// Where N(S) lies, as seen from V(R).
     pub fn place(&self, vr: u8, ns: u8) -> Place
         ensures place { result ≡ place_of self.now vr ns }
         ensures width { IsWidth self.now }
