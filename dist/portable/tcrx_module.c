@@ -577,11 +577,11 @@ DEFINE_TABLE_FILL(externref)
 
 static bool s_module_initialized = false;
 
-static u32 func_types[37];
+static u32 func_types[36];
 
 static void init_func_types(void) {
-  func_types[0] = wasm_rt_register_func_type(4, 1, WASM_RT_I64, WASM_RT_I32, WASM_RT_I64, WASM_RT_I32, WASM_RT_I32);
-  func_types[1] = wasm_rt_register_func_type(1, 0, WASM_RT_I64);
+  func_types[0] = wasm_rt_register_func_type(1, 0, WASM_RT_I64);
+  func_types[1] = wasm_rt_register_func_type(4, 1, WASM_RT_I64, WASM_RT_I32, WASM_RT_I64, WASM_RT_I32, WASM_RT_I32);
   func_types[2] = wasm_rt_register_func_type(0, 1, WASM_RT_I32);
   func_types[3] = wasm_rt_register_func_type(5, 0, WASM_RT_I64, WASM_RT_I64, WASM_RT_I64, WASM_RT_I64, WASM_RT_I64);
   func_types[4] = wasm_rt_register_func_type(2, 0, WASM_RT_I64, WASM_RT_I64);
@@ -605,18 +605,17 @@ static void init_func_types(void) {
   func_types[22] = wasm_rt_register_func_type(3, 1, WASM_RT_I64, WASM_RT_I32, WASM_RT_I64, WASM_RT_I64);
   func_types[23] = wasm_rt_register_func_type(4, 0, WASM_RT_I64, WASM_RT_I64, WASM_RT_I64, WASM_RT_I64);
   func_types[24] = wasm_rt_register_func_type(5, 1, WASM_RT_I64, WASM_RT_I64, WASM_RT_I32, WASM_RT_I64, WASM_RT_I64, WASM_RT_I32);
-  func_types[25] = wasm_rt_register_func_type(3, 1, WASM_RT_I32, WASM_RT_I32, WASM_RT_I32, WASM_RT_I32);
-  func_types[26] = wasm_rt_register_func_type(4, 0, WASM_RT_I64, WASM_RT_I32, WASM_RT_I32, WASM_RT_I64);
-  func_types[27] = wasm_rt_register_func_type(9, 0, WASM_RT_I64, WASM_RT_I64, WASM_RT_I64, WASM_RT_I64, WASM_RT_I64, WASM_RT_I64, WASM_RT_I32, WASM_RT_I64, WASM_RT_I64);
-  func_types[28] = wasm_rt_register_func_type(4, 0, WASM_RT_I64, WASM_RT_I64, WASM_RT_I64, WASM_RT_I32);
-  func_types[29] = wasm_rt_register_func_type(4, 0, WASM_RT_I64, WASM_RT_I32, WASM_RT_I64, WASM_RT_I64);
-  func_types[30] = wasm_rt_register_func_type(7, 0, WASM_RT_I64, WASM_RT_I32, WASM_RT_I32, WASM_RT_I32, WASM_RT_I32, WASM_RT_I64, WASM_RT_I64);
-  func_types[31] = wasm_rt_register_func_type(9, 0, WASM_RT_I64, WASM_RT_I64, WASM_RT_I32, WASM_RT_I32, WASM_RT_I32, WASM_RT_I64, WASM_RT_I64, WASM_RT_I64, WASM_RT_I64);
-  func_types[32] = wasm_rt_register_func_type(7, 0, WASM_RT_I64, WASM_RT_I64, WASM_RT_I32, WASM_RT_I32, WASM_RT_I32, WASM_RT_I64, WASM_RT_I64);
-  func_types[33] = wasm_rt_register_func_type(1, 1, WASM_RT_I32, WASM_RT_I64);
-  func_types[34] = wasm_rt_register_func_type(6, 1, WASM_RT_I32, WASM_RT_I32, WASM_RT_I32, WASM_RT_I32, WASM_RT_I64, WASM_RT_I32, WASM_RT_I32);
-  func_types[35] = wasm_rt_register_func_type(7, 1, WASM_RT_I32, WASM_RT_I32, WASM_RT_I32, WASM_RT_I64, WASM_RT_I32, WASM_RT_I64, WASM_RT_I32, WASM_RT_I32);
-  func_types[36] = wasm_rt_register_func_type(5, 1, WASM_RT_I32, WASM_RT_I32, WASM_RT_I32, WASM_RT_I64, WASM_RT_I32, WASM_RT_I32);
+  func_types[25] = wasm_rt_register_func_type(4, 0, WASM_RT_I64, WASM_RT_I32, WASM_RT_I32, WASM_RT_I64);
+  func_types[26] = wasm_rt_register_func_type(9, 0, WASM_RT_I64, WASM_RT_I64, WASM_RT_I64, WASM_RT_I64, WASM_RT_I64, WASM_RT_I64, WASM_RT_I32, WASM_RT_I64, WASM_RT_I64);
+  func_types[27] = wasm_rt_register_func_type(4, 0, WASM_RT_I64, WASM_RT_I64, WASM_RT_I64, WASM_RT_I32);
+  func_types[28] = wasm_rt_register_func_type(4, 0, WASM_RT_I64, WASM_RT_I32, WASM_RT_I64, WASM_RT_I64);
+  func_types[29] = wasm_rt_register_func_type(7, 0, WASM_RT_I64, WASM_RT_I32, WASM_RT_I32, WASM_RT_I32, WASM_RT_I32, WASM_RT_I64, WASM_RT_I64);
+  func_types[30] = wasm_rt_register_func_type(9, 0, WASM_RT_I64, WASM_RT_I64, WASM_RT_I32, WASM_RT_I32, WASM_RT_I32, WASM_RT_I64, WASM_RT_I64, WASM_RT_I64, WASM_RT_I64);
+  func_types[31] = wasm_rt_register_func_type(7, 0, WASM_RT_I64, WASM_RT_I64, WASM_RT_I32, WASM_RT_I32, WASM_RT_I32, WASM_RT_I64, WASM_RT_I64);
+  func_types[32] = wasm_rt_register_func_type(1, 1, WASM_RT_I32, WASM_RT_I64);
+  func_types[33] = wasm_rt_register_func_type(6, 1, WASM_RT_I32, WASM_RT_I32, WASM_RT_I32, WASM_RT_I32, WASM_RT_I64, WASM_RT_I32, WASM_RT_I32);
+  func_types[34] = wasm_rt_register_func_type(7, 1, WASM_RT_I32, WASM_RT_I32, WASM_RT_I32, WASM_RT_I64, WASM_RT_I32, WASM_RT_I64, WASM_RT_I32, WASM_RT_I32);
+  func_types[35] = wasm_rt_register_func_type(5, 1, WASM_RT_I32, WASM_RT_I32, WASM_RT_I32, WASM_RT_I64, WASM_RT_I32, WASM_RT_I32);
 }
 
 static u64 w2c_f0(Z_tcrx_instance_t*, u64, u64);
@@ -631,39 +630,41 @@ static void w2c_f8(Z_tcrx_instance_t*, u64, u64);
 static void w2c_f9(Z_tcrx_instance_t*, u64, u64);
 static void w2c_f10(Z_tcrx_instance_t*, u64, u64, u64, u64);
 static u32 w2c_f11(Z_tcrx_instance_t*, u64, u64, u32, u64, u64);
-static u32 w2c_f12(Z_tcrx_instance_t*, u32, u32, u32);
+static void w2c_f12(Z_tcrx_instance_t*, u64);
 static void w2c_f13(Z_tcrx_instance_t*, u64);
 static void w2c_f14(Z_tcrx_instance_t*, u64);
-static void w2c_f15(Z_tcrx_instance_t*, u64, u64);
-static void w2c_f16(Z_tcrx_instance_t*, u64, u64);
-static void w2c_f17(Z_tcrx_instance_t*, u64, u64, u64);
-static void w2c_f18(Z_tcrx_instance_t*, u64, u64, u64);
-static void w2c_f19(Z_tcrx_instance_t*, u64, u32, u32, u64);
-static void w2c_f20(Z_tcrx_instance_t*, u64);
-static void w2c_f21(Z_tcrx_instance_t*, u64);
+static void w2c_f15(Z_tcrx_instance_t*, u64);
+static void w2c_f16(Z_tcrx_instance_t*, u64);
+static void w2c_f17(Z_tcrx_instance_t*, u64, u64);
+static void w2c_f18(Z_tcrx_instance_t*, u64, u64);
+static void w2c_f19(Z_tcrx_instance_t*, u64, u64, u64);
+static void w2c_f20(Z_tcrx_instance_t*, u64, u64, u64);
+static void w2c_f21(Z_tcrx_instance_t*, u64, u32, u32, u64);
 static void w2c_f22(Z_tcrx_instance_t*, u64);
-static void w2c_f23(Z_tcrx_instance_t*, u64, u64, u64);
-static void w2c_f24(Z_tcrx_instance_t*, u64, u64, u32);
-static u32 w2c_f25(Z_tcrx_instance_t*, u64);
-static void w2c_f26(Z_tcrx_instance_t*, u64, u64, u64, u64, u64, u64);
-static void w2c_f27(Z_tcrx_instance_t*, u64, u64, u64, u64, u64, u64, u32, u64, u64);
-static void w2c_f28(Z_tcrx_instance_t*, u64, u64, u32);
-static void w2c_f29(Z_tcrx_instance_t*, u64, u64, u64, u32, u64, u64);
-static void w2c_f30(Z_tcrx_instance_t*, u64, u64, u64);
+static void w2c_f23(Z_tcrx_instance_t*, u64);
+static void w2c_f24(Z_tcrx_instance_t*, u64);
+static void w2c_f25(Z_tcrx_instance_t*, u64, u64, u64);
+static void w2c_f26(Z_tcrx_instance_t*, u64, u64, u32);
+static u32 w2c_f27(Z_tcrx_instance_t*, u64);
+static void w2c_f28(Z_tcrx_instance_t*, u64, u64, u64, u64, u64, u64);
+static void w2c_f29(Z_tcrx_instance_t*, u64, u64, u64, u64, u64, u64, u32, u64, u64);
+static void w2c_f30(Z_tcrx_instance_t*, u64, u64, u32);
 static void w2c_f31(Z_tcrx_instance_t*, u64, u64, u64, u32, u64, u64);
-static void w2c_f32(Z_tcrx_instance_t*, u64, u64, u64, u32);
-static void w2c_f33(Z_tcrx_instance_t*, u64, u64, u64, u64, u64);
-static void w2c_f34(Z_tcrx_instance_t*, u64, u64, u32, u64, u64);
-static void w2c_f35(Z_tcrx_instance_t*, u64, u64, u32, u64, u64);
-static void w2c_f36(Z_tcrx_instance_t*, u64, u64, u64, u64, u64);
-static void w2c_f37(Z_tcrx_instance_t*, u64, u64, u64, u64, u64);
-static void w2c_f38(Z_tcrx_instance_t*, u64, u32, u64, u64);
+static void w2c_f32(Z_tcrx_instance_t*, u64, u64, u64);
+static void w2c_f33(Z_tcrx_instance_t*, u64, u64, u64, u32, u64, u64);
+static void w2c_f34(Z_tcrx_instance_t*, u64, u64, u64, u32);
+static void w2c_f35(Z_tcrx_instance_t*, u64, u64, u64, u64, u64);
+static void w2c_f36(Z_tcrx_instance_t*, u64, u64, u32, u64, u64);
+static void w2c_f37(Z_tcrx_instance_t*, u64, u64, u32, u64, u64);
+static void w2c_f38(Z_tcrx_instance_t*, u64, u64, u64, u64, u64);
 static void w2c_f39(Z_tcrx_instance_t*, u64, u64, u64, u64, u64);
-static void w2c_f40(Z_tcrx_instance_t*, u64, u64, u64, u64, u64, u64);
-static void w2c_f41(Z_tcrx_instance_t*, u64, u32, u32, u32, u32, u64, u64);
+static void w2c_f40(Z_tcrx_instance_t*, u64, u32, u64, u64);
+static void w2c_f41(Z_tcrx_instance_t*, u64, u64, u64, u64, u64);
 static void w2c_f42(Z_tcrx_instance_t*, u64, u64, u64, u64, u64, u64);
-static void w2c_f43(Z_tcrx_instance_t*, u64, u64, u32, u32, u32, u64, u64, u64, u64);
-static void w2c_f44(Z_tcrx_instance_t*, u64, u64, u32, u32, u32, u64, u64);
+static void w2c_f43(Z_tcrx_instance_t*, u64, u32, u32, u32, u32, u64, u64);
+static void w2c_f44(Z_tcrx_instance_t*, u64, u64, u64, u64, u64, u64);
+static void w2c_f45(Z_tcrx_instance_t*, u64, u64, u32, u32, u32, u64, u64, u64, u64);
+static void w2c_f46(Z_tcrx_instance_t*, u64, u64, u32, u32, u32, u64, u64);
 static u32 w2c_module_add_fecf(Z_tcrx_instance_t*, u64, u32, u64, u32);
 static u32 w2c_module_channel_buffered(Z_tcrx_instance_t*);
 static u32 w2c_module_channel_clcw(Z_tcrx_instance_t*, u32, u32);
@@ -3018,14 +3019,14 @@ static void w2c_f10(Z_tcrx_instance_t* instance, u64 w2c_p0, u64 w2c_p1, u64 w2c
   w2c_i0 = w2c_l5;
   w2c_i1 = 32u;
   w2c_i0 = w2c_i0 < w2c_i1;
-  if (w2c_i0) {goto w2c_B23;}
+  if (w2c_i0) {goto w2c_B22;}
   w2c_j0 = w2c_p2;
   w2c_j1 = 5ull;
   w2c_j0 += w2c_j1;
   w2c_p3 = w2c_j0;
   w2c_i0 = w2c_l6;
   w2c_i0 = !(w2c_i0);
-  if (w2c_i0) {goto w2c_B22;}
+  if (w2c_i0) {goto w2c_B21;}
   w2c_j0 = 0ull;
   w2c_p1 = w2c_j0;
   w2c_i0 = 0u;
@@ -3038,40 +3039,15 @@ static void w2c_f10(Z_tcrx_instance_t* instance, u64 w2c_p0, u64 w2c_p1, u64 w2c
   w2c_i1 = 4294967291u;
   w2c_i0 += w2c_i1;
   switch (w2c_i0) {
-    case 0: goto w2c_B25;
+    case 0: goto w2c_B24;
     case 1: goto w2c_B9;
-    case 2: goto w2c_B24;
+    case 2: goto w2c_B23;
     default: goto w2c_B9;
   }
-  w2c_B25:;
-  w2c_i0 = 0u;
-  w2c_l5 = w2c_i0;
-  w2c_j0 = w2c_p3;
-  w2c_i0 = (u32)(w2c_j0);
-  w2c_i0 = i32_load8_u(&instance->w2c_memory, (u64)(w2c_i0));
-  w2c_i0 = !(w2c_i0);
-  if (w2c_i0) {goto w2c_B20;}
-  w2c_i0 = 0u;
-  w2c_l6 = w2c_i0;
-  goto w2c_B9;
   w2c_B24:;
   w2c_i0 = 0u;
   w2c_l5 = w2c_i0;
   w2c_j0 = w2c_p3;
-  w2c_i0 = (u32)(w2c_j0);
-  w2c_i0 = i32_load8_u(&instance->w2c_memory, (u64)(w2c_i0));
-  w2c_i1 = 130u;
-  w2c_i0 = w2c_i0 == w2c_i1;
-  if (w2c_i0) {goto w2c_B26;}
-  w2c_i0 = 0u;
-  w2c_l6 = w2c_i0;
-  goto w2c_B9;
-  w2c_B26:;
-  w2c_i0 = 0u;
-  w2c_l5 = w2c_i0;
-  w2c_j0 = w2c_p2;
-  w2c_j1 = 6ull;
-  w2c_j0 += w2c_j1;
   w2c_i0 = (u32)(w2c_j0);
   w2c_i0 = i32_load8_u(&instance->w2c_memory, (u64)(w2c_i0));
   w2c_i0 = !(w2c_i0);
@@ -3080,11 +3056,36 @@ static void w2c_f10(Z_tcrx_instance_t* instance, u64 w2c_p0, u64 w2c_p1, u64 w2c
   w2c_l6 = w2c_i0;
   goto w2c_B9;
   w2c_B23:;
+  w2c_i0 = 0u;
+  w2c_l5 = w2c_i0;
+  w2c_j0 = w2c_p3;
+  w2c_i0 = (u32)(w2c_j0);
+  w2c_i0 = i32_load8_u(&instance->w2c_memory, (u64)(w2c_i0));
+  w2c_i1 = 130u;
+  w2c_i0 = w2c_i0 == w2c_i1;
+  if (w2c_i0) {goto w2c_B25;}
+  w2c_i0 = 0u;
+  w2c_l6 = w2c_i0;
+  goto w2c_B9;
+  w2c_B25:;
+  w2c_i0 = 0u;
+  w2c_l5 = w2c_i0;
+  w2c_j0 = w2c_p2;
+  w2c_j1 = 6ull;
+  w2c_j0 += w2c_j1;
+  w2c_i0 = (u32)(w2c_j0);
+  w2c_i0 = i32_load8_u(&instance->w2c_memory, (u64)(w2c_i0));
+  w2c_i0 = !(w2c_i0);
+  if (w2c_i0) {goto w2c_B18;}
+  w2c_i0 = 0u;
+  w2c_l6 = w2c_i0;
+  goto w2c_B9;
+  w2c_B22:;
   w2c_j0 = 0ull;
   w2c_p1 = w2c_j0;
   w2c_i0 = w2c_l6;
   w2c_i0 = !(w2c_i0);
-  if (w2c_i0) {goto w2c_B21;}
+  if (w2c_i0) {goto w2c_B20;}
   w2c_i0 = 0u;
   w2c_l5 = w2c_i0;
   w2c_i0 = 9u;
@@ -3092,7 +3093,7 @@ static void w2c_f10(Z_tcrx_instance_t* instance, u64 w2c_p0, u64 w2c_p1, u64 w2c
   w2c_i0 = 0u;
   w2c_l6 = w2c_i0;
   goto w2c_B9;
-  w2c_B22:;
+  w2c_B21:;
   w2c_j0 = w2c_l10;
   w2c_j1 = 18446744073709551611ull;
   w2c_j0 += w2c_j1;
@@ -3111,7 +3112,7 @@ static void w2c_f10(Z_tcrx_instance_t* instance, u64 w2c_p0, u64 w2c_p1, u64 w2c
   w2c_i0 = i32_load8_u(&instance->w2c_memory, (u64)(w2c_i0));
   w2c_i1 = 1u;
   w2c_i0 = w2c_i0 != w2c_i1;
-  if (w2c_i0) {goto w2c_B30;}
+  if (w2c_i0) {goto w2c_B29;}
   w2c_j0 = 1ull;
   w2c_l12 = w2c_j0;
   w2c_j0 = w2c_l11;
@@ -3142,12 +3143,12 @@ static void w2c_f10(Z_tcrx_instance_t* instance, u64 w2c_p0, u64 w2c_p1, u64 w2c
   w2c_i1 = 255u;
   w2c_i0 &= w2c_i1;
   switch (w2c_i0) {
-    case 0: goto w2c_B18;
-    case 1: goto w2c_B29;
-    case 2: goto w2c_B28;
-    default: goto w2c_B18;
+    case 0: goto w2c_B17;
+    case 1: goto w2c_B28;
+    case 2: goto w2c_B27;
+    default: goto w2c_B17;
   }
-  w2c_B30:;
+  w2c_B29:;
   w2c_j0 = w2c_p1;
   w2c_j1 = w2c_l11;
   w2c_j2 = 160ull;
@@ -3155,10 +3156,10 @@ static void w2c_f10(Z_tcrx_instance_t* instance, u64 w2c_p0, u64 w2c_p1, u64 w2c
   w2c_i1 = (u32)(w2c_j1);
   w2c_j1 = i64_load(&instance->w2c_memory, (u64)(w2c_i1));
   w2c_i0 = w2c_j0 > w2c_j1;
-  if (w2c_i0) {goto w2c_B18;}
+  if (w2c_i0) {goto w2c_B17;}
   w2c_j0 = 0ull;
   w2c_l12 = w2c_j0;
-  w2c_B29:;
+  w2c_B28:;
   w2c_j0 = w2c_p1;
   w2c_j1 = w2c_l12;
   w2c_j0 -= w2c_j1;
@@ -3167,8 +3168,8 @@ static void w2c_f10(Z_tcrx_instance_t* instance, u64 w2c_p0, u64 w2c_p1, u64 w2c
   w2c_j1 = w2c_l12;
   w2c_j0 += w2c_j1;
   w2c_p1 = w2c_j0;
-  goto w2c_B27;
-  w2c_B28:;
+  goto w2c_B26;
+  w2c_B27:;
   w2c_j0 = w2c_l13;
   w2c_i0 = (u32)(w2c_j0);
   w2c_j0 = i64_load(&instance->w2c_memory, (u64)(w2c_i0));
@@ -3188,7 +3189,7 @@ static void w2c_f10(Z_tcrx_instance_t* instance, u64 w2c_p0, u64 w2c_p1, u64 w2c
   w2c_i0 = (u32)(w2c_j0);
   w2c_j0 = i64_load(&instance->w2c_memory, (u64)(w2c_i0));
   w2c_p1 = w2c_j0;
-  w2c_B27:;
+  w2c_B26:;
   w2c_j0 = w2c_l11;
   w2c_j1 = 248ull;
   w2c_j0 += w2c_j1;
@@ -3222,13 +3223,13 @@ static void w2c_f10(Z_tcrx_instance_t* instance, u64 w2c_p0, u64 w2c_p1, u64 w2c
   w2c_j1 = (u64)(w2c_i1);
   w2c_p3 = w2c_j1;
   w2c_i0 = w2c_j0 > w2c_j1;
-  if (w2c_i0) {goto w2c_B32;}
+  if (w2c_i0) {goto w2c_B31;}
   w2c_j0 = w2c_p2;
   w2c_i0 = !(w2c_j0);
   if (w2c_i0) {goto w2c_B11;}
   w2c_j0 = 0ull;
   w2c_p3 = w2c_j0;
-  w2c_L33: 
+  w2c_L32: 
     w2c_j0 = w2c_l10;
     w2c_j1 = w2c_p3;
     w2c_j0 += w2c_j1;
@@ -3236,7 +3237,7 @@ static void w2c_f10(Z_tcrx_instance_t* instance, u64 w2c_p0, u64 w2c_p1, u64 w2c
     w2c_i0 = i32_load16_u(&instance->w2c_memory, (u64)(w2c_i0));
     w2c_i1 = w2c_l7;
     w2c_i0 = w2c_i0 == w2c_i1;
-    if (w2c_i0) {goto w2c_B31;}
+    if (w2c_i0) {goto w2c_B30;}
     w2c_j0 = w2c_p3;
     w2c_j1 = 64ull;
     w2c_j0 += w2c_j1;
@@ -3247,10 +3248,10 @@ static void w2c_f10(Z_tcrx_instance_t* instance, u64 w2c_p0, u64 w2c_p1, u64 w2c
     w2c_p2 = w2c_j0;
     w2c_i0 = !(w2c_j0);
     w2c_i0 = !(w2c_i0);
-    if (w2c_i0) {goto w2c_L33;}
+    if (w2c_i0) {goto w2c_L32;}
     goto w2c_B11;
   UNREACHABLE;
-  w2c_B32:;
+  w2c_B31:;
   w2c_j0 = w2c_p2;
   w2c_j1 = w2c_l11;
   w2c_j2 = 264ull;
@@ -3270,7 +3271,7 @@ static void w2c_f10(Z_tcrx_instance_t* instance, u64 w2c_p0, u64 w2c_p1, u64 w2c
   w2c_j1 = 6ull;
   w2c_j0 <<= (w2c_j1 & 63);
   w2c_p3 = w2c_j0;
-  w2c_B31:;
+  w2c_B30:;
   w2c_j0 = w2c_l10;
   w2c_j1 = w2c_p3;
   w2c_j0 += w2c_j1;
@@ -3286,13 +3287,13 @@ static void w2c_f10(Z_tcrx_instance_t* instance, u64 w2c_p0, u64 w2c_p1, u64 w2c
   w2c_j1 = i64_load(&instance->w2c_memory, (u64)(w2c_i1));
   w2c_p3 = w2c_j1;
   w2c_i0 = w2c_j0 > w2c_j1;
-  if (w2c_i0) {goto w2c_B34;}
+  if (w2c_i0) {goto w2c_B33;}
   w2c_j0 = 1ull;
   w2c_p1 = w2c_j0;
   w2c_i0 = 0u;
   w2c_l6 = w2c_i0;
   goto w2c_B10;
-  w2c_B34:;
+  w2c_B33:;
   w2c_j0 = 0ull;
   w2c_p2 = w2c_j0;
   w2c_j0 = w2c_l17;
@@ -3337,7 +3338,7 @@ static void w2c_f10(Z_tcrx_instance_t* instance, u64 w2c_p0, u64 w2c_p1, u64 w2c
   w2c_j0 -= w2c_j1;
   w2c_j1 = w2c_l13;
   w2c_i0 = w2c_j0 >= w2c_j1;
-  if (w2c_i0) {goto w2c_B16;}
+  if (w2c_i0) {goto w2c_B15;}
   w2c_j0 = w2c_l13;
   w2c_j1 = 3ull;
   w2c_j0 &= w2c_j1;
@@ -3345,14 +3346,14 @@ static void w2c_f10(Z_tcrx_instance_t* instance, u64 w2c_p0, u64 w2c_p1, u64 w2c
   w2c_j0 = w2c_l13;
   w2c_j1 = 4ull;
   w2c_i0 = w2c_j0 < w2c_j1;
-  if (w2c_i0) {goto w2c_B35;}
+  if (w2c_i0) {goto w2c_B34;}
   w2c_j0 = w2c_l13;
   w2c_j1 = 18446744073709551612ull;
   w2c_j0 &= w2c_j1;
   w2c_l13 = w2c_j0;
   w2c_j0 = 0ull;
   w2c_p2 = w2c_j0;
-  w2c_L36: 
+  w2c_L35: 
     w2c_j0 = w2c_l14;
     w2c_j1 = w2c_p2;
     w2c_j0 += w2c_j1;
@@ -3401,11 +3402,11 @@ static void w2c_f10(Z_tcrx_instance_t* instance, u64 w2c_p0, u64 w2c_p1, u64 w2c
     w2c_j1 += w2c_j2;
     w2c_p2 = w2c_j1;
     w2c_i0 = w2c_j0 != w2c_j1;
-    if (w2c_i0) {goto w2c_L36;}
+    if (w2c_i0) {goto w2c_L35;}
   w2c_j0 = w2c_l12;
   w2c_i0 = !(w2c_j0);
   if (w2c_i0) {goto w2c_B12;}
-  w2c_B35:;
+  w2c_B34:;
   w2c_j0 = w2c_l14;
   w2c_j1 = w2c_p2;
   w2c_j0 += w2c_j1;
@@ -3414,7 +3415,7 @@ static void w2c_f10(Z_tcrx_instance_t* instance, u64 w2c_p0, u64 w2c_p1, u64 w2c
   w2c_j1 = w2c_p2;
   w2c_j0 += w2c_j1;
   w2c_p1 = w2c_j0;
-  w2c_L37: 
+  w2c_L36: 
     w2c_j0 = w2c_p3;
     w2c_i0 = (u32)(w2c_j0);
     w2c_j1 = w2c_p1;
@@ -3435,47 +3436,54 @@ static void w2c_f10(Z_tcrx_instance_t* instance, u64 w2c_p0, u64 w2c_p1, u64 w2c
     w2c_l12 = w2c_j0;
     w2c_j1 = 0ull;
     w2c_i0 = w2c_j0 != w2c_j1;
-    if (w2c_i0) {goto w2c_L37;}
+    if (w2c_i0) {goto w2c_L36;}
     goto w2c_B12;
   UNREACHABLE;
-  w2c_B21:;
-  w2c_i0 = 0u;
-  w2c_l5 = w2c_i0;
-  w2c_i0 = 4u;
-  w2c_l7 = w2c_i0;
-  w2c_i0 = 0u;
-  w2c_l6 = w2c_i0;
-  w2c_j0 = w2c_l11;
-  w2c_j1 = 88ull;
-  w2c_j0 += w2c_j1;
+  w2c_B20:;
+  w2c_j0 = w2c_p2;
   w2c_i0 = (u32)(w2c_j0);
-  w2c_i0 = i32_load8_u(&instance->w2c_memory, (u64)(w2c_i0));
+  w2c_i0 = i32_load8_u(&instance->w2c_memory, (u64)(w2c_i0) + 4u);
+  w2c_l5 = w2c_i0;
   w2c_j1 = w2c_l11;
   w2c_j2 = 90ull;
   w2c_j1 += w2c_j2;
   w2c_i1 = (u32)(w2c_j1);
   w2c_i1 = i32_load8_u(&instance->w2c_memory, (u64)(w2c_i1));
-  w2c_l8 = w2c_i1;
-  w2c_j2 = w2c_p2;
-  w2c_i2 = (u32)(w2c_j2);
-  w2c_i2 = i32_load8_u(&instance->w2c_memory, (u64)(w2c_i2) + 4u);
-  w2c_i0 = w2c_f12(instance, w2c_i0, w2c_i1, w2c_i2);
+  w2c_l6 = w2c_i1;
+  w2c_i0 = w2c_i0 == w2c_i1;
+  if (w2c_i0) {goto w2c_B39;}
+  w2c_i0 = w2c_l5;
+  w2c_i1 = w2c_l6;
+  w2c_i0 -= w2c_i1;
+  w2c_l6 = w2c_i0;
   w2c_i1 = 255u;
   w2c_i0 &= w2c_i1;
-  switch (w2c_i0) {
-    case 0: goto w2c_B40;
-    case 1: goto w2c_B39;
-    case 2: goto w2c_B9;
-    case 3: goto w2c_B38;
-    default: goto w2c_B40;
-  }
-  w2c_B40:;
-  w2c_j0 = w2c_l11;
-  w2c_j1 = 89ull;
-  w2c_j0 += w2c_j1;
-  w2c_i0 = (u32)(w2c_j0);
-  w2c_i0 = i32_load8_u(&instance->w2c_memory, (u64)(w2c_i0));
+  w2c_j1 = w2c_l11;
+  w2c_j2 = 88ull;
+  w2c_j1 += w2c_j2;
+  w2c_i1 = (u32)(w2c_j1);
+  w2c_i1 = i32_load8_u(&instance->w2c_memory, (u64)(w2c_i1));
+  w2c_i2 = 1u;
+  w2c_i1 >>= (w2c_i2 & 31);
+  w2c_l7 = w2c_i1;
+  w2c_i0 = w2c_i0 < w2c_i1;
+  if (w2c_i0) {goto w2c_B38;}
+  w2c_i0 = 0u;
+  w2c_l5 = w2c_i0;
+  w2c_i0 = w2c_l7;
+  w2c_i1 = 0u;
+  w2c_i2 = w2c_l6;
+  w2c_i1 -= w2c_i2;
+  w2c_i2 = 255u;
+  w2c_i1 &= w2c_i2;
+  w2c_i0 = w2c_i0 < w2c_i1;
+  if (w2c_i0) {goto w2c_B37;}
+  w2c_i0 = 4u;
+  w2c_l7 = w2c_i0;
+  w2c_i0 = 0u;
   w2c_l6 = w2c_i0;
+  goto w2c_B9;
+  w2c_B39:;
   w2c_j0 = w2c_l11;
   w2c_j1 = 128ull;
   w2c_j0 += w2c_j1;
@@ -3488,12 +3496,14 @@ static void w2c_f10(Z_tcrx_instance_t* instance, u64 w2c_p0, u64 w2c_p1, u64 w2c
   w2c_i1 = (u32)(w2c_j1);
   w2c_j1 = i64_load(&instance->w2c_memory, (u64)(w2c_i1));
   w2c_i0 = w2c_j0 >= w2c_j1;
-  if (w2c_i0) {goto w2c_B41;}
-  w2c_i0 = w2c_l6;
-  w2c_i1 = 255u;
-  w2c_i0 &= w2c_i1;
+  if (w2c_i0) {goto w2c_B40;}
+  w2c_j0 = w2c_l11;
+  w2c_j1 = 89ull;
+  w2c_j0 += w2c_j1;
+  w2c_i0 = (u32)(w2c_j0);
+  w2c_i0 = i32_load8_u(&instance->w2c_memory, (u64)(w2c_i0));
   w2c_i0 = !(w2c_i0);
-  if (w2c_i0) {goto w2c_B17;}
+  if (w2c_i0) {goto w2c_B16;}
   w2c_i0 = 0u;
   w2c_l5 = w2c_i0;
   w2c_i0 = 1u;
@@ -3501,90 +3511,47 @@ static void w2c_f10(Z_tcrx_instance_t* instance, u64 w2c_p0, u64 w2c_p1, u64 w2c
   w2c_i0 = 0u;
   w2c_l6 = w2c_i0;
   goto w2c_B9;
-  w2c_B41:;
+  w2c_B40:;
+  w2c_j0 = w2c_l11;
+  w2c_j1 = 89ull;
+  w2c_j0 += w2c_j1;
+  w2c_f12(instance, w2c_j0);
   w2c_i0 = 0u;
   w2c_l5 = w2c_i0;
   w2c_i0 = 2u;
   w2c_l7 = w2c_i0;
-  w2c_i0 = w2c_l6;
-  w2c_i1 = 255u;
-  w2c_i0 &= w2c_i1;
-  w2c_i0 = !(w2c_i0);
-  if (w2c_i0) {goto w2c_B42;}
   w2c_i0 = 0u;
   w2c_l6 = w2c_i0;
   goto w2c_B9;
-  w2c_B42:;
-  w2c_j0 = w2c_l11;
-  w2c_j1 = 89ull;
-  w2c_j0 += w2c_j1;
-  w2c_i0 = (u32)(w2c_j0);
-  w2c_i1 = 1u;
-  i32_store8(&instance->w2c_memory, (u64)(w2c_i0), w2c_i1);
-  w2c_j0 = w2c_l11;
-  w2c_j1 = 92ull;
-  w2c_j0 += w2c_j1;
-  w2c_i0 = (u32)(w2c_j0);
-  w2c_i1 = 257u;
-  i32_store16(&instance->w2c_memory, (u64)(w2c_i0), w2c_i1);
-  goto w2c_B13;
-  w2c_B39:;
-  w2c_i0 = 0u;
-  w2c_l5 = w2c_i0;
-  w2c_i0 = 3u;
-  w2c_l7 = w2c_i0;
-  w2c_j0 = w2c_l11;
-  w2c_j1 = 89ull;
-  w2c_j0 += w2c_j1;
-  w2c_i0 = (u32)(w2c_j0);
-  w2c_i0 = i32_load8_u(&instance->w2c_memory, (u64)(w2c_i0));
-  w2c_i0 = !(w2c_i0);
-  if (w2c_i0) {goto w2c_B43;}
-  w2c_i0 = 0u;
-  w2c_l6 = w2c_i0;
-  goto w2c_B9;
-  w2c_B43:;
-  w2c_j0 = w2c_l11;
-  w2c_j1 = 93ull;
-  w2c_j0 += w2c_j1;
-  w2c_i0 = (u32)(w2c_j0);
-  w2c_i1 = 1u;
-  i32_store8(&instance->w2c_memory, (u64)(w2c_i0), w2c_i1);
-  goto w2c_B13;
   w2c_B38:;
-  w2c_i0 = 0u;
-  w2c_l5 = w2c_i0;
-  w2c_i0 = 5u;
-  w2c_l7 = w2c_i0;
-  w2c_j0 = w2c_l11;
-  w2c_j1 = 89ull;
-  w2c_j0 += w2c_j1;
-  w2c_p3 = w2c_j0;
-  w2c_i0 = (u32)(w2c_j0);
-  w2c_i0 = i32_load8_u(&instance->w2c_memory, (u64)(w2c_i0));
-  w2c_i1 = 2u;
-  w2c_i0 = w2c_i0 != w2c_i1;
-  if (w2c_i0) {goto w2c_B44;}
-  w2c_i0 = 0u;
-  w2c_l6 = w2c_i0;
-  goto w2c_B9;
-  w2c_B44:;
-  w2c_j0 = w2c_l11;
-  w2c_j1 = 91ull;
-  w2c_j0 += w2c_j1;
-  w2c_i0 = (u32)(w2c_j0);
-  w2c_i1 = 1u;
-  i32_store8(&instance->w2c_memory, (u64)(w2c_i0), w2c_i1);
-  w2c_j0 = w2c_p3;
-  w2c_i0 = (u32)(w2c_j0);
-  w2c_i1 = 2u;
-  i32_store8(&instance->w2c_memory, (u64)(w2c_i0), w2c_i1);
-  goto w2c_B13;
-  w2c_B20:;
   w2c_j0 = w2c_l11;
   w2c_j1 = 89ull;
   w2c_j0 += w2c_j1;
   w2c_f13(instance, w2c_j0);
+  w2c_i0 = 0u;
+  w2c_l5 = w2c_i0;
+  w2c_i0 = 3u;
+  w2c_l7 = w2c_i0;
+  w2c_i0 = 0u;
+  w2c_l6 = w2c_i0;
+  goto w2c_B9;
+  w2c_B37:;
+  w2c_j0 = w2c_l11;
+  w2c_j1 = 89ull;
+  w2c_j0 += w2c_j1;
+  w2c_f14(instance, w2c_j0);
+  w2c_i0 = 0u;
+  w2c_l5 = w2c_i0;
+  w2c_i0 = 5u;
+  w2c_l7 = w2c_i0;
+  w2c_i0 = 0u;
+  w2c_l6 = w2c_i0;
+  goto w2c_B9;
+  w2c_B19:;
+  w2c_j0 = w2c_l11;
+  w2c_j1 = 89ull;
+  w2c_j0 += w2c_j1;
+  w2c_f15(instance, w2c_j0);
   w2c_i0 = 0u;
   w2c_l5 = w2c_i0;
   w2c_i0 = 7u;
@@ -3592,7 +3559,7 @@ static void w2c_f10(Z_tcrx_instance_t* instance, u64 w2c_p0, u64 w2c_p1, u64 w2c
   w2c_i0 = 0u;
   w2c_l6 = w2c_i0;
   goto w2c_B9;
-  w2c_B19:;
+  w2c_B18:;
   w2c_j0 = w2c_p2;
   w2c_j1 = 7ull;
   w2c_j0 += w2c_j1;
@@ -3630,12 +3597,12 @@ static void w2c_f10(Z_tcrx_instance_t* instance, u64 w2c_p0, u64 w2c_p1, u64 w2c
   w2c_j0 = i64_load8_u(&instance->w2c_memory, (u64)(w2c_i0));
   w2c_i0 = (u32)(w2c_j0);
   switch (w2c_i0) {
-    case 0: goto w2c_B45;
-    case 1: goto w2c_B46;
+    case 0: goto w2c_B41;
+    case 1: goto w2c_B42;
     case 2: goto w2c_B9;
-    default: goto w2c_B45;
+    default: goto w2c_B41;
   }
-  w2c_B46:;
+  w2c_B42:;
   w2c_j0 = w2c_l11;
   w2c_j1 = 90ull;
   w2c_j0 += w2c_j1;
@@ -3652,7 +3619,7 @@ static void w2c_f10(Z_tcrx_instance_t* instance, u64 w2c_p0, u64 w2c_p1, u64 w2c
   w2c_p2 = w2c_j0;
   w2c_j0 = 4ull;
   w2c_l10 = w2c_j0;
-  w2c_B45:;
+  w2c_B41:;
   w2c_i0 = 0u;
   w2c_l5 = w2c_i0;
   w2c_j0 = w2c_p3;
@@ -3670,7 +3637,7 @@ static void w2c_f10(Z_tcrx_instance_t* instance, u64 w2c_p0, u64 w2c_p1, u64 w2c
   w2c_i0 = 0u;
   w2c_l6 = w2c_i0;
   goto w2c_B9;
-  w2c_B18:;
+  w2c_B17:;
   w2c_i0 = 1u;
   w2c_l5 = w2c_i0;
   w2c_j0 = w2c_l11;
@@ -3693,7 +3660,7 @@ static void w2c_f10(Z_tcrx_instance_t* instance, u64 w2c_p0, u64 w2c_p1, u64 w2c
   w2c_i0 = 6u;
   w2c_l7 = w2c_i0;
   goto w2c_B9;
-  w2c_B17:;
+  w2c_B16:;
   w2c_j0 = w2c_l11;
   w2c_j1 = 93ull;
   w2c_j0 += w2c_j1;
@@ -3704,7 +3671,7 @@ static void w2c_f10(Z_tcrx_instance_t* instance, u64 w2c_p0, u64 w2c_p1, u64 w2c
   w2c_j1 = 90ull;
   w2c_j0 += w2c_j1;
   w2c_i0 = (u32)(w2c_j0);
-  w2c_i1 = w2c_l8;
+  w2c_i1 = w2c_l5;
   w2c_i2 = 1u;
   w2c_i1 += w2c_i2;
   i32_store8(&instance->w2c_memory, (u64)(w2c_i0), w2c_i1);
@@ -3758,7 +3725,7 @@ static void w2c_f10(Z_tcrx_instance_t* instance, u64 w2c_p0, u64 w2c_p1, u64 w2c
   w2c_j0 -= w2c_j1;
   w2c_j1 = w2c_p1;
   w2c_i0 = w2c_j0 >= w2c_j1;
-  if (w2c_i0) {goto w2c_B15;}
+  if (w2c_i0) {goto w2c_B14;}
   w2c_j0 = w2c_p1;
   w2c_j1 = 3ull;
   w2c_j0 &= w2c_j1;
@@ -3768,14 +3735,14 @@ static void w2c_f10(Z_tcrx_instance_t* instance, u64 w2c_p0, u64 w2c_p1, u64 w2c
   w2c_i0 += w2c_i1;
   w2c_i1 = 3u;
   w2c_i0 = w2c_i0 < w2c_i1;
-  if (w2c_i0) {goto w2c_B47;}
+  if (w2c_i0) {goto w2c_B43;}
   w2c_j0 = w2c_p1;
   w2c_j1 = 18446744073709551612ull;
   w2c_j0 &= w2c_j1;
   w2c_l14 = w2c_j0;
   w2c_j0 = 0ull;
   w2c_p3 = w2c_j0;
-  w2c_L48: 
+  w2c_L44: 
     w2c_j0 = w2c_l12;
     w2c_j1 = w2c_p3;
     w2c_j0 += w2c_j1;
@@ -3826,11 +3793,11 @@ static void w2c_f10(Z_tcrx_instance_t* instance, u64 w2c_p0, u64 w2c_p1, u64 w2c
     w2c_j1 += w2c_j2;
     w2c_p3 = w2c_j1;
     w2c_i0 = w2c_j0 != w2c_j1;
-    if (w2c_i0) {goto w2c_L48;}
+    if (w2c_i0) {goto w2c_L44;}
   w2c_j0 = w2c_l13;
   w2c_i0 = !(w2c_j0);
-  if (w2c_i0) {goto w2c_B14;}
-  w2c_B47:;
+  if (w2c_i0) {goto w2c_B13;}
+  w2c_B43:;
   w2c_j0 = w2c_l12;
   w2c_j1 = w2c_p3;
   w2c_j0 += w2c_j1;
@@ -3841,7 +3808,7 @@ static void w2c_f10(Z_tcrx_instance_t* instance, u64 w2c_p0, u64 w2c_p1, u64 w2c
   w2c_j1 = 5ull;
   w2c_j0 += w2c_j1;
   w2c_p3 = w2c_j0;
-  w2c_L49: 
+  w2c_L45: 
     w2c_j0 = w2c_p1;
     w2c_i0 = (u32)(w2c_j0);
     w2c_j1 = w2c_p3;
@@ -3862,21 +3829,21 @@ static void w2c_f10(Z_tcrx_instance_t* instance, u64 w2c_p0, u64 w2c_p1, u64 w2c
     w2c_l13 = w2c_j0;
     w2c_j1 = 0ull;
     w2c_i0 = w2c_j0 != w2c_j1;
-    if (w2c_i0) {goto w2c_L49;}
-    goto w2c_B14;
+    if (w2c_i0) {goto w2c_L45;}
+    goto w2c_B13;
   UNREACHABLE;
-  w2c_B16:;
+  w2c_B15:;
   w2c_j0 = w2c_l14;
   w2c_j1 = w2c_p1;
   w2c_j2 = w2c_l13;
   w2c_j0 = w2c_f4(instance, w2c_j0, w2c_j1, w2c_j2);
   goto w2c_B12;
-  w2c_B15:;
+  w2c_B14:;
   w2c_j0 = w2c_l12;
   w2c_j1 = w2c_l10;
   w2c_j2 = w2c_p1;
   w2c_j0 = w2c_f4(instance, w2c_j0, w2c_j1, w2c_j2);
-  w2c_B14:;
+  w2c_B13:;
   w2c_j0 = w2c_l11;
   w2c_j1 = 128ull;
   w2c_j0 += w2c_j1;
@@ -3896,12 +3863,6 @@ static void w2c_f10(Z_tcrx_instance_t* instance, u64 w2c_p0, u64 w2c_p1, u64 w2c
   w2c_l7 = w2c_i0;
   w2c_i0 = 1u;
   w2c_l5 = w2c_i0;
-  goto w2c_B9;
-  w2c_B13:;
-  w2c_i0 = 0u;
-  w2c_l5 = w2c_i0;
-  w2c_i0 = 0u;
-  w2c_l6 = w2c_i0;
   goto w2c_B9;
   w2c_B12:;
   w2c_j0 = w2c_l17;
@@ -3924,13 +3885,13 @@ static void w2c_f10(Z_tcrx_instance_t* instance, u64 w2c_p0, u64 w2c_p1, u64 w2c
   w2c_j0 = w2c_l13;
   w2c_j1 = 7ull;
   w2c_i0 = w2c_j0 >= w2c_j1;
-  if (w2c_i0) {goto w2c_B52;}
+  if (w2c_i0) {goto w2c_B48;}
   w2c_j0 = 0ull;
   w2c_l18 = w2c_j0;
   w2c_j0 = 0ull;
   w2c_l19 = w2c_j0;
-  goto w2c_B51;
-  w2c_B52:;
+  goto w2c_B47;
+  w2c_B48:;
   w2c_j0 = w2c_l11;
   w2c_j1 = 200ull;
   w2c_j0 += w2c_j1;
@@ -3943,14 +3904,14 @@ static void w2c_f10(Z_tcrx_instance_t* instance, u64 w2c_p0, u64 w2c_p1, u64 w2c
   w2c_l19 = w2c_j0;
   w2c_j0 = 0ull;
   w2c_l18 = w2c_j0;
-  w2c_L53: 
+  w2c_L49: 
     w2c_j0 = w2c_p1;
     w2c_i0 = (u32)(w2c_j0);
     w2c_i0 = i32_load8_u(&instance->w2c_memory, (u64)(w2c_i0));
     w2c_l5 = w2c_i0;
     w2c_i1 = 31u;
     w2c_i0 = w2c_i0 > w2c_i1;
-    if (w2c_i0) {goto w2c_B55;}
+    if (w2c_i0) {goto w2c_B51;}
     w2c_j0 = w2c_l13;
     w2c_j1 = w2c_p1;
     w2c_i1 = (u32)(w2c_j1);
@@ -3967,16 +3928,16 @@ static void w2c_f10(Z_tcrx_instance_t* instance, u64 w2c_p0, u64 w2c_p1, u64 w2c
     w2c_j1 += w2c_j2;
     w2c_l17 = w2c_j1;
     w2c_i0 = w2c_j0 >= w2c_j1;
-    if (w2c_i0) {goto w2c_B54;}
-    w2c_B55:;
+    if (w2c_i0) {goto w2c_B50;}
+    w2c_B51:;
     w2c_j0 = w2c_l19;
     w2c_j1 = w2c_l18;
     w2c_j0 -= w2c_j1;
     w2c_p1 = w2c_j0;
     w2c_j0 = 4294967296ull;
     w2c_p3 = w2c_j0;
-    goto w2c_B50;
-    w2c_B54:;
+    goto w2c_B46;
+    w2c_B50:;
     w2c_j0 = w2c_l13;
     w2c_j1 = w2c_l17;
     w2c_j0 -= w2c_j1;
@@ -3986,7 +3947,7 @@ static void w2c_f10(Z_tcrx_instance_t* instance, u64 w2c_p0, u64 w2c_p1, u64 w2c
     w2c_i0 = w2c_l5;
     w2c_i1 = 16u;
     w2c_i0 = w2c_i0 < w2c_i1;
-    if (w2c_i0) {goto w2c_B56;}
+    if (w2c_i0) {goto w2c_B52;}
     w2c_j0 = w2c_l20;
     w2c_i0 = (u32)(w2c_j0);
     w2c_j0 = i64_load(&instance->w2c_memory, (u64)(w2c_i0));
@@ -4009,13 +3970,13 @@ static void w2c_f10(Z_tcrx_instance_t* instance, u64 w2c_p0, u64 w2c_p1, u64 w2c
     w2c_j1 = (u64)(w2c_i1);
     w2c_p3 = w2c_j1;
     w2c_i0 = w2c_j0 > w2c_j1;
-    if (w2c_i0) {goto w2c_B58;}
+    if (w2c_i0) {goto w2c_B54;}
     w2c_j0 = w2c_p2;
     w2c_i0 = !(w2c_j0);
-    if (w2c_i0) {goto w2c_B56;}
+    if (w2c_i0) {goto w2c_B52;}
     w2c_j0 = 0ull;
     w2c_p3 = w2c_j0;
-    w2c_L59: 
+    w2c_L55: 
       w2c_i0 = w2c_l5;
       w2c_j1 = w2c_l10;
       w2c_j2 = w2c_p3;
@@ -4023,7 +3984,7 @@ static void w2c_f10(Z_tcrx_instance_t* instance, u64 w2c_p0, u64 w2c_p1, u64 w2c
       w2c_i1 = (u32)(w2c_j1);
       w2c_i1 = i32_load16_u(&instance->w2c_memory, (u64)(w2c_i1));
       w2c_i0 = w2c_i0 == w2c_i1;
-      if (w2c_i0) {goto w2c_B57;}
+      if (w2c_i0) {goto w2c_B53;}
       w2c_j0 = w2c_p3;
       w2c_j1 = 64ull;
       w2c_j0 += w2c_j1;
@@ -4034,11 +3995,11 @@ static void w2c_f10(Z_tcrx_instance_t* instance, u64 w2c_p0, u64 w2c_p1, u64 w2c
       w2c_p2 = w2c_j0;
       w2c_i0 = !(w2c_j0);
       w2c_i0 = !(w2c_i0);
-      if (w2c_i0) {goto w2c_L59;}
+      if (w2c_i0) {goto w2c_L55;}
     w2c_j0 = 0ull;
     w2c_l12 = w2c_j0;
-    goto w2c_B56;
-    w2c_B58:;
+    goto w2c_B52;
+    w2c_B54:;
     w2c_j0 = w2c_p2;
     w2c_j1 = w2c_l16;
     w2c_j2 = w2c_p3;
@@ -4049,12 +4010,12 @@ static void w2c_f10(Z_tcrx_instance_t* instance, u64 w2c_p0, u64 w2c_p1, u64 w2c
     w2c_j1 = i64_load16_u(&instance->w2c_memory, (u64)(w2c_i1));
     w2c_p3 = w2c_j1;
     w2c_i0 = w2c_j0 <= w2c_j1;
-    if (w2c_i0) {goto w2c_B56;}
+    if (w2c_i0) {goto w2c_B52;}
     w2c_j0 = w2c_p3;
     w2c_j1 = 6ull;
     w2c_j0 <<= (w2c_j1 & 63);
     w2c_p3 = w2c_j0;
-    w2c_B57:;
+    w2c_B53:;
     w2c_j0 = w2c_l10;
     w2c_j1 = w2c_p3;
     w2c_j0 += w2c_j1;
@@ -4071,7 +4032,7 @@ static void w2c_f10(Z_tcrx_instance_t* instance, u64 w2c_p0, u64 w2c_p1, u64 w2c
     w2c_j1 = i64_load(&instance->w2c_memory, (u64)(w2c_i1));
     w2c_p2 = w2c_j1;
     w2c_i0 = w2c_j0 <= w2c_j1;
-    if (w2c_i0) {goto w2c_B56;}
+    if (w2c_i0) {goto w2c_B52;}
     w2c_j0 = w2c_p3;
     w2c_j1 = 8ull;
     w2c_j0 += w2c_j1;
@@ -4114,7 +4075,7 @@ static void w2c_f10(Z_tcrx_instance_t* instance, u64 w2c_p0, u64 w2c_p1, u64 w2c
     w2c_j0 -= w2c_j1;
     w2c_j1 = w2c_l17;
     w2c_i0 = w2c_j0 >= w2c_j1;
-    if (w2c_i0) {goto w2c_B61;}
+    if (w2c_i0) {goto w2c_B57;}
     w2c_j0 = w2c_p1;
     w2c_j1 = 4ull;
     w2c_j0 += w2c_j1;
@@ -4134,7 +4095,7 @@ static void w2c_f10(Z_tcrx_instance_t* instance, u64 w2c_p0, u64 w2c_p1, u64 w2c
     w2c_l22 = w2c_j0;
     w2c_j0 = 0ull;
     w2c_p3 = w2c_j0;
-    w2c_L62: 
+    w2c_L58: 
       w2c_j0 = w2c_l25;
       w2c_j1 = w2c_p3;
       w2c_j0 += w2c_j1;
@@ -4193,14 +4154,14 @@ static void w2c_f10(Z_tcrx_instance_t* instance, u64 w2c_p0, u64 w2c_p1, u64 w2c
       w2c_j1 += w2c_j2;
       w2c_p3 = w2c_j1;
       w2c_i0 = w2c_j0 != w2c_j1;
-      if (w2c_i0) {goto w2c_L62;}
+      if (w2c_i0) {goto w2c_L58;}
     w2c_j0 = w2c_l23;
     w2c_j1 = 3ull;
     w2c_j0 &= w2c_j1;
     w2c_p3 = w2c_j0;
     w2c_i0 = !(w2c_j0);
-    if (w2c_i0) {goto w2c_B60;}
-    w2c_L63: 
+    if (w2c_i0) {goto w2c_B56;}
+    w2c_L59: 
       w2c_j0 = w2c_p2;
       w2c_i0 = (u32)(w2c_j0);
       w2c_j1 = w2c_l10;
@@ -4221,15 +4182,15 @@ static void w2c_f10(Z_tcrx_instance_t* instance, u64 w2c_p0, u64 w2c_p1, u64 w2c
       w2c_p3 = w2c_j0;
       w2c_j1 = 0ull;
       w2c_i0 = w2c_j0 != w2c_j1;
-      if (w2c_i0) {goto w2c_L63;}
-      goto w2c_B60;
+      if (w2c_i0) {goto w2c_L59;}
+      goto w2c_B56;
     UNREACHABLE;
-    w2c_B61:;
+    w2c_B57:;
     w2c_j0 = w2c_l25;
     w2c_j1 = w2c_p1;
     w2c_j2 = w2c_l17;
     w2c_j0 = w2c_f4(instance, w2c_j0, w2c_j1, w2c_j2);
-    w2c_B60:;
+    w2c_B56:;
     w2c_j0 = 1ull;
     w2c_l12 = w2c_j0;
     w2c_j0 = w2c_l24;
@@ -4240,7 +4201,7 @@ static void w2c_f10(Z_tcrx_instance_t* instance, u64 w2c_p0, u64 w2c_p1, u64 w2c
     w2c_j2 = 1ull;
     w2c_j1 += w2c_j2;
     i64_store(&instance->w2c_memory, (u64)(w2c_i0), w2c_j1);
-    w2c_B56:;
+    w2c_B52:;
     w2c_j0 = w2c_p1;
     w2c_j1 = w2c_l17;
     w2c_j0 += w2c_j1;
@@ -4256,8 +4217,8 @@ static void w2c_f10(Z_tcrx_instance_t* instance, u64 w2c_p0, u64 w2c_p1, u64 w2c
     w2c_j0 = w2c_l13;
     w2c_j1 = 6ull;
     w2c_i0 = w2c_j0 > w2c_j1;
-    if (w2c_i0) {goto w2c_L53;}
-  w2c_B51:;
+    if (w2c_i0) {goto w2c_L49;}
+  w2c_B47:;
   w2c_j0 = 0ull;
   w2c_j1 = 4294967296ull;
   w2c_j2 = w2c_l13;
@@ -4268,7 +4229,7 @@ static void w2c_f10(Z_tcrx_instance_t* instance, u64 w2c_p0, u64 w2c_p1, u64 w2c
   w2c_j1 = w2c_l18;
   w2c_j0 -= w2c_j1;
   w2c_p1 = w2c_j0;
-  w2c_B50:;
+  w2c_B46:;
   w2c_j0 = w2c_p3;
   w2c_j1 = w2c_p1;
   w2c_j2 = 4294967295ull;
@@ -4290,7 +4251,7 @@ static void w2c_f10(Z_tcrx_instance_t* instance, u64 w2c_p0, u64 w2c_p1, u64 w2c
   w2c_j1 = (u64)(w2c_i1);
   w2c_p3 = w2c_j1;
   w2c_i0 = w2c_j0 <= w2c_j1;
-  if (w2c_i0) {goto w2c_B64;}
+  if (w2c_i0) {goto w2c_B60;}
   w2c_j0 = w2c_l11;
   w2c_j1 = 168ull;
   w2c_j0 += w2c_j1;
@@ -4303,7 +4264,7 @@ static void w2c_f10(Z_tcrx_instance_t* instance, u64 w2c_p0, u64 w2c_p1, u64 w2c
   w2c_i0 = (u32)(w2c_j0);
   w2c_i1 = 0u;
   i32_store8(&instance->w2c_memory, (u64)(w2c_i0), w2c_i1);
-  w2c_B64:;
+  w2c_B60:;
   w2c_i0 = 1u;
   w2c_l5 = w2c_i0;
   w2c_j0 = w2c_l11;
@@ -4331,22 +4292,22 @@ static void w2c_f10(Z_tcrx_instance_t* instance, u64 w2c_p0, u64 w2c_p1, u64 w2c
   w2c_p2 = w2c_j0;
   w2c_j1 = 18446744073709551615ull;
   w2c_i0 = w2c_j0 == w2c_j1;
-  if (w2c_i0) {goto w2c_B65;}
+  if (w2c_i0) {goto w2c_B61;}
   w2c_j0 = w2c_p3;
   w2c_i0 = (u32)(w2c_j0);
   w2c_j1 = w2c_p2;
   w2c_j2 = 1ull;
   w2c_j1 += w2c_j2;
   i64_store(&instance->w2c_memory, (u64)(w2c_i0), w2c_j1);
-  w2c_B65:;
+  w2c_B61:;
   w2c_j0 = w2c_p1;
   w2c_j1 = 32ull;
   w2c_j0 >>= (w2c_j1 & 63);
   w2c_i0 = (u32)(w2c_j0);
-  w2c_l9 = w2c_i0;
+  w2c_l8 = w2c_i0;
   w2c_j0 = w2c_p1;
   w2c_i0 = (u32)(w2c_j0);
-  w2c_l8 = w2c_i0;
+  w2c_l9 = w2c_i0;
   w2c_i0 = 0u;
   w2c_l4 = w2c_i0;
   goto w2c_B0;
@@ -4361,13 +4322,13 @@ static void w2c_f10(Z_tcrx_instance_t* instance, u64 w2c_p0, u64 w2c_p1, u64 w2c
   w2c_i0 = 0u;
   w2c_l6 = w2c_i0;
   w2c_i0 = 0u;
-  w2c_l8 = w2c_i0;
+  w2c_l9 = w2c_i0;
   w2c_i0 = 0u;
   w2c_l7 = w2c_i0;
   w2c_i0 = 0u;
   w2c_l5 = w2c_i0;
   w2c_i0 = 0u;
-  w2c_l9 = w2c_i0;
+  w2c_l8 = w2c_i0;
   w2c_B0:;
   w2c_j0 = w2c_p0;
   w2c_i0 = (u32)(w2c_j0);
@@ -4375,7 +4336,7 @@ static void w2c_f10(Z_tcrx_instance_t* instance, u64 w2c_p0, u64 w2c_p1, u64 w2c
   i32_store8(&instance->w2c_memory, (u64)(w2c_i0) + 15, w2c_i1);
   w2c_j0 = w2c_p0;
   w2c_i0 = (u32)(w2c_j0);
-  w2c_i1 = w2c_l9;
+  w2c_i1 = w2c_l8;
   i32_store8(&instance->w2c_memory, (u64)(w2c_i0) + 14, w2c_i1);
   w2c_j0 = w2c_p0;
   w2c_i0 = (u32)(w2c_j0);
@@ -4387,7 +4348,7 @@ static void w2c_f10(Z_tcrx_instance_t* instance, u64 w2c_p0, u64 w2c_p1, u64 w2c
   i32_store8(&instance->w2c_memory, (u64)(w2c_i0) + 12, w2c_i1);
   w2c_j0 = w2c_p0;
   w2c_i0 = (u32)(w2c_j0);
-  w2c_i1 = w2c_l8;
+  w2c_i1 = w2c_l9;
   i32_store(&instance->w2c_memory, (u64)(w2c_i0) + 8, w2c_i1);
   w2c_j0 = w2c_p0;
   w2c_i0 = (u32)(w2c_j0);
@@ -4955,54 +4916,71 @@ static u32 w2c_f11(Z_tcrx_instance_t* instance, u64 w2c_p0, u64 w2c_p1, u32 w2c_
   return w2c_i0;
 }
 
-static u32 w2c_f12(Z_tcrx_instance_t* instance, u32 w2c_p0, u32 w2c_p1, u32 w2c_p2) {
-  u32 w2c_l3 = 0;
+static void w2c_f12(Z_tcrx_instance_t* instance, u64 w2c_p0) {
   FUNC_PROLOGUE;
-  u32 w2c_i0, w2c_i1, w2c_i2, w2c_i3, w2c_i4;
-  w2c_i0 = 0u;
-  w2c_l3 = w2c_i0;
-  w2c_i0 = w2c_p2;
-  w2c_i1 = 255u;
-  w2c_i0 &= w2c_i1;
-  w2c_i1 = w2c_p1;
-  w2c_i2 = 255u;
-  w2c_i1 &= w2c_i2;
-  w2c_i0 = w2c_i0 == w2c_i1;
+  u32 w2c_i0, w2c_i1;
+  u64 w2c_j0, w2c_j1;
+  w2c_j0 = w2c_p0;
+  w2c_i0 = (u32)(w2c_j0);
+  w2c_i0 = i32_load8_u(&instance->w2c_memory, (u64)(w2c_i0));
   if (w2c_i0) {goto w2c_B0;}
-  w2c_i0 = 1u;
-  w2c_l3 = w2c_i0;
-  w2c_i0 = w2c_p2;
-  w2c_i1 = w2c_p1;
-  w2c_i0 -= w2c_i1;
-  w2c_p1 = w2c_i0;
-  w2c_i1 = 255u;
-  w2c_i0 &= w2c_i1;
-  w2c_i1 = w2c_p0;
-  w2c_i2 = 254u;
-  w2c_i1 &= w2c_i2;
-  w2c_i2 = 1u;
-  w2c_i1 >>= (w2c_i2 & 31);
-  w2c_p2 = w2c_i1;
-  w2c_i0 = w2c_i0 < w2c_i1;
-  if (w2c_i0) {goto w2c_B0;}
-  w2c_i0 = 3u;
-  w2c_i1 = 2u;
-  w2c_i2 = w2c_p2;
-  w2c_i3 = 0u;
-  w2c_i4 = w2c_p1;
-  w2c_i3 -= w2c_i4;
-  w2c_i4 = 255u;
-  w2c_i3 &= w2c_i4;
-  w2c_i2 = w2c_i2 < w2c_i3;
-  w2c_i0 = w2c_i2 ? w2c_i0 : w2c_i1;
-  w2c_l3 = w2c_i0;
+  w2c_j0 = w2c_p0;
+  w2c_i0 = (u32)(w2c_j0);
+  w2c_i1 = 1u;
+  i32_store8(&instance->w2c_memory, (u64)(w2c_i0), w2c_i1);
+  w2c_j0 = w2c_p0;
+  w2c_j1 = 3ull;
+  w2c_j0 += w2c_j1;
+  w2c_i0 = (u32)(w2c_j0);
+  w2c_i1 = 257u;
+  i32_store16(&instance->w2c_memory, (u64)(w2c_i0), w2c_i1);
   w2c_B0:;
-  w2c_i0 = w2c_l3;
   FUNC_EPILOGUE;
-  return w2c_i0;
 }
 
 static void w2c_f13(Z_tcrx_instance_t* instance, u64 w2c_p0) {
+  FUNC_PROLOGUE;
+  u32 w2c_i0, w2c_i1;
+  u64 w2c_j0, w2c_j1;
+  w2c_j0 = w2c_p0;
+  w2c_i0 = (u32)(w2c_j0);
+  w2c_i0 = i32_load8_u(&instance->w2c_memory, (u64)(w2c_i0));
+  if (w2c_i0) {goto w2c_B0;}
+  w2c_j0 = w2c_p0;
+  w2c_j1 = 4ull;
+  w2c_j0 += w2c_j1;
+  w2c_i0 = (u32)(w2c_j0);
+  w2c_i1 = 1u;
+  i32_store8(&instance->w2c_memory, (u64)(w2c_i0), w2c_i1);
+  w2c_B0:;
+  FUNC_EPILOGUE;
+}
+
+static void w2c_f14(Z_tcrx_instance_t* instance, u64 w2c_p0) {
+  FUNC_PROLOGUE;
+  u32 w2c_i0, w2c_i1;
+  u64 w2c_j0, w2c_j1;
+  w2c_j0 = w2c_p0;
+  w2c_i0 = (u32)(w2c_j0);
+  w2c_i0 = i32_load8_u(&instance->w2c_memory, (u64)(w2c_i0));
+  w2c_i1 = 2u;
+  w2c_i0 = w2c_i0 == w2c_i1;
+  if (w2c_i0) {goto w2c_B0;}
+  w2c_j0 = w2c_p0;
+  w2c_i0 = (u32)(w2c_j0);
+  w2c_i1 = 2u;
+  i32_store8(&instance->w2c_memory, (u64)(w2c_i0), w2c_i1);
+  w2c_j0 = w2c_p0;
+  w2c_j1 = 2ull;
+  w2c_j0 += w2c_j1;
+  w2c_i0 = (u32)(w2c_j0);
+  w2c_i1 = 1u;
+  i32_store8(&instance->w2c_memory, (u64)(w2c_i0), w2c_i1);
+  w2c_B0:;
+  FUNC_EPILOGUE;
+}
+
+static void w2c_f15(Z_tcrx_instance_t* instance, u64 w2c_p0) {
   u64 w2c_l1 = 0;
   FUNC_PROLOGUE;
   u32 w2c_i0, w2c_i1, w2c_i2;
@@ -5068,12 +5046,12 @@ static void w2c_f13(Z_tcrx_instance_t* instance, u64 w2c_p0) {
   FUNC_EPILOGUE;
 }
 
-static void w2c_f14(Z_tcrx_instance_t* instance, u64 w2c_p0) {
+static void w2c_f16(Z_tcrx_instance_t* instance, u64 w2c_p0) {
   FUNC_PROLOGUE;
   FUNC_EPILOGUE;
 }
 
-static void w2c_f15(Z_tcrx_instance_t* instance, u64 w2c_p0, u64 w2c_p1) {
+static void w2c_f17(Z_tcrx_instance_t* instance, u64 w2c_p0, u64 w2c_p1) {
   u32 w2c_l9 = 0, w2c_l10 = 0, w2c_l11 = 0, w2c_l12 = 0, w2c_l13 = 0, w2c_l14 = 0;
   u64 w2c_l2 = 0, w2c_l3 = 0, w2c_l4 = 0, w2c_l5 = 0, w2c_l6 = 0, w2c_l7 = 0, w2c_l8 = 0;
   FUNC_PROLOGUE;
@@ -5423,7 +5401,7 @@ static void w2c_f15(Z_tcrx_instance_t* instance, u64 w2c_p0, u64 w2c_p1) {
   FUNC_EPILOGUE;
 }
 
-static void w2c_f16(Z_tcrx_instance_t* instance, u64 w2c_p0, u64 w2c_p1) {
+static void w2c_f18(Z_tcrx_instance_t* instance, u64 w2c_p0, u64 w2c_p1) {
   u32 w2c_l13 = 0, w2c_l14 = 0, w2c_l15 = 0, w2c_l16 = 0, w2c_l17 = 0;
   u64 w2c_l2 = 0, w2c_l3 = 0, w2c_l4 = 0, w2c_l5 = 0, w2c_l6 = 0, w2c_l7 = 0, w2c_l8 = 0, w2c_l9 = 0, 
       w2c_l10 = 0, w2c_l11 = 0, w2c_l12 = 0;
@@ -5494,7 +5472,7 @@ static void w2c_f16(Z_tcrx_instance_t* instance, u64 w2c_p0, u64 w2c_p1) {
   w2c_j1 <<= (w2c_j2 & 63);
   w2c_p1 = w2c_j1;
   w2c_j2 = 2ull;
-  w2c_f17(instance, w2c_j0, w2c_j1, w2c_j2);
+  w2c_f19(instance, w2c_j0, w2c_j1, w2c_j2);
   w2c_j0 = w2c_l2;
   w2c_i0 = (u32)(w2c_j0);
   w2c_j0 = i64_load(&instance->w2c_memory, (u64)(w2c_i0) + 24u);
@@ -5697,7 +5675,7 @@ static void w2c_f16(Z_tcrx_instance_t* instance, u64 w2c_p0, u64 w2c_p1) {
   w2c_j1 <<= (w2c_j2 & 63);
   w2c_p1 = w2c_j1;
   w2c_j2 = 2ull;
-  w2c_f17(instance, w2c_j0, w2c_j1, w2c_j2);
+  w2c_f19(instance, w2c_j0, w2c_j1, w2c_j2);
   w2c_j0 = w2c_l2;
   w2c_i0 = (u32)(w2c_j0);
   w2c_j0 = i64_load(&instance->w2c_memory, (u64)(w2c_i0) + 8u);
@@ -5968,7 +5946,7 @@ static void w2c_f16(Z_tcrx_instance_t* instance, u64 w2c_p0, u64 w2c_p1) {
   FUNC_EPILOGUE;
 }
 
-static void w2c_f17(Z_tcrx_instance_t* instance, u64 w2c_p0, u64 w2c_p1, u64 w2c_p2) {
+static void w2c_f19(Z_tcrx_instance_t* instance, u64 w2c_p0, u64 w2c_p1, u64 w2c_p2) {
   u32 w2c_l3 = 0;
   FUNC_PROLOGUE;
   u32 w2c_i0, w2c_i1, w2c_i3;
@@ -5994,7 +5972,7 @@ static void w2c_f17(Z_tcrx_instance_t* instance, u64 w2c_p0, u64 w2c_p1, u64 w2c
   FUNC_EPILOGUE;
 }
 
-static void w2c_f18(Z_tcrx_instance_t* instance, u64 w2c_p0, u64 w2c_p1, u64 w2c_p2) {
+static void w2c_f20(Z_tcrx_instance_t* instance, u64 w2c_p0, u64 w2c_p1, u64 w2c_p2) {
   u32 w2c_l27 = 0, w2c_l28 = 0, w2c_l29 = 0, w2c_l30 = 0, w2c_l31 = 0, w2c_l32 = 0, w2c_l33 = 0, w2c_l34 = 0, 
       w2c_l35 = 0, w2c_l36 = 0, w2c_l37 = 0, w2c_l38 = 0;
   u64 w2c_l3 = 0, w2c_l4 = 0, w2c_l5 = 0, w2c_l6 = 0, w2c_l7 = 0, w2c_l8 = 0, w2c_l9 = 0, w2c_l10 = 0, 
@@ -6444,7 +6422,7 @@ static void w2c_f18(Z_tcrx_instance_t* instance, u64 w2c_p0, u64 w2c_p1, u64 w2c
   w2c_j0 += w2c_j1;
   w2c_j1 = 5120ull;
   w2c_j2 = 8ull;
-  w2c_f17(instance, w2c_j0, w2c_j1, w2c_j2);
+  w2c_f19(instance, w2c_j0, w2c_j1, w2c_j2);
   w2c_j0 = w2c_l3;
   w2c_i0 = (u32)(w2c_j0);
   w2c_j0 = i64_load(&instance->w2c_memory, (u64)(w2c_i0) + 112u);
@@ -6490,7 +6468,7 @@ static void w2c_f18(Z_tcrx_instance_t* instance, u64 w2c_p0, u64 w2c_p1, u64 w2c
     w2c_j0 += w2c_j1;
     w2c_j1 = w2c_p2;
     w2c_j2 = 1ull;
-    w2c_f17(instance, w2c_j0, w2c_j1, w2c_j2);
+    w2c_f19(instance, w2c_j0, w2c_j1, w2c_j2);
     w2c_j0 = w2c_l3;
     w2c_i0 = (u32)(w2c_j0);
     w2c_j0 = i64_load(&instance->w2c_memory, (u64)(w2c_i0) + 96u);
@@ -6749,7 +6727,7 @@ static void w2c_f18(Z_tcrx_instance_t* instance, u64 w2c_p0, u64 w2c_p1, u64 w2c
   w2c_j2 = 5ull;
   w2c_j1 <<= (w2c_j2 & 63);
   w2c_j2 = 8ull;
-  w2c_f17(instance, w2c_j0, w2c_j1, w2c_j2);
+  w2c_f19(instance, w2c_j0, w2c_j1, w2c_j2);
   w2c_j0 = w2c_l3;
   w2c_i0 = (u32)(w2c_j0);
   w2c_j0 = i64_load(&instance->w2c_memory, (u64)(w2c_i0) + 80u);
@@ -6786,7 +6764,7 @@ static void w2c_f18(Z_tcrx_instance_t* instance, u64 w2c_p0, u64 w2c_p1, u64 w2c
     w2c_j0 += w2c_j1;
     w2c_j1 = 1019ull;
     w2c_j2 = 1ull;
-    w2c_f17(instance, w2c_j0, w2c_j1, w2c_j2);
+    w2c_f19(instance, w2c_j0, w2c_j1, w2c_j2);
     w2c_j0 = w2c_l3;
     w2c_i0 = (u32)(w2c_j0);
     w2c_j0 = i64_load(&instance->w2c_memory, (u64)(w2c_i0) + 64u);
@@ -6889,7 +6867,7 @@ static void w2c_f18(Z_tcrx_instance_t* instance, u64 w2c_p0, u64 w2c_p1, u64 w2c
   w2c_j2 = 6ull;
   w2c_j1 <<= (w2c_j2 & 63);
   w2c_j2 = 8ull;
-  w2c_f17(instance, w2c_j0, w2c_j1, w2c_j2);
+  w2c_f19(instance, w2c_j0, w2c_j1, w2c_j2);
   w2c_j0 = w2c_l3;
   w2c_i0 = (u32)(w2c_j0);
   w2c_j0 = i64_load(&instance->w2c_memory, (u64)(w2c_i0) + 48u);
@@ -6926,7 +6904,7 @@ static void w2c_f18(Z_tcrx_instance_t* instance, u64 w2c_p0, u64 w2c_p1, u64 w2c
     w2c_i2 = (u32)(w2c_j2);
     w2c_i2 = i32_load16_u(&instance->w2c_memory, (u64)(w2c_i2));
     w2c_j3 = w2c_l20;
-    w2c_f19(instance, w2c_j0, w2c_i1, w2c_i2, w2c_j3);
+    w2c_f21(instance, w2c_j0, w2c_i1, w2c_i2, w2c_j3);
     w2c_j0 = w2c_l3;
     w2c_i0 = (u32)(w2c_j0);
     w2c_i0 = i32_load8_u(&instance->w2c_memory, (u64)(w2c_i0) + 648u);
@@ -7013,7 +6991,7 @@ static void w2c_f18(Z_tcrx_instance_t* instance, u64 w2c_p0, u64 w2c_p1, u64 w2c
   w2c_j0 += w2c_j1;
   w2c_j1 = 4096ull;
   w2c_j2 = 2ull;
-  w2c_f17(instance, w2c_j0, w2c_j1, w2c_j2);
+  w2c_f19(instance, w2c_j0, w2c_j1, w2c_j2);
   w2c_j0 = w2c_l3;
   w2c_i0 = (u32)(w2c_j0);
   w2c_j0 = i64_load(&instance->w2c_memory, (u64)(w2c_i0) + 32u);
@@ -7173,7 +7151,7 @@ static void w2c_f18(Z_tcrx_instance_t* instance, u64 w2c_p0, u64 w2c_p1, u64 w2c
   w2c_j2 = 6ull;
   w2c_j1 <<= (w2c_j2 & 63);
   w2c_j2 = 8ull;
-  w2c_f17(instance, w2c_j0, w2c_j1, w2c_j2);
+  w2c_f19(instance, w2c_j0, w2c_j1, w2c_j2);
   w2c_j0 = w2c_l3;
   w2c_i0 = (u32)(w2c_j0);
   w2c_j0 = i64_load(&instance->w2c_memory, (u64)(w2c_i0) + 16u);
@@ -7210,7 +7188,7 @@ static void w2c_f18(Z_tcrx_instance_t* instance, u64 w2c_p0, u64 w2c_p1, u64 w2c
     w2c_i2 = (u32)(w2c_j2);
     w2c_i2 = i32_load16_u(&instance->w2c_memory, (u64)(w2c_i2));
     w2c_j3 = w2c_l20;
-    w2c_f19(instance, w2c_j0, w2c_i1, w2c_i2, w2c_j3);
+    w2c_f21(instance, w2c_j0, w2c_i1, w2c_i2, w2c_j3);
     w2c_j0 = w2c_l3;
     w2c_i0 = (u32)(w2c_j0);
     w2c_i0 = i32_load8_u(&instance->w2c_memory, (u64)(w2c_i0) + 648u);
@@ -7295,7 +7273,7 @@ static void w2c_f18(Z_tcrx_instance_t* instance, u64 w2c_p0, u64 w2c_p1, u64 w2c
   w2c_j0 = w2c_l3;
   w2c_j1 = 4096ull;
   w2c_j2 = 2ull;
-  w2c_f17(instance, w2c_j0, w2c_j1, w2c_j2);
+  w2c_f19(instance, w2c_j0, w2c_j1, w2c_j2);
   w2c_j0 = w2c_l3;
   w2c_i0 = (u32)(w2c_j0);
   w2c_j0 = i64_load(&instance->w2c_memory, (u64)(w2c_i0));
@@ -7441,7 +7419,7 @@ static void w2c_f18(Z_tcrx_instance_t* instance, u64 w2c_p0, u64 w2c_p1, u64 w2c
   w2c_j0 = w2c_l3;
   w2c_j1 = 1184ull;
   w2c_j0 += w2c_j1;
-  w2c_f20(instance, w2c_j0);
+  w2c_f22(instance, w2c_j0);
   goto w2c_B2;
   w2c_B34:;
   w2c_j0 = w2c_l3;
@@ -7459,7 +7437,7 @@ static void w2c_f18(Z_tcrx_instance_t* instance, u64 w2c_p0, u64 w2c_p1, u64 w2c
   w2c_j0 = w2c_l3;
   w2c_j1 = 648ull;
   w2c_j0 += w2c_j1;
-  w2c_f20(instance, w2c_j0);
+  w2c_f22(instance, w2c_j0);
   w2c_j0 = w2c_l3;
   w2c_i0 = (u32)(w2c_j0);
   w2c_j1 = w2c_l11;
@@ -7475,7 +7453,7 @@ static void w2c_f18(Z_tcrx_instance_t* instance, u64 w2c_p0, u64 w2c_p1, u64 w2c
   w2c_j0 = w2c_l3;
   w2c_j1 = 1160ull;
   w2c_j0 += w2c_j1;
-  w2c_f20(instance, w2c_j0);
+  w2c_f22(instance, w2c_j0);
   w2c_j0 = w2c_l3;
   w2c_i0 = (u32)(w2c_j0);
   w2c_j1 = 0ull;
@@ -7495,7 +7473,7 @@ static void w2c_f18(Z_tcrx_instance_t* instance, u64 w2c_p0, u64 w2c_p1, u64 w2c
   w2c_j0 = w2c_l3;
   w2c_j1 = 136ull;
   w2c_j0 += w2c_j1;
-  w2c_f21(instance, w2c_j0);
+  w2c_f23(instance, w2c_j0);
   goto w2c_B2;
   w2c_B6:;
   w2c_j0 = w2c_p0;
@@ -7525,7 +7503,7 @@ static void w2c_f18(Z_tcrx_instance_t* instance, u64 w2c_p0, u64 w2c_p1, u64 w2c
   w2c_j0 = w2c_l3;
   w2c_j1 = 648ull;
   w2c_j0 += w2c_j1;
-  w2c_f20(instance, w2c_j0);
+  w2c_f22(instance, w2c_j0);
   goto w2c_B2;
   w2c_B4:;
   UNREACHABLE;
@@ -7545,7 +7523,7 @@ static void w2c_f18(Z_tcrx_instance_t* instance, u64 w2c_p0, u64 w2c_p1, u64 w2c
   w2c_j0 = w2c_l3;
   w2c_j1 = 1184ull;
   w2c_j0 += w2c_j1;
-  w2c_f20(instance, w2c_j0);
+  w2c_f22(instance, w2c_j0);
   w2c_B2:;
   w2c_j0 = w2c_p0;
   w2c_i0 = (u32)(w2c_j0);
@@ -7866,7 +7844,7 @@ static void w2c_f18(Z_tcrx_instance_t* instance, u64 w2c_p0, u64 w2c_p1, u64 w2c
   FUNC_EPILOGUE;
 }
 
-static void w2c_f19(Z_tcrx_instance_t* instance, u64 w2c_p0, u32 w2c_p1, u32 w2c_p2, u64 w2c_p3) {
+static void w2c_f21(Z_tcrx_instance_t* instance, u64 w2c_p0, u32 w2c_p1, u32 w2c_p2, u64 w2c_p3) {
   u64 w2c_l4 = 0, w2c_l5 = 0, w2c_l6 = 0, w2c_l7 = 0, w2c_l8 = 0, w2c_l9 = 0, w2c_l10 = 0, w2c_l11 = 0, 
       w2c_l12 = 0;
   FUNC_PROLOGUE;
@@ -7888,7 +7866,7 @@ static void w2c_f19(Z_tcrx_instance_t* instance, u64 w2c_p0, u32 w2c_p1, u32 w2c
   w2c_j2 = 5ull;
   w2c_j1 <<= (w2c_j2 & 63);
   w2c_j2 = 8ull;
-  w2c_f17(instance, w2c_j0, w2c_j1, w2c_j2);
+  w2c_f19(instance, w2c_j0, w2c_j1, w2c_j2);
   w2c_j0 = w2c_l4;
   w2c_i0 = (u32)(w2c_j0);
   w2c_j0 = i64_load(&instance->w2c_memory, (u64)(w2c_i0) + 40u);
@@ -7989,7 +7967,7 @@ static void w2c_f19(Z_tcrx_instance_t* instance, u64 w2c_p0, u32 w2c_p1, u32 w2c
     w2c_j0 += w2c_j1;
     w2c_j1 = 1ull;
     w2c_j2 = 1ull;
-    w2c_f17(instance, w2c_j0, w2c_j1, w2c_j2);
+    w2c_f19(instance, w2c_j0, w2c_j1, w2c_j2);
     w2c_j0 = w2c_l4;
     w2c_i0 = (u32)(w2c_j0);
     w2c_j0 = i64_load(&instance->w2c_memory, (u64)(w2c_i0) + 24u);
@@ -8064,7 +8042,7 @@ static void w2c_f19(Z_tcrx_instance_t* instance, u64 w2c_p0, u32 w2c_p1, u32 w2c
     w2c_j0 += w2c_j1;
     w2c_j1 = w2c_p3;
     w2c_j2 = 1ull;
-    w2c_f17(instance, w2c_j0, w2c_j1, w2c_j2);
+    w2c_f19(instance, w2c_j0, w2c_j1, w2c_j2);
     w2c_j0 = w2c_l4;
     w2c_i0 = (u32)(w2c_j0);
     w2c_j0 = i64_load(&instance->w2c_memory, (u64)(w2c_i0) + 8u);
@@ -8255,22 +8233,22 @@ static void w2c_f19(Z_tcrx_instance_t* instance, u64 w2c_p0, u32 w2c_p1, u32 w2c
   FUNC_EPILOGUE;
 }
 
-static void w2c_f20(Z_tcrx_instance_t* instance, u64 w2c_p0) {
-  FUNC_PROLOGUE;
-  FUNC_EPILOGUE;
-}
-
-static void w2c_f21(Z_tcrx_instance_t* instance, u64 w2c_p0) {
-  FUNC_PROLOGUE;
-  FUNC_EPILOGUE;
-}
-
 static void w2c_f22(Z_tcrx_instance_t* instance, u64 w2c_p0) {
   FUNC_PROLOGUE;
   FUNC_EPILOGUE;
 }
 
-static void w2c_f23(Z_tcrx_instance_t* instance, u64 w2c_p0, u64 w2c_p1, u64 w2c_p2) {
+static void w2c_f23(Z_tcrx_instance_t* instance, u64 w2c_p0) {
+  FUNC_PROLOGUE;
+  FUNC_EPILOGUE;
+}
+
+static void w2c_f24(Z_tcrx_instance_t* instance, u64 w2c_p0) {
+  FUNC_PROLOGUE;
+  FUNC_EPILOGUE;
+}
+
+static void w2c_f25(Z_tcrx_instance_t* instance, u64 w2c_p0, u64 w2c_p1, u64 w2c_p2) {
   u32 w2c_l10 = 0, w2c_l11 = 0, w2c_l12 = 0, w2c_l13 = 0, w2c_l14 = 0, w2c_l15 = 0, w2c_l16 = 0;
   u64 w2c_l3 = 0, w2c_l4 = 0, w2c_l5 = 0, w2c_l6 = 0, w2c_l7 = 0, w2c_l8 = 0, w2c_l9 = 0;
   FUNC_PROLOGUE;
@@ -8342,7 +8320,7 @@ static void w2c_f23(Z_tcrx_instance_t* instance, u64 w2c_p0, u64 w2c_p1, u64 w2c
   w2c_j1 = w2c_l3;
   w2c_j2 = 8ull;
   w2c_j1 += w2c_j2;
-  w2c_f15(instance, w2c_j0, w2c_j1);
+  w2c_f17(instance, w2c_j0, w2c_j1);
   w2c_j0 = w2c_l3;
   w2c_i0 = (u32)(w2c_j0);
   w2c_i0 = i32_load8_u(&instance->w2c_memory, (u64)(w2c_i0));
@@ -8607,7 +8585,7 @@ static void w2c_f23(Z_tcrx_instance_t* instance, u64 w2c_p0, u64 w2c_p1, u64 w2c
   FUNC_EPILOGUE;
 }
 
-static void w2c_f24(Z_tcrx_instance_t* instance, u64 w2c_p0, u64 w2c_p1, u32 w2c_p2) {
+static void w2c_f26(Z_tcrx_instance_t* instance, u64 w2c_p0, u64 w2c_p1, u32 w2c_p2) {
   u64 w2c_l3 = 0, w2c_l4 = 0, w2c_l5 = 0, w2c_l6 = 0;
   FUNC_PROLOGUE;
   u32 w2c_i0, w2c_i1;
@@ -8734,7 +8712,7 @@ static void w2c_f24(Z_tcrx_instance_t* instance, u64 w2c_p0, u64 w2c_p1, u32 w2c
   FUNC_EPILOGUE;
 }
 
-static u32 w2c_f25(Z_tcrx_instance_t* instance, u64 w2c_p0) {
+static u32 w2c_f27(Z_tcrx_instance_t* instance, u64 w2c_p0) {
   FUNC_PROLOGUE;
   u32 w2c_i0, w2c_i1, w2c_i2, w2c_i3;
   u64 w2c_j0, w2c_j1, w2c_j2, w2c_j3;
@@ -8803,7 +8781,7 @@ static u32 w2c_f25(Z_tcrx_instance_t* instance, u64 w2c_p0) {
   return w2c_i0;
 }
 
-static void w2c_f26(Z_tcrx_instance_t* instance, u64 w2c_p0, u64 w2c_p1, u64 w2c_p2, u64 w2c_p3, u64 w2c_p4, u64 w2c_p5) {
+static void w2c_f28(Z_tcrx_instance_t* instance, u64 w2c_p0, u64 w2c_p1, u64 w2c_p2, u64 w2c_p3, u64 w2c_p4, u64 w2c_p5) {
   u32 w2c_l17 = 0, w2c_l18 = 0;
   u64 w2c_l6 = 0, w2c_l7 = 0, w2c_l8 = 0, w2c_l9 = 0, w2c_l10 = 0, w2c_l11 = 0, w2c_l12 = 0, w2c_l13 = 0, 
       w2c_l14 = 0, w2c_l15 = 0, w2c_l16 = 0;
@@ -8881,7 +8859,7 @@ static void w2c_f26(Z_tcrx_instance_t* instance, u64 w2c_p0, u64 w2c_p1, u64 w2c
   w2c_j1 = w2c_l6;
   w2c_j2 = 24ull;
   w2c_j1 += w2c_j2;
-  w2c_f15(instance, w2c_j0, w2c_j1);
+  w2c_f17(instance, w2c_j0, w2c_j1);
   w2c_j0 = w2c_l6;
   w2c_i0 = (u32)(w2c_j0);
   w2c_i0 = i32_load8_u(&instance->w2c_memory, (u64)(w2c_i0) + 16u);
@@ -9316,7 +9294,7 @@ static void w2c_f26(Z_tcrx_instance_t* instance, u64 w2c_p0, u64 w2c_p1, u64 w2c
   FUNC_EPILOGUE;
 }
 
-static void w2c_f27(Z_tcrx_instance_t* instance, u64 w2c_p0, u64 w2c_p1, u64 w2c_p2, u64 w2c_p3, u64 w2c_p4, u64 w2c_p5, u32 w2c_p6, u64 w2c_p7, 
+static void w2c_f29(Z_tcrx_instance_t* instance, u64 w2c_p0, u64 w2c_p1, u64 w2c_p2, u64 w2c_p3, u64 w2c_p4, u64 w2c_p5, u32 w2c_p6, u64 w2c_p7, 
     u64 w2c_p8) {
   u32 w2c_l23 = 0, w2c_l24 = 0, w2c_l25 = 0, w2c_l26 = 0, w2c_l27 = 0, w2c_l28 = 0;
   u64 w2c_l9 = 0, w2c_l10 = 0, w2c_l11 = 0, w2c_l12 = 0, w2c_l13 = 0, w2c_l14 = 0, w2c_l15 = 0, w2c_l16 = 0, 
@@ -9456,7 +9434,7 @@ static void w2c_f27(Z_tcrx_instance_t* instance, u64 w2c_p0, u64 w2c_p1, u64 w2c
   w2c_j2 = w2c_l9;
   w2c_j3 = 24ull;
   w2c_j2 += w2c_j3;
-  w2c_f23(instance, w2c_j0, w2c_j1, w2c_j2);
+  w2c_f25(instance, w2c_j0, w2c_j1, w2c_j2);
   w2c_j0 = w2c_l9;
   w2c_i0 = (u32)(w2c_j0);
   w2c_i0 = i32_load8_u(&instance->w2c_memory, (u64)(w2c_i0) + 92u);
@@ -10162,7 +10140,7 @@ static void w2c_f27(Z_tcrx_instance_t* instance, u64 w2c_p0, u64 w2c_p1, u64 w2c
   FUNC_EPILOGUE;
 }
 
-static void w2c_f28(Z_tcrx_instance_t* instance, u64 w2c_p0, u64 w2c_p1, u32 w2c_p2) {
+static void w2c_f30(Z_tcrx_instance_t* instance, u64 w2c_p0, u64 w2c_p1, u32 w2c_p2) {
   u64 w2c_l3 = 0, w2c_l4 = 0, w2c_l5 = 0, w2c_l6 = 0;
   FUNC_PROLOGUE;
   u32 w2c_i0, w2c_i1;
@@ -10289,7 +10267,7 @@ static void w2c_f28(Z_tcrx_instance_t* instance, u64 w2c_p0, u64 w2c_p1, u32 w2c
   FUNC_EPILOGUE;
 }
 
-static void w2c_f29(Z_tcrx_instance_t* instance, u64 w2c_p0, u64 w2c_p1, u64 w2c_p2, u32 w2c_p3, u64 w2c_p4, u64 w2c_p5) {
+static void w2c_f31(Z_tcrx_instance_t* instance, u64 w2c_p0, u64 w2c_p1, u64 w2c_p2, u32 w2c_p3, u64 w2c_p4, u64 w2c_p5) {
   u32 w2c_l7 = 0, w2c_l8 = 0, w2c_l9 = 0, w2c_l10 = 0, w2c_l11 = 0, w2c_l12 = 0;
   u64 w2c_l6 = 0;
   FUNC_PROLOGUE;
@@ -10313,7 +10291,7 @@ static void w2c_f29(Z_tcrx_instance_t* instance, u64 w2c_p0, u64 w2c_p1, u64 w2c
   w2c_j0 += w2c_j1;
   w2c_j1 = w2c_p4;
   w2c_j2 = w2c_p5;
-  w2c_f30(instance, w2c_j0, w2c_j1, w2c_j2);
+  w2c_f32(instance, w2c_j0, w2c_j1, w2c_j2);
   w2c_j0 = w2c_l6;
   w2c_i0 = (u32)(w2c_j0);
   w2c_i0 = i32_load8_u(&instance->w2c_memory, (u64)(w2c_i0) + 14u);
@@ -10617,7 +10595,7 @@ static void w2c_f29(Z_tcrx_instance_t* instance, u64 w2c_p0, u64 w2c_p1, u64 w2c
   FUNC_EPILOGUE;
 }
 
-static void w2c_f30(Z_tcrx_instance_t* instance, u64 w2c_p0, u64 w2c_p1, u64 w2c_p2) {
+static void w2c_f32(Z_tcrx_instance_t* instance, u64 w2c_p0, u64 w2c_p1, u64 w2c_p2) {
   u32 w2c_l3 = 0, w2c_l4 = 0, w2c_l5 = 0;
   u64 w2c_l6 = 0;
   FUNC_PROLOGUE;
@@ -10863,7 +10841,7 @@ static void w2c_f30(Z_tcrx_instance_t* instance, u64 w2c_p0, u64 w2c_p1, u64 w2c
   FUNC_EPILOGUE;
 }
 
-static void w2c_f31(Z_tcrx_instance_t* instance, u64 w2c_p0, u64 w2c_p1, u64 w2c_p2, u32 w2c_p3, u64 w2c_p4, u64 w2c_p5) {
+static void w2c_f33(Z_tcrx_instance_t* instance, u64 w2c_p0, u64 w2c_p1, u64 w2c_p2, u32 w2c_p3, u64 w2c_p4, u64 w2c_p5) {
   u32 w2c_l8 = 0, w2c_l9 = 0, w2c_l10 = 0, w2c_l11 = 0, w2c_l12 = 0, w2c_l13 = 0;
   u64 w2c_l6 = 0, w2c_l7 = 0;
   FUNC_PROLOGUE;
@@ -11085,7 +11063,7 @@ static void w2c_f31(Z_tcrx_instance_t* instance, u64 w2c_p0, u64 w2c_p1, u64 w2c
   FUNC_EPILOGUE;
 }
 
-static void w2c_f32(Z_tcrx_instance_t* instance, u64 w2c_p0, u64 w2c_p1, u64 w2c_p2, u32 w2c_p3) {
+static void w2c_f34(Z_tcrx_instance_t* instance, u64 w2c_p0, u64 w2c_p1, u64 w2c_p2, u32 w2c_p3) {
   u64 w2c_l4 = 0, w2c_l5 = 0;
   FUNC_PROLOGUE;
   u32 w2c_i0, w2c_i1, w2c_i3;
@@ -11157,7 +11135,7 @@ static void w2c_f32(Z_tcrx_instance_t* instance, u64 w2c_p0, u64 w2c_p1, u64 w2c
   FUNC_EPILOGUE;
 }
 
-static void w2c_f33(Z_tcrx_instance_t* instance, u64 w2c_p0, u64 w2c_p1, u64 w2c_p2, u64 w2c_p3, u64 w2c_p4) {
+static void w2c_f35(Z_tcrx_instance_t* instance, u64 w2c_p0, u64 w2c_p1, u64 w2c_p2, u64 w2c_p3, u64 w2c_p4) {
   u32 w2c_l9 = 0, w2c_l10 = 0, w2c_l11 = 0;
   u64 w2c_l5 = 0, w2c_l6 = 0, w2c_l7 = 0, w2c_l8 = 0;
   FUNC_PROLOGUE;
@@ -11547,7 +11525,7 @@ static void w2c_f33(Z_tcrx_instance_t* instance, u64 w2c_p0, u64 w2c_p1, u64 w2c
   FUNC_EPILOGUE;
 }
 
-static void w2c_f34(Z_tcrx_instance_t* instance, u64 w2c_p0, u64 w2c_p1, u32 w2c_p2, u64 w2c_p3, u64 w2c_p4) {
+static void w2c_f36(Z_tcrx_instance_t* instance, u64 w2c_p0, u64 w2c_p1, u32 w2c_p2, u64 w2c_p3, u64 w2c_p4) {
   u32 w2c_l14 = 0;
   u64 w2c_l5 = 0, w2c_l6 = 0, w2c_l7 = 0, w2c_l8 = 0, w2c_l9 = 0, w2c_l10 = 0, w2c_l11 = 0, w2c_l12 = 0, 
       w2c_l13 = 0;
@@ -12060,7 +12038,7 @@ static void w2c_f34(Z_tcrx_instance_t* instance, u64 w2c_p0, u64 w2c_p1, u32 w2c
   FUNC_EPILOGUE;
 }
 
-static void w2c_f35(Z_tcrx_instance_t* instance, u64 w2c_p0, u64 w2c_p1, u32 w2c_p2, u64 w2c_p3, u64 w2c_p4) {
+static void w2c_f37(Z_tcrx_instance_t* instance, u64 w2c_p0, u64 w2c_p1, u32 w2c_p2, u64 w2c_p3, u64 w2c_p4) {
   u32 w2c_l14 = 0;
   u64 w2c_l5 = 0, w2c_l6 = 0, w2c_l7 = 0, w2c_l8 = 0, w2c_l9 = 0, w2c_l10 = 0, w2c_l11 = 0, w2c_l12 = 0, 
       w2c_l13 = 0;
@@ -12573,7 +12551,7 @@ static void w2c_f35(Z_tcrx_instance_t* instance, u64 w2c_p0, u64 w2c_p1, u32 w2c
   FUNC_EPILOGUE;
 }
 
-static void w2c_f36(Z_tcrx_instance_t* instance, u64 w2c_p0, u64 w2c_p1, u64 w2c_p2, u64 w2c_p3, u64 w2c_p4) {
+static void w2c_f38(Z_tcrx_instance_t* instance, u64 w2c_p0, u64 w2c_p1, u64 w2c_p2, u64 w2c_p3, u64 w2c_p4) {
   u32 w2c_l14 = 0, w2c_l15 = 0;
   u64 w2c_l5 = 0, w2c_l6 = 0, w2c_l7 = 0, w2c_l8 = 0, w2c_l9 = 0, w2c_l10 = 0, w2c_l11 = 0, w2c_l12 = 0, 
       w2c_l13 = 0;
@@ -12606,7 +12584,7 @@ static void w2c_f36(Z_tcrx_instance_t* instance, u64 w2c_p0, u64 w2c_p1, u64 w2c
   w2c_j1 += w2c_j2;
   w2c_l7 = w2c_j1;
   w2c_j2 = w2c_p2;
-  w2c_f30(instance, w2c_j0, w2c_j1, w2c_j2);
+  w2c_f32(instance, w2c_j0, w2c_j1, w2c_j2);
   w2c_j0 = w2c_l5;
   w2c_i0 = (u32)(w2c_j0);
   w2c_i0 = i32_load8_u(&instance->w2c_memory, (u64)(w2c_i0) + 12u);
@@ -12847,7 +12825,7 @@ static void w2c_f36(Z_tcrx_instance_t* instance, u64 w2c_p0, u64 w2c_p1, u64 w2c
   FUNC_EPILOGUE;
 }
 
-static void w2c_f37(Z_tcrx_instance_t* instance, u64 w2c_p0, u64 w2c_p1, u64 w2c_p2, u64 w2c_p3, u64 w2c_p4) {
+static void w2c_f39(Z_tcrx_instance_t* instance, u64 w2c_p0, u64 w2c_p1, u64 w2c_p2, u64 w2c_p3, u64 w2c_p4) {
   u32 w2c_l13 = 0;
   u64 w2c_l5 = 0, w2c_l6 = 0, w2c_l7 = 0, w2c_l8 = 0, w2c_l9 = 0, w2c_l10 = 0, w2c_l11 = 0, w2c_l12 = 0;
   FUNC_PROLOGUE;
@@ -13222,7 +13200,7 @@ static void w2c_f37(Z_tcrx_instance_t* instance, u64 w2c_p0, u64 w2c_p1, u64 w2c
   FUNC_EPILOGUE;
 }
 
-static void w2c_f38(Z_tcrx_instance_t* instance, u64 w2c_p0, u32 w2c_p1, u64 w2c_p2, u64 w2c_p3) {
+static void w2c_f40(Z_tcrx_instance_t* instance, u64 w2c_p0, u32 w2c_p1, u64 w2c_p2, u64 w2c_p3) {
   u64 w2c_l4 = 0, w2c_l5 = 0, w2c_l6 = 0, w2c_l7 = 0, w2c_l8 = 0, w2c_l9 = 0, w2c_l10 = 0;
   FUNC_PROLOGUE;
   u32 w2c_i0, w2c_i1, w2c_i3;
@@ -13812,7 +13790,7 @@ static void w2c_f38(Z_tcrx_instance_t* instance, u64 w2c_p0, u32 w2c_p1, u64 w2c
   FUNC_EPILOGUE;
 }
 
-static void w2c_f39(Z_tcrx_instance_t* instance, u64 w2c_p0, u64 w2c_p1, u64 w2c_p2, u64 w2c_p3, u64 w2c_p4) {
+static void w2c_f41(Z_tcrx_instance_t* instance, u64 w2c_p0, u64 w2c_p1, u64 w2c_p2, u64 w2c_p3, u64 w2c_p4) {
   u64 w2c_l5 = 0, w2c_l6 = 0, w2c_l7 = 0, w2c_l8 = 0, w2c_l9 = 0, w2c_l10 = 0, w2c_l11 = 0, w2c_l12 = 0, 
       w2c_l13 = 0;
   FUNC_PROLOGUE;
@@ -14181,7 +14159,7 @@ static void w2c_f39(Z_tcrx_instance_t* instance, u64 w2c_p0, u64 w2c_p1, u64 w2c
   FUNC_EPILOGUE;
 }
 
-static void w2c_f40(Z_tcrx_instance_t* instance, u64 w2c_p0, u64 w2c_p1, u64 w2c_p2, u64 w2c_p3, u64 w2c_p4, u64 w2c_p5) {
+static void w2c_f42(Z_tcrx_instance_t* instance, u64 w2c_p0, u64 w2c_p1, u64 w2c_p2, u64 w2c_p3, u64 w2c_p4, u64 w2c_p5) {
   u32 w2c_l13 = 0, w2c_l14 = 0;
   u64 w2c_l6 = 0, w2c_l7 = 0, w2c_l8 = 0, w2c_l9 = 0, w2c_l10 = 0, w2c_l11 = 0, w2c_l12 = 0;
   FUNC_PROLOGUE;
@@ -14459,7 +14437,7 @@ static void w2c_f40(Z_tcrx_instance_t* instance, u64 w2c_p0, u64 w2c_p1, u64 w2c
   FUNC_EPILOGUE;
 }
 
-static void w2c_f41(Z_tcrx_instance_t* instance, u64 w2c_p0, u32 w2c_p1, u32 w2c_p2, u32 w2c_p3, u32 w2c_p4, u64 w2c_p5, u64 w2c_p6) {
+static void w2c_f43(Z_tcrx_instance_t* instance, u64 w2c_p0, u32 w2c_p1, u32 w2c_p2, u32 w2c_p3, u32 w2c_p4, u64 w2c_p5, u64 w2c_p6) {
   u32 w2c_l8 = 0;
   u64 w2c_l7 = 0;
   FUNC_PROLOGUE;
@@ -14603,7 +14581,7 @@ static void w2c_f41(Z_tcrx_instance_t* instance, u64 w2c_p0, u32 w2c_p1, u32 w2c
   FUNC_EPILOGUE;
 }
 
-static void w2c_f42(Z_tcrx_instance_t* instance, u64 w2c_p0, u64 w2c_p1, u64 w2c_p2, u64 w2c_p3, u64 w2c_p4, u64 w2c_p5) {
+static void w2c_f44(Z_tcrx_instance_t* instance, u64 w2c_p0, u64 w2c_p1, u64 w2c_p2, u64 w2c_p3, u64 w2c_p4, u64 w2c_p5) {
   u32 w2c_l14 = 0, w2c_l15 = 0;
   u64 w2c_l6 = 0, w2c_l7 = 0, w2c_l8 = 0, w2c_l9 = 0, w2c_l10 = 0, w2c_l11 = 0, w2c_l12 = 0, w2c_l13 = 0;
   FUNC_PROLOGUE;
@@ -14898,7 +14876,7 @@ static void w2c_f42(Z_tcrx_instance_t* instance, u64 w2c_p0, u64 w2c_p1, u64 w2c
   FUNC_EPILOGUE;
 }
 
-static void w2c_f43(Z_tcrx_instance_t* instance, u64 w2c_p0, u64 w2c_p1, u32 w2c_p2, u32 w2c_p3, u32 w2c_p4, u64 w2c_p5, u64 w2c_p6, u64 w2c_p7, 
+static void w2c_f45(Z_tcrx_instance_t* instance, u64 w2c_p0, u64 w2c_p1, u32 w2c_p2, u32 w2c_p3, u32 w2c_p4, u64 w2c_p5, u64 w2c_p6, u64 w2c_p7, 
     u64 w2c_p8) {
   u32 w2c_l17 = 0, w2c_l18 = 0;
   u64 w2c_l9 = 0, w2c_l10 = 0, w2c_l11 = 0, w2c_l12 = 0, w2c_l13 = 0, w2c_l14 = 0, w2c_l15 = 0, w2c_l16 = 0;
@@ -15274,7 +15252,7 @@ static void w2c_f43(Z_tcrx_instance_t* instance, u64 w2c_p0, u64 w2c_p1, u32 w2c
   FUNC_EPILOGUE;
 }
 
-static void w2c_f44(Z_tcrx_instance_t* instance, u64 w2c_p0, u64 w2c_p1, u32 w2c_p2, u32 w2c_p3, u32 w2c_p4, u64 w2c_p5, u64 w2c_p6) {
+static void w2c_f46(Z_tcrx_instance_t* instance, u64 w2c_p0, u64 w2c_p1, u32 w2c_p2, u32 w2c_p3, u32 w2c_p4, u64 w2c_p5, u64 w2c_p6) {
   u32 w2c_l10 = 0, w2c_l11 = 0;
   u64 w2c_l7 = 0, w2c_l8 = 0, w2c_l9 = 0;
   FUNC_PROLOGUE;
@@ -15687,7 +15665,7 @@ static u32 w2c_module_add_fecf(Z_tcrx_instance_t* instance, u64 w2c_p0, u32 w2c_
   w2c_j3 = w2c_p2;
   w2c_i4 = w2c_p3;
   w2c_j4 = (u64)(w2c_i4);
-  w2c_f33(instance, w2c_j0, w2c_j1, w2c_j2, w2c_j3, w2c_j4);
+  w2c_f35(instance, w2c_j0, w2c_j1, w2c_j2, w2c_j3, w2c_j4);
   w2c_j0 = 0ull;
   w2c_i0 = (u32)(w2c_j0);
   w2c_j1 = w2c_l4;
@@ -16043,7 +16021,7 @@ static u32 w2c_module_channel_new(Z_tcrx_instance_t* instance, u64 w2c_p0, u32 w
   w2c_i5 = w2c_p3;
   w2c_j5 = (u64)(w2c_i5);
   w2c_l9 = w2c_j5;
-  w2c_f26(instance, w2c_j0, w2c_j1, w2c_j2, w2c_j3, w2c_j4, w2c_j5);
+  w2c_f28(instance, w2c_j0, w2c_j1, w2c_j2, w2c_j3, w2c_j4, w2c_j5);
   w2c_j0 = w2c_l4;
   w2c_i0 = (u32)(w2c_j0);
   w2c_i0 = i32_load(&instance->w2c_memory, (u64)(w2c_i0) + 24u);
@@ -16262,7 +16240,7 @@ static u32 w2c_module_channel_new(Z_tcrx_instance_t* instance, u64 w2c_p0, u32 w
   w2c_j1 = w2c_l4;
   w2c_j2 = 512ull;
   w2c_j1 += w2c_j2;
-  w2c_f15(instance, w2c_j0, w2c_j1);
+  w2c_f17(instance, w2c_j0, w2c_j1);
   w2c_j0 = w2c_l4;
   w2c_i0 = (u32)(w2c_j0);
   w2c_i0 = i32_load8_u(&instance->w2c_memory, (u64)(w2c_i0) + 16u);
@@ -16329,7 +16307,7 @@ static u32 w2c_module_channel_new(Z_tcrx_instance_t* instance, u64 w2c_p0, u32 w
   w2c_j1 = w2c_l4;
   w2c_j2 = 320ull;
   w2c_j1 += w2c_j2;
-  w2c_f16(instance, w2c_j0, w2c_j1);
+  w2c_f18(instance, w2c_j0, w2c_j1);
   w2c_j0 = 12ull;
   w2c_l10 = w2c_j0;
   w2c_j0 = w2c_l4;
@@ -16436,7 +16414,7 @@ static u32 w2c_module_channel_new(Z_tcrx_instance_t* instance, u64 w2c_p0, u32 w
   w2c_j1 = w2c_l4;
   w2c_j2 = 816ull;
   w2c_j1 += w2c_j2;
-  w2c_f15(instance, w2c_j0, w2c_j1);
+  w2c_f17(instance, w2c_j0, w2c_j1);
   w2c_j0 = w2c_l4;
   w2c_i0 = (u32)(w2c_j0);
   w2c_i0 = i32_load8_u(&instance->w2c_memory, (u64)(w2c_i0) + 8u);
@@ -16524,7 +16502,7 @@ static u32 w2c_module_channel_new(Z_tcrx_instance_t* instance, u64 w2c_p0, u32 w
   w2c_j2 = w2c_l4;
   w2c_j3 = 424ull;
   w2c_j2 += w2c_j3;
-  w2c_f18(instance, w2c_j0, w2c_j1, w2c_j2);
+  w2c_f20(instance, w2c_j0, w2c_j1, w2c_j2);
   w2c_j0 = w2c_l4;
   w2c_i0 = (u32)(w2c_j0);
   w2c_i0 = i32_load8_u(&instance->w2c_memory, (u64)(w2c_i0) + 512u);
@@ -16647,15 +16625,15 @@ static u32 w2c_module_channel_new(Z_tcrx_instance_t* instance, u64 w2c_p0, u32 w
   w2c_j0 += w2c_j1;
   w2c_j1 = 8ull;
   w2c_j0 += w2c_j1;
-  w2c_f22(instance, w2c_j0);
+  w2c_f24(instance, w2c_j0);
   w2c_j0 = w2c_l4;
   w2c_j1 = 144ull;
   w2c_j0 += w2c_j1;
-  w2c_f14(instance, w2c_j0);
+  w2c_f16(instance, w2c_j0);
   w2c_j0 = w2c_l4;
   w2c_j1 = 168ull;
   w2c_j0 += w2c_j1;
-  w2c_f14(instance, w2c_j0);
+  w2c_f16(instance, w2c_j0);
   w2c_B6:;
   w2c_j0 = w2c_l10;
   w2c_j1 = 2ull;
@@ -16857,7 +16835,7 @@ static u32 w2c_module_channel_new_with_limits(Z_tcrx_instance_t* instance, u64 w
   w2c_i8 = w2c_p6;
   w2c_j8 = (u64)(w2c_i8);
   w2c_l13 = w2c_j8;
-  w2c_f27(instance, w2c_j0, w2c_j1, w2c_j2, w2c_j3, w2c_j4, w2c_j5, w2c_i6, w2c_j7, w2c_j8);
+  w2c_f29(instance, w2c_j0, w2c_j1, w2c_j2, w2c_j3, w2c_j4, w2c_j5, w2c_i6, w2c_j7, w2c_j8);
   w2c_j0 = w2c_l7;
   w2c_i0 = (u32)(w2c_j0);
   w2c_i0 = i32_load(&instance->w2c_memory, (u64)(w2c_i0));
@@ -17128,7 +17106,7 @@ static u32 w2c_module_channel_new_with_limits(Z_tcrx_instance_t* instance, u64 w
   w2c_j2 = w2c_l7;
   w2c_j3 = 360ull;
   w2c_j2 += w2c_j3;
-  w2c_f23(instance, w2c_j0, w2c_j1, w2c_j2);
+  w2c_f25(instance, w2c_j0, w2c_j1, w2c_j2);
   w2c_j0 = w2c_l7;
   w2c_i0 = (u32)(w2c_j0);
   w2c_i0 = i32_load8_u(&instance->w2c_memory, (u64)(w2c_i0) + 664u);
@@ -17221,7 +17199,7 @@ static u32 w2c_module_channel_new_with_limits(Z_tcrx_instance_t* instance, u64 w
   w2c_j1 = w2c_l7;
   w2c_j2 = 168ull;
   w2c_j1 += w2c_j2;
-  w2c_f16(instance, w2c_j0, w2c_j1);
+  w2c_f18(instance, w2c_j0, w2c_j1);
   w2c_j0 = 12ull;
   w2c_p5 = w2c_j0;
   w2c_j0 = w2c_l7;
@@ -17548,7 +17526,7 @@ static u32 w2c_module_channel_new_with_limits(Z_tcrx_instance_t* instance, u64 w
   w2c_j2 = w2c_l7;
   w2c_j3 = 664ull;
   w2c_j2 += w2c_j3;
-  w2c_f23(instance, w2c_j0, w2c_j1, w2c_j2);
+  w2c_f25(instance, w2c_j0, w2c_j1, w2c_j2);
   w2c_j0 = w2c_l7;
   w2c_i0 = (u32)(w2c_j0);
   w2c_i0 = i32_load8_u(&instance->w2c_memory, (u64)(w2c_i0) + 728u);
@@ -17641,7 +17619,7 @@ static u32 w2c_module_channel_new_with_limits(Z_tcrx_instance_t* instance, u64 w
   w2c_j2 = w2c_l7;
   w2c_j3 = 272ull;
   w2c_j2 += w2c_j3;
-  w2c_f18(instance, w2c_j0, w2c_j1, w2c_j2);
+  w2c_f20(instance, w2c_j0, w2c_j1, w2c_j2);
   w2c_j0 = w2c_l7;
   w2c_i0 = (u32)(w2c_j0);
   w2c_i0 = i32_load8_u(&instance->w2c_memory, (u64)(w2c_i0) + 360u);
@@ -17756,15 +17734,15 @@ static u32 w2c_module_channel_new_with_limits(Z_tcrx_instance_t* instance, u64 w
   w2c_j0 += w2c_j1;
   w2c_j1 = 8ull;
   w2c_j0 += w2c_j1;
-  w2c_f22(instance, w2c_j0);
+  w2c_f24(instance, w2c_j0);
   w2c_j0 = w2c_l7;
   w2c_j1 = 144ull;
   w2c_j0 += w2c_j1;
-  w2c_f14(instance, w2c_j0);
+  w2c_f16(instance, w2c_j0);
   w2c_j0 = w2c_l7;
   w2c_j1 = 16ull;
   w2c_j0 += w2c_j1;
-  w2c_f14(instance, w2c_j0);
+  w2c_f16(instance, w2c_j0);
   w2c_B6:;
   w2c_j0 = w2c_p5;
   w2c_j1 = 2ull;
@@ -17915,7 +17893,7 @@ static u32 w2c_module_channel_queued(Z_tcrx_instance_t* instance, u32 w2c_p0) {
   w2c_i2 = w2c_p0;
   w2c_i3 = 65535u;
   w2c_i2 &= w2c_i3;
-  w2c_f24(instance, w2c_j0, w2c_j1, w2c_i2);
+  w2c_f26(instance, w2c_j0, w2c_j1, w2c_i2);
   w2c_j0 = 0ull;
   w2c_i0 = (u32)(w2c_j0);
   w2c_j1 = w2c_l1;
@@ -19167,7 +19145,7 @@ static u32 w2c_module_channel_take(Z_tcrx_instance_t* instance, u32 w2c_p0, u64 
   w2c_j3 = w2c_p1;
   w2c_i4 = w2c_p2;
   w2c_j4 = (u64)(w2c_i4);
-  w2c_f34(instance, w2c_j0, w2c_j1, w2c_i2, w2c_j3, w2c_j4);
+  w2c_f36(instance, w2c_j0, w2c_j1, w2c_i2, w2c_j3, w2c_j4);
   w2c_j0 = 0ull;
   w2c_i0 = (u32)(w2c_j0);
   w2c_j1 = w2c_l3;
@@ -19205,7 +19183,7 @@ static u32 w2c_module_channel_take_unit(Z_tcrx_instance_t* instance, u32 w2c_p0,
   w2c_j3 = w2c_p1;
   w2c_i4 = w2c_p2;
   w2c_j4 = (u64)(w2c_i4);
-  w2c_f35(instance, w2c_j0, w2c_j1, w2c_i2, w2c_j3, w2c_j4);
+  w2c_f37(instance, w2c_j0, w2c_j1, w2c_i2, w2c_j3, w2c_j4);
   w2c_j0 = 0ull;
   w2c_i0 = (u32)(w2c_j0);
   w2c_j1 = w2c_l3;
@@ -19240,7 +19218,7 @@ static u32 w2c_module_channel_units(Z_tcrx_instance_t* instance, u32 w2c_p0) {
   w2c_i2 = w2c_p0;
   w2c_i3 = 255u;
   w2c_i2 &= w2c_i3;
-  w2c_f28(instance, w2c_j0, w2c_j1, w2c_i2);
+  w2c_f30(instance, w2c_j0, w2c_j1, w2c_i2);
   w2c_j0 = 0ull;
   w2c_i0 = (u32)(w2c_j0);
   w2c_j1 = w2c_l1;
@@ -19277,7 +19255,7 @@ static u32 w2c_module_check_fecf(Z_tcrx_instance_t* instance, u64 w2c_p0, u32 w2
   w2c_j3 = w2c_p2;
   w2c_i4 = w2c_p3;
   w2c_j4 = (u64)(w2c_i4);
-  w2c_f36(instance, w2c_j0, w2c_j1, w2c_j2, w2c_j3, w2c_j4);
+  w2c_f38(instance, w2c_j0, w2c_j1, w2c_j2, w2c_j3, w2c_j4);
   w2c_j0 = 0ull;
   w2c_i0 = (u32)(w2c_j0);
   w2c_j1 = w2c_l4;
@@ -19952,7 +19930,7 @@ static u32 w2c_module_cltu_octets(Z_tcrx_instance_t* instance, u64 w2c_p0, u32 w
       w2c_j2 = w2c_l4;
       w2c_j3 = 8ull;
       w2c_j2 += w2c_j3;
-      w2c_i2 = w2c_f25(instance, w2c_j2);
+      w2c_i2 = w2c_f27(instance, w2c_j2);
       w2c_i0 = w2c_i2 ? w2c_i0 : w2c_i1;
       w2c_l19 = w2c_i0;
       w2c_B24:;
@@ -20120,7 +20098,7 @@ static u32 w2c_module_cltu_octets(Z_tcrx_instance_t* instance, u64 w2c_p0, u32 w
       w2c_j2 = w2c_l4;
       w2c_j3 = 8ull;
       w2c_j2 += w2c_j3;
-      w2c_i2 = w2c_f25(instance, w2c_j2);
+      w2c_i2 = w2c_f27(instance, w2c_j2);
       w2c_i0 = w2c_i2 ? w2c_i0 : w2c_i1;
       w2c_l19 = w2c_i0;
       w2c_B26:;
@@ -20552,21 +20530,13 @@ static u32 w2c_module_farm_step(Z_tcrx_instance_t* instance, u32 w2c_p0, u32 w2c
       w2c_l19 = 0;
   u64 w2c_l5 = 0, w2c_l6 = 0, w2c_l7 = 0, w2c_l8 = 0, w2c_l9 = 0, w2c_l10 = 0;
   FUNC_PROLOGUE;
-  u32 w2c_i0, w2c_i1, w2c_i2, w2c_i3;
+  u32 w2c_i0, w2c_i1, w2c_i2, w2c_i3, w2c_i4;
   u64 w2c_j0, w2c_j1, w2c_j2, w2c_j3, w2c_j4;
   w2c_j0 = instance->w2c_g0;
   w2c_j1 = 32ull;
   w2c_j0 -= w2c_j1;
   w2c_l5 = w2c_j0;
   instance->w2c_g0 = w2c_j0;
-  w2c_j0 = w2c_l5;
-  w2c_i0 = (u32)(w2c_j0);
-  w2c_i1 = 0u;
-  i32_store(&instance->w2c_memory, (u64)(w2c_i0) + 27, w2c_i1);
-  w2c_j0 = w2c_l5;
-  w2c_i0 = (u32)(w2c_j0);
-  w2c_i1 = 0u;
-  i32_store(&instance->w2c_memory, (u64)(w2c_i0) + 24, w2c_i1);
   w2c_i0 = w2c_p0;
   w2c_i1 = 16u;
   w2c_i0 >>= (w2c_i1 & 31);
@@ -20716,36 +20686,15 @@ static u32 w2c_module_farm_step(Z_tcrx_instance_t* instance, u32 w2c_p0, u32 w2c
   w2c_j0 = 22ull;
   w2c_l6 = w2c_j0;
   w2c_i0 = w2c_p4;
-  w2c_i1 = 255u;
+  w2c_i1 = 254u;
   w2c_i0 &= w2c_i1;
-  w2c_i1 = 1u;
-  w2c_i0 = w2c_i0 > w2c_i1;
   if (w2c_i0) {goto w2c_B1;}
-  w2c_j0 = w2c_l7;
-  w2c_i0 = (u32)(w2c_j0);
-  w2c_i1 = 8u;
-  w2c_i0 <<= (w2c_i1 & 31);
-  w2c_i1 = 256u;
-  w2c_i0 &= w2c_i1;
-  w2c_j1 = w2c_l8;
-  w2c_i1 = (u32)(w2c_j1);
-  w2c_i2 = 16u;
-  w2c_i1 <<= (w2c_i2 & 31);
-  w2c_i0 |= w2c_i1;
-  w2c_j1 = w2c_l10;
-  w2c_i1 = (u32)(w2c_j1);
-  w2c_i2 = 24u;
-  w2c_i1 <<= (w2c_i2 & 31);
-  w2c_i2 = w2c_p1;
-  w2c_i3 = 1u;
-  w2c_i2 &= w2c_i3;
-  w2c_i1 |= w2c_i2;
-  w2c_i0 |= w2c_i1;
-  w2c_l17 = w2c_i0;
   w2c_i0 = 0u;
-  w2c_l18 = w2c_i0;
+  w2c_l17 = w2c_i0;
   w2c_j0 = 24ull;
   w2c_l6 = w2c_j0;
+  w2c_i0 = 0u;
+  w2c_l18 = w2c_i0;
   w2c_i0 = 0u;
   w2c_l19 = w2c_i0;
   w2c_i0 = w2c_p2;
@@ -20754,187 +20703,234 @@ static u32 w2c_module_farm_step(Z_tcrx_instance_t* instance, u32 w2c_p0, u32 w2c
   w2c_i1 = 4294967295u;
   w2c_i0 += w2c_i1;
   switch (w2c_i0) {
-    case 0: goto w2c_B10;
-    case 1: goto w2c_B15;
-    case 2: goto w2c_B14;
-    case 3: goto w2c_B13;
-    case 4: goto w2c_B12;
-    case 5: goto w2c_B9;
+    case 0: goto w2c_B9;
+    case 1: goto w2c_B14;
+    case 2: goto w2c_B13;
+    case 3: goto w2c_B12;
+    case 4: goto w2c_B11;
+    case 5: goto w2c_B8;
     default: goto w2c_B1;
   }
-  w2c_B15:;
-  w2c_i0 = 0u;
-  w2c_p3 = w2c_i0;
-  w2c_i0 = 1u;
-  w2c_l18 = w2c_i0;
-  goto w2c_B11;
   w2c_B14:;
   w2c_i0 = 0u;
   w2c_p3 = w2c_i0;
-  w2c_i0 = 2u;
-  w2c_l18 = w2c_i0;
-  goto w2c_B11;
-  w2c_B13:;
-  w2c_i0 = 2u;
-  w2c_l18 = w2c_i0;
-  w2c_i0 = w2c_p3;
-  w2c_l19 = w2c_i0;
   w2c_i0 = 1u;
+  w2c_l17 = w2c_i0;
+  goto w2c_B10;
+  w2c_B13:;
+  w2c_i0 = 0u;
   w2c_p3 = w2c_i0;
+  w2c_i0 = 2u;
+  w2c_l17 = w2c_i0;
   goto w2c_B10;
   w2c_B12:;
+  w2c_i0 = w2c_p3;
+  w2c_i1 = 16u;
+  w2c_i0 <<= (w2c_i1 & 31);
+  w2c_i1 = 16711680u;
+  w2c_i0 &= w2c_i1;
+  w2c_l18 = w2c_i0;
+  w2c_i0 = 1u;
+  w2c_p3 = w2c_i0;
+  w2c_i0 = 2u;
+  w2c_l17 = w2c_i0;
+  goto w2c_B9;
+  w2c_B11:;
   w2c_i0 = 0u;
   w2c_p3 = w2c_i0;
   w2c_i0 = 3u;
-  w2c_l18 = w2c_i0;
-  w2c_B11:;
-  w2c_i0 = 0u;
-  w2c_l19 = w2c_i0;
+  w2c_l17 = w2c_i0;
   w2c_B10:;
+  w2c_i0 = 0u;
+  w2c_l18 = w2c_i0;
+  w2c_B9:;
+  w2c_i0 = w2c_p3;
+  w2c_i1 = 8u;
+  w2c_i0 <<= (w2c_i1 & 31);
+  w2c_i1 = 65280u;
+  w2c_i0 &= w2c_i1;
+  w2c_i1 = w2c_l17;
+  w2c_i0 |= w2c_i1;
+  w2c_i1 = w2c_l18;
+  w2c_i0 |= w2c_i1;
+  w2c_i1 = w2c_p4;
+  w2c_i2 = 24u;
+  w2c_i1 <<= (w2c_i2 & 31);
+  w2c_i0 |= w2c_i1;
+  w2c_l19 = w2c_i0;
+  w2c_i0 = 1u;
+  w2c_l17 = w2c_i0;
+  w2c_B8:;
+  w2c_i0 = w2c_l19;
+  w2c_i1 = 8u;
+  w2c_i0 >>= (w2c_i1 & 31);
+  w2c_p4 = w2c_i0;
   w2c_i0 = w2c_l16;
   w2c_i1 = 255u;
   w2c_i0 &= w2c_i1;
   w2c_i1 = 1u;
   w2c_i0 = w2c_i0 != w2c_i1;
-  if (w2c_i0) {goto w2c_B16;}
-  w2c_i0 = w2c_p4;
-  w2c_i1 = 24u;
-  w2c_i0 <<= (w2c_i1 & 31);
-  w2c_i1 = w2c_l18;
-  w2c_i0 |= w2c_i1;
+  if (w2c_i0) {goto w2c_B15;}
+  w2c_i0 = w2c_l17;
+  w2c_i0 = !(w2c_i0);
+  if (w2c_i0) {goto w2c_B15;}
+  w2c_i0 = w2c_l19;
+  w2c_i1 = 16777471u;
+  w2c_i0 &= w2c_i1;
   w2c_i1 = 16777216u;
   w2c_i0 = w2c_i0 != w2c_i1;
-  if (w2c_i0) {goto w2c_B16;}
-  w2c_i0 = w2c_p0;
-  w2c_i1 = w2c_l11;
-  w2c_i2 = w2c_p3;
-  w2c_i0 = w2c_f12(instance, w2c_i0, w2c_i1, w2c_i2);
+  if (w2c_i0) {goto w2c_B15;}
+  w2c_i0 = w2c_l11;
   w2c_i1 = 255u;
   w2c_i0 &= w2c_i1;
-  if (w2c_i0) {goto w2c_B16;}
+  w2c_i1 = w2c_p4;
+  w2c_i2 = 255u;
+  w2c_i1 &= w2c_i2;
+  w2c_i0 = w2c_i0 != w2c_i1;
+  if (w2c_i0) {goto w2c_B15;}
   w2c_j0 = 25ull;
   w2c_l6 = w2c_j0;
   goto w2c_B1;
-  w2c_B16:;
+  w2c_B15:;
   w2c_j0 = w2c_l5;
   w2c_i0 = (u32)(w2c_j0);
-  w2c_i1 = w2c_l17;
-  i32_store(&instance->w2c_memory, (u64)(w2c_i0) + 27, w2c_i1);
+  w2c_j1 = w2c_l7;
+  w2c_i1 = (u32)(w2c_j1);
+  w2c_i2 = 8u;
+  w2c_i1 <<= (w2c_i2 & 31);
+  w2c_i2 = 256u;
+  w2c_i1 &= w2c_i2;
+  w2c_j2 = w2c_l8;
+  w2c_i2 = (u32)(w2c_j2);
+  w2c_i3 = 16u;
+  w2c_i2 <<= (w2c_i3 & 31);
+  w2c_i1 |= w2c_i2;
+  w2c_j2 = w2c_l10;
+  w2c_i2 = (u32)(w2c_j2);
+  w2c_i3 = 24u;
+  w2c_i2 <<= (w2c_i3 & 31);
+  w2c_i3 = w2c_p1;
+  w2c_i4 = 1u;
+  w2c_i3 &= w2c_i4;
+  w2c_i2 |= w2c_i3;
+  w2c_i1 |= w2c_i2;
+  i32_store(&instance->w2c_memory, (u64)(w2c_i0) + 28, w2c_i1);
   w2c_j0 = w2c_l5;
   w2c_i0 = (u32)(w2c_j0);
   w2c_i1 = w2c_l11;
-  i32_store8(&instance->w2c_memory, (u64)(w2c_i0) + 26, w2c_i1);
+  i32_store8(&instance->w2c_memory, (u64)(w2c_i0) + 27, w2c_i1);
   w2c_j0 = w2c_l5;
   w2c_i0 = (u32)(w2c_j0);
   w2c_i1 = w2c_l16;
-  i32_store8(&instance->w2c_memory, (u64)(w2c_i0) + 25, w2c_i1);
+  i32_store8(&instance->w2c_memory, (u64)(w2c_i0) + 26, w2c_i1);
   w2c_j0 = w2c_l5;
   w2c_i0 = (u32)(w2c_j0);
   w2c_i1 = w2c_p0;
-  i32_store8(&instance->w2c_memory, (u64)(w2c_i0) + 24, w2c_i1);
+  i32_store8(&instance->w2c_memory, (u64)(w2c_i0) + 25, w2c_i1);
+  w2c_i0 = w2c_l17;
+  w2c_i0 = !(w2c_i0);
+  if (w2c_i0) {goto w2c_B17;}
   w2c_j0 = 150994944ull;
   w2c_l6 = w2c_j0;
-  w2c_i0 = w2c_l18;
+  w2c_i0 = w2c_l19;
+  w2c_j0 = (u64)(w2c_i0);
+  w2c_j1 = 255ull;
+  w2c_j0 &= w2c_j1;
+  w2c_i0 = (u32)(w2c_j0);
   switch (w2c_i0) {
-    case 0: goto w2c_B19;
-    case 1: goto w2c_B18;
-    case 2: goto w2c_B17;
-    case 3: goto w2c_B8;
-    default: goto w2c_B19;
+    case 0: goto w2c_B20;
+    case 1: goto w2c_B19;
+    case 2: goto w2c_B18;
+    case 3: goto w2c_B16;
+    default: goto w2c_B20;
   }
-  w2c_B19:;
-  w2c_j0 = 67108864ull;
-  w2c_l6 = w2c_j0;
-  w2c_i0 = w2c_p0;
-  w2c_i1 = w2c_l11;
-  w2c_i2 = w2c_p3;
-  w2c_i0 = w2c_f12(instance, w2c_i0, w2c_i1, w2c_i2);
-  w2c_i1 = 255u;
-  w2c_i0 &= w2c_i1;
-  switch (w2c_i0) {
-    case 0: goto w2c_B22;
-    case 1: goto w2c_B21;
-    case 2: goto w2c_B8;
-    case 3: goto w2c_B20;
-    default: goto w2c_B22;
-  }
-  w2c_B22:;
+  w2c_B20:;
   w2c_i0 = w2c_p4;
   w2c_i1 = 255u;
   w2c_i0 &= w2c_i1;
-  w2c_i0 = !(w2c_i0);
+  w2c_i1 = w2c_l11;
+  w2c_i2 = 255u;
+  w2c_i1 &= w2c_i2;
+  w2c_i0 = w2c_i0 == w2c_i1;
   if (w2c_i0) {goto w2c_B23;}
+  w2c_i0 = w2c_p4;
+  w2c_i1 = w2c_l11;
+  w2c_i0 -= w2c_i1;
+  w2c_p1 = w2c_i0;
+  w2c_i1 = 255u;
+  w2c_i0 &= w2c_i1;
+  w2c_i1 = w2c_p0;
+  w2c_i2 = 254u;
+  w2c_i1 &= w2c_i2;
+  w2c_i2 = 1u;
+  w2c_i1 >>= (w2c_i2 & 31);
+  w2c_p0 = w2c_i1;
+  w2c_i0 = w2c_i0 < w2c_i1;
+  if (w2c_i0) {goto w2c_B22;}
+  w2c_i0 = w2c_p0;
+  w2c_i1 = 0u;
+  w2c_i2 = w2c_p1;
+  w2c_i1 -= w2c_i2;
+  w2c_i2 = 255u;
+  w2c_i1 &= w2c_i2;
+  w2c_i0 = w2c_i0 < w2c_i1;
+  if (w2c_i0) {goto w2c_B21;}
+  w2c_j0 = 67108864ull;
+  w2c_l6 = w2c_j0;
+  goto w2c_B16;
+  w2c_B23:;
+  w2c_i0 = w2c_l19;
+  w2c_i1 = 16777216u;
+  w2c_i0 &= w2c_i1;
+  w2c_i0 = !(w2c_i0);
+  if (w2c_i0) {goto w2c_B24;}
   w2c_i0 = w2c_l16;
   w2c_i1 = 255u;
   w2c_i0 &= w2c_i1;
   w2c_i0 = !(w2c_i0);
-  if (w2c_i0) {goto w2c_B24;}
+  if (w2c_i0) {goto w2c_B25;}
   w2c_j0 = 16777216ull;
   w2c_l6 = w2c_j0;
-  goto w2c_B8;
-  w2c_B24:;
-  w2c_i0 = 0u;
-  w2c_l16 = w2c_i0;
+  goto w2c_B16;
+  w2c_B25:;
   w2c_j0 = w2c_l5;
   w2c_i0 = (u32)(w2c_j0);
   w2c_i1 = 0u;
-  i32_store8(&instance->w2c_memory, (u64)(w2c_i0) + 29, w2c_i1);
+  i32_store8(&instance->w2c_memory, (u64)(w2c_i0) + 30, w2c_i1);
   w2c_j0 = w2c_l5;
   w2c_i0 = (u32)(w2c_j0);
   w2c_i1 = w2c_l11;
   w2c_i2 = 1u;
   w2c_i1 += w2c_i2;
-  i32_store8(&instance->w2c_memory, (u64)(w2c_i0) + 26, w2c_i1);
+  i32_store8(&instance->w2c_memory, (u64)(w2c_i0) + 27, w2c_i1);
   w2c_j0 = 4311744512ull;
   w2c_l6 = w2c_j0;
-  goto w2c_B8;
-  w2c_B23:;
+  goto w2c_B16;
+  w2c_B24:;
+  w2c_j0 = w2c_l5;
+  w2c_j1 = 26ull;
+  w2c_j0 += w2c_j1;
+  w2c_f12(instance, w2c_j0);
   w2c_j0 = 33554432ull;
   w2c_l6 = w2c_j0;
-  w2c_i0 = w2c_l16;
-  w2c_i1 = 255u;
-  w2c_i0 &= w2c_i1;
-  if (w2c_i0) {goto w2c_B8;}
+  goto w2c_B16;
+  w2c_B22:;
   w2c_j0 = w2c_l5;
-  w2c_i0 = (u32)(w2c_j0);
-  w2c_i1 = 257u;
-  i32_store16(&instance->w2c_memory, (u64)(w2c_i0) + 28, w2c_i1);
-  w2c_i0 = 1u;
-  w2c_l16 = w2c_i0;
-  goto w2c_B8;
-  w2c_B21:;
+  w2c_j1 = 26ull;
+  w2c_j0 += w2c_j1;
+  w2c_f13(instance, w2c_j0);
   w2c_j0 = 50331648ull;
   w2c_l6 = w2c_j0;
-  w2c_i0 = w2c_l16;
-  w2c_i1 = 255u;
-  w2c_i0 &= w2c_i1;
-  if (w2c_i0) {goto w2c_B8;}
+  goto w2c_B16;
+  w2c_B21:;
   w2c_j0 = w2c_l5;
-  w2c_i0 = (u32)(w2c_j0);
-  w2c_i1 = 1u;
-  i32_store8(&instance->w2c_memory, (u64)(w2c_i0) + 29, w2c_i1);
-  w2c_i0 = 0u;
-  w2c_l16 = w2c_i0;
-  goto w2c_B8;
-  w2c_B20:;
-  w2c_i0 = w2c_l16;
-  w2c_i1 = 255u;
-  w2c_i0 &= w2c_i1;
-  w2c_p0 = w2c_i0;
-  w2c_i0 = 2u;
-  w2c_l16 = w2c_i0;
+  w2c_j1 = 26ull;
+  w2c_j0 += w2c_j1;
+  w2c_f14(instance, w2c_j0);
   w2c_j0 = 83886080ull;
   w2c_l6 = w2c_j0;
-  w2c_i0 = w2c_p0;
-  w2c_i1 = 2u;
-  w2c_i0 = w2c_i0 == w2c_i1;
-  if (w2c_i0) {goto w2c_B8;}
-  w2c_j0 = w2c_l5;
-  w2c_i0 = (u32)(w2c_j0);
-  w2c_i1 = 1u;
-  i32_store8(&instance->w2c_memory, (u64)(w2c_i0) + 27, w2c_i1);
-  goto w2c_B8;
-  w2c_B18:;
+  goto w2c_B16;
+  w2c_B19:;
   w2c_j0 = w2c_l5;
   w2c_i0 = (u32)(w2c_j0);
   w2c_i1 = w2c_l15;
@@ -20942,31 +20938,29 @@ static u32 w2c_module_farm_step(Z_tcrx_instance_t* instance, u32 w2c_p0, u32 w2c
   w2c_i1 += w2c_i2;
   w2c_i2 = 3u;
   w2c_i1 &= w2c_i2;
-  i32_store8(&instance->w2c_memory, (u64)(w2c_i0) + 30, w2c_i1);
+  i32_store8(&instance->w2c_memory, (u64)(w2c_i0) + 31, w2c_i1);
   w2c_j0 = 4395630592ull;
   w2c_l6 = w2c_j0;
-  goto w2c_B8;
-  w2c_B17:;
+  goto w2c_B16;
+  w2c_B18:;
   w2c_j0 = w2c_l5;
-  w2c_j1 = 24ull;
+  w2c_j1 = 26ull;
   w2c_j0 += w2c_j1;
-  w2c_j1 = 1ull;
-  w2c_j0 |= w2c_j1;
   w2c_l7 = w2c_j0;
-  w2c_i0 = w2c_p3;
+  w2c_i0 = w2c_p4;
   w2c_i1 = 255u;
   w2c_i0 &= w2c_i1;
-  if (w2c_i0) {goto w2c_B25;}
+  if (w2c_i0) {goto w2c_B26;}
   w2c_j0 = w2c_l7;
-  w2c_f13(instance, w2c_j0);
+  w2c_f15(instance, w2c_j0);
   w2c_j0 = 117440512ull;
   w2c_l6 = w2c_j0;
-  w2c_j0 = w2c_l5;
-  w2c_i0 = (u32)(w2c_j0);
-  w2c_i0 = i32_load8_u(&instance->w2c_memory, (u64)(w2c_i0) + 25u);
-  w2c_l16 = w2c_i0;
-  goto w2c_B8;
-  w2c_B25:;
+  goto w2c_B16;
+  w2c_B26:;
+  w2c_i0 = w2c_l19;
+  w2c_i1 = 16u;
+  w2c_i0 >>= (w2c_i1 & 31);
+  w2c_p0 = w2c_i0;
   w2c_j0 = w2c_l5;
   w2c_i0 = (u32)(w2c_j0);
   w2c_i1 = w2c_l15;
@@ -20974,11 +20968,9 @@ static u32 w2c_module_farm_step(Z_tcrx_instance_t* instance, u32 w2c_p0, u32 w2c
   w2c_i1 += w2c_i2;
   w2c_i2 = 3u;
   w2c_i1 &= w2c_i2;
-  i32_store8(&instance->w2c_memory, (u64)(w2c_i0) + 30, w2c_i1);
+  i32_store8(&instance->w2c_memory, (u64)(w2c_i0) + 31, w2c_i1);
   w2c_j0 = 134217728ull;
   w2c_l6 = w2c_j0;
-  w2c_i0 = 2u;
-  w2c_l16 = w2c_i0;
   w2c_j0 = 4ull;
   w2c_l8 = w2c_j0;
   w2c_j0 = 1ull;
@@ -20989,25 +20981,27 @@ static u32 w2c_module_farm_step(Z_tcrx_instance_t* instance, u32 w2c_p0, u32 w2c
   w2c_i1 = 4294967295u;
   w2c_i0 += w2c_i1;
   switch (w2c_i0) {
-    case 0: goto w2c_B26;
-    case 1: goto w2c_B27;
-    case 2: goto w2c_B8;
-    default: goto w2c_B26;
+    case 0: goto w2c_B27;
+    case 1: goto w2c_B28;
+    case 2: goto w2c_B16;
+    default: goto w2c_B27;
   }
-  w2c_B27:;
+  w2c_B28:;
   w2c_j0 = w2c_l5;
   w2c_i0 = (u32)(w2c_j0);
-  w2c_i1 = w2c_l19;
+  w2c_i1 = w2c_p0;
+  i32_store8(&instance->w2c_memory, (u64)(w2c_i0) + 27, w2c_i1);
+  w2c_i0 = 0u;
+  w2c_p0 = w2c_i0;
+  w2c_j0 = w2c_l5;
+  w2c_i0 = (u32)(w2c_j0);
+  w2c_i1 = 0u;
   i32_store8(&instance->w2c_memory, (u64)(w2c_i0) + 26, w2c_i1);
   w2c_j0 = 3ull;
   w2c_l8 = w2c_j0;
-  w2c_i0 = 0u;
-  w2c_l19 = w2c_i0;
   w2c_j0 = 4ull;
   w2c_l10 = w2c_j0;
-  w2c_B26:;
-  w2c_i0 = 0u;
-  w2c_l16 = w2c_i0;
+  w2c_B27:;
   w2c_j0 = w2c_l7;
   w2c_j1 = w2c_l8;
   w2c_j0 += w2c_j1;
@@ -21018,65 +21012,55 @@ static u32 w2c_module_farm_step(Z_tcrx_instance_t* instance, u32 w2c_p0, u32 w2c
   w2c_j1 = w2c_l10;
   w2c_j0 += w2c_j1;
   w2c_i0 = (u32)(w2c_j0);
-  w2c_i1 = w2c_l19;
+  w2c_i1 = w2c_p0;
   i32_store8(&instance->w2c_memory, (u64)(w2c_i0), w2c_i1);
-  goto w2c_B8;
-  w2c_B9:;
-  w2c_j0 = w2c_l5;
-  w2c_i0 = (u32)(w2c_j0);
-  w2c_i1 = w2c_l17;
-  i32_store(&instance->w2c_memory, (u64)(w2c_i0) + 27, w2c_i1);
-  w2c_j0 = w2c_l5;
-  w2c_i0 = (u32)(w2c_j0);
-  w2c_i1 = w2c_l11;
-  i32_store8(&instance->w2c_memory, (u64)(w2c_i0) + 26, w2c_i1);
-  w2c_i0 = 2u;
-  w2c_p0 = w2c_i0;
+  goto w2c_B16;
+  w2c_B17:;
   w2c_j0 = 167772160ull;
   w2c_l6 = w2c_j0;
-  w2c_i0 = 0u;
-  w2c_l16 = w2c_i0;
   w2c_i0 = w2c_l12;
   w2c_i1 = 255u;
   w2c_i0 &= w2c_i1;
   w2c_i1 = 4294967295u;
   w2c_i0 += w2c_i1;
   switch (w2c_i0) {
-    case 0: goto w2c_B8;
-    case 1: goto w2c_B29;
-    case 2: goto w2c_B28;
-    default: goto w2c_B8;
+    case 0: goto w2c_B16;
+    case 1: goto w2c_B30;
+    case 2: goto w2c_B29;
+    default: goto w2c_B16;
   }
-  w2c_B29:;
-  w2c_i0 = 0u;
-  w2c_p0 = w2c_i0;
-  w2c_B28:;
+  w2c_B30:;
   w2c_j0 = w2c_l5;
   w2c_i0 = (u32)(w2c_j0);
   w2c_i1 = 0u;
-  i32_store8(&instance->w2c_memory, (u64)(w2c_i0) + 28, w2c_i1);
-  w2c_i0 = w2c_p0;
-  w2c_l16 = w2c_i0;
-  w2c_B8:;
+  i32_store8(&instance->w2c_memory, (u64)(w2c_i0) + 26, w2c_i1);
+  w2c_B29:;
   w2c_j0 = w2c_l5;
   w2c_i0 = (u32)(w2c_j0);
-  w2c_i0 = i32_load8_u(&instance->w2c_memory, (u64)(w2c_i0) + 29u);
+  w2c_i1 = 0u;
+  i32_store8(&instance->w2c_memory, (u64)(w2c_i0) + 29, w2c_i1);
+  w2c_B16:;
+  w2c_j0 = w2c_l5;
+  w2c_i0 = (u32)(w2c_j0);
+  w2c_i0 = i32_load8_u(&instance->w2c_memory, (u64)(w2c_i0) + 30u);
   w2c_i1 = 1u;
   w2c_i0 &= w2c_i1;
   w2c_l13 = w2c_i0;
   w2c_j0 = w2c_l5;
   w2c_i0 = (u32)(w2c_j0);
-  w2c_i0 = i32_load8_u(&instance->w2c_memory, (u64)(w2c_i0) + 28u);
+  w2c_i0 = i32_load8_u(&instance->w2c_memory, (u64)(w2c_i0) + 29u);
   w2c_i1 = 1u;
   w2c_i0 &= w2c_i1;
   w2c_l14 = w2c_i0;
   w2c_j0 = w2c_l5;
   w2c_i0 = (u32)(w2c_j0);
-  w2c_i0 = i32_load8_u(&instance->w2c_memory, (u64)(w2c_i0) + 27u);
+  w2c_i0 = i32_load8_u(&instance->w2c_memory, (u64)(w2c_i0) + 28u);
   w2c_i1 = 1u;
   w2c_i0 &= w2c_i1;
   w2c_p1 = w2c_i0;
-  w2c_i0 = w2c_l16;
+  w2c_j0 = w2c_l5;
+  w2c_i0 = (u32)(w2c_j0);
+  w2c_i0 = i32_load8_u(&instance->w2c_memory, (u64)(w2c_i0) + 26u);
   w2c_i1 = 1u;
   w2c_i0 += w2c_i1;
   w2c_l12 = w2c_i0;
@@ -21084,11 +21068,11 @@ static u32 w2c_module_farm_step(Z_tcrx_instance_t* instance, u32 w2c_p0, u32 w2c
   w2c_l7 = w2c_j0;
   w2c_j0 = w2c_l5;
   w2c_i0 = (u32)(w2c_j0);
-  w2c_i0 = i32_load8_u(&instance->w2c_memory, (u64)(w2c_i0) + 30u);
+  w2c_i0 = i32_load8_u(&instance->w2c_memory, (u64)(w2c_i0) + 31u);
   w2c_l15 = w2c_i0;
   w2c_j0 = w2c_l5;
   w2c_i0 = (u32)(w2c_j0);
-  w2c_i0 = i32_load8_u(&instance->w2c_memory, (u64)(w2c_i0) + 26u);
+  w2c_i0 = i32_load8_u(&instance->w2c_memory, (u64)(w2c_i0) + 27u);
   w2c_l11 = w2c_i0;
   goto w2c_B0;
   w2c_B1:;
@@ -21547,7 +21531,7 @@ static u32 w2c_module_rack_candidate(Z_tcrx_instance_t* instance, u32 w2c_p0, u3
   w2c_i3 = w2c_p0;
   w2c_j4 = w2c_p2;
   w2c_j5 = w2c_l6;
-  w2c_f29(instance, w2c_j0, w2c_j1, w2c_j2, w2c_i3, w2c_j4, w2c_j5);
+  w2c_f31(instance, w2c_j0, w2c_j1, w2c_j2, w2c_i3, w2c_j4, w2c_j5);
   goto w2c_B9;
   w2c_B10:;
   w2c_j0 = w2c_l4;
@@ -21556,7 +21540,7 @@ static u32 w2c_module_rack_candidate(Z_tcrx_instance_t* instance, u32 w2c_p0, u3
   w2c_i3 = w2c_p0;
   w2c_j4 = w2c_p2;
   w2c_j5 = w2c_l6;
-  w2c_f31(instance, w2c_j0, w2c_j1, w2c_j2, w2c_i3, w2c_j4, w2c_j5);
+  w2c_f33(instance, w2c_j0, w2c_j1, w2c_j2, w2c_i3, w2c_j4, w2c_j5);
   w2c_B9:;
   w2c_i0 = 1u;
   w2c_l14 = w2c_i0;
@@ -21716,7 +21700,7 @@ static u32 w2c_module_rack_find(Z_tcrx_instance_t* instance, u32 w2c_p0) {
   w2c_i3 = w2c_p0;
   w2c_i4 = 255u;
   w2c_i3 &= w2c_i4;
-  w2c_f32(instance, w2c_j0, w2c_j1, w2c_j2, w2c_i3);
+  w2c_f34(instance, w2c_j0, w2c_j1, w2c_j2, w2c_i3);
   w2c_j0 = 0ull;
   w2c_i0 = (u32)(w2c_j0);
   w2c_j1 = w2c_l1;
@@ -21783,7 +21767,7 @@ static u32 w2c_module_rack_frame(Z_tcrx_instance_t* instance, u32 w2c_p0, u32 w2
   w2c_i3 = w2c_p0;
   w2c_j4 = w2c_p2;
   w2c_j5 = w2c_l5;
-  w2c_f29(instance, w2c_j0, w2c_j1, w2c_j2, w2c_i3, w2c_j4, w2c_j5);
+  w2c_f31(instance, w2c_j0, w2c_j1, w2c_j2, w2c_i3, w2c_j4, w2c_j5);
   goto w2c_B0;
   w2c_B4:;
   w2c_i0 = w2c_p3;
@@ -22062,7 +22046,7 @@ static u32 w2c_module_randomise(Z_tcrx_instance_t* instance, u64 w2c_p0, u32 w2c
   w2c_j3 = w2c_p2;
   w2c_i4 = w2c_p3;
   w2c_j4 = (u64)(w2c_i4);
-  w2c_f37(instance, w2c_j0, w2c_j1, w2c_j2, w2c_j3, w2c_j4);
+  w2c_f39(instance, w2c_j0, w2c_j1, w2c_j2, w2c_j3, w2c_j4);
   w2c_j0 = 0ull;
   w2c_i0 = (u32)(w2c_j0);
   w2c_j1 = w2c_l4;
@@ -22968,7 +22952,7 @@ static u32 w2c_module_storage(Z_tcrx_instance_t* instance, u64 w2c_p0, u32 w2c_p
   w2c_j4 = w2c_p2;
   w2c_i5 = w2c_p3;
   w2c_j5 = (u64)(w2c_i5);
-  w2c_f26(instance, w2c_j0, w2c_j1, w2c_j2, w2c_j3, w2c_j4, w2c_j5);
+  w2c_f28(instance, w2c_j0, w2c_j1, w2c_j2, w2c_j3, w2c_j4, w2c_j5);
   w2c_j0 = 0ull;
   w2c_i0 = (u32)(w2c_j0);
   w2c_j1 = w2c_l4;
@@ -23041,7 +23025,7 @@ static u32 w2c_module_storage_with_limits(Z_tcrx_instance_t* instance, u64 w2c_p
   w2c_j7 = w2c_p5;
   w2c_i8 = w2c_p6;
   w2c_j8 = (u64)(w2c_i8);
-  w2c_f27(instance, w2c_j0, w2c_j1, w2c_j2, w2c_j3, w2c_j4, w2c_j5, w2c_i6, w2c_j7, w2c_j8);
+  w2c_f29(instance, w2c_j0, w2c_j1, w2c_j2, w2c_j3, w2c_j4, w2c_j5, w2c_i6, w2c_j7, w2c_j8);
   w2c_j0 = 0ull;
   w2c_i0 = (u32)(w2c_j0);
   w2c_j1 = w2c_l7;
@@ -23076,7 +23060,7 @@ static u32 w2c_module_text(Z_tcrx_instance_t* instance, u32 w2c_p0, u64 w2c_p1, 
   w2c_j2 = w2c_p1;
   w2c_i3 = w2c_p2;
   w2c_j3 = (u64)(w2c_i3);
-  w2c_f38(instance, w2c_j0, w2c_i1, w2c_j2, w2c_j3);
+  w2c_f40(instance, w2c_j0, w2c_i1, w2c_j2, w2c_j3);
   w2c_j0 = 0ull;
   w2c_i0 = (u32)(w2c_j0);
   w2c_j1 = w2c_l3;
@@ -23113,7 +23097,7 @@ static u32 w2c_module_write_cltu(Z_tcrx_instance_t* instance, u64 w2c_p0, u32 w2
   w2c_j3 = w2c_p2;
   w2c_i4 = w2c_p3;
   w2c_j4 = (u64)(w2c_i4);
-  w2c_f39(instance, w2c_j0, w2c_j1, w2c_j2, w2c_j3, w2c_j4);
+  w2c_f41(instance, w2c_j0, w2c_j1, w2c_j2, w2c_j3, w2c_j4);
   w2c_j0 = 0ull;
   w2c_i0 = (u32)(w2c_j0);
   w2c_j1 = w2c_l4;
@@ -23159,7 +23143,7 @@ static u32 w2c_module_write_command(Z_tcrx_instance_t* instance, u32 w2c_p0, u32
   w2c_j5 = w2c_p4;
   w2c_i6 = w2c_p5;
   w2c_j6 = (u64)(w2c_i6);
-  w2c_f41(instance, w2c_j0, w2c_i1, w2c_i2, w2c_i3, w2c_i4, w2c_j5, w2c_j6);
+  w2c_f43(instance, w2c_j0, w2c_i1, w2c_i2, w2c_i3, w2c_i4, w2c_j5, w2c_j6);
   w2c_j0 = 0ull;
   w2c_i0 = (u32)(w2c_j0);
   w2c_j1 = w2c_l6;
@@ -23226,7 +23210,7 @@ static u32 w2c_module_write_frame(Z_tcrx_instance_t* instance, u64 w2c_p0, u32 w
   w2c_j4 = w2c_p2;
   w2c_i5 = w2c_p3;
   w2c_j5 = (u64)(w2c_i5);
-  w2c_f40(instance, w2c_j0, w2c_j1, w2c_j2, w2c_j3, w2c_j4, w2c_j5);
+  w2c_f42(instance, w2c_j0, w2c_j1, w2c_j2, w2c_j3, w2c_j4, w2c_j5);
   w2c_j0 = 0ull;
   w2c_i0 = (u32)(w2c_j0);
   w2c_j1 = w2c_l4;
@@ -23291,7 +23275,7 @@ static u32 w2c_module_write_packet(Z_tcrx_instance_t* instance, u64 w2c_p0, u32 
   w2c_j4 = w2c_p2;
   w2c_i5 = w2c_p3;
   w2c_j5 = (u64)(w2c_i5);
-  w2c_f42(instance, w2c_j0, w2c_j1, w2c_j2, w2c_j3, w2c_j4, w2c_j5);
+  w2c_f44(instance, w2c_j0, w2c_j1, w2c_j2, w2c_j3, w2c_j4, w2c_j5);
   w2c_j0 = 0ull;
   w2c_i0 = (u32)(w2c_j0);
   w2c_j1 = w2c_l4;
@@ -23365,7 +23349,7 @@ static u32 w2c_module_write_segment(Z_tcrx_instance_t* instance, u32 w2c_p0, u32
   w2c_j7 = w2c_p5;
   w2c_i8 = w2c_p6;
   w2c_j8 = (u64)(w2c_i8);
-  w2c_f43(instance, w2c_j0, w2c_j1, w2c_i2, w2c_i3, w2c_i4, w2c_j5, w2c_j6, w2c_j7, w2c_j8);
+  w2c_f45(instance, w2c_j0, w2c_j1, w2c_i2, w2c_i3, w2c_i4, w2c_j5, w2c_j6, w2c_j7, w2c_j8);
   w2c_j0 = 0ull;
   w2c_i0 = (u32)(w2c_j0);
   w2c_j1 = w2c_l7;
@@ -23430,7 +23414,7 @@ static u32 w2c_module_write_tm(Z_tcrx_instance_t* instance, u32 w2c_p0, u32 w2c_
   w2c_j5 = w2c_p3;
   w2c_i6 = w2c_p4;
   w2c_j6 = (u64)(w2c_i6);
-  w2c_f44(instance, w2c_j0, w2c_j1, w2c_i2, w2c_i3, w2c_i4, w2c_j5, w2c_j6);
+  w2c_f46(instance, w2c_j0, w2c_j1, w2c_i2, w2c_i3, w2c_i4, w2c_j5, w2c_j6);
   w2c_j0 = 0ull;
   w2c_i0 = (u32)(w2c_j0);
   w2c_j1 = w2c_l5;
