@@ -58,13 +58,6 @@ def good_cases() -> List[Case]:
     return [case for case in cases() if not case.fault]
 
 
-def tried_cases(program: str) -> List[Case]:
-    """Those that together show of a program what all cases show of a model of the receiver."""
-    lines = (TOP / "checks" / "tried_cases").read_text(encoding="utf-8").splitlines()
-    names = {name for line in lines if line.startswith(f"{program} ") for name in line.split()}
-    return [case for case in cases() if case.name in names]
-
-
 def rows(page: str) -> Iterator[List[str]]:
     """The cells of each row of the tables of a page."""
     for line in page.split("\n"):
