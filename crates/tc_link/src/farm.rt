@@ -139,8 +139,8 @@ fn expected(r: &mut Report) -> Act
     }
 }
 
-// What a frame that isn't in sequence changes stands apart, off the way of one that is: as compiled, too, so that a comparison more or
-// less in front of it moves nothing.
+// What a frame for which there is no room, or one that isn't in sequence, changes is rare, so each is compiled apart from the way of one
+// that is accepted: a comparison changed in front of it moves no other code.
 #[cold]
 #[inline(never)]
 fn full(r: &mut Report)
