@@ -35,8 +35,11 @@ const WORDS: [u64; 33] = [FREE; 33];
 
 const WORD: usize = 16;
 
-// How often a thread looks at the word of a taken lock before it sleeps.
-const LOOKS: u32 = 100;
+// How often a thread looks at the word of a taken lock before it sleeps, and how many pauses it makes after the first look; after each
+// further one it makes twice as many. A look takes the word's cache line from the thread that has the lock.
+const LOOKS: u32 = 6;
+
+const PAUSES: u32 = 32;
 
 // How often it sleeps before it asks that the lock be left to those that have slept. That makes starving rare, and does not bound it.
 const LOST_WAKES: u64 = 2;
@@ -142,12 +145,16 @@ impl<S: Logged<D, E>, D: Head, E> LoggedLock<S, D, E> {
     fn spin(&self) -> u64
         ensures { result ≤ 4 }
     {
+        let mut pauses = PAUSES;
         for _ in 0..LOOKS {
             let word = self.look();
             if word != TAKEN {
                 return word;
             }
-            spin_loop();
+            for _ in 0..pauses {
+                spin_loop();
+            }
+            pauses = pauses.saturating_mul(2);
         }
         TAKEN
     }
