@@ -2,15 +2,20 @@
 #![tactic(auto)]
 
 use command_line::{Reception, asked_of_tclive};
+use std::env::Env;
 use std::process::ExitCode;
 use tc_live::{FrameCheck, FrameEnds, ServingFault, serve};
 use tc_text::SpacecraftId;
 
 fn main(rt: HostRuntime) -> ExitCode {
-    match asked_of_tclive(&rt) {
+    start(&rt)
+}
+
+pub(crate) fn start<R: Env + AllocGlobal + Input + Print + Eprint>(rt: &R) -> ExitCode {
+    match asked_of_tclive(rt) {
         Ok(asked) => {
             let spacecraft = SpacecraftId { number: asked.scid };
-            report(&rt, serve(&rt, spacecraft, check_of(asked)))
+            report(rt, serve(rt, spacecraft, check_of(asked)))
         }
         Err(status) => status,
     }

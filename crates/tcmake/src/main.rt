@@ -2,12 +2,17 @@
 #![tactic(auto)]
 
 use command_line::{Making, asked_of_tcmake};
+use std::env::Env;
 use std::process::ExitCode;
 use tc_make::{Ending, MakingFault, serve};
 
 fn main(rt: HostRuntime) -> ExitCode {
-    match asked_of_tcmake(&rt) {
-        Ok(asked) => report(&rt, serve(&rt, ending_of(asked), asked.strict)),
+    start(&rt)
+}
+
+pub(crate) fn start<R: Env + AllocGlobal + Input + Print + Eprint>(rt: &R) -> ExitCode {
+    match asked_of_tcmake(rt) {
+        Ok(asked) => report(rt, serve(rt, ending_of(asked), asked.strict)),
         Err(status) => status,
     }
 }

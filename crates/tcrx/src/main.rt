@@ -4,14 +4,21 @@
 ghost use Rattle.std.specs.Prelude.{◌≤◌};
 
 use command_line::{ScriptRun, Way, asked_of_tcrx};
+use std::env::Env;
 use std::process::ExitCode;
 use std::sync::Wait;
 use std::thread::Threads;
 use tc_cli::{ScriptFault, parallel_input, run_input};
 
 fn main(rt: HostRuntime) -> ExitCode {
-    match asked_of_tcrx(&rt) {
-        Ok(asked) => report(&rt, obey(&rt, asked)),
+    start(&rt)
+}
+
+pub(crate) fn start<R: Env + AllocGlobal + Input + Print + Eprint + Threads + Wait + Sync>(
+    rt: &R,
+) -> ExitCode {
+    match asked_of_tcrx(rt) {
+        Ok(asked) => report(rt, obey(rt, asked)),
         Err(status) => status,
     }
 }
