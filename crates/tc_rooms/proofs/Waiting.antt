@@ -1,4 +1,4 @@
--- Rooms of which the first ones are taken by items that wait, and the next by items that are staged behind them.
+-- Rooms whose first ones are taken by items that wait, and the next ones by items that are staged behind them.
 use Rattle.std.proofs.Common.{◌≡◌, ℕ, zero, suc, ◌+◌, ◌-◌, ◌<◌, true, get_or, List, [], ◌∷◌, ◌++◌, length, map, take, drop, Option, Some, None, refl, sym, ap, ◌∙◌, arith}
 use Rattle.std.specs.Prelude.{set, slice_get, option_map}
 use Rattle.std.proofs.lemmas.List.{length-append, length-map, length-set, length-take-le, length-drop, map-append, take-set-le, take_more_set, take-take, take-append-drop, take-append-le, drop-take, drop-set-add, drop-append-le}
@@ -6,7 +6,7 @@ use Rattle.std.proofs.lemmas.Option.{get_or_from_slice_get, slice_get_within}
 use Rattle.tc_packet.specs.Room.{Contents, contents_of}
 use Rattle.tc_rooms.specs.Rooms.{octets_of, HaveSize, AreSlots, Slotted, slotted, seen, IsStagedBehind, IsPut}
 
--- sizes
+-- sizes of rooms
 
 pub size-at : {A : Type 0} (f : A → Contents) (n : ℕ) (xs : List A) (i : ℕ) (x : A) → HaveSize n (map f xs) → i < length xs → x ≡ get_or xs i x → (f x).size ≡ n
 size-at f n [] i x all inside is = absurd (omega arith)
@@ -22,7 +22,7 @@ pub size-behind : (n : ℕ) (rooms : List Contents) (x : Contents) → HaveSize 
 size-behind n [] x all one = (one, tt)
 size-behind n (r ∷ rooms) x all one = (all.0, size-behind n rooms x all.1 one)
 
--- what waits, and what is staged
+-- the items that wait, and the items that are staged
 module _ (places waiting count size : ℕ) (rooms : List Contents) (k : AreSlots places waiting count size rooms) where
   pub length-waiting : length (map octets_of (take waiting rooms)) ≡ waiting
   length-waiting = let full = k.full in let within = k.within in length-map (take waiting rooms) octets_of ∙ length-take-le waiting rooms (omega arith)
@@ -34,7 +34,7 @@ module _ (places waiting count size : ℕ) (rooms : List Contents) (k : AreSlots
       let d = length-drop waiting rooms in
       length-map (take count (drop waiting rooms)) octets_of ∙ length-take-le count (drop waiting rooms) (omega arith)
 
-  -- an item is staged behind the others
+  -- if the room behind the taken ones is filled, its item is staged behind the others
   staged-seen : (octets : List ℕ) → waiting + count < places
       → seen places waiting (count + 1) size (set rooms (waiting + count) (contents_of octets size)) ≡ slotted (map octets_of (take waiting rooms)) places (map octets_of (take count (drop waiting rooms)) ++ octets ∷ []) size
   staged-seen octets lt =
@@ -43,7 +43,7 @@ module _ (places waiting count size : ℕ) (rooms : List Contents) (k : AreSlots
       let d = length-drop waiting rooms in
       rw (take-set-le waiting rooms (waiting + count) x (omega arith), drop-set-add waiting rooms count x, take_more_set (drop waiting rooms) count x (omega arith), map-append octets_of (take count (drop waiting rooms)) (x ∷ [])) refl
 
-  -- so it is where the room of its place was written
+  -- this also holds for rooms that are said to be those with this room filled
   pub staged-ring : (later : List Contents) (octets : List ℕ) (old : Slotted) → waiting + count < places → later ≡ set rooms (waiting + count) (contents_of octets size) → seen places waiting count size rooms ≡ old
       → (seen places waiting (count + 1) size later).ring ≡ old.ring
   staged-ring later octets old lt later_is view = rw (← view, later_is) (ap (λ (s : Slotted). s.ring) (staged-seen octets lt))
@@ -55,11 +55,11 @@ module _ (places waiting count size : ℕ) (rooms : List Contents) (k : AreSlots
       let l = length-staged in
       rw (← view, later_is) (record { done = λ yes. (staged-seen octets lt, omega arith); full = λ e. absurd cc })
 
-  -- nothing is staged where no room of it is taken
+  -- if no item is staged, no room is taken by one
   pub none-staged : (old : Slotted) → seen places waiting count size rooms ≡ old → old.staged ≡ [] → count ≡ 0
   none-staged old view none = sym length-staged ∙ ap length (ap (λ (s : Slotted). s.staged) view ∙ none)
 
--- an item is put behind those that wait
+-- if the room behind those of the waiting items is filled, its item waits behind the others
 put-seen : (places waiting size : ℕ) (rooms : List Contents) (octets : List ℕ) → length rooms ≡ places → waiting < places
     → seen places (waiting + 1) 0 size (set rooms waiting (contents_of octets size)) ≡ slotted (map octets_of (take waiting rooms) ++ octets ∷ []) places [] size
 put-seen places waiting size rooms octets full lt =
@@ -74,7 +74,7 @@ put-behind places waiting count size rooms later octets old k lt later_is view n
     let free = none-staged places waiting count size rooms k old view none in
     rw (← view, later_is, free) (record { done = λ yes. (put-seen places waiting size rooms octets k.full lt, omega arith); full = λ e. absurd cc })
 
--- all of it waits
+-- the taken rooms are those of the items that wait, then those of the staged items
 take-both : (waiting count : ℕ) (t : List Contents) → take (waiting + count) t ≡ take waiting t ++ take count (drop waiting t)
 take-both waiting count t =
     sym (take-append-drop waiting (take (waiting + count) t)) ∙ rw (take-take waiting (waiting + count) t (omega arith), drop-take waiting count t) refl
@@ -83,17 +83,17 @@ pub committed-seen : (places waiting count size : ℕ) (rooms : List Contents)
     → seen places (waiting + count) 0 size rooms ≡ slotted (map octets_of (take waiting rooms) ++ map octets_of (take count (drop waiting rooms))) places [] size
 committed-seen places waiting count size rooms = rw (take-both waiting count rooms, map-append octets_of (take waiting rooms) (take count (drop waiting rooms))) refl
 
--- a place within is not beyond
+-- there is an item at each place below the length
 pub is-there : {A : Type 0} (xs : List A) (i : ℕ) → i < length xs → None ≡ slice_get xs i → ⊥
 is-there [] i inside none = absurd (omega arith)
 is-there (x ∷ xs) zero inside none = absurd cc
 is-there (x ∷ xs) (suc i) inside none = is-there xs i (omega arith) none
 
--- what is got is there
+-- the item that was read is the item at its place
 pub got : {A : Type 0} (xs : List A) (i : ℕ) (x : A) → Some x ≡ slice_get xs i → x ≡ get_or xs i x
 got xs i x is = sym (get_or_from_slice_get xs i x x (sym is))
 
--- the oldest item is dropped, and its room goes to the back
+-- if the first room moves to the back, the oldest item no longer waits
 pub popped-seen : (places waiting count size : ℕ) (first x : Contents) (rest : List Contents) → AreSlots places waiting count size (first ∷ rest) → 0 < waiting
     → seen places (waiting - 1) count size (rest ++ x ∷ []) ≡ slotted (drop 1 (map octets_of (take waiting (first ∷ rest)))) places (map octets_of (take count (drop waiting (first ∷ rest)))) size
 popped-seen places zero count size first x rest k some = absurd (omega arith)
@@ -109,7 +109,7 @@ popped-seen places (suc waiting) count size first x rest k some =
       take-append-le count (drop waiting rest) (x ∷ []) (omega arith),
     ) refl
 
--- the newest room that was staged is written
+-- if the room of the newest staged item is cleared, one item fewer is staged
 pub cleared-slots : (places waiting count size : ℕ) (rooms later : List Contents) → AreSlots places waiting count size rooms → 0 < count
     → later ≡ set rooms (waiting + (count - 1)) (contents_of [] size)
     → AreSlots places waiting (count - 1) size later × (take waiting later ≡ take waiting rooms)
@@ -120,11 +120,11 @@ cleared-slots places waiting count size rooms later k some later_is =
       take-set-le waiting rooms (waiting + (count - 1)) (contents_of [] size) (omega arith),
     )
 
--- the size of the room that is got
+-- the room that was read has the size of all rooms
 pub size-got : {A : Type 0} (f : A → Contents) (n : ℕ) (xs : List A) (i : ℕ) (x : A) → HaveSize n (map f xs) → Some x ≡ slice_get xs i → (f x).size ≡ n
 size-got f n xs i x all is = size-at f n xs i x all (slice_get_within xs i x (sym is)) (got xs i x is)
 
--- the first room is cleared and goes to the back
+-- if the first room is cleared and moves to the back, the oldest item no longer waits
 pub turned-seen : (waiting count size : ℕ) (rooms later : List Contents) (old : Slotted) → AreSlots (length rooms) waiting count size rooms → 0 < waiting
     → later ≡ drop 1 rooms ++ contents_of [] size ∷ [] → seen (length rooms) waiting count size rooms ≡ old
     → seen (length later) (waiting - 1) count size later ≡ slotted (drop 1 old.ring.items) old.ring.capacity old.staged old.size

@@ -1,11 +1,13 @@
-//! Items that wait, in rooms that are made at the start or that grow: one code for both.
+//! Queues of items that wait, in rooms that are created at the start or in rooms that grow. The code for both is the
+//! same.
 //!
-//! [`Slots`] are items that wait, each in a [`Room`] of its own. What a call needs is staged behind what counts. Once all of it is there it
-//! counts ([`Slots::commit`]); where memory runs out it is rolled back ([`Slots::roll_back`]), and all is as it was.
+//! [`Slots`] are the items that wait, each in a [`Room`] of its own. A call stages what it adds behind the items that
+//! count. Once everything is staged, it counts ([`Slots::commit`]). If memory runs out before, it is rolled back
+//! ([`Slots::roll_back`]), and everything is as it was before the call.
 //!
-//! The rooms of a queue are a ring of the kit's `circular_buffer`, behind a type that has no call that grows it (`ring.rt`, the only text
-//! that could ask the ring to grow). So with rooms that are made at the start only what makes them allocates, and no other call can run
-//! out of memory.
+//! The rooms of a queue are a ring made of the kit's `circular_buffer`, behind a type that has no call that grows the
+//! ring (`ring.rt`, the only file whose code could make the ring grow). So for rooms that are created at the start,
+//! memory is allocated only when they are created, and no other call can run out of memory.
 //!
 //! The rooms themselves, and the open runs in them, are those of `tc_packet`.
 #![tactic(auto)]

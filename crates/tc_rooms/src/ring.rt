@@ -1,4 +1,4 @@
-//! Rooms of one size in a ring that is always full, of which the first one goes to the back when its item goes.
+//! Rooms of one size in a ring that is always full. When the item in the first room goes, the room moves to the back.
 
 ghost use Rattle.std.specs.Prelude.{◌≡◌, ◌≤◌, ◌<◌, ◌^◌, ◌++◌, ◌∷◌, [], length, map, drop, set, false, Some, IfOk, IsOk, OnOk, OnErr, slice_get};
 ghost use Rattle.circular_buffer.specs.Buffer.{buffer};
@@ -10,8 +10,9 @@ use std::alloc::{AllocError, Global};
 use std::marker::Model;
 use tc_packet::{GrowingRoom, Room};
 
-/// Rooms, the front one first. A `HeapCircularBuffer` can be asked to grow, and gives out what asks for memory: none of the calls here
-/// does so but `with_rooms`, which makes it, and none gives the buffer out.
+/// Rooms, the front one first. A `HeapCircularBuffer` has calls that make it grow, and a call that gives out the handle
+/// by which it requests memory. Of the functions in this file only `with_rooms`, which creates the buffer, requests
+/// memory, and none gives the buffer out.
 #[derive(Drop)]
 pub struct Ring<R: Room> {
     rooms: HeapCircularBuffer<R>,
@@ -29,7 +30,7 @@ impl<R: Room> Model for Ring<R> {
     ghost invariant = { λ r. IsFull r.rooms.capacity (map R.contents r.rooms.items) };
 }
 
-// Puts a room behind the others, where one is missing.
+// Puts a room behind the others, in a ring in which one is missing.
 #[inline(always)]
 fn put_back<R: Room>(rooms: &mut HeapCircularBuffer<R>, room: R)
     requires { length rooms.old.items < rooms.old.capacity }
@@ -54,7 +55,7 @@ fn take_first<R: Room>(rooms: &mut HeapCircularBuffer<R>) -> R
     }
 }
 
-// So many rooms of one size.
+// Creates a full buffer of `count` rooms for `size` octets each.
 fn full_of_rooms<R: Room>(
     alloc: Global,
     count: usize,
@@ -75,7 +76,7 @@ fn full_of_rooms<R: Room>(
 }
 
 impl<R: Room> Ring<R> {
-    /// So many rooms of one size.
+    /// Creates a ring of `count` rooms for `size` octets each.
     pub(crate) fn with_rooms(
         alloc: Global,
         count: usize,
@@ -88,7 +89,7 @@ impl<R: Room> Ring<R> {
         Ok(Ring { rooms })
     }
 
-    /// How many rooms there are.
+    /// Returns the number of rooms.
     #[inline(always)]
     pub(crate) fn len(&self) -> usize
         ensures len { result ≡ length self.now }
@@ -97,7 +98,7 @@ impl<R: Room> Ring<R> {
         self.rooms.len()
     }
 
-    /// The first room, lent.
+    /// Lends the first room.
     #[inline(always)]
     pub(crate) fn first(&self) -> &R
         requires { 0 < length self.now }
@@ -130,7 +131,7 @@ impl<R: Room> Ring<R> {
         }
     }
 
-    /// The room at this place has no octets in use.
+    /// Clears the room at this place: no octets are in use afterwards.
     pub(crate) fn clear(&mut self, place: usize, size: usize)
         requires place { place < length self.old }
         requires sizes { HaveSize size self.old }
@@ -142,7 +143,7 @@ impl<R: Room> Ring<R> {
         }
     }
 
-    /// The first room has no octets in use, and goes to the back.
+    /// Clears the first room and moves it to the back.
     #[inline(always)]
     pub(crate) fn turn(&mut self, size: usize)
         requires some { 0 < length self.old }
@@ -156,7 +157,7 @@ impl<R: Room> Ring<R> {
 }
 
 impl Ring<GrowingRoom> {
-    /// Takes the octets out of the first room, in their block, and has it go to the back.
+    /// Takes the octets out of the first room, in their block, and moves the room to the back.
     #[inline(always)]
     pub(crate) fn turn_out(&mut self, size: usize) -> Vec<u8>
         requires some { 0 < length self.old }

@@ -8,10 +8,12 @@ use std::alloc::{AllocError, Global};
 use std::marker::Model;
 use tc_packet::{GrowingRoom, Room};
 
-/// Items that wait, the oldest first, each in a room of its own, and items that a call has staged behind them. The rooms are a ring that
-/// is always full: those of the items that wait, then those of what is staged, then empty ones. A room whose item goes is cleared and
-/// goes to the back, unless nothing else is there. What is staged counts once all of a call is ([`commit`](Slots::commit)), or is rolled back ([`roll_back`](Slots::roll_back)).
-/// With rooms that are made at the start only `with_capacity` allocates.
+/// Items that wait, the oldest first, each in a room of its own, and items that a call has staged behind them. The
+/// rooms are a ring that is always full: first the rooms of the items that wait, then the rooms of the staged items,
+/// then the empty ones. When an item goes, its room is cleared and moves to the back, unless no other item is there.
+/// Staged items count once the call that stages them has staged them all ([`commit`](Slots::commit)), or they are
+/// rolled back ([`roll_back`](Slots::roll_back)). If the rooms are created at the start, only `with_capacity`
+/// allocates.
 #[derive(Drop)]
 pub struct Slots<R: Room> {
     ring: Ring<R>,
@@ -32,7 +34,7 @@ impl<R: Room> Model for Slots<R> {
 }
 
 impl<R: Room> Slots<R> {
-    /// Room for so many items of at most `size` octets each, with no item in it.
+    /// Creates an empty queue for `capacity` items of at most `size` octets each.
     pub fn with_capacity(
         alloc: Global,
         capacity: usize,
@@ -49,7 +51,7 @@ impl<R: Room> Slots<R> {
         })
     }
 
-    /// How many items wait.
+    /// Returns the number of items that wait.
     pub fn len(&self) -> usize
         ensures len { result ≡ length self.now.ring.items }
         ensures within { length self.now.ring.items ≤ self.now.ring.capacity }
@@ -57,28 +59,28 @@ impl<R: Room> Slots<R> {
         self.waiting
     }
 
-    /// Whether no item waits.
+    /// Returns whether no item waits.
     pub fn is_empty(&self) -> bool
         ensures { result ≡ (length self.now.ring.items == 0) }
     {
         self.waiting == 0
     }
 
-    /// How many items may wait.
+    /// Returns the number of items that may wait.
     pub fn capacity(&self) -> usize
         ensures capacity { result ≡ self.now.ring.capacity }
     {
         self.ring.len()
     }
 
-    /// How many octets an item may have.
+    /// Returns the number of octets that an item may have.
     pub fn size(&self) -> usize
         ensures { result ≡ self.now.size }
     {
         self.size
     }
 
-    /// The oldest item, lent.
+    /// Lends the oldest item.
     pub fn front(&self) -> Option<&[u8]>
         ensures item { option_map (λ octets. octets.now) result ≡ slice_get self.now.ring.items 0 }
         ensures within { IfSome result (λ octets. length octets.now ≤ self.now.size) }
@@ -89,7 +91,8 @@ impl<R: Room> Slots<R> {
         Some(self.ring.first().as_slice())
     }
 
-    /// Puts an item behind the others, where nothing is staged, and says whether there was a place. It counts at once.
+    /// Puts an item behind the others when nothing is staged, and returns whether there was a place for it. The item
+    /// counts at once.
     #[inline(always)]
     pub fn put(&mut self, octets: &[u8]) -> Result<bool, AllocError>
         requires fits { length octets.now ≤ self.old.size }
@@ -108,7 +111,7 @@ impl<R: Room> Slots<R> {
         Ok(true)
     }
 
-    /// Stages an item behind the others, where there is a place, and says whether there was.
+    /// Stages an item behind the others if there is a place for it, and returns whether there was.
     #[inline(always)]
     pub fn stage(&mut self, octets: &[u8]) -> Result<bool, AllocError>
         requires { length octets.now ≤ self.old.size }
@@ -127,7 +130,7 @@ impl<R: Room> Slots<R> {
         Ok(true)
     }
 
-    /// What was staged counts.
+    /// Makes the staged items count.
     #[inline(always)]
     pub fn commit(&mut self)
         ensures { self.new ≡ slotted (self.old.ring.items ++ self.old.staged) self.old.ring.capacity [] self.old.size }
@@ -136,7 +139,7 @@ impl<R: Room> Slots<R> {
         self.staged = 0;
     }
 
-    /// What was staged is rolled back.
+    /// Rolls back the staged items.
     pub fn roll_back(&mut self)
         ensures { self.new ≡ slotted self.old.ring.items self.old.ring.capacity [] self.old.size }
     {
@@ -165,7 +168,7 @@ impl<R: Room> Slots<R> {
 }
 
 impl Slots<GrowingRoom> {
-    /// Takes the oldest item out, if there is one, in its own block: none of its octets is copied, and no memory is asked for.
+    /// Takes the oldest item out, if there is one, in its own block. No octet is copied, and no memory is requested.
     pub fn take_front(&mut self) -> Option<Vec<u8>>
         ensures item { option_map (λ block. block.items) result ≡ slice_get self.old.ring.items 0 }
         ensures taken { self.new ≡ slotted (drop 1 self.old.ring.items) self.old.ring.capacity self.old.staged self.old.size }

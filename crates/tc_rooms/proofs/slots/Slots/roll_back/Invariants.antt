@@ -2,7 +2,7 @@ use Rattle.std.proofs.Common.{◌≡◌, length, take}
 use Rattle.tc_rooms.proofs.Names.{AreSlots}
 use Rattle.tc_rooms.proofs.slots.Slots.roll_back.Given as goal
 
--- what waits stays
+-- the items that wait stay the same
 abbrev pub invariant-loop-self : goal.invariant-loop-self
 invariant-loop-self g l =
     let s = l.self-inside in
