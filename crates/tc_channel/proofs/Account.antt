@@ -1,4 +1,4 @@
--- Each field of a stream has its share: by the run that the fields before it left, field by field.
+-- Each field of a stream has its share. The proof goes field by field, by the run that the fields before it left.
 use Rattle.tc_channel.proofs.Names.{◌≡◌, ℕ, ◌≤◌, ◌⊎◌, Bool, true, false, eqb, ◌&&◌, List, [], ◌∷◌, ◌++◌, length, Option, Some, None, refl, sym, ap, subst, ◌∙◌, inl, inr, append_assoc, arith, nat_tests, append-nil, length-append, Part, Service, Bd, Passed, at_most, ended_by, is_of, open_run, same_service, stream, Settings, as_list, Ad}
 use Rattle.tc_packet.specs.declared.segment.Part.TheVariants.{Last, Unsegmented, First, Continuing}
 use Rattle.tc_packet.specs.Segment.{body_of, header_of}
@@ -29,12 +29,12 @@ abbrev fields_so_far : Run → List (List ℕ)
 fields_so_far None = []
 fields_so_far (Some fields) = fields
 
--- the units that fields of a stream make, where others came before them
+-- the units that fields of a stream make after others came before them
 abbrev units_over : ℕ → List (List ℕ) → List (List ℕ) → List (List ℕ)
 units_over limit before [] = []
 units_over limit before (f ∷ fs) = as_list (at_most limit (unit_at before f)) ++ units_over limit (before ++ f ∷ []) fs
 
--- what is left of a stream has its shares, together with the run so far
+-- the fields that are left of a stream have their shares, together with the run so far
 record Parted (limit : ℕ) (before left : List (List ℕ)) (so_far : Run) : Type 0 where
   shares : List Share
   are : AreShares limit shares
@@ -55,7 +55,7 @@ fits limit octets = by (leb (length octets) 65542) refl (leb (length octets) lim
   by true h false k = inr (λ both. (let le = both.0 in grind (arith, nat_tests)), rw (h, k) refl)
   by false h within k = inr (λ both. (let le = both.1 in grind (arith, nat_tests)), rw h refl)
 
--- what is too long stays too long
+-- a run that is too long stays too long
 longer : (octets body : List ℕ) → extended (bounded octets) body ≡ bounded (octets ++ body)
 longer octets body = by (leb (length octets) 65542) refl where
   by : (t : Bool) → leb (length octets) 65542 ≡ t → extended (bounded octets) body ≡ bounded (octets ++ body)
@@ -70,12 +70,12 @@ joined-one f = append-nil (body_of f)
 joined-push : (fs : List (List ℕ)) (f : List ℕ) → joined_bodies (fs ++ f ∷ []) ≡ joined_bodies fs ++ body_of f
 joined-push fs f = flat_map-append body_of fs (f ∷ []) ∙ ap (λ (x : List ℕ). joined_bodies fs ++ x) (joined-one f)
 
--- one segment more behind a run
+-- with one more segment, a run still is a run
 run-push : (fs : List (List ℕ)) (f : List ℕ) → IsRun fs → IsPart Continuing f → IsRun (fs ++ f ∷ [])
 run-push [] f run part = absurd run
 run-push (first ∷ after) f run part = (run.0, all-append (IsPart Continuing) after (f ∷ []) run.1 (part, tt))
 
--- a stream of which nothing is left
+-- a stream with no fields left has its shares
 at-end : (limit : ℕ) (before : List (List ℕ)) (so_far : Run) → open_run before ≡ octets_so_far so_far → IsSoFar so_far → Parted limit before [] so_far
 at-end limit before None is run = record { shares = []; are = tt; fields = refl; units = refl; open_is = rw (append-nil before, is) refl }
 at-end limit before (Some fields) is run = by (fits limit (joined_bodies fields)) where
@@ -83,7 +83,7 @@ at-end limit before (Some fields) is run = by (fits limit (joined_bodies fields)
   by (inl w) = record { shares = Open fields ∷ []; are = (run, (w.0, w.1), refl); fields = refl; units = refl; open_is = rw (append-nil before, is) (sym w.2) }
   by (inr w) = record { shares = OverLimit fields ∷ []; are = (inr (run, refl), w.0, tt); fields = refl; units = refl; open_is = rw (append-nil before, is) (sym w.1) }
 
--- a field after which no run is open ends all segments of a unit
+-- if a field ends all segments of a unit, and the fields after it have their shares, all of them have their shares
 with-all : (limit : ℕ) (before fs : List (List ℕ)) (f : List ℕ) (fields : List (List ℕ)) (so_far : Run) → AreAllSegments fields → unit_at before f ≡ bounded (joined_bodies fields)
     → fields ≡ fields_so_far so_far ++ f ∷ [] → Parted limit (before ++ f ∷ []) fs None → Parted limit before (f ∷ fs) so_far
 with-all limit before fs f fields so_far all unit are next = by (fits limit (joined_bodies fields)) where
@@ -97,7 +97,7 @@ with-all limit before fs f fields so_far all unit are next = by (fits limit (joi
   by (inl w) = record { shares = Ended fields ∷ next.shares; are = (all, (w.0, w.1), next.are); fields = order; units = rw (unit, w.2, next.units) refl; open_is = still }
   by (inr w) = record { shares = OverLimit fields ∷ next.shares; are = (inl all, w.0, next.are); fields = order; units = rw (unit, w.1, next.units) refl; open_is = still }
 
--- a field that ends no unit
+-- if a field ends no unit, and the fields after it have their shares, all of them have their shares
 with-none : (limit : ℕ) (before fs : List (List ℕ)) (f : List ℕ) (so_far later : Run) → unit_at before f ≡ None → fields_so_far later ≡ fields_so_far so_far ++ f ∷ []
     → Parted limit (before ++ f ∷ []) fs later → Parted limit before (f ∷ fs) so_far
 with-none limit before fs f so_far later unit are next = record {
@@ -108,7 +108,7 @@ with-none limit before fs f so_far later unit are next = record {
   open_is = next.open_is ∙ ap (λ (x : List (List ℕ)). at_most limit (open_run x)) (append_assoc before (f ∷ []) fs);
 }
 
--- a segment for which no run is open
+-- if a segment comes when no run is open, and the fields after it have their shares, all of them have their shares
 with-lone : (limit : ℕ) (before fs : List (List ℕ)) (f : List ℕ) → IsPart Continuing f ⊎ IsPart Last f → unit_at before f ≡ None → Parted limit (before ++ f ∷ []) fs None → Parted limit before (f ∷ fs) None
 with-lone limit before fs f part unit next = record {
   shares = WithoutRun f ∷ next.shares;

@@ -1,4 +1,4 @@
--- A CLCW reports how many Type-AD frames were accepted in its era.
+-- The report value of a CLCW shows how many Type-AD frames were accepted in its era.
 use Rattle.tc_channel.proofs.Names.{◌≡◌, ℕ, ◌+◌, ◌<◌, List, length, ap, ◌∙◌, arith, Report, Settings, Event, run_within, IsLawfulWithin}
 use Rattle.std.specs.Prelude.{◌%◌}
 use Rattle.tc_link.specs.declared.Link.{Link}

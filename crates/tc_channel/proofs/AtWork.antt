@@ -1,4 +1,4 @@
--- What a channel works with, over what rooms add to it.
+-- The core of a channel, with the facts that its rooms add.
 use Rattle.tc_channel.proofs.Names.{◌≡◌, ℕ, ◌<◌, Bool, true, false, cond, eqb, nat_lt, List, [], ◌∷◌, ◌++◌, length, drop, Option, Some, None, refl, sym, ap, subst, ◌∙◌, arith, slice_get, IsSome, option_map, HoldsWithin, at_most, run_left, run_at, Settings, Event, Take, TakeUnit, AreRuns, first_of, Service, Bd, Store, open_runs, limit_at, StoredQueue, queue_for, oldest_for, popped, shorter, Keyed, rings_in, room_sizes, AreCommitted, Ad, no_limits, stored, ring_in, run_within, length-map, QueueSetting, MapSetting}
 use Rattle.tc_channel.specs.ChannelCore.{HaveLimits, inside_of, CanPassOn, GoOn, KeepRooms, Parts, HoldsInRooms, AreChannelCore}
 use Rattle.tc_channel.specs.Copying.{copied_out}
@@ -16,11 +16,11 @@ nothing-left : (segmented : Bool) → run_left segmented [] ≡ None
 nothing-left true = refl
 nothing-left false = refl
 
--- no run is open at first
+-- no run is open at the start
 pub none-open : (limits : ℕ → ℕ) (store : Store) (segmented : Bool) → store.segmented ≡ segmented → ((place : ℕ) → run_at (open_runs store).runs place ≡ None) → AreRuns limits (open_runs store) segmented []
 none-open limits store segmented is none = record { segmented = is; runs = λ service map_id small. ap (at_most (limits map_id)) (nothing-left store.segmented) ∙ sym (none (place_of service map_id)) }
 
--- without limits by MAP each stream has the largest
+-- without limits by MAP, each stream has the limit of the largest unit
 pub without-limits : (store : Store) → ((place : ℕ) → place < 128 → limit_at store place ≡ 65542) → HaveLimits no_limits store
 unfolding no_limits
 without-limits store are = λ service map_id inside. are (place_of service map_id) (below service map_id inside) where
@@ -28,7 +28,7 @@ without-limits store are = λ service map_id inside. are (place_of service map_i
   below Ad map_id inside = omega arith
   below Bd map_id inside = omega arith
 
--- the oldest field, where there is one
+-- the oldest field is the first one, if there is one
 pub first-is : (xs : List (List ℕ)) (x : List ℕ) → Some x ≡ slice_get xs 0 → (x ≡ first_of xs) × (0 < length xs)
 first-is [] x is = absurd cc
 first-is (y ∷ ys) x is = (let e : x ≡ y = cc in e, omega arith)
@@ -45,14 +45,14 @@ pub on-err : {T E : Type 0} (r : Result T E) (P : Type 0) → P → OnErr r P
 on-err (Ok x) P p = tt
 on-err (Err e) P p = p
 
--- the reply to a take, by the queues
+-- the reply to a take is the oldest item that waits in the queues
 pub packet-is : {limits : ℕ → ℕ} {s : Settings} {journal : List Event} {parts : Parts} (apid : ℕ) → HoldsInRooms limits s journal parts → take_reply_within limits s journal apid ≡ oldest_for apid (rings_in parts.queues)
 packet-is apid k = ap oldest (packets-wait apid k.holds)
 
 pub unit-is : {limits : ℕ → ℕ} {s : Settings} {journal : List Event} {parts : Parts} (map_id : ℕ) → HoldsInRooms limits s journal parts → unit_reply_within limits s journal map_id ≡ oldest_for map_id (rings_in parts.units)
 unit-is map_id k = ap oldest (units-wait map_id k.holds)
 
--- there are as many queues as the settings have
+-- the number of queues is the number of queues in the settings
 pub queue-count : {limits : ℕ → ℕ} {s : Settings} {journal : List Event} {parts : Parts} → HoldsInRooms limits s journal parts → length parts.queues ≡ length s.queues
 queue-count {limits} {s} {journal} {parts} k =
     sym (length-map parts.queues ring_in) ∙ ap length k.holds.queues ∙ length-map (run_within limits s journal).queues stored
@@ -63,7 +63,7 @@ unit-count {limits} {s} {journal} {parts} k =
     sym (length-map parts.units ring_in) ∙ ap length k.holds.units ∙ length-map (run_within limits s journal).units stored
     ∙ sym (length-map (run_within limits s journal).units key_and_capacity) ∙ ap length (units-are limits s journal) ∙ length-map s.maps (λ (m : MapSetting). (m.map, m.capacity))
 
--- such a core can pass a data field on
+-- a core that belongs to a run can pass on a data field
 pub can-pass : {limits : ℕ → ℕ} {s : Settings} {journal : List Event} {parts : Parts} → HoldsInRooms limits s journal parts → CanPassOn parts.store parts.queues parts.units
 can-pass k = record {
   small = k.small;
@@ -75,11 +75,12 @@ can-pass k = record {
   units_committed = k.units_committed;
 }
 
--- what wasn't touched is kept
+-- if nothing was touched, limits and rooms are kept
 pub none-touched : (store : Store) (queues units : List Keyed) → CanPassOn store queues units → KeepRooms store queues units store queues units
 none-touched store queues units k = record { limits_are = λ _. refl; segmented = refl; sizes = refl; unit_sizes = refl; committed = k.committed; units_committed = k.units_committed }
 
--- what a step leaves, where rooms and limits are as before and nothing is staged that doesn't count
+-- If the parts after a step belong to the longer journal, and the rooms and limits are as before, and nothing is staged
+-- that doesn't count, then the core with its rooms belongs to the longer journal.
 pub holds-on : {limits : ℕ → ℕ} {s : Settings} {journal : List Event} {parts : Parts} (next : List Event) (later : Parts) → HoldsInRooms limits s journal parts → HoldsWithin limits s next (inside_of later)
     → later.fields.size ≡ parts.fields.size → later.fields.staged ≡ [] → KeepRooms parts.store parts.queues parts.units later.store later.queues later.units → HoldsInRooms limits s next later
 holds-on next later k holds size fields rooms = record {
@@ -94,13 +95,13 @@ holds-on next later k holds size fields rooms = record {
   unit_sizes = λ place inside. rw (rooms.unit_sizes, rooms.limits_are place, rooms.segmented) (k.unit_sizes place inside);
 }
 
--- the queues were changed, with rooms as large as before
+-- this also holds if only the queues were changed, and their rooms are as large as before
 with-queues : {limits : ℕ → ℕ} {s : Settings} {journal : List Event} {parts : Parts} (next : List Event) (queues units : List Keyed) → HoldsInRooms limits s journal parts → HoldsWithin limits s next (inside_of (record parts { queues = queues; units = units }))
     → room_sizes queues ≡ room_sizes parts.queues → room_sizes units ≡ room_sizes parts.units → AreCommitted queues → AreCommitted units → HoldsInRooms limits s next (record parts { queues = queues; units = units })
 with-queues {parts = parts} next queues units k holds sizes unit_sizes committed units_committed = holds-on next (record parts { queues = queues; units = units }) k holds refl k.fields_committed
     (record { limits_are = λ _. refl; segmented = refl; sizes = sizes; unit_sizes = unit_sizes; committed = committed; units_committed = units_committed })
 
--- the oldest packet was taken, and its room is free
+-- if the oldest packet was taken, and its room is free, the core belongs to the journal with this take
 pub packet-taken : {limits : ℕ → ℕ} {s : Settings} {journal : List Event} {parts : Parts} (later : List Keyed) (apid : ℕ)
     → HoldsInRooms limits s journal parts → IsSome (oldest_for apid (rings_in parts.queues)) → rings_in later ≡ popped apid (rings_in parts.queues)
     → room_sizes later ≡ room_sizes parts.queues → (AreCommitted parts.queues → AreCommitted later) → HoldsInRooms limits s (journal ++ Take apid ∷ []) (record parts { queues = later })
@@ -108,7 +109,7 @@ packet-taken {journal = journal} {parts = parts} later apid k has is same still 
     let item = some-item (oldest_for apid (rings_in parts.queues)) has in
     with-queues (journal ++ Take apid ∷ []) later parts.units k (take-keeps (rings_in later) apid item.0 k.holds item.1 is) same refl (still k.committed) k.units_committed
 
--- the oldest unit was taken
+-- if the oldest unit was taken, and its room is free, the core belongs to the journal with this take
 pub unit-taken : {limits : ℕ → ℕ} {s : Settings} {journal : List Event} {parts : Parts} (later : List Keyed) (map_id : ℕ)
     → HoldsInRooms limits s journal parts → IsSome (oldest_for map_id (rings_in parts.units)) → rings_in later ≡ popped map_id (rings_in parts.units)
     → room_sizes later ≡ room_sizes parts.units → (AreCommitted parts.units → AreCommitted later) → HoldsInRooms limits s (journal ++ TakeUnit map_id ∷ []) (record parts { units = later })
@@ -116,7 +117,7 @@ unit-taken {journal = journal} {parts = parts} later map_id k has is same still 
     let item = some-item (oldest_for map_id (rings_in parts.units)) has in
     with-queues (journal ++ TakeUnit map_id ∷ []) parts.queues later k (take-unit-keeps (rings_in later) map_id item.0 k.holds item.1 is) refl same k.committed (still k.units_committed)
 
--- where no item waits, none is dropped
+-- if no item waits, none is dropped
 nothing-shorter : (w : StoredQueue) → slice_get w.ring.items 0 ≡ None → shorter w ≡ w
 nothing-shorter w none = by w.ring.items refl none where
   by : (items : List (List ℕ)) → w.ring.items ≡ items → slice_get items 0 ≡ None → shorter w ≡ w
@@ -130,7 +131,7 @@ popped-none key (w ∷ ws) none = by (eqb w.key key) (λ e. popped-none key ws e
   by true rest e = ap (λ (x : StoredQueue). x ∷ ws) (nothing-shorter w e)
   by false rest e = ap (λ (x : List StoredQueue). w ∷ x) (rest e)
 
--- with the oldest packet taken, if one waited, it is the core of some channel
+-- whether or not an oldest packet was taken, the core is that of some channel
 pub queues-work : (parts : Parts) (later : List Keyed) (apid : ℕ) → AreChannelCore parts → rings_in later ≡ popped apid (rings_in parts.queues)
     → room_sizes later ≡ room_sizes parts.queues → (AreCommitted parts.queues → AreCommitted later) → AreChannelCore (record parts { queues = later })
 queues-work parts later apid w is same still = by (oldest_for apid (rings_in parts.queues)) refl where
@@ -138,7 +139,7 @@ queues-work parts later apid w is same still = by (oldest_for apid (rings_in par
   by None none = (w.0, w.1, w.2, with-queues w.2 later parts.units w.3 (rw (is ∙ popped-none apid (rings_in parts.queues) none) w.3.holds) same refl (still w.3.committed) w.3.units_committed)
   by (Some item) some = (w.0, w.1, w.2 ++ Take apid ∷ [], packet-taken later apid w.3 (rw some refl) is same still)
 
--- the same of the oldest unit
+-- whether or not an oldest unit was taken, the core is that of some channel
 pub units-work : (parts : Parts) (later : List Keyed) (map_id : ℕ) → AreChannelCore parts → rings_in later ≡ popped map_id (rings_in parts.units)
     → room_sizes later ≡ room_sizes parts.units → (AreCommitted parts.units → AreCommitted later) → AreChannelCore (record parts { units = later })
 units-work parts later map_id w is same still = by (oldest_for map_id (rings_in parts.units)) refl where
@@ -146,14 +147,14 @@ units-work parts later map_id w is same still = by (oldest_for map_id (rings_in 
   by None none = (w.0, w.1, w.2, with-queues w.2 parts.queues later w.3 (rw (is ∙ popped-none map_id (rings_in parts.units) none) w.3.holds) refl same w.3.committed (still w.3.units_committed))
   by (Some item) some = (w.0, w.1, w.2 ++ TakeUnit map_id ∷ [], unit-taken later map_id w.3 (rw some refl) is same still)
 
--- a call that was refused leaves them as they were but for what doesn't count
+-- a call that was refused leaves the core as it was, apart from items that don't count
 pub still-holds : {limits : ℕ → ℕ} {s : Settings} {journal : List Event} {parts : Parts} (store : Store) (queues units : List Keyed)
     → HoldsInRooms limits s journal parts → open_runs store ≡ open_runs parts.store → rings_in queues ≡ rings_in parts.queues → rings_in units ≡ rings_in parts.units
     → KeepRooms parts.store parts.queues parts.units store queues units → HoldsInRooms limits s journal (record parts { store = store; queues = queues; units = units })
 still-holds {journal = journal} {parts = parts} store queues units k runs_are queues_are units_are rooms =
     holds-on journal (record parts { store = store; queues = queues; units = units }) k (rw (runs_are, queues_are, units_are) k.holds) refl k.fields_committed rooms
 
--- where an item was copied out, one waited
+-- if an item was copied out, an item waited
 copied-waits : (room key : ℕ) (ws : List StoredQueue) → OnOk (copied_out room (items_for key ws)) (IsSome (oldest_for key ws))
 copied-waits room key ws = by (items_for key ws) where
   over : (item : List ℕ) (t : Bool) → OnOk (cond t (Err (NoRoom (length item))) (Ok (length item))) (IsSome (Some item))
@@ -176,7 +177,7 @@ pub unit-copied : (parts : Parts) (later : List Keyed) (room map_id : ℕ) (answ
 unit-copied parts later room map_id (Err fault) reply is same still = tt
 unit-copied parts later room map_id (Ok count) reply is same still = λ limits s journal k. unit-taken later map_id k (rw (← reply) at (copied-waits room map_id (rings_in parts.units))) is same still
 
--- so it is the core of some channel
+-- in both cases the core is that of some channel
 pub queues-copied : (P : Type 0) (parts : Parts) (later : List Keyed) (apid : ℕ) (answer : Result ℕ NotCopied) → AreChannelCore parts → OnOk answer (rings_in later ≡ popped apid (rings_in parts.queues))
     → room_sizes later ≡ room_sizes parts.queues → (AreCommitted parts.queues → AreCommitted later) → OnErr answer ((later ≡ parts.queues) × P) → AreChannelCore (record parts { queues = later })
 queues-copied P parts later apid (Ok count) w is same still kept = queues-work parts later apid w is same still

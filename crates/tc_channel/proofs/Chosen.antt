@@ -1,4 +1,4 @@
--- Which units are delivered whole.
+-- The units that are delivered whole.
 use Rattle.tc_channel.proofs.Names.{◌≡◌, ◌≢◌, ◌<◌, ℕ, cond, take, ◌++◌, zero, suc, Bool, true, false, List, [], ◌∷◌, length, map, get_or, Option, Some, refl, sym, ap, ◌∙◌, inl, inr, arith, is_some, Any, ◌↔◌, IsTrue, eqb_tells, nat_tests, eq-eqb, ne_eqb, append-nil, take_all, Service, Settings, MapSetting, Event, ChannelState, Queue, queue_of, map_of, is_for, is_of_map, is_chosen, packets_offered, units_offered, with_share, room_of, run_within, unit_of, passed_on, take-nil}
 use Rattle.tc_channel.specs.Laws.{IsOfChosenMap, has_room_for_one}
 use Rattle.tc_channel.proofs.StateQueues.{keys, unit-keys-stay}
@@ -20,7 +20,7 @@ pub packets-only : (b : ChannelState) (service : Service) (field : List ℕ) →
 unfolding passed_on
 packets-only b service field other = rw (no-units (unit_of b service field) (is_chosen b field) other) (shares-none (is_of_map (map_of field)) b.units)
 
--- a queue with a key is there where a setting has it
+-- there is a queue with a key exactly when a setting has the key
 by-settings : (key : ℕ) (qs : List Queue) (ms : List MapSetting) → keys qs ≡ map (λ (m : MapSetting). m.map) ms → (is_some (queue_of key qs) ≡ true → Any (λ (m : MapSetting). m.map ≡ key) ms) × (Any (λ (m : MapSetting). m.map ≡ key) ms → is_some (queue_of key qs) ≡ true)
 by-settings key [] [] e = (λ is. absurd cc, λ any. absurd (let lt = any.2 in omega arith))
 by-settings key (q ∷ qs) (m ∷ ms) e =
@@ -43,7 +43,7 @@ by-settings key _ _ e = absurd cc
 pub chosen-by-settings : (limits : ℕ → ℕ) (c : Settings) (journal : List Event) (field : List ℕ) → IsTrue (is_chosen (run_within limits c journal) field) ↔ IsOfChosenMap c field
 chosen-by-settings limits c journal field = by-settings (map_of field) (run_within limits c journal).units c.maps (unit-keys-stay limits c journal)
 
--- by the room that there is
+-- a unit is kept exactly when its queue has room
 pub one-kept : (q : Queue) (unit : List ℕ) → with_share (is_of_map q.key) (unit ∷ []) q ≡ cond (has_room_for_one q) (record q { admitted = q.admitted ++ unit ∷ [] }) q
 one-kept q unit = rw (eq-eqb q.key q.key refl) (by (has_room_for_one q) refl) where
   by : (t : Bool) → has_room_for_one q ≡ t → record q { admitted = q.admitted ++ take (room_of q) (unit ∷ []) } ≡ cond t (record q { admitted = q.admitted ++ unit ∷ [] }) q

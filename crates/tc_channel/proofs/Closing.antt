@@ -1,4 +1,5 @@
--- Sets of lemmas that close goals without an answer: of laws, by the file of src/ in which these stand, and of calls.
+-- Sets of lemmas that close goals without an answer: those of laws, by the file of src/ that has the laws, and those of
+-- calls.
 use Rattle.tc_channel.proofs.Names.{map-set_same}
 use Rattle.tc_channel.proofs.Runs.{run-append, lawful-before, lawful-after}
 use Rattle.tc_channel.proofs.Chosen.{whole-only, packets-only, one-kept, others-stay, chosen-by-settings}

@@ -1,21 +1,21 @@
--- What is staged in the queues is of the packets of a unit.
+-- Everything that is staged in the queues is of the packets of a unit.
 use Rattle.tc_channel.proofs.Names.{◌≡◌, ℕ, zero, suc, ◌<◌, true, false, List, [], ◌∷◌, length, map, get_or, ◌⊎◌, inl, inr, refl, sym, ap, subst, ◌∙◌, arith, set, append-nil, is_for, keys_of, AreDistinct, slotted, Keyed, rings_in, AreCommitted, committed, IsAmong, AreStagedOf}
 use Rattle.tc_channel.proofs.Counted.{for-one}
 use Rattle.tc_channel.proofs.Passes.{NoneFor, apart-at, none-others}
 use Rattle.tc_channel.proofs.Tables.{keys-length}
 
--- at the start nothing is staged
+-- at the start nothing is staged, so that it is of any packets
 pub none-staged : (qs : List Keyed) (ps : List (List ℕ)) → AreCommitted qs → AreStagedOf ps qs
 none-staged [] ps all = tt
 none-staged (q ∷ qs) ps all = (inl all.0, none-staged qs ps all.1)
 
--- a packet of them is staged in the queue that it is for
+-- if a packet is staged in the queue that it is for, everything staged still is of the packets
 pub staged-at : (qs : List Keyed) (i k : ℕ) (q next : Keyed) (ps : List (List ℕ)) → i < length qs → q ≡ get_or qs i q → next.key ≡ q.key → k ≡ get_or (keys_of (rings_in qs)) i k → IsAmong k ps → AreStagedOf ps qs → AreStagedOf ps (set qs i next)
 staged-at [] i k q next ps inside is key k_is among all = tt
 staged-at (r ∷ qs) zero k q next ps inside is key k_is among all = (inr (subst (λ (x : ℕ). IsAmong x ps) (k_is ∙ sym (key ∙ ap (λ (x : Keyed). x.key) is)) among), all.1)
 staged-at (r ∷ qs) (suc i) k q next ps inside is key k_is among all = (all.0, staged-at qs i k q next ps (omega arith) is key k_is among all.1)
 
--- behind the last packet nothing is staged
+-- after the last packet nothing is staged
 pub all-committed-of : (qs : List Keyed) → AreStagedOf [] qs → AreCommitted qs
 all-committed-of [] all = tt
 all-committed-of (q ∷ qs) all = (by all.0, all-committed-of qs all.1) where
@@ -23,7 +23,7 @@ all-committed-of (q ∷ qs) all = (by all.0, all-committed-of qs all.1) where
   by (inl none) = none
   by (inr among) = absurd among
 
--- where nothing is staged, all counts
+-- if nothing is staged, committing changes nothing
 pub committed-same : (qs : List Keyed) → AreCommitted qs → map committed qs ≡ qs
 committed-same [] all = refl
 committed-same (q ∷ qs) all =
@@ -31,7 +31,7 @@ committed-same (q ∷ qs) all =
     let one : committed q ≡ q = rw all.0 (ap (λ (xs : List (List ℕ)). record { key = q.key; slots = slotted xs q.slots.ring.capacity [] q.slots.size }) whole) ∙ ap (λ (l : List (List ℕ)). record { key = q.key; slots = slotted q.slots.ring.items q.slots.ring.capacity l q.slots.size }) (sym all.0) in
     ap (λ (x : Keyed). x ∷ map committed qs) one ∙ ap (λ (x : List Keyed). q ∷ x) (committed-same qs all.1)
 
--- what counts once counts the same twice
+-- committing twice does the same as committing once
 committed-twice : (q : Keyed) → committed (committed q) ≡ committed q
 committed-twice q = ap (λ (xs : List (List ℕ)). record { key = q.key; slots = slotted xs q.slots.ring.capacity [] q.slots.size }) (append-nil (committed q).slots.ring.items)
 
@@ -40,7 +40,7 @@ committed-one [] i q next is next_is = refl
 committed-one (r ∷ qs) zero q next is next_is = ap (λ (x : Keyed). x ∷ map committed qs) (ap committed next_is ∙ committed-twice q ∙ ap committed is)
 committed-one (r ∷ qs) (suc i) q next is next_is = ap (λ (x : List Keyed). committed r ∷ x) (committed-one qs i q next is next_is)
 
--- no queue takes this packet
+-- if a queue doesn't take this packet, its staged items are of the packets that are left
 passed-over : (q : Keyed) (p : List ℕ) (ps : List (List ℕ)) → is_for q.key p ≡ false → (q.slots.staged ≡ []) ⊎ IsAmong q.key (p ∷ ps) → (q.slots.staged ≡ []) ⊎ IsAmong q.key ps
 passed-over q p ps other (inl none) = inl none
 passed-over q p ps other (inr (inl for_it)) = absurd cc
@@ -50,7 +50,7 @@ pub passed-none : (qs : List Keyed) (p : List ℕ) (ps : List (List ℕ)) → No
 passed-none [] p ps none all = tt
 passed-none (q ∷ qs) p ps none all = (passed-over q p ps none.0 all.0, passed-none qs p ps none.1 all.1)
 
--- the queue of this packet counts what was staged
+-- once the queue of this packet is committed, the staged items are of the packets that are left
 pub passed-one : (qs : List Keyed) (i k : ℕ) (q next : Keyed) (p : List ℕ) (ps : List (List ℕ)) → AreDistinct (keys_of (rings_in qs)) → i < length qs → q ≡ get_or qs i q → next ≡ committed q → k ≡ get_or (keys_of (rings_in qs)) i k
     → is_for k p ≡ true → AreStagedOf (p ∷ ps) qs → AreStagedOf ps (set qs i next)
 passed-one [] i k q next p ps distinct inside is next_is k_is for_it all = tt

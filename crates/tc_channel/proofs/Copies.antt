@@ -33,7 +33,7 @@ copies-places wanted n place ps [] le = tt
 copies-places wanted n place ps (w ∷ ws) le =
     places-append n (map (copied_to place) (share wanted ps w)) (copies_from wanted (place + 1) ps ws) (places-map n place (share wanted ps w) (omega arith)) (copies-places wanted n (place + 1) ps ws (omega arith))
 
--- how many copies there are
+-- the number of copies is the sum of the shares
 pub length-copies : (wanted : ℕ → List ℕ → Bool) (place : ℕ) (ps : List (List ℕ)) (ws : List StoredQueue) → length (copies_from wanted place ps ws) ≡ sum_by length (map (share wanted ps) ws)
 length-copies wanted place ps [] = refl
 length-copies wanted place ps (w ∷ ws) =
@@ -44,7 +44,7 @@ put-at : (done : List StoredQueue) (w : StoredQueue) (ws : List StoredQueue) (p 
 put-at [] w ws p = refl
 put-at (d ∷ done) w ws p = ap (λ (x : List StoredQueue). d ∷ x) (put-at done w ws p)
 
--- a queue with room forgets nothing
+-- a queue with room forgets no item when one more is put into it
 pub longer-fits : (w : StoredQueue) (p : List ℕ) → length w.ring.items < w.ring.capacity → longer w p ≡ with_items w (p ∷ [])
 longer-fits w p fits =
     let l = length-append w.ring.items (p ∷ []) in
@@ -61,7 +61,7 @@ put-share done w ws (p ∷ ps) others fits =
     ap (λ (x : List StoredQueue). put_all x (map (copied_to (length done)) ps ++ others)) longer_is
     ∙ rest ∙ ap (λ (x : List (List ℕ)). put_all (done ++ record w { ring = ring_of x w.ring.capacity } ∷ ws) others) (append_assoc w.ring.items (p ∷ []) ps)
 
--- no queue holds more than it has room for
+-- no queue holds more items than it has room for
 abbrev pub Fit : List StoredQueue → Type 0
 Fit ws = AllByRecursion (λ (w : StoredQueue). length w.ring.items ≤ w.ring.capacity) ws
 
@@ -76,11 +76,11 @@ put-copies wanted done ps (w ∷ ws) place at fit =
     let rest = put-copies wanted (done ++ w' ∷ []) ps ws (place + 1) (omega arith) fit.1 in
     one ∙ ap (λ (x : List StoredQueue). put_all x (copies_from wanted (place + 1) ps ws)) (sym (append_assoc done (w' ∷ []) ws)) ∙ rest ∙ append_assoc done (w' ∷ []) (map (λ (x : StoredQueue). with_items x (share wanted ps x)) ws)
 
--- each queue has its share
+-- once the copies are put, each queue has its share
 pub shares-put : (wanted : ℕ → List ℕ → Bool) (ps : List (List ℕ)) (ws : List StoredQueue) → Fit ws → put_all ws (copies_from wanted 0 ps ws) ≡ map (λ (w : StoredQueue). with_items w (share wanted ps w)) ws
 shares-put wanted ps ws fit = put-copies wanted [] ps ws 0 refl fit
 
--- no item, no copy
+-- no copies are made of no items
 pub copies-none : (wanted : ℕ → List ℕ → Bool) (place : ℕ) (ws : List StoredQueue) → copies_from wanted place [] ws ≡ []
 copies-none wanted place [] = refl
 copies-none wanted place (w ∷ ws) = rw (take-nil {A = List ℕ} (w.ring.capacity - length w.ring.items), copies-none wanted (place + 1) ws) refl

@@ -1,4 +1,4 @@
--- Queues with distinct keys take no item twice, where one key alone wants it.
+-- Queues with distinct keys take no item twice, if each item is wanted by one key alone.
 use Rattle.tc_channel.proofs.Names.{◌≡◌, ◌≢◌, ℕ, ◌+◌, ◌-◌, ◌≤◌, Bool, true, false, cond, eqb, ◌&&◌, List, [], ◌∷◌, length, map, filter, refl, inl, inr, arith, AllByRecursion, sum_by, length-take, sum_by-cons, eqb_tells, apid_of, is_telecommand, is_for, StoredQueue, share, keys_of, AreDistinct}
 
 abbrev meant : (ℕ → List ℕ → Bool) → List (List ℕ) → ℕ → ℕ
@@ -20,11 +20,11 @@ sums-cons wanted p ps (a ∷ keys) =
     let one = meant-cons wanted p ps a in
     omega (arith, sum_by-cons (meant wanted (p ∷ ps)) a keys, sum_by-cons (hit wanted p) a keys, sum_by-cons (meant wanted ps) a keys)
 
--- what is wanted by one key is wanted by no other
+-- an item that one key wants is wanted by no other key
 abbrev pub IsForOneKey : (ℕ → List ℕ → Bool) → Type 0
 IsForOneKey wanted = (a b : ℕ) (p : List ℕ) → wanted a p ≡ true → a ≢ b → wanted b p ≡ false
 
--- a packet has one APID
+-- a packet has one APID, so it is wanted by one key alone
 pub for-one : IsForOneKey is_for
 for-one a b p h apart = elim (eqb_tells (apid_of p) a) [
   | inl one ↦ elim (eqb_tells (apid_of p) b) [

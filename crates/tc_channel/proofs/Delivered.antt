@@ -1,4 +1,5 @@
--- How many packets of a unit are queued and dropped, or whether it is as a whole, and that queues which are given the same packet have the same APID.
+-- The packets of a unit that are queued and dropped, or the whole unit, add up. Queues that are given the same packet
+-- have the same APID.
 use Rattle.tc_channel.proofs.Names.{◌≡◌, ℕ, ◌+◌, ◌≤◌, Bool, true, false, eqb, List, [], ◌∷◌, length, map, filter, Option, Some, None, refl, sym, subst, ◌∙◌, arith, All, ne_eqb, Settings, Event, Delivery, ChannelState, Queue, map_of, is_chosen, is_for, is_of_map, packets_offered, units_offered, queued_of, room_of, share_of, apid_of, is_telecommand, packets_of, delivered, delivery_of, run_within, IsAllowed, keys_of, stored, AreDistinct}
 use Rattle.std.specs.List.{Contains}
 use Rattle.std.proofs.lemmas.Bool.{and_parts, eqb-true}
@@ -8,13 +9,13 @@ use Rattle.tc_channel.proofs.Shares.{queued-is}
 use Rattle.tc_channel.proofs.StateQueues.{keys, queues-apart, units-apart}
 use Rattle.tc_channel.proofs.Takes.{same-keys}
 
--- no more are queued than there are
+-- no more items are queued than there are
 queued-few : (wanted : ℕ → List ℕ → Bool) → IsForOneKey wanted → (items : List (List ℕ)) (qs : List Queue) → AreDistinct (keys qs) → queued_of wanted items qs ≤ length items
 queued-few wanted alone items qs apart =
     let distinct : AreDistinct (keys_of (map stored qs)) = rw (same-keys qs) apart in
     omega (arith, queued-within wanted alone items (map stored qs) distinct, queued-is wanted items qs)
 
--- a unit has one MAP
+-- a unit has one MAP, so it is wanted by one key alone
 for-one-map : (map_id : ℕ) → IsForOneKey (is_of_map map_id)
 for-one-map map_id a b unit h apart = ne_eqb b map_id (λ e. apart (eqb-true a map_id h ∙ sym e))
 
@@ -33,7 +34,7 @@ all-reported limits s journal field (Some unit) allowed = by (is_chosen b field)
   by true = omega (arith, queued-few is_for for-one [] b.queues (queues-apart limits s journal allowed), queued-few (is_of_map (map_of field)) (for-one-map (map_of field)) (unit ∷ []) b.units (units-apart limits s journal allowed))
   by false = omega (arith, queued-few is_for for-one (packets_of unit) b.queues (queues-apart limits s journal allowed), queued-few (is_of_map (map_of field)) (for-one-map (map_of field)) [] b.units (units-apart limits s journal allowed))
 
--- what a queue is given has its APID
+-- a packet that a queue is given has the queue's APID
 share-apid : (packets : List (List ℕ)) (q : Queue) (packet : List ℕ) → Contains (share_of is_for packets q) packet → apid_of packet ≡ q.key
 share-apid packets q packet given =
     let each : All (λ (p : List ℕ). is_for q.key p ≡ true) (share_of is_for packets q) =

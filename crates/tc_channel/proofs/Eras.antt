@@ -9,7 +9,7 @@ use Rattle.tc_channel.proofs.Small.{vr-below}
 use Rattle.tc_channel.proofs.Runs.{run-append, run-push, from-first}
 use Rattle.tc_channel.proofs.Lists.{all-drop}
 
--- the frames, counted from n on, are so
+-- each frame, counted from n on, has the property P with its number
 abbrev AreSo : (ℕ → Accepted → Type 0) → ℕ → List Accepted → Type 0
 AreSo P n [] = Unit {0}
 AreSo P n (a ∷ accepted) = P n a × AreSo P (n + 1) accepted
@@ -18,12 +18,12 @@ AreSo-append : (P : ℕ → Accepted → Type 0) (n : ℕ) (xs ys : List Accepte
 AreSo-append P n [] ys h k = subst (λ m. AreSo P m ys) (omega arith) k
 AreSo-append P n (a ∷ xs) ys h k = (h.0, AreSo-append P (n + 1) xs ys h.1 (subst (λ m. AreSo P m ys) (omega arith) k))
 
--- the frame with number n that is accepted by this event is so
+-- a frame that is accepted by this event as number n has the property P
 abbrev IsTakenSo : (ℕ → Accepted → Type 0) → ℕ → ℕ → Event → Type 0
 IsTakenSo P x n (Frame octets) = (header_of octets).bypass ≡ false → (header_of octets).control ≡ false → (header_of octets).ns % 256 ≡ (x + n) % 256 → P n (record { ns = (header_of octets).ns; field = drop 5 octets })
 IsTakenSo P x n _ = Unit {0}
 
--- what is accepted in E1 has the number V(R)
+-- a frame that is accepted in E1 has the number V(R)
 unexpected : (ahead behind room : Bool) → row_at (cond ahead Ahead (cond behind Behind Outside)) room ≢ E1
 unexpected true behind room e = cc
 unexpected false true room e = cc
@@ -96,13 +96,13 @@ all-count : (x n : ℕ) (e : Event) → IsTakenSo (Counts x) x n e
 all-count x n (Frame octets) = λ _ _ is. is
 all-count x n _ = tt
 
--- numbers below 256 are what they are modulo 256
+-- a number below 256 stays the same modulo 256
 numbers-are : (x n : ℕ) (xs : List Accepted) → AreSo (Counts x) n xs → AreFilled xs → (i : ℕ) (a : Accepted) → slice_get xs i ≡ Some a → a.ns ≡ (x + (n + i)) % 256
 numbers-are x n [] h filled i a e = absurd cc
 numbers-are x n (b ∷ xs) h filled zero a e = let q : b ≡ a = cc in rw (← q) (let m = h.0 in let f = filled.0.1 in omega arith)
 numbers-are x n (b ∷ xs) h filled (suc i) a e = numbers-are x (n + 1) xs h.1 filled.1 i a e ∙ ap (λ m. (x + m) % 256) (omega arith)
 
--- later goes on from b, where n frames were accepted, with the next ones
+-- a later state has the accepted frames of b, n in number, and more of them, each with the property P
 record GoesOn (P : ℕ → Accepted → Type 0) (x n : ℕ) (b later : ChannelState) : Type 0 where
   more : List Accepted
   grown : later.accepted ≡ b.accepted ++ more
@@ -178,7 +178,7 @@ era-law limits c journal allowed lawful = λ before later x era.
     } in
     counts
 
--- a journal's era
+-- the journal has an era
 abbrev pub HasEra : (ℕ → ℕ) → Settings → List Event → Type 0
 HasEra limits c journal = (before : List Event) × (later : List Event) × (x : ℕ) × IsEraWithin limits c journal before later x
 
@@ -211,14 +211,14 @@ era-push limits c journal e has = by (set_by c (run_within limits c journal) e) 
 pub each-era : (limits : ℕ → ℕ) (c : Settings) (journal : List Event) → HasEra limits c journal
 each-era limits c journal = from-first (HasEra limits c) (era-push limits c) [] journal ([], [], c.first, record { parts = refl; starts = inl (refl, refl); last = λ i e q. absurd cc })
 
--- what was sent is accepted once and in order
+-- the data fields that were sent are accepted once and in order
 
 sent-at : (sent : ℕ → List ℕ) (n : ℕ) (xs : List Accepted) → AreSo (λ m b. b.field ≡ sent m) n xs → (i : ℕ) (a : Accepted) → slice_get xs i ≡ Some a → a.field ≡ sent (n + i)
 sent-at sent n [] h i a e = absurd cc
 sent-at sent n (b ∷ xs) h zero a e = let q : b ≡ a = cc in rw (← q) (h.0 ∙ ap sent (omega arith))
 sent-at sent n (b ∷ xs) h (suc i) a e = sent-at sent (n + 1) xs h.1 i a e ∙ ap sent (omega arith)
 
--- what the sender sent as number n is accepted as that
+-- a frame that is accepted as number n has the field that the sender sent as number n
 sender-so : (sent : ℕ → List ℕ) (x n : ℕ) (e : Event) → IsOfSender x sent n e → IsTakenSo (λ m a. a.field ≡ sent m) x n e
 sender-so sent x n (Frame octets) from = λ bypass control v.
     let is = from bypass control in is.field ∙ ap sent (let a = is.ns in let o = is.not_old in let w = is.not_new in omega arith)

@@ -1,4 +1,4 @@
--- Which fault settings have, and which they are free of.
+-- The fault that settings have, and the faults that they are free of.
 use Rattle.tc_channel.proofs.Names.{List, [], ◌∷◌, inl, inr, ◌≡◌, ◌≢◌, ℕ, zero, suc, ◌++◌, take, drop, refl, subst, sym, arith, Settings, IsAllowed, All, AllPairs, AllByRecursion}
 use Rattle.tc_channel.specs.declared.settings.SettingsFault.{SettingsFault}
 use Rattle.tc_channel.specs.declared.settings.SettingsFault.TheVariants.{BadVcid, BadWindow, BadBuffer, BadApid, DoubleApid, BadCapacity, BadMap, DoubleMap, BadUnits, PlainMap, NoMemory}
@@ -26,7 +26,7 @@ pub no-fault : (s : Settings) (fault : SettingsFault) → IsAllowed s → IsFaul
 unfolding IsFault
 no-fault s fault = none-first s faults_in_order fault
 
--- ---- which fault settings have: facts on lists of two, and on the faults before it
+-- ---- the fault that settings have: facts on lists of two items, and on the faults before it
 pub both : {A : Type 0} (P : A → Type 0) (one other : A) → P one → P other → All P (one ∷ other ∷ [])
 both P one other p q zero d inside = p
 both P one other p q (suc zero) d inside = q
@@ -44,12 +44,12 @@ two-apart key one other ne _ _ d before inside = absurd (omega arith)
 pub not-two-apart : {A : Type 0} (key : A → ℕ) (one other : A) → key one ≡ key other → ¬ AllPairs (λ p q. key p ≢ key q) (one ∷ other ∷ [])
 not-two-apart key one other same apart = apart 0 1 one (omega arith) (omega arith) same
 
--- the fault is the first one, where the settings are free of those before it
+-- if settings have a fault and are free of those listed before it, it is the first one
 pub first-of : (s : Settings) (before later : List SettingsFault) (fault : SettingsFault) → AllByRecursion (IsFreeOf s) before → ¬ IsFreeOf s fault → IsFirstFault s (before ++ fault ∷ later) fault
 first-of s [] later fault free has = inl (refl, has)
 first-of s (b ∷ before) later fault free has = inr (free.0, first-of s before later fault free.1 has)
 
--- the fault at this place of the list
+-- this also holds for the fault at a place of the list of all faults
 pub is-fault : (s : Settings) (n : ℕ) (fault : SettingsFault) → AllByRecursion (IsFreeOf s) (take n faults_in_order) → ¬ IsFreeOf s fault → faults_in_order ≡ take n faults_in_order ++ fault ∷ drop (suc n) faults_in_order → IsFault s fault
 unfolding IsFault
 is-fault s n fault free has at = subst (λ faults. IsFirstFault s faults fault) (sym at) (first-of s (take n faults_in_order) (drop (suc n) faults_in_order) fault free has)

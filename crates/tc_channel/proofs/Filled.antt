@@ -1,4 +1,4 @@
--- Each accepted frame has a field with an octet, and a number below 256.
+-- Each accepted frame has a field with at least one octet, and a number below 256.
 use Rattle.tc_channel.proofs.Names.{ℕ, ◌<◌, List, [], ◌∷◌, length, map, drop, arith, AllByRecursion, length-drop, HasStep, IsWhole, accepts, Settings, Event, Frame, ChannelState, Accepted, step, row_of, first_of, header_of, passed_on, run_within, IsLawfulWithin}
 use Rattle.tc_channel.proofs.StateQueues.{kept-either}
 use Rattle.tc_channel.proofs.Runs.{keeps}
@@ -10,7 +10,7 @@ IsFilled a = (0 < length a.field) × (a.ns < 256)
 abbrev pub AreFilled : List Accepted → Type 0
 AreFilled xs = AllByRecursion IsFilled xs
 
--- what holds of the field and the number of each whole frame
+-- the field and the number of each whole frame have the property P
 abbrev pub OfWholes : (Accepted → Type 0) → Type 0
 OfWholes P = (octets : List ℕ) → IsWhole octets → P (record { ns = (header_of octets).ns; field = drop 5 octets })
 
@@ -21,7 +21,7 @@ step-each P one c b (Frame octets) has h =
     (all-append P b.accepted (record { ns = (header_of octets).ns; field = drop 5 octets } ∷ []) h (one octets has.0, tt)) h
 step-each P one c b _ has h = h
 
--- holds of each accepted frame
+-- a property that each whole frame has holds for each accepted frame
 pub each-accepted : (P : Accepted → Type 0) → OfWholes P → (limits : ℕ → ℕ) (c : Settings) (journal : List Event) → IsLawfulWithin limits c journal → AllByRecursion P (run_within limits c journal).accepted
 each-accepted P one limits c journal lawful = keeps (λ b. AllByRecursion P b.accepted) limits c journal lawful (step-each P one c) tt
 

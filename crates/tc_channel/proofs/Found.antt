@@ -1,4 +1,4 @@
--- Where a key stands, and what is read and written there.
+-- Finding the place of a key, and reading and writing at that place.
 use Rattle.tc_channel.proofs.Names.{◌≡◌, ◌≢◌, ℕ, zero, suc, ◌<◌, false, List, [], ◌∷◌, length, drop, take, get_or, Option, Some, None, refl, sym, ap, ◌∙◌, arith, set, slice_get, option_map, IsTrue, IsSome, option_and_then, AllByRecursion, eq-eqb, ne_eqb, map-set, get_or-map, keys_of, queue_for, shorter, popped, StoredQueue, oldest_for, slotted, Keyed, ring_in, rings_in, IsFirst}
 use Rattle.std.specs.Prelude.{Err, Result}
 use Rattle.circular_buffer.specs.Buffer.{buffer}
@@ -21,7 +21,7 @@ first-here key [] i q inside is here none = absurd (omega arith)
 first-here key (r ∷ qs) zero q inside is here none = here ∙ ap (λ (x : Keyed). x.key) is
 first-here key (r ∷ qs) (suc i) q inside is here none = (none.0, first-here key qs i q (omega arith) is here none.1)
 
--- what a list of queues has for the key
+-- the queue at the first place of a key is the one that is found for the key
 pub found : (key i : ℕ) (ws : List StoredQueue) (w : StoredQueue) → IsFirst key i (keys_of ws) → w ≡ get_or ws i w → queue_for key ws ≡ Some w
 found key i [] w first is = absurd first
 found key zero (v ∷ ws) w first is = rw (eq-eqb v.key key (sym first)) (ap (λ (x : StoredQueue). Some x) (sym is))
@@ -43,18 +43,18 @@ popped-none key (w ∷ ws) none = rw (ne_eqb w.key key (λ e. none.0 (sym e))) (
 ring-at : (qs : List Keyed) (i : ℕ) (q : Keyed) → i < length qs → q ≡ get_or qs i q → ring_in q ≡ get_or (rings_in qs) i (ring_in q)
 ring-at qs i q inside is = ap ring_in is ∙ sym (get_or-map ring_in qs i q (ring_in q) inside)
 
--- the queue at its place
+-- this also holds for queues in rooms
 pub found-in : (key i : ℕ) (qs : List Keyed) (q : Keyed) → i < length qs → q ≡ get_or qs i q → IsFirst key i (keys_of (rings_in qs)) → queue_for key (rings_in qs) ≡ Some (ring_in q)
 found-in key i qs q inside is first = found key i (rings_in qs) (ring_in q) first (ring-at qs i q inside is)
 
--- its oldest item is dropped
+-- if its oldest item is dropped, the queues are those without this item
 pub popped-in : (key i : ℕ) (qs : List Keyed) (q next : Keyed) → i < length qs → q ≡ get_or qs i q → next.key ≡ q.key
     → next.slots ≡ slotted (drop 1 q.slots.ring.items) q.slots.ring.capacity q.slots.staged q.slots.size → IsFirst key i (keys_of (rings_in qs)) → rings_in (set qs i next) ≡ popped key (rings_in qs)
 popped-in key i qs q next inside is key_is slots first =
     let ring_is : ring_in next ≡ shorter (ring_in q) = rw (key_is, slots) refl in
     map-set ring_in qs i next ∙ ap (λ (x : StoredQueue). set (rings_in qs) i x) ring_is ∙ sym (popped-first key i (rings_in qs) (ring_in q) first (ring-at qs i q inside is))
 
--- where none waits, nothing is dropped
+-- if no item waits, dropping the oldest one changes nothing
 drop-none : (xs : List (List ℕ)) → length xs ≡ 0 → drop 1 xs ≡ xs
 drop-none [] none = refl
 drop-none (x ∷ xs) none = absurd (omega arith)
@@ -69,7 +69,7 @@ popped-empty key (suc i) (v ∷ ws) w first is none = rw (ne_eqb v.key key (λ e
 pub empty-in : (key i : ℕ) (qs : List Keyed) (q : Keyed) → i < length qs → q ≡ get_or qs i q → length q.slots.ring.items ≡ 0 → IsFirst key i (keys_of (rings_in qs)) → rings_in qs ≡ popped key (rings_in qs)
 empty-in key i qs q inside is none first = sym (popped-empty key i (rings_in qs) (ring_in q) first (ring-at qs i q inside is) none)
 
--- the oldest item
+-- the oldest item of a queue, if there is a queue
 abbrev oldest-of : Option StoredQueue → Option (List ℕ)
 oldest-of q = option_and_then (λ (items : List (List ℕ)). slice_get items 0) (option_map (λ (x : StoredQueue). x.ring.items) q)
 
@@ -79,7 +79,7 @@ oldest-in key i qs q inside is first = ap oldest-of (found-in key i qs q inside 
 pub oldest-none : (key : ℕ) (ws : List StoredQueue) → AllByRecursion (λ (other : ℕ). key ≢ other) (keys_of ws) → oldest_for key ws ≡ None
 oldest-none key ws none = ap oldest-of (not-found key ws none)
 
--- it is copied out
+-- the number of octets that are copied out of a queue, or the reason why none are
 abbrev copied-of : ℕ → Option StoredQueue → Result ℕ NotCopied
 copied-of room q = copied_out room (option_map (λ (x : StoredQueue). x.ring.items) q)
 
@@ -97,7 +97,7 @@ pub one-waits : (items : List (List ℕ)) → length items ≢ 0 → IsSome (sli
 one-waits [] some = absurd (some refl)
 one-waits (x ∷ items) some = refl
 
--- the keys stay where one queue is written
+-- the keys stay the same when one queue is written
 pub keys-set : (qs : List Keyed) (i : ℕ) (q next : Keyed) → q ≡ get_or qs i q → next.key ≡ q.key → keys_of (rings_in (set qs i next)) ≡ keys_of (rings_in qs)
 keys-set [] i q next is same = refl
 keys-set (r ∷ qs) zero q next is same = ap (λ (k : ℕ). k ∷ keys_of (rings_in qs)) (same ∙ ap (λ (x : Keyed). x.key) is)

@@ -1,5 +1,5 @@
--- What leaves a channel is what came in, in order: each packet and unit that is taken is the next that was admitted, and each Type-AD field
--- that is passed on the next that was accepted.
+-- Everything that leaves a channel came in, in order. Each packet and unit that is taken is the next one that was
+-- admitted, and each Type-AD field that is passed on is the next one that was accepted.
 use Rattle.tc_channel.proofs.Names.{◌≡◌, ◌≢◌, ℕ, ◌+◌, ◌<◌, ◌≤◌, Bool, true, false, cond, eqb, List, [], ◌∷◌, ◌++◌, length, map, filter, take, drop, get_or, Some, None, refl, sym, ap, subst, ◌∙◌, inl, inr, append_assoc, arith, nat_lt, slice_get, eqb_tells, nat_tests, append-nil, map-append, length-append, take_more, filter-append, header_of, accepts, Bd, Passed, same_service, Settings, Event, Frame, Release, Take, TakeUnit, ChannelState, Accepted, Queue, first_state_within, empty_queue, empty_unit_queue, buffer, queue_of, is_for, is_of_map, map_of, is_chosen, packets_offered, units_offered, share_of, with_share, with_shares, step, row_of, unit_of, taken_from, first_of, HasStep, run_from, as_list, packets_given, units_given, Ad, passed_on, run_within, IsLawfulWithin}
 use Rattle.std.proofs.lemmas.List.{take-append-le, drop_more, drop_all}
 use Rattle.tc_channel.specs.Given.{oldest_in, packet_given, unit_given, fields_passed}
@@ -24,7 +24,7 @@ found-changed key f same (p ∷ qs) new e = by (eqb p.key key) (found-changed ke
   by true later e = (p, refl, cc)
   by false later e = later e
 
--- the queue with this key, if there is one, gave just these items: the first that it admitted
+-- the queue with this key, if there is one, gave exactly these items: the first ones that it admitted
 record Gave (key : ℕ) (gave : List (List ℕ)) (qs : List Queue) : Type 0 where
   each : (q : Queue) → queue_of key qs ≡ Some q → (gave ≡ take q.taken q.admitted) × (q.taken ≤ length q.admitted)
 
@@ -113,7 +113,7 @@ units-from c map_id gave b (e ∷ es) g =
     subst (λ (all : List (List ℕ)). Gave map_id all (run_from c (step c b e) es).units) (append_assoc gave (as_list (unit_given map_id b e)) (units_given c map_id (step c b e) es))
     (units-from c map_id (gave ++ as_list (unit_given map_id b e)) (step c b e) es (step-units c map_id gave b e g))
 
--- a queue that was set up admitted nothing yet, and gave nothing
+-- a queue that was set up has admitted nothing yet, and has given nothing
 pub set-up : {A : Type 0} (f : A → Queue) (key : ℕ) (xs : List A) → ((x : A) → ((f x).taken ≡ 0) × ((f x).admitted ≡ [])) → (q : Queue) → queue_of key (map f xs) ≡ Some q → (q.taken ≡ 0) × (q.admitted ≡ [])
 set-up f key [] each q e = absurd cc
 set-up f key (x ∷ xs) each q e = by (eqb (f x).key key) (set-up f key xs each q) e where
@@ -132,7 +132,7 @@ pub units-in-order : (limits : ℕ → ℕ) (c : Settings) (journal : List Event
 unfolding run_within
 units-in-order limits c journal map_id q e = let g = units-from c map_id [] (first_state_within limits c) journal (none-yet empty_unit_queue map_id c.maps (λ m. (refl, refl))) in (g.each q e).0
 
--- what was released of the accepted fields was passed on, and nothing else of Type-AD
+-- the Type-AD fields that were passed on are the accepted fields that were released, and no others
 record ArePassed (b : ChannelState) : Type 0 where
   fields : fields_passed Ad b.passed ≡ map (λ (a : Accepted). a.field) (take b.released b.accepted)
   released : b.released ≤ length b.accepted

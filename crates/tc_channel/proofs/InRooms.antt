@@ -5,7 +5,7 @@ use Rattle.tc_channel.specs.Keyed.{IsPutBehind}
 use Rattle.tc_channel.specs.Delivering.{IsPutAt}
 use Rattle.tc_channel.proofs.Copies.{put-set, longer-fits}
 
--- what waits is the same
+-- if the items that wait in a queue stay the same, those in all queues do
 pub same-rings : (qs : List Keyed) (i : ℕ) (q next : Keyed) → q ≡ get_or qs i q → next.key ≡ q.key → next.slots.ring ≡ q.slots.ring → rings_in (set qs i next) ≡ rings_in qs
 same-rings qs i q next is key ring =
     let same : ring_in next ≡ ring_in (get_or qs i q) = rw (key, ring) (ap ring_in is) in
@@ -19,7 +19,7 @@ fit-at octets [] i q fits inside is = absurd (omega arith)
 fit-at octets (r ∷ qs) zero q fits inside is = subst (λ (x : Keyed). length octets ≤ x.slots.size) (sym is) fits.0
 fit-at octets (r ∷ qs) (suc i) q fits inside is = fit-at octets qs i q fits.1 (omega arith) is
 
--- where nothing is staged, what waits is all
+-- if nothing is staged, the items that wait are all items
 staged-one : (q : Keyed) → q.slots.staged ≡ [] → staged_in q ≡ ring_in q
 staged-one q none = ap (λ (xs : List (List ℕ)). record { key = q.key; ring = buffer xs q.slots.ring.capacity }) (rw none (append-nil q.slots.ring.items))
 
@@ -27,17 +27,17 @@ pub staged-none : (qs : List Keyed) → AreCommitted qs → all_staged_in qs ≡
 staged-none [] all = refl
 staged-none (q ∷ qs) all = ap (λ (x : StoredQueue). x ∷ all_staged_in qs) (staged-one q all.0) ∙ ap (λ (x : List StoredQueue). ring_in q ∷ x) (staged-none qs all.1)
 
--- the keys with what is staged and without
+-- the keys are the same with staged items and without
 pub same-keys : (qs : List Keyed) → keys_of (all_staged_in qs) ≡ keys_of (rings_in qs)
 same-keys qs = map-map (λ (w : StoredQueue). w.key) staged_in qs ∙ sym (map-map (λ (w : StoredQueue). w.key) ring_in qs)
 
--- the key at a place
+-- the key of a queue is the key at its place
 pub key-in : (qs : List Keyed) (i k : ℕ) (q : Keyed) → i < length qs → q ≡ get_or qs i q → k ≡ q.key → k ≡ get_or (keys_of (rings_in qs)) i k
 key-in qs i k q inside is k_is =
     k_is ∙ sym (get_or-map (λ (x : StoredQueue). x.key) (rings_in qs) i (ring_in q) k (omega (arith, length-map qs ring_in))
     ∙ ap (λ (x : StoredQueue). x.key) (get_or-map ring_in qs i q (ring_in q) inside ∙ ap ring_in (sym is)))
 
--- an item that is put into the queue at a place is put there, with what is staged and without
+-- an item that is put into the queue at a place is put there, whether staged items are counted or not
 pub put-in : (f : Keyed → StoredQueue) (qs : List Keyed) (i : ℕ) (q next : Keyed) (p : List ℕ) (place : Bool) → i < length qs → q ≡ get_or qs i q → IsPutBehind p (f q) (f next) place → IsPutAt i p (map f qs) (map f (set qs i next)) place
 put-in f qs i q next p place inside is behind =
     let here : f q ≡ get_or (map f qs) i (f q) = ap f is ∙ sym (get_or-map f qs i q (f q) inside) in
@@ -53,7 +53,7 @@ put-in f qs i q next p place inside is behind =
           (map-set_same f qs i next q (n.0 ∙ ap f is), omega arith);
     }
 
--- what is written at one place has nothing staged behind it
+-- if nothing is staged in the queue that is written at a place, nothing is staged in all
 pub committed-at : (qs : List Keyed) (i : ℕ) (next : Keyed) → AreCommitted qs → next.slots.staged ≡ [] → AreCommitted (set qs i next)
 committed-at [] i next all one = tt
 committed-at (r ∷ qs) zero next all one = (one, all.1)
@@ -64,11 +64,11 @@ staged-of-none-at [] i q all inside is = absurd (omega arith)
 staged-of-none-at (r ∷ qs) zero q all inside is = ap (λ (x : Keyed). x.slots.staged) is ∙ all.0
 staged-of-none-at (r ∷ qs) (suc i) q all inside is = staged-of-none-at qs i q all.1 (omega arith) is
 
--- nothing is staged in the others, nor in the one that is written
+-- this also holds if the queue that is written has the staged items of the queue that was there
 pub committed-set : (qs : List Keyed) (i : ℕ) (q next : Keyed) → AreCommitted qs → i < length qs → q ≡ get_or qs i q → next.slots.staged ≡ q.slots.staged → AreCommitted (set qs i next)
 committed-set qs i q next all inside is same = committed-at qs i next all (same ∙ staged-of-none-at qs i q all inside is)
 
--- a queue as many of whose items wait as may has no room
+-- a full queue has no room
 pub full-at : (qs : List Keyed) (i : ℕ) (q : Keyed) → i < length qs → q ≡ get_or qs i q → q.slots.ring.capacity ≤ length q.slots.ring.items → room_at i (all_staged_in qs) ≡ 0
 full-at qs i q inside is full =
     let here : staged_in q ≡ get_or (all_staged_in qs) i (staged_in q) = ap staged_in is ∙ sym (get_or-map staged_in qs i q (staged_in q) inside) in

@@ -1,11 +1,11 @@
--- A limit for each MAP, and that the largest unit is one that says nothing.
+-- A limit for each MAP, and the proof that a limit of the largest unit leaves nothing out.
 use Rattle.tc_channel.proofs.Names.{◌≡◌, ℕ, ◌≤◌, Bool, true, false, cond, List, ◌++◌, length, Option, Some, None, refl, ap, ◌∙◌, arith, ◌↔◌, nat_tests, Part, Service, IsWithinLimit, at_most, ended_by, largest_unit, open_run, stream, unit_ended, ChannelState, map_of, unit_of, no_limits}
 use Rattle.tc_packet.specs.declared.segment.Part.TheVariants.{Last, Unsegmented}
 use Rattle.tc_packet.specs.Segment.{body_of, header_of}
 use Rattle.std.specs.Prelude.{nat_le}
 use Rattle.tc_packet.proofs.Streams.{bounded-within}
 
--- a unit is within the limit
+-- each unit is within the largest size
 
 within-ended : (part : Part) (run : Option (List ℕ)) (body : List ℕ) → IsWithinLimit (ended_by part run body)
 within-ended Unsegmented run body = bounded-within body
@@ -16,7 +16,7 @@ pub within-unit : (segmented : Bool) (fields : List (List ℕ)) (field : List �
 within-unit true fields field = within-ended (header_of field).part (open_run fields) (body_of field)
 within-unit false fields field = bounded-within field
 
--- what is within the largest unit stays so within a limit
+-- a unit within the largest size stays so under a limit
 
 pub within-both : (limit : ℕ) (o : Option (List ℕ)) → IsWithinLimit o → IsWithinLimit (at_most limit o)
 within-both limit None within = tt

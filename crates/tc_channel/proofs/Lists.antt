@@ -1,4 +1,4 @@
--- Lists of which each item is so.
+-- Lists whose items all have a property.
 use Rattle.tc_channel.proofs.Names.{ℕ, suc, List, [], ◌∷◌, ◌++◌, map, take, drop, AllByRecursion}
 
 pub all-append : {A : Type 0} (P : A → Type 0) (xs ys : List A) → AllByRecursion P xs → AllByRecursion P ys → AllByRecursion P (xs ++ ys)

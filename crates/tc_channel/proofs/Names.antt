@@ -1,5 +1,5 @@
--- The words, lemmas of std, types and definitions that most proofs speak of, under one name. `Ad` and `Bd` are the services, and
--- `header_of` and `place_of` are those of frames.
+-- Notations, lemmas of std, types and definitions that most proofs use, under one name. `Ad` and `Bd` are the services,
+-- and `header_of` and `place_of` are those of frames.
 pub use Rattle.std.proofs.Common.{Bool, List, None, Option, Some, [], ap, append_assoc, arith, cond, drop, eqb, false, filter, get_or, inl, inr, length, map, nat_lt, refl, replicate, subst, suc, sym, take, true, vec_capacity, vec_len, zero, ℕ, ◌%◌, ◌&&◌, ◌*◌, ◌++◌, ◌+◌, ◌-◌, ◌<◌, ◌∙◌, ◌∷◌, ◌≡◌, ◌≢◌, ◌≤◌, ◌⊎◌}
 pub use Rattle.std.proofs.Math.ListN.{set}
 pub use Rattle.std.proofs.Math.Seq.{map-set_same, take-nil}

@@ -1,4 +1,5 @@
--- How many items and octets wait in the queues and in the buffer, and the bound of memory: no more items wait than it counts.
+-- The numbers of items and octets that wait in the queues and in the buffer, and the bound of memory. No more items
+-- wait than the bound counts.
 use Rattle.tc_channel.proofs.Names.{ℕ, zero, suc, ◌+◌, ◌*◌, ◌≤◌, Bool, true, false, cond, List, [], ◌∷◌, length, take, map, drop, filter, Option, Some, refl, arith, ◌≡◌, AllByRecursion, length-drop, length-map, length-take, sum_by-cons, accepts, Service, Bd, IsWithinLimit, unit_ended, largest_unit, stream, Settings, Event, Frame, Release, Take, TakeUnit, ChannelState, Accepted, Queue, empty_queue, empty_unit_queue, buffer, waiting, map_of, is_chosen, packets_offered, units_offered, share_of, with_shares, room_of, is_for, is_of_map, step, row_of, taken_from, unit_of, first_of, IsLawfulWithin, run_within, Ad, passed_on, sym, ap, ◌∙◌, sum_by, QueueSetting, MapSetting, with_share}
 use Rattle.tc_channel.specs.Memory.{packets_stored, units_stored, waiting_in_all, largest_item, largest_field, octets_in, octets_waiting, room_words, queue_words, runs_memory, tables_memory, segment_memory, memory_waiting, memory_bound}
 use Rattle.tc_packet.specs.SpacePacket.{begins, named_length, packets_within}
@@ -48,7 +49,7 @@ packets-within limits s journal = omega (arith, waiting-within (run_within limit
 pub units-within : (limits : ℕ → ℕ) (s : Settings) (journal : List Event) → waiting_in_all (run_within limits s journal).units ≤ units_stored s
 units-within limits s journal = omega (arith, waiting-within (run_within limits s journal).units (units-kept limits s journal), (room-stays limits s journal).1)
 
--- none of the items is longer than the largest unit
+-- the item is no longer than the largest unit
 abbrev IsShort : List ℕ → Type 0
 IsShort item = length item ≤ largest_unit
 
@@ -79,7 +80,7 @@ short-units : (unit : Option (List ℕ)) (chosen : Bool) → IsWithinLimit unit 
 short-units (Some unit) true h = (h, tt)
 short-units _ _ h = tt
 
--- each queue has admitted such items alone
+-- each queue has admitted only items that are no longer than the largest unit
 abbrev HoldShort : List Queue → Type 0
 HoldShort qs = AllByRecursion (λ (q : Queue). AreShort q.admitted) qs
 
@@ -129,7 +130,7 @@ packets-fit limits s journal = omega (arith, all-within (run_within limits s jou
 pub units-fit : (limits : ℕ → ℕ) (s : Settings) (journal : List Event) → octets_waiting (run_within limits s journal).units ≤ units_stored s * largest_unit
 units-fit limits s journal = omega (arith, all-within (run_within limits s journal).units (run-hold limits s journal).1, units-within limits s journal)
 
--- each accepted frame has a data field that fits one
+-- the accepted frame has a data field that is no longer than the largest one
 abbrev HasField : Accepted → Type 0
 HasField a = length a.field ≤ 1019
 
@@ -151,8 +152,10 @@ fields-fit limits s journal lawful =
     let fields = fields-within (drop b.released b.accepted) (all-drop HasField b.released b.accepted (state-fields limits s journal lawful)) in
     omega (arith, fields, length-map (drop b.released b.accepted) (λ (a : Accepted). a.field), buffer-fits limits s journal)
 
--- ---- what waits in a channel, and the bound of its memory
--- of plain numbers: so many queues and MAPs, the packets, units and data fields that they may hold, those that wait, with their octets
+-- ---- the items that wait in a channel are within the bound of its memory
+--
+-- The lemma is one about plain numbers: the numbers of queues and MAPs, the numbers of packets, units and data fields
+-- that they may hold, and the numbers of those that wait, with their octets.
 fits : (segmented : Bool) (queues maps stored stored_units fields packets octets units unit_octets field_octets runs tables segment : ℕ) → segmented ≡ true
     → packets ≤ stored → octets ≤ stored * largest_unit → units ≤ stored_units → unit_octets ≤ stored_units * largest_unit → field_octets ≤ fields * largest_field
     → (queues + maps) * queue_words + (packets * room_words + octets) + (units * room_words + unit_octets) + field_octets

@@ -1,4 +1,4 @@
--- One pass over the packets of a unit: each goes to the one queue that wants it, where that has room.
+-- One pass over the packets of a unit. Each packet goes to the one queue that wants it, if that queue has room.
 use Rattle.tc_channel.proofs.Names.{◌≡◌, ◌≢◌, ℕ, zero, suc, ◌+◌, ◌-◌, ◌<◌, List, [], ◌∷◌, ◌++◌, length, map, filter, take, get_or, true, false, ◌⊎◌, inl, inr, refl, sym, ap, ◌∙◌, append_assoc, arith, eq-eqb, ne_eqb, AllByRecursion, apid_of, is_telecommand, is_for, keys_of, AreDistinct, room_in, share, with_items, shared, shares_in, copied_to, longer, put, put_all, StoredQueue, Placed, AreShares, set, take-nil, append-nil, length-append, length-map, sum_by-cons}
 use Rattle.std.proofs.Math.Bool.{and-false}
 use Rattle.tc_packet.specs.declared.Packet.{Packet}
@@ -19,11 +19,11 @@ keys-put : (ws : List StoredQueue) (i : ℕ) (p : List ℕ) → keys_of (put ws 
 keys-put (w ∷ ws) (suc i) p = ap (λ (x : List ℕ). w.key ∷ x) (keys-put ws i p)
 keys-put _ _ p = refl
 
--- the packet is for none of these
+-- the packet is for none of these APIDs
 abbrev pub NoneFor : List ℕ → List ℕ → Type 0
 NoneFor p apids = AllByRecursion (λ (a : ℕ). is_for a p ≡ false) apids
 
--- the packets are shared as those after the first, among the queues that were then there
+-- after the first packet, the queues share the remaining packets as they shared all of them before
 record Goes (p : List ℕ) (ps : List (List ℕ)) (before after : List StoredQueue) (n : ℕ) : Type 0 where
   put : shared is_for (p ∷ ps) before ≡ shared is_for ps after
   count : shares_in is_for (p ∷ ps) before ≡ n + shares_in is_for ps after
@@ -54,7 +54,7 @@ not-head : (v : StoredQueue) (ws : List StoredQueue) (i a : ℕ) (p : List ℕ) 
 not-head v ws i a p distinct lt is for_it =
     for-one a v.key p for_it (λ e. apart-at v.key (keys_of ws) i a distinct.0 (let l = length-map ws (λ (q : StoredQueue). q.key) in omega arith) is (sym e))
 
--- the packet's queue is full
+-- if the packet's queue is full, the other packets are shared among the queues as they are
 goes-full : (p : List ℕ) (ps : List (List ℕ)) (ws : List StoredQueue) (i a n : ℕ) → AreDistinct (keys_of ws) → i < length ws → a ≡ get_or (keys_of ws) i a → is_for a p ≡ true
     → n ≡ get_or (map room_in ws) i n → n ≡ 0 → Goes p ps ws ws 0
 goes-full p ps [] i a n distinct lt is for_it room none = absurd (omega arith)
@@ -64,7 +64,7 @@ goes-full p ps (w ∷ ws) zero a n distinct lt is for_it room none =
 goes-full p ps (w ∷ ws) (suc i) a n distinct lt is for_it room none =
     goes-cons p ps w ws ws 0 (rw (not-head w ws i a p distinct (omega arith) is for_it) refl) (goes-full p ps ws i a n distinct.1 (omega arith) is for_it room none)
 
--- the packet's queue has room
+-- the packet goes into its queue, which has room
 record GoesIn (p : List ℕ) (ps : List (List ℕ)) (w later : StoredQueue) : Type 0 where
   put : with_items w (share is_for (p ∷ ps) w) ≡ with_items later (share is_for ps later)
   count : length (share is_for (p ∷ ps) w) ≡ suc (length (share is_for ps later))
@@ -104,25 +104,25 @@ rooms-put p (w ∷ ws) zero a n lt is for_it room some =
     ap (λ (x : ℕ). x ∷ map room_in ws) (ap (λ (x : ℕ). x - 1) room ∙ sym it.room)
 rooms-put p (w ∷ ws) (suc i) a n lt is for_it room some = ap (λ (x : List ℕ). room_in w ∷ x) (rooms-put p ws i a n (omega arith) is for_it room some)
 
--- what one packet leaves under way
+-- if a packet goes nowhere, the pass is under way with the packets that are left
 pass-on : (qs : List StoredQueue) (p : List ℕ) (ps all : List (List ℕ)) (cs : List Placed) (rooms : List ℕ) → Goes p ps (put_all qs cs) (put_all qs cs) 0 → IsUnderWay qs (p ∷ ps) all cs rooms → IsUnderWay qs ps all cs rooms
 pass-on qs p ps all cs rooms g k =
     let count = g.count in
     let before = k.count in
     record { places = k.places; keys = k.keys; rooms = k.rooms; put = sym g.put ∙ k.put; count = omega arith }
 
--- no queue takes the packet
+-- this holds if no queue takes the packet
 pub none-on : (qs : List StoredQueue) (p : List ℕ) (ps all : List (List ℕ)) (cs : List Placed) (rooms : List ℕ) → NoneFor p (keys_of qs) → IsUnderWay qs (p ∷ ps) all cs rooms → IsUnderWay qs ps all cs rooms
 none-on qs p ps all cs rooms none k = pass-on qs p ps all cs rooms (goes-none p ps (put_all qs cs) (rw k.keys none)) k
 
--- the packet's queue is full
+-- this holds if the packet's queue is full
 pub full-on : (qs : List StoredQueue) (p : List ℕ) (ps all : List (List ℕ)) (cs : List Placed) (rooms : List ℕ) (i a n : ℕ) → AreDistinct (keys_of qs) → i < length qs → a ≡ get_or (keys_of qs) i a → is_for a p ≡ true
     → n ≡ get_or rooms i n → n ≡ 0 → IsUnderWay qs (p ∷ ps) all cs rooms → IsUnderWay qs ps all cs rooms
 full-on qs p ps all cs rooms i a n distinct lt is for_it room none k =
     let l = length-put_all qs cs in
     pass-on qs p ps all cs rooms (goes-full p ps (put_all qs cs) i a n (rw k.keys distinct) (omega arith) (rw k.keys is) for_it (rw k.rooms at room) none) k
 
--- the packet is copied
+-- if the packet is copied to its queue, the pass is under way with the packets that are left
 pub copy-on : (qs : List StoredQueue) (p : List ℕ) (ps all : List (List ℕ)) (cs : List Placed) (rooms : List ℕ) (i a n : ℕ) → AreDistinct (keys_of qs) → i < length qs → a ≡ get_or (keys_of qs) i a → is_for a p ≡ true
     → n ≡ get_or rooms i n → 0 < n → IsUnderWay qs (p ∷ ps) all cs rooms → IsUnderWay qs ps all (cs ++ copied_to i p ∷ []) (set rooms i (n - 1))
 copy-on qs p ps all cs rooms i a n distinct lt is for_it room some k =
@@ -145,7 +145,7 @@ copy-on qs p ps all cs rooms i a n distinct lt is for_it room some k =
       count = omega arith;
     }
 
--- before the first packet, and after the last
+-- a pass is under way before the first packet, and gives each queue its share after the last one
 pub under-way : (qs : List StoredQueue) (all : List (List ℕ)) (cs : List Placed) (rooms : List ℕ) → cs ≡ [] → rooms ≡ map room_in qs → IsUnderWay qs all all cs rooms
 under-way qs all cs rooms none is = rw none (record { places = tt; keys = refl; rooms = is; put = refl; count = omega arith })
 

@@ -1,4 +1,4 @@
--- With segment headers or without, and the limits: no event changes them.
+-- No event changes whether there are segment headers, or the limits.
 use Rattle.tc_channel.proofs.Names.{◌≡◌, ℕ, List, refl, ◌∙◌, accepts, Settings, Event, Frame, ChannelState, step, row_of, passed_on, run_within}
 use Rattle.tc_channel.proofs.StateQueues.{kept-either}
 use Rattle.tc_channel.proofs.Runs.{always}

@@ -37,7 +37,7 @@ pub lawful-after : (limits : ℕ → ℕ) (c : Settings) (past future : List Eve
 unfolding run_within IsLawfulWithin
 lawful-after limits c past future all = AreSteps-later c (first_state_within limits c) past future all
 
--- what is stored of a run goes on by one event
+-- if the parts of a channel are those of the next state, they belong to the journal with one more event
 pub step-keeps : {limits : ℕ → ℕ} {c : Settings} {j : List Event} {i : Inside} (e : Event) (later : Inside) → HoldsWithin limits c j i → HasStep c (run_within limits c j) e
     → later.farm.width ≡ i.farm.width → later.farm.report ≡ (step c (run_within limits c j) e).report → later.ring.capacity ≡ i.ring.capacity → later.ring.items ≡ buffer (step c (run_within limits c j) e)
     → AreRuns limits later.open_runs (step c (run_within limits c j) e).segmented (step c (run_within limits c j) e).passed → later.rings ≡ map stored (step c (run_within limits c j) e).queues
@@ -56,7 +56,7 @@ step-keeps {limits} {c} {j} e later k has width report capacity fields runs queu
       units = rw pushed units;
     }
 
--- by events from the first on
+-- a property that one more event keeps is kept by any number of events
 pub from-first : (P : List Event → Type 0) (push : (j : List Event) (e : Event) → P j → P (j ++ e ∷ [])) (done rest : List Event) → P done → P (done ++ rest)
 from-first P push done [] h = rw (append-nil done) h
 from-first P push done (e ∷ rest) h = subst P (append_assoc done (e ∷ []) rest) (from-first P push (done ++ e ∷ []) rest (push done e h))
@@ -65,7 +65,7 @@ keeps-from : (P : ChannelState → Type 0) (c : Settings) (b : ChannelState) (es
 keeps-from P c b [] steps each h = h
 keeps-from P c b (e ∷ es) steps each h = keeps-from P c (step c b e) es steps.1 each (each b e steps.0 h)
 
--- what holds at first, and goes on at each step that can happen, holds after each lawful journal
+-- a property that holds at first, and that each step which can happen keeps, holds after each lawful journal
 pub keeps : (P : ChannelState → Type 0) (limits : ℕ → ℕ) (c : Settings) (journal : List Event) → IsLawfulWithin limits c journal → ((b : ChannelState) (e : Event) → HasStep c b e → P b → P (step c b e)) → P (first_state_within limits c) → P (run_within limits c journal)
 unfolding run_within IsLawfulWithin
 keeps P limits c journal lawful each h = keeps-from P c (first_state_within limits c) journal lawful each h
@@ -74,7 +74,7 @@ always-from : (P : ChannelState → Type 0) (c : Settings) (b : ChannelState) (e
 always-from P c b [] each h = h
 always-from P c b (e ∷ es) each h = always-from P c (step c b e) es each (each b e h)
 
--- and what goes on at any step, after each journal
+-- a property that holds at first, and that any step keeps, holds after each journal
 pub always : (P : ChannelState → Type 0) (limits : ℕ → ℕ) (c : Settings) (journal : List Event) → ((b : ChannelState) (e : Event) → P b → P (step c b e)) → P (first_state_within limits c) → P (run_within limits c journal)
 unfolding run_within
 always P limits c journal each h = always-from P c (first_state_within limits c) journal each h

@@ -1,4 +1,4 @@
--- The queues, where the unit that a field ends is offered.
+-- The queues when the unit that a field ends is offered to them.
 use Rattle.tc_channel.proofs.Names.{◌≡◌, ◌≢◌, ℕ, ◌+◌, ◌-◌, ◌≤◌, Bool, true, List, [], ◌∷◌, length, map, drop, Option, Some, None, subst, refl, sym, ap, ◌∙◌, arith, is_some, option_map, sum_by, sum_by-cons, Delivery, delivery_of, Row, E1, E6, row_at, frame_row, accepts, Settings, Frame, Release, ChannelState, Queue, queue_of, has_room, buffer, map_of, is_chosen, is_for, is_of_map, packets_offered, units_offered, share_of, with_share, with_shares, queued_of, Kind, Unlock, SetVr, kind_of, Service, Bd, OpenRuns, at_most, stream, unit_ended, AreRuns, EndsWithin, EndsAtOnceWithin, step, row_of, kept, unit_of, first_of, IsDelivered, Placed, StoredQueue, stored, share, with_items, shared, shares_in, queue_for, copies_from, put_all, placed, AreShares, drop-append-le, length-drop, append-nil, take-nil, header_of, place_of, Ad, passed_on}
 use Rattle.tc_channel.specs.Reply.{nothing, frame_delivery, release_reply_at}
 use Rattle.tc_channel.specs.Steps.{ended_at_once}
@@ -28,7 +28,7 @@ stored-shares wanted ps (q ∷ qs) h =
     ap (λ (w : StoredQueue). w ∷ shared wanted ps (map stored qs)) (stored-share wanted ps q h.0.taken)
     ∙ ap (λ (x : List StoredQueue). stored (with_share wanted ps q) ∷ x) (stored-shares wanted ps qs h.1)
 
--- copies made queue after queue
+-- copies that are made queue after queue give each queue its share
 pub from-copies : (wanted : ℕ → List ℕ → Bool) (ps : List (List ℕ)) (ws : List StoredQueue) (copies : List Placed) → Fit ws → copies ≡ copies_from wanted 0 ps ws → AreShares wanted ps ws copies
 from-copies wanted ps ws copies fit is = rw is (record {
   places = copies-places wanted (length ws) 0 ps ws (omega arith);
@@ -36,12 +36,12 @@ from-copies wanted ps ws copies fit is = rw is (record {
   count = length-copies wanted 0 ps ws;
 })
 
--- the queues after the copies were put into them are those of the state
+-- once the copies are put into the queues, these are the queues of the state
 pub queues-follow : (wanted : ℕ → List ℕ → Bool) (old new : List StoredQueue) (copies : List Placed) (ps : List (List ℕ)) (qs : List Queue) → AreKept qs → old ≡ map stored qs
     → AreShares wanted ps old copies → new ≡ put_all old copies → new ≡ map stored (with_shares wanted ps qs)
 queues-follow wanted old new copies ps qs kept are shares new_is = new_is ∙ shares.put ∙ ap (shared wanted ps) are ∙ stored-shares wanted ps qs kept
 
--- what a channel holds of its packet queues and of its unit queues is that of the state
+-- the stored packet queues and unit queues are those of the state
 abbrev pub AreStored : List StoredQueue → List StoredQueue → ChannelState → Type 0
 AreStored rings unit_rings b = (rings ≡ map stored b.queues) × (unit_rings ≡ map stored b.units)
 
@@ -53,25 +53,25 @@ kept-stored _ _ octets b rings unit_rings other h = h
 none-with : (wanted : ℕ → List ℕ → Bool) (q : Queue) → with_share wanted [] q ≡ q
 none-with wanted q = rw (take-nil {A = List ℕ} (q.capacity - (length q.admitted - q.taken)), append-nil q.admitted) refl
 
--- no item, no change
+-- if no item is offered, the queues stay the same
 pub shares-none : (wanted : ℕ → List ℕ → Bool) (qs : List Queue) → with_shares wanted [] qs ≡ qs
 shares-none wanted [] = refl
 shares-none wanted (q ∷ qs) = ap (λ (x : Queue). x ∷ with_shares wanted [] qs) (none-with wanted q) ∙ ap (λ (x : List Queue). q ∷ x) (shares-none wanted qs)
 
--- the unit that a field ends
+-- the unit that a field ends by the stored runs is the one that it ends by the state
 pub ends-unit : (limits : ℕ → ℕ) (service : Service) (field : List ℕ) (b : ChannelState) (open_runs : OpenRuns) (unit : Option (List ℕ)) → b.limit ≡ limits → AreRuns limits open_runs b.segmented b.passed → EndsWithin (limits (map_of field)) open_runs service field unit → unit ≡ unit_of b service field
 ends-unit limits service field b open_runs unit limit are ends =
     let fields = stream service (segment.header_of field).map b.passed in
     ends fields (are.runs service (segment.header_of field).map (omega arith)) ∙ ap (λ s. at_most (limits (map_of field)) (unit_ended s fields field)) are.segmented ∙ ap (λ (l : ℕ → ℕ). at_most (l (map_of field)) (unit_ended b.segmented fields field)) (sym limit)
 
--- whether a MAP is chosen, by the rings
+-- a MAP is chosen by the stored queues exactly when it is chosen by the state
 same-chosen : (map_id : ℕ) (unit_rings : List StoredQueue) (qs : List Queue) → unit_rings ≡ map stored qs → is_some (queue_for map_id unit_rings) ≡ is_some (queue_of map_id qs)
 same-chosen map_id unit_rings qs are = rw (are, stored-queue map_id qs) (by (queue_of map_id qs)) where
   by : (o : Option Queue) → is_some (option_map stored o) ≡ is_some o
   by None = refl
   by (Some q) = refl
 
--- what is delivered leaves the queues of the state to which the unit was offered
+-- once a unit is delivered, the queues are those of the state to which the unit was offered
 pub delivered-stored : (field : List ℕ) (unit : Option (List ℕ)) (rings later unit_rings later_units : List StoredQueue) (d : Delivery) (b : ChannelState) → AreKept b.queues → AreKept b.units → AreStored rings unit_rings b
     → IsDelivered (map_of field) unit rings later unit_rings later_units d → AreStored later later_units (offered field unit b)
 delivered-stored field unit rings later unit_rings later_units d b kept kept_units are is =
@@ -85,7 +85,7 @@ delivered-stored field unit rings later unit_rings later_units d b kept kept_uni
           (from-copies (is_of_map (map_of field)) (units_offered unit (is_chosen b field)) unit_rings (placed is.whole) fit whole) is.units_are,
     )
 
--- where no unit is offered, the queues stay
+-- if no unit is offered, the queues stay the same
 nothing-offered : (field : List ℕ) (unit : Option (List ℕ)) (rings unit_rings : List StoredQueue) (b : ChannelState) → unit ≡ None → AreStored rings unit_rings (offered field unit b) → AreStored rings unit_rings b
 nothing-offered field unit rings unit_rings b none are =
     let e : AreStored rings unit_rings (offered field None b) = rw none at are in
@@ -112,7 +112,7 @@ pub release-queues : (limits : ℕ → ℕ) (c : Settings) (b : ChannelState) (o
 unfolding passed_on
 release-queues limits c b open_runs unit new new_units limit are ends is = subst (λ (x : Option (List ℕ)). AreStored new new_units (offered (first_of (buffer b)) x b)) (ends-unit limits Ad (first_of (buffer b)) b open_runs unit limit are ends) is
 
--- how many copies there are
+-- the number of copies is the number of items that are queued
 pub queued-is : (wanted : ℕ → List ℕ → Bool) (ps : List (List ℕ)) (qs : List Queue) → sum_by length (map (share wanted ps) (map stored qs)) ≡ queued_of wanted ps qs
 queued-is wanted ps [] = refl
 queued-is wanted ps (q ∷ qs) =
@@ -149,7 +149,7 @@ pub release-delivery : (limits : ℕ → ℕ) (b : ChannelState) (open_runs : Op
     → EndsWithin (limits (map_of (first_of (buffer b)))) open_runs Ad (first_of (buffer b)) unit → IsDelivered (map_of (first_of (buffer b))) unit rings later unit_rings later_units d → d ≡ release_reply_at b
 release-delivery limits b open_runs unit rings later unit_rings later_units d limit are stored_are ends is = delivery-is (first_of (buffer b)) unit rings later unit_rings later_units d b stored_are is ∙ ap (λ (x : Option (List ℕ)). delivery_of (first_of (buffer b)) x b) (ends-unit limits Ad (first_of (buffer b)) b open_runs unit limit are ends)
 
--- the unit that a frame ends at once
+-- a frame of another row ends no unit at once
 other-none : (row : Row) (octets : List ℕ) (b : ChannelState) → row ≢ E6 → ended_at_once row octets b ≡ None
 other-none E6 octets b h = absurd (h refl)
 other-none _ octets b h = refl

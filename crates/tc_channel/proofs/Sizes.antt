@@ -5,7 +5,7 @@ use Rattle.std.specs.Prelude.{min}
 use Rattle.tc_channel.specs.Keyed.{FitsIn}
 use Rattle.tc_channel.specs.ChannelCore.{AreEnough, AreSmall}
 
--- octets that are no more than the least room
+-- octets that are no more than the smallest room fit each room
 pub fit-enough : (octets : List ℕ) (least : ℕ) (sizes : List ℕ) → AllByRecursion (λ (n : ℕ). least ≤ n) sizes → length octets ≤ least → Fit octets sizes
 fit-enough octets least [] all le = tt
 fit-enough octets least (m ∷ sizes) all le = (let e = all.0 in omega arith, fit-enough octets least sizes all.1 le)
@@ -14,7 +14,7 @@ all-least : (least size count : ℕ) → least ≤ size → AllByRecursion (λ (
 all-least least size zero le = tt
 all-least least size (suc count) le = (le, all-least least size count le)
 
--- a stream has its place
+-- the place of a stream is below 128
 pub place-below : (service : Service) (field : List ℕ) → stream_place service field < 128
 place-below Ad field = omega arith
 place-below Bd field = omega arith
@@ -35,6 +35,6 @@ pub within-all : (store : Store) (place : ℕ) (o : Option (List ℕ)) → place
 within-all store place None inside small within = tt
 within-all store place (Some octets) inside small within = let s = small place inside in omega (arith, within)
 
--- rooms of one size are enough where no limit is more
+-- rooms of one size are enough if no limit is larger than this size
 pub enough-at-start : (store : Store) (size count : ℕ) (sizes : List ℕ) → sizes ≡ replicate count size → ((place : ℕ) → place < 128 → min (limit_at store place) (largest_item store.segmented) ≤ size) → AreEnough store sizes
 enough-at-start store size count sizes are fits = λ place inside. subst (λ (x : List ℕ). AllByRecursion (λ (n : ℕ). min (limit_at store place) (largest_item store.segmented) ≤ n) x) (sym are) (all-least (min (limit_at store place) (largest_item store.segmented)) size count (fits place inside))

@@ -1,4 +1,4 @@
--- In S2 Wait is set, and then there is no room.
+-- In S2 the Wait flag is set, and then there is no room.
 use Rattle.tc_channel.proofs.Names.{◌≡◌, ◌≢◌, ℕ, Bool, true, false, List, drop, refl, IsSome, unwrap_or, Report, State, S1, S2, S3, Kind, Unlock, Expected, Ahead, Behind, Outside, kind_of, Row, E1, E8, E10, row_at, frame_row, entry_at, entry, after, Settings, Event, Frame, Release, ChannelState, has_room, step, row_of, after_frame, Place, place_of, header_of, passed_on, run_within}
 use Rattle.tc_link.specs.declared.Kind.TheVariants.{Bc, Ad}
 use Rattle.tc_link.specs.Farm.{E2, E5, E7}
@@ -6,7 +6,7 @@ use Rattle.tc_channel.specs.Run.{after_release}
 use Rattle.tc_channel.specs.Laws.{IsSound}
 use Rattle.tc_channel.proofs.Runs.{always}
 
--- by state: Wait, Lockout, and whether there is room
+-- the flags Wait and Lockout, and whether there is room, agree with the state
 abbrev pub SoundAt : State → Bool → Bool → Bool → Type 0
 SoundAt S1 wait lockout room = (wait ≡ false) × (lockout ≡ false)
 SoundAt S2 wait lockout room = (wait ≡ true) × (lockout ≡ false) × (room ≡ false)
@@ -15,7 +15,7 @@ SoundAt S3 wait lockout room = (lockout ≡ true) × (wait ≡ true → room ≡
 abbrev pub Sound : Bool → Report → Type 0
 Sound room r = SoundAt r.state r.wait r.lockout room
 
--- E1 is met with room alone, and E2 without
+-- E1 is met only with room, and E2 only without
 room-of : (width vr : ℕ) (kind : Kind) (room : Bool) → (frame_row width vr kind room ≡ E1 → room ≡ true) × (frame_row width vr kind room ≡ E2 → room ≡ false)
 room-of width vr (Ad ns) room = at (place_of width vr ns) room where
   at : (place : Place) (room : Bool) → (row_at place room ≡ E1 → room ≡ true) × (row_at place room ≡ E2 → room ≡ false)
@@ -33,7 +33,7 @@ room-at_E1 c b octets e = (room-of c.width b.report.vr (kind_of (header_of octet
 full-at_E2 : (c : Settings) (b : ChannelState) (octets : List ℕ) → row_of c b octets ≡ E2 → has_room c b ≡ false
 full-at_E2 c b octets e = (room-of c.width b.report.vr (kind_of (header_of octets) (drop 5 octets)) (has_room c b)).1 e
 
--- an entry keeps it, where room stays or E1 is met in S1
+-- the components that an entry leaves
 abbrev pub Left : Row → State → Report → Report
 Left row st r = unwrap_or (entry_at row st r) r
 
@@ -49,7 +49,7 @@ entry-sound E10 S3 r room e full h = rw e (h.0, λ w. absurd cc)
 entry-sound row S1 r room e full h = rw e h
 entry-sound _ _ r room e full h = rw e h
 
--- E10, whatever room there is then
+-- components that agree still do after E10, whatever room there is then
 released-sound : (st : State) (r : Report) (room later : Bool) → r.state ≡ st → SoundAt st r.wait r.lockout room → Sound later (Left E10 st r)
 released-sound S1 r room later e h = rw e h
 released-sound S2 r room later e h = (refl, h.1)
@@ -84,11 +84,12 @@ state-sound limits c journal =
     let h = in-S2 (has_room c (run_within limits c journal)) (run_within limits c journal).report.state (run_within limits c journal).report (run-sound limits c journal) in
     record { waits = h.0; full = h.1; never_open = h.2; locked = h.3; lockout = h.4 }
 
--- tc_link's law on arrivals: the table has an entry for each frame, except for one that is expected in S2 and finds room
+-- The law of tc_link on arrivals: the table has an entry for each frame, except for one that is expected in S2 and
+-- finds room.
 abbrev pub HaveEntries : Type 0
 HaveEntries = (width : ℕ) (r : Report) (kind : Kind) (room : Bool) → ((ns : ℕ) → kind ≡ Ad ns → r.state ≡ S2 → room ≡ false)
     → IsSome (entry (frame_row width r.vr kind room) r)
 
--- so a frame has an entry at each such book
+-- a frame has an entry in each sound state
 pub frame-enters : HaveEntries → (c : Settings) (b : ChannelState) → IsSound c b → (octets : List ℕ) → IsSome (entry (row_of c b octets) b.report)
 frame-enters entries c b sound octets = entries c.width b.report (kind_of (header_of octets) (drop 5 octets)) (has_room c b) (λ ns k s. sound.full (sound.waits s))

@@ -1,17 +1,18 @@
--- What holds of the queues of each state.
+-- Properties of the queues of each state.
 use Rattle.tc_channel.proofs.Names.{◌≡◌, ◌≢◌, ℕ, suc, ◌+◌, ◌<◌, Bool, true, false, cond, eqb, ◌&&◌, List, [], ◌∷◌, ◌++◌, length, map, drop, filter, get_or, refl, ap, ◌∙◌, arith, nat_lt, AllPairs, AllByRecursion, nat_tests, length-append, length-take, header_of, Row, E1, E6, accepts, Bd, QueueSetting, MapSetting, Settings, Event, Frame, Release, Take, TakeUnit, IsAllowed, ChannelState, Queue, empty_queue, empty_unit_queue, buffer, map_of, is_chosen, packets_offered, units_offered, share_of, with_share, with_shares, room_of, is_for, is_of_map, step, row_of, kept, taken_from, unit_of, first_of, AreDistinct, Ad, passed_on, run_within, map-map}
 use Rattle.tc_channel.specs.Laws.{KeepsToItsCapacity}
 use Rattle.tc_channel.proofs.Runs.{always}
 use Rattle.tc_channel.proofs.Lists.{all-map, all-mapped}
 
--- what holds of a state, of it with one more accepted frame and of it with one more field passed on, holds of what a frame leaves
+-- A property holds for the state that a frame leaves if it holds for the state before, for that state with one more
+-- accepted frame, and for that state with one more field passed on.
 pub kept-either : (P : ChannelState → Type 0) (row : Row) (accepted : Bool) (octets : List ℕ) (b : ChannelState) → P b
     → P (record b { accepted = b.accepted ++ record { ns = (header_of octets).ns; field = drop 5 octets } ∷ [] }) → P (passed_on Bd (drop 5 octets) b) → P (kept row accepted octets b)
 kept-either P E1 true octets b same one passed = one
 kept-either P E6 true octets b same one passed = passed
 kept-either P _ _ octets b same one passed = same
 
--- it goes on where items are offered to the queues, and where one is taken
+-- the property is kept when items are offered to the queues, and when an item is taken
 pub record GoesOn (P : List Queue → Type 0) : Type 0 where
   pub offered : (wanted : ℕ → List ℕ → Bool) (items : List (List ℕ)) (qs : List Queue) → P qs → P (with_shares wanted items qs)
   pub taken : (key : ℕ) (qs : List Queue) → P qs → P (map (taken_from key) qs)
@@ -33,14 +34,14 @@ step-both P Q p q c b Release h =
 step-both P Q p q c b (Take apid) h = (p.taken apid b.queues h.0, h.1)
 step-both P Q p q c b (TakeUnit map_id) h = (h.0, q.taken map_id b.units h.1)
 
--- what holds of empty packet queues, and of empty unit queues, and goes on, holds of each state's
+-- properties of empty packet queues and of empty unit queues that are kept hold for the queues of each state
 pub run-both : (limits : ℕ → ℕ) (P Q : List Queue → Type 0) → GoesOn P → GoesOn Q → (c : Settings) (journal : List Event) → P (map empty_queue c.queues) → Q (map empty_unit_queue c.maps) → P (run_within limits c journal).queues × Q (run_within limits c journal).units
 run-both limits P Q p q c journal h u = always (λ b. P b.queues × Q b.units) limits c journal (step-both P Q p q c) (h, u)
 
 abbrev pub keys : List Queue → List ℕ
 keys qs = map (λ (q : Queue). q.key) qs
 
--- a take changes only how many were taken
+-- a take changes only the number of items that were taken
 pub taken-same : {A : Type 0} (f : Queue → A) → ((q : Queue) (n : ℕ) → f (record q { taken = n }) ≡ f q) → (key : ℕ) (q : Queue) → f (taken_from key q) ≡ f q
 taken-same f same key q = by (eqb q.key key && nat_lt q.taken (length q.admitted)) where
   by : (t : Bool) → f (cond t (record q { taken = q.taken + 1 }) q) ≡ f q

@@ -1,4 +1,4 @@
--- What a channel's fields keep, over one event.
+-- The stored parts of a channel over one event.
 use Rattle.tc_channel.proofs.Names.{◌≡◌, ℕ, ◌<◌, ◌≤◌, Bool, true, List, [], ◌∷◌, ◌++◌, length, map, drop, Option, refl, sym, ap, ◌∙◌, arith, IsSome, nat_lt, drop-append-le, drop-drop, map_push, length-map, length-append, length-drop, Kind, IsWhole, kind_of, Row, E1, E6, E10, number_of, frame_row, entry, accepts, after, Settings, Event, Frame, Release, ChannelState, Accepted, buffer, HasStep, step, row_of, kept, first_of, map_of, Inside, HoldsWithin, FollowsWithin, FollowsKindWithin, EndsWithin, EndsAtOnceWithin, Delivery, IsDelivered, header_of, passed_on, run_within, IsLawfulWithin, Ad}
 use Rattle.std.proofs.lemmas.List.{drop-map}
 use Rattle.circular_buffer.specs.Buffer.{Buffer}
@@ -32,7 +32,7 @@ oldest-filled {limits} {c} {j} {i} k some =
     let len : length i.ring.items ≡ length (buffer b) = ap length k.fields in
     rw k.fields (first-filled (drop b.released b.accepted) (all-drop IsFilled b.released b.accepted (state-filled limits c j k.lawful)) (omega (arith, length-map (drop b.released b.accepted) (λ (a : Accepted). a.field))))
 
--- what a row leaves in the buffer
+-- the buffer after a row
 abbrev entered : ℕ → Bool → List (List ℕ) → List ℕ → List (List ℕ)
 entered event accepted fields field = with_field fields (buffered_of (record { event = event; accepted = accepted }) field)
 
@@ -44,7 +44,7 @@ buffer-kept E1 true octets b h =
 buffer-kept E6 true octets b h = refl
 buffer-kept _ _ octets b h = refl
 
--- the row that FARM-1 is asked for is that of the book
+-- the row that FARM-1 takes is the row of the state
 pub row-is : {limits : ℕ → ℕ} {c : Settings} {j : List Event} {i : Inside} (octets : List ℕ) (kind : Kind) (len capacity : ℕ)
     → HoldsWithin limits c j i → kind ≡ kind_of (header_of octets) (drop 5 octets) → len ≡ length i.ring.items → capacity ≡ i.ring.capacity
     → frame_row i.farm.width i.farm.report.vr kind (nat_lt len capacity) ≡ row_of c (run_within limits c j) octets
@@ -82,7 +82,7 @@ released-report : (c : Settings) (b : ChannelState) → (step c b Release).repor
 unfolding passed_on
 released-report c b = refl
 
--- a buffer with a field has a release
+-- if the buffer has a field, a release can happen
 has-release : (b : ChannelState) → 0 < length (buffer b) → b.released < length b.accepted
 has-release b h = omega (arith, length-map (drop b.released b.accepted) (λ (a : Accepted). a.field), length-drop b.released b.accepted)
 

@@ -1,4 +1,4 @@
--- The open run of each stream, when a field is passed to reassembly.
+-- The open run of each stream when a field is passed to reassembly.
 use Rattle.tc_channel.proofs.Names.{◌≡◌, ◌≢◌, ℕ, ◌+◌, ◌<◌, Bool, true, false, eqb, ◌&&◌, List, [], ◌∷◌, ◌++◌, map, filter, drop, refl, sym, ap, ◌∙◌, inl, inr, arith, eqb_tells, eq-eqb, append-nil, map-append, filter-append, Kind, Unlock, Expected, kind_of, Row, E1, E6, row_at, frame_row, accepts, Service, Bd, OpenRuns, Passed, at_most, is_of, same_service, stream, run_left, run_at, stream_place, Settings, Frame, Release, ChannelState, has_room, buffer, step, kept, first_of, AreRuns, FollowsWithin, FollowsKindWithin, Place, header_of, place_of, Ad, passed_on}
 use Rattle.tc_channel.specs.Channel.{LeaveAtMost}
 use Rattle.tc_packet.specs.Reassembly.{place_of as stream_at}
@@ -17,7 +17,7 @@ stream-other s n passed p h =
     let none : filter (is_of s n) (p ∷ []) ≡ [] = rw h refl in
     ap (map (λ (x : Passed). x.field)) (filter-append (is_of s n) passed (p ∷ []) ∙ ap (λ (x : List Passed). filter (is_of s n) passed ++ x) none ∙ append-nil (filter (is_of s n) passed))
 
--- a place is one stream's
+-- a place belongs to one stream
 same_place : (s t : Service) (m n : ℕ) → m < 64 → n < 64 → (((same_service s t && eqb m n) ≡ true) → stream_at s n ≡ stream_at t m) × (((same_service s t && eqb m n) ≡ false) → stream_at s n ≢ stream_at t m)
 same_place Ad Ad m n m_in n_in = (λ h. elim (eqb_tells m n) [ inl e ↦ sym e.1 | inr e ↦ let x = e.0 in absurd cc ], λ h e. let x = eq-eqb m n (sym e) in cc)
 same_place Bd Bd m n m_in n_in = (λ h. elim (eqb_tells m n) [ inl e ↦ ap (λ k. 64 + k) (sym e.1) | inr e ↦ let x = e.0 in absurd cc ], λ h e. let x = eq-eqb m n (omega arith) in cc)

@@ -22,17 +22,17 @@ first-last : (b : ℕ) (xs : List ℕ) → AllByRecursion (λ x. b ≢ x) xs →
 first-last b [] none = refl
 first-last b (x ∷ xs) none = (none.0, first-last b xs none.1)
 
--- one more queue, with another key
+-- an entry still shows its place when there is one more queue, with another key
 shows-more : (keys : List ℕ) (none a b n : ℕ) → a ≢ b → ShowsFirst keys none a n → ShowsFirst (keys ++ b ∷ []) none a n
 shows-more keys none a b n other (inl at) = inl (first-push a b n keys at)
 shows-more keys none a b n other (inr away) = inr (away.0, all-append (λ x. a ≢ x) keys (b ∷ []) away.1 (other, tt))
 
--- an entry that shows none is of a key that none has
+-- an entry that shows no place is that of a key which no queue has
 none-reported : (keys : List ℕ) (none a n : ℕ) → length keys ≤ none → n ≡ none → ShowsFirst keys none a n → AllByRecursion (λ x. a ≢ x) keys
 none-reported keys none a n le is (inl at) = let lt = first-within a n keys at in absurd (omega arith)
 none-reported keys none a n le is (inr away) = away.1
 
--- an entry that shows a place keeps it
+-- an entry that shows a place still shows it when there is one more queue
 reported-kept : (keys : List ℕ) (none a b n : ℕ) → n ≢ none → ShowsFirst keys none a n → ShowsFirst (keys ++ b ∷ []) none a n
 reported-kept keys none a b n is (inl at) = inl (first-push a b n keys at)
 reported-kept keys none a b n is (inr away) = absurd (is away.0)
@@ -77,7 +77,7 @@ pub skip-place : (qs : List Keyed) (i none : ℕ) (q : Keyed) (table : List ℕ)
     → AreFirst (keys_of (rings_in (take i qs))) none table → AreFirst (keys_of (rings_in (take (i + 1) qs))) none table
 skip-place qs i none q table lt is far t = rw (keys-more qs i q lt is) (table-skip (keys_of (rings_in (take i qs))) none q.key table t far)
 
--- what the table shows of a key
+-- the place that the table shows for a key is the first one with this key
 pub reported-first : (keys table : List ℕ) (none key : ℕ) → AreFirst keys none table → none ≡ length keys → key < length table → get_or table key 0 < length keys → IsFirst key (get_or table key 0) keys
 reported-first keys table none key t is lt at = by (t.shows key (let s = t.size in omega arith)) where
   by : ShowsFirst keys none key (get_or table key 0) → IsFirst key (get_or table key 0) keys
@@ -93,6 +93,6 @@ reported-none keys table none key t lt at = by (t.shows key (let s = t.size in o
 pub keys-length : (qs : List Keyed) → length (keys_of (rings_in qs)) ≡ length qs
 keys-length qs = length-map (rings_in qs) (λ (w : StoredQueue). w.key) ∙ length-map qs ring_in
 
--- before the first queue
+-- before the first queue, the table shows no places
 pub no-queue : (table : List ℕ) (none n : ℕ) → table ≡ replicate 2048 n → n ≡ none → AreFirst [] none table
 no-queue table none n is none_is = record { size = ap length is ∙ length-replicate 2048 n; shows = λ a small. inr (ap (λ (t : List ℕ). get_or t a 0) is ∙ get_or-replicate 2048 a n 0 small ∙ none_is, tt) }

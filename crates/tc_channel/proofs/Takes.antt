@@ -1,4 +1,4 @@
--- A packet or a unit is taken.
+-- Taking a packet or a unit.
 use Rattle.tc_channel.proofs.Names.{◌≡◌, ◌≢◌, ℕ, suc, ◌+◌, ◌<◌, Bool, true, false, cond, eqb, List, [], ◌∷◌, ◌++◌, length, map, Option, Some, None, refl, sym, ap, ◌∙◌, IsSome, inl, inr, arith, nat_lt, option_map, slice_get, option_and_then, AllByRecursion, drop-drop, length-drop, map-map, Settings, Event, Take, TakeUnit, Inside, HoldsWithin, Queue, waiting, queue_of, taken_from, run_within, StoredQueue, AreDistinct, keys_of, stored, queue_for, popped, shorter, nat_tests, eqb_tells}
 use Rattle.tc_channel.specs.Reply.{waiting_packets_within, waiting_units_within}
 use Rattle.tc_channel.specs.Run.{HasItem}
@@ -26,7 +26,7 @@ others-stay key a (q ∷ qs) e h = elim (eqb_tells q.key key) [
   | inr other ↦ rw (none-taken key q other.0) (ap (λ (x : List Queue). q ∷ x) (others-stay key a qs e h.1))
 ]
 
--- where an item waits in the queue
+-- if an item waits in the queue, the stored queues without it are those of the next state
 pub popped-taken : (key : ℕ) (qs : List Queue) (q : Queue) → AreDistinct (keys qs) → queue_of key qs ≡ Some q → q.taken < length q.admitted
     → popped key (map stored qs) ≡ map stored (map (taken_from key) qs)
 popped-taken key [] q apart is some = absurd cc
@@ -47,7 +47,7 @@ popped-taken key (p ∷ qs) q apart is some = elim (eqb_tells p.key key) [
       head ∙ ap (λ (x : List StoredQueue). stored p ∷ x) rest ∙ sym tail)
 ]
 
--- the event can happen
+-- if an item waits in the queue, the event of its take can happen
 pub can-take : (key : ℕ) (qs : List Queue) (q : Queue) → queue_of key qs ≡ Some q → q.taken < length q.admitted → HasItem key qs
 can-take key [] q is some = absurd cc
 can-take key (p ∷ qs) q is some = elim (eqb_tells p.key key) [
@@ -67,7 +67,7 @@ has-oldest : (o : Option Queue) (item : List ℕ) → oldest (option_map (λ (w 
 has-oldest None item e = absurd cc
 has-oldest (Some q) item e = (q, refl, omega (arith, nonempty (waiting q) item e, length-drop q.taken q.admitted))
 
--- where an oldest item was taken, the queues had one, and are those of the state without it
+-- if an oldest item was taken, the queues had one, and they are those of the state without it
 pub oldest-taken : (key : ℕ) (qs : List Queue) (old new : List StoredQueue) (item : List ℕ) → AreDistinct (keys qs) → old ≡ map stored qs → oldest (items_for key old) ≡ Some item → new ≡ popped key old
     → HasItem key qs × (new ≡ map stored (map (taken_from key) qs))
 oldest-taken key qs old new item apart are has is =
@@ -91,16 +91,16 @@ items-map : (o : Option Queue) → option_map waiting o ≡ option_map (λ (w : 
 items-map None = refl
 items-map (Some q) = refl
 
--- what waits for a key, by the rings
+-- the items that wait for a key in the state are those in the stored queues
 items-wait : (key : ℕ) (rings : List StoredQueue) (qs : List Queue) → rings ≡ map stored qs → option_map waiting (queue_of key qs) ≡ items_for key rings
 items-wait key rings qs are = rw are (items-map (queue_of key qs) ∙ ap (option_map (λ (w : StoredQueue). w.ring.items)) (sym (stored-queue key qs)))
 
--- the packets that wait for an application, by the fields
+-- the packets that wait for an application are those in the stored queues
 pub packets-wait : {limits : ℕ → ℕ} {c : Settings} {j : List Event} {i : Inside} (apid : ℕ) → HoldsWithin limits c j i → waiting_packets_within limits c j apid ≡ items_for apid i.rings
 unfolding waiting_packets_within
 packets-wait {limits} {c} {j} {i} apid k = items-wait apid i.rings (run_within limits c j).queues k.queues
 
--- the units of a MAP that wait, by the fields
+-- the units of a MAP that wait are those in the stored queues
 pub units-wait : {limits : ℕ → ℕ} {c : Settings} {j : List Event} {i : Inside} (map_id : ℕ) → HoldsWithin limits c j i → waiting_units_within limits c j map_id ≡ items_for map_id i.unit_rings
 unfolding waiting_units_within
 units-wait {limits} {c} {j} {i} map_id k = items-wait map_id i.unit_rings (run_within limits c j).units k.units
@@ -114,7 +114,7 @@ queues-distinct {limits} {c} {j} k = rw (k.queues, same-keys (run_within limits 
 pub units-distinct : {limits : ℕ → ℕ} {c : Settings} {j : List Event} {i : Inside} → HoldsWithin limits c j i → AreDistinct (keys_of i.unit_rings)
 units-distinct {limits} {c} {j} k = rw (k.units, same-keys (run_within limits c j).units) (units-apart limits c j k.allowed)
 
--- where items wait, one is taken
+-- if items wait, one is taken
 pub one-is-taken : {A : Type 0} (f : A → List ℕ) (taken : Option A) (n : ℕ) (waiting : Option (List (List ℕ))) → Some n ≡ option_map length waiting → n ≢ 0 → option_map f taken ≡ option_and_then (λ items. slice_get items 0) waiting → IsSome taken
 one-is-taken f (Some x) n waiting count some is = refl
 one-is-taken f None n (Some []) count some is = absurd (some (let e : n ≡ 0 = cc in e))

@@ -1,4 +1,4 @@
--- What queues admit is what the passed data fields make, in order, of which some may be left out.
+-- The items that queues admit are, in order, items that the passed data fields make. Some may be left out.
 use Rattle.tc_channel.proofs.Names.{◌≡◌, ℕ, zero, suc, ◌+◌, ◌-◌, ◌≤◌, Bool, true, false, cond, eqb, List, [], ◌∷◌, ◌++◌, length, map, filter, take, drop, Some, refl, sym, ap, subst, ◌∙◌, inl, inr, append_assoc, arith, is_some, slice_get, append-nil, length-drop, take-nil, accepts, Service, Bd, Passed, Settings, MapSetting, Event, Frame, Release, Take, TakeUnit, ChannelState, Accepted, Queue, first_state_within, empty_queue, empty_unit_queue, buffer, queue_of, is_for, is_of_map, map_of, is_chosen, packets_offered, units_offered, room_of, with_share, with_shares, step, row_of, unit_of, taken_from, first_of, IsLawfulWithin, packets_given, units_given, Ad, passed_on, run_within}
 use Rattle.tc_channel.specs.Era.{IsEraWithin, ComesFromWithin}
 use Rattle.tc_channel.specs.Through.{unit_made, all_made, IsPartOf, is_chosen_by, packets_ended, units_ended, packets_made, units_made, passed_since, released_since, sent_from}
@@ -74,7 +74,7 @@ keys-at-first limits c = unit-keys-stay limits c []
 run-chosen : (limits : ℕ → ℕ) (c : Settings) (journal : List Event) (field : List ℕ) → is_chosen (run_within limits c journal) field ≡ is_chosen_by c field
 run-chosen limits c journal field = some-by-keys (map_of field) (run_within limits c journal).units (map empty_unit_queue c.maps) (unit-keys-stay limits c journal ∙ sym (keys-at-first limits c))
 
--- what never changes of a state
+-- the parts of a state that never change
 record IsOf (limits : ℕ → ℕ) (c : Settings) (b : ChannelState) : Type 0 where
   segmented : b.segmented ≡ c.segmented
   limit : b.limit ≡ limits
@@ -86,7 +86,7 @@ run-is-of limits c journal = record { segmented = run-segmented limits c journal
 unit-is : (limits : ℕ → ℕ) (c : Settings) (b : ChannelState) (service : Service) (field : List ℕ) → IsOf limits c b → unit_of b service field ≡ unit_made limits c b.passed (record { service = service; field = field })
 unit-is limits c b service field is = rw (is.segmented, is.limit) refl
 
--- the queue with this key admitted part of what the passed fields make
+-- the queue with this key admitted part of the items that the passed fields make
 record Admits (key : ℕ) (Ended : List Passed → Passed → List (List ℕ)) (qs : List Queue) (passed : List Passed) : Type 0 where
   each : (q : Queue) → queue_of key qs ≡ Some q → IsPartOf q.admitted (all_made Ended [] passed)
 
@@ -110,7 +110,8 @@ admits-taken key other Ended qs passed h = record {
       rw (found.2, taken-same {A = List (List ℕ)} (λ q. q.admitted) (λ q n. refl) other found.0) (h.each found.0 found.1);
 }
 
--- a state whose queue with this APID, and whose unit queue of this MAP, are so
+-- a state whose queue with this APID, and whose unit queue of this MAP, admitted part of the items that the passed
+-- fields make
 record Carries (limits : ℕ → ℕ) (c : Settings) (apid map_id : ℕ) (b : ChannelState) : Type 0 where
   packets : Admits apid (packets_ended limits c apid) b.queues b.passed
   units : Admits map_id (units_ended limits c map_id) b.units b.passed
@@ -137,7 +138,7 @@ step-carries limits c apid map_id b (TakeUnit other) is h = record { packets = h
 none-admitted : (key : ℕ) (Ended : List Passed → Passed → List (List ℕ)) (qs : List Queue) → ((q : Queue) → queue_of key qs ≡ Some q → q.admitted ≡ []) → Admits key Ended qs []
 none-admitted key Ended qs none = record { each = λ q e. rw (none q e) tt }
 
--- what takes gave at no event: nothing, and so nothing was admitted before the first take
+-- at first nothing was admitted
 first-carries : (limits : ℕ → ℕ) (c : Settings) (apid map_id : ℕ) → Carries limits c apid map_id (run_within limits c [])
 unfolding run_within
 first-carries limits c apid map_id = record {
@@ -155,7 +156,7 @@ packets-are-made limits c journal apid q e = let h = run-carries limits c apid 0
 pub units-are-made : (limits : ℕ → ℕ) (c : Settings) (journal : List Event) (map_id : ℕ) (q : Queue) → queue_of map_id (run_within limits c journal).units ≡ Some q → IsPartOf q.admitted (units_made limits c map_id (run_within limits c journal).passed)
 units-are-made limits c journal map_id q e = let h = run-carries limits c 0 map_id journal in h.units.each q e
 
--- what was sent, as far as it was released
+-- the fields that were sent, up to those that were released
 
 sent-fields : (sent : ℕ → List ℕ) (k n : ℕ) (xs : List Accepted) → ((i : ℕ) (a : Accepted) → slice_get xs i ≡ Some a → a.field ≡ sent (k + i)) → n ≤ length xs
     → map (λ (a : Accepted). a.field) (take n xs) ≡ sent_from sent k n
@@ -166,7 +167,7 @@ sent-fields sent k (suc n) (x ∷ xs) each le =
     let later = sent-fields sent (suc k) n xs (λ i a is. each (suc i) a is ∙ ap sent (omega arith)) (omega arith) in
     rw (here, later) refl
 
--- what is released of a list behind its first n is released of the rest
+-- after the first n items of a list were left out, the released ones are the first of the rest
 rest-released : (n r : ℕ) (xs : List Accepted) → drop n (map (λ (a : Accepted). a.field) (take r xs)) ≡ map (λ (a : Accepted). a.field) (take (r - n) (drop n xs))
 rest-released zero r xs =
     let all : r - 0 ≡ r = omega arith in
@@ -191,7 +192,7 @@ passed-as-sent limits c journal before later x sent lawful era comes =
     ap (λ (l : List (List ℕ)). drop n l) (fields-in-order limits c journal lawful)
     ∙ (rest-released n r accepted ∙ sent-fields sent 0 (r - n) (drop n accepted) (λ i a is. all i a is ∙ ap sent (omega arith)) inside)
 
--- what takes gave
+-- the items that takes gave are, in order, items that the passed data fields make
 
 pub packets-given-of-made : (limits : ℕ → ℕ) (c : Settings) (journal : List Event) (apid : ℕ) (q : Queue) → queue_of apid (run_within limits c journal).queues ≡ Some q
     → IsPartOf (packets_given c apid (first_state_within limits c) journal) (packets_made limits c apid (run_within limits c journal).passed)

@@ -1,4 +1,4 @@
--- The words of walks by hand.
+-- Notations for proofs by hand that walk through a function's body.
 pub use Rattle.std.proofs.Common.{[], refl, ◌++◌, ◌∷◌}
 pub use Rattle.std.proofs.raw_atomic.Walks.{proved}
 pub use base.Fml.{flft, ftrue}

@@ -18,7 +18,7 @@ others-take-none : (m place : ℕ) (u : List ℕ) (ws : List StoredQueue) → Al
 others-take-none m place u [] h = refl
 others-take-none m place u (w ∷ ws) h = rw (share-other m u w (λ e. h.0 (sym e)), others-take-none m (place + 1) u ws h.1) refl
 
--- the queue of the MAP is queue i
+-- if queue i is the one of the MAP, it alone has a copy of the unit
 one-takes : (m place i : ℕ) (u : List ℕ) (ws : List StoredQueue) (q : StoredQueue) → AreDistinct (keys_of ws) → i < length ws → q ≡ get_or ws i q → q.key ≡ m
     → copies_from (is_of_map m) place (u ∷ []) (drop i ws) ≡ map (copied_to place) (share (is_of_map m) (u ∷ []) q)
 one-takes m place i u [] q apart lt is same = absurd (omega arith)
@@ -28,18 +28,18 @@ one-takes m place zero u (w ∷ ws) q apart lt is same =
     rw (others-take-none m (place + 1) u ws others, append-nil (map (copied_to place) (share (is_of_map m) (u ∷ []) w)), ← is) refl
 one-takes m place (suc i) u (w ∷ ws) q apart lt is same = one-takes m place i u ws q apart.1 (omega arith) is same
 
--- before the first packet
+-- before the first packet, all packets are left
 pub at-start : (base now : List StoredQueue) (all : List (List ℕ)) → now ≡ base → IsOnItsWay base all all 0 now
 at-start base now all is = record { made = []; free = map room_in base; way = under-way base all [] (map room_in base) refl refl; now_is = is; count = refl }
 
--- no queue takes the packet
+-- if no queue takes the packet, the others are left
 pub way-none : (base now : List StoredQueue) (p : List ℕ) (left all : List (List ℕ)) (n : ℕ) → NoneFor p (keys_of now) → IsOnItsWay base (p ∷ left) all n now → IsOnItsWay base left all (n + 0) now
 way-none base now p left all n none k =
     let keys : keys_of now ≡ keys_of base = ap keys_of k.now_is ∙ k.way.keys in
     let count = k.count in
     record { made = k.made; free = k.free; way = none-on base p left all k.made k.free (subst (λ (x : List ℕ). NoneFor p x) keys none) k.way; now_is = k.now_is; count = omega arith }
 
--- the packet's queue is full
+-- if the packet's queue is full, the others are left
 pub way-full : (base now : List StoredQueue) (p : List ℕ) (left all : List (List ℕ)) (n i a : ℕ) → AreDistinct (keys_of now) → i < length now → a ≡ get_or (keys_of now) i a → is_for a p ≡ true → room_at i now ≡ 0
     → IsOnItsWay base (p ∷ left) all n now → IsOnItsWay base left all (n + 0) now
 way-full base now p left all n i a distinct inside is for_it none k =
@@ -51,7 +51,7 @@ way-full base now p left all n i a distinct inside is for_it none k =
     let free_is : 0 ≡ get_or k.free i 0 = sym none ∙ ap (λ (x : List ℕ). get_or x i 0) rooms in
     record { made = k.made; free = k.free; way = full-on base p left all k.made k.free i a 0 (subst AreDistinct keys distinct) (omega arith) is_base for_it free_is refl k.way; now_is = k.now_is; count = omega arith }
 
--- the packet goes in
+-- if the packet goes into its queue, the others are left
 pub way-put : (base now later : List StoredQueue) (p : List ℕ) (left all : List (List ℕ)) (n i a : ℕ) → AreDistinct (keys_of now) → i < length now → a ≡ get_or (keys_of now) i a → is_for a p ≡ true → 0 < room_at i now
     → later ≡ put now i p → IsOnItsWay base (p ∷ left) all n now → IsOnItsWay base left all (n + 1) later
 way-put base now later p left all n i a distinct inside is for_it some put_is k =
@@ -72,11 +72,11 @@ way-put base now later p left all n i a distinct inside is for_it some put_is k 
       count = omega arith;
     }
 
--- a key is found by its place
+-- the queue at the place of a key has this key
 key-at : (ws : List StoredQueue) (i : ℕ) (m : ℕ) (q : StoredQueue) → i < length ws → m ≡ get_or (keys_of ws) i m → q ≡ get_or ws i q → q.key ≡ m
 key-at ws i m q inside is q_is = ap (λ (x : StoredQueue). x.key) q_is ∙ sym (get_or-map (λ (x : StoredQueue). x.key) ws i q m inside) ∙ sym is
 
--- only the queue of its MAP takes a unit
+-- the queues before the one of its MAP take no copy of a unit
 skip : (m p i : ℕ) (u : List ℕ) (ws : List StoredQueue) → AreDistinct (keys_of ws) → i < length ws → m ≡ get_or (keys_of ws) i m
     → copies_from (is_of_map m) p (u ∷ []) ws ≡ copies_from (is_of_map m) (p + i) (u ∷ []) (drop i ws)
 skip m p i u [] distinct inside is = absurd (omega arith)
@@ -85,7 +85,7 @@ skip m p (suc i) u (w ∷ ws) distinct inside is =
     let other : w.key ≢ m = apart-at w.key (keys_of ws) i m distinct.0 (omega (arith, length-map ws (λ (q : StoredQueue). q.key))) is in
     rw (share-other m u w other) (skip m (p + 1) i u ws distinct.1 (omega arith) is ∙ ap (λ (n : ℕ). copies_from (is_of_map m) n (u ∷ []) (drop i ws)) (let e : p + 1 + i ≡ p + suc i = omega arith in e))
 
--- the queue at a place
+-- there is a queue at each place
 at : (ws : List StoredQueue) (i : ℕ) → i < length ws → (q : StoredQueue) × (q ≡ get_or ws i q)
 at [] i inside = absurd (omega arith)
 at (w ∷ ws) zero inside = (w, refl)
@@ -120,7 +120,7 @@ put-none m i u ws new d distinct inside is new_is room d_is =
       delivery_is = d_is;
     }
 
--- whether the MAP is chosen
+-- a MAP with a unit queue is chosen
 there : (m i : ℕ) (ws : List StoredQueue) → i < length ws → m ≡ get_or (keys_of ws) i m → is_some (queue_for m ws) ≡ true
 there m i [] inside is = absurd (omega arith)
 there m zero (w ∷ ws) inside is = rw (eq-eqb w.key m (sym is)) refl
@@ -168,7 +168,7 @@ by-nothing m queues units = record {
   units_are = refl;
 }
 
--- after the last packet
+-- after the last packet, the packets of the unit are in their queues
 pub at-end : (unit : List ℕ) (base now : List StoredQueue) (left : List (List ℕ)) (n : ℕ) (d : Delivery) → left ≡ [] → IsOnItsWay base left (packets_of unit) n now → d ≡ delivered (Some unit) false n → ArePut unit base now d
 at-end unit base now left n d none k d_is = record {
   made = k.made;

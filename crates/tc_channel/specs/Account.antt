@@ -1,4 +1,5 @@
--- What becomes of each data field of a stream: those that are in no unit and in no open run are lost, and no reply says so.
+-- An account of all data fields of a stream. A field that is in no unit and in no open run is lost, and no reply
+-- reports that.
 use Rattle.std.specs.Prelude.{◌≡◌, ◌≤◌, ◌⊎◌, ℕ, List, [], ◌∷◌, ◌++◌, length, Option, Some, None, if◌then◌else◌}
 use Rattle.std.specs.List.{AllByRecursion, flat_map}
 use Rattle.tc_packet.specs.declared.segment.Part.TheVariants as parts
@@ -8,8 +9,9 @@ use Rattle.tc_channel.specs.declared.settings.Settings.{Settings}
 use Rattle.tc_channel.specs.Given.{as_list}
 use Rattle.tc_channel.specs.Through.{all_made, unit_made}
 
--- data fields that follow each other in their stream, and what became of them: they made a unit, or are an open run; or they are lost,
--- since they were over their limit, since another unit began before theirs ended, or since no run was open
+-- Data fields that follow each other in their stream, and their outcome. They made a unit, or they are an open run, or
+-- they are lost because they were over their limit, because another unit began before theirs ended, or because no run
+-- was open.
 pub data Share : Type 0 where
   Ended : List (List ℕ) → Share
   Open : List (List ℕ) → Share
@@ -59,7 +61,7 @@ AreAllSegments fields =
     ((whole : List ℕ) × (fields ≡ whole ∷ []) × IsPart parts.Unsegmented whole)
     ⊎ ((segments : List (List ℕ)) × (last : List ℕ) × (fields ≡ segments ++ last ∷ []) × IsRun segments × IsPart parts.Last last)
 
--- together they carry no more octets than the limit of their MAP, and than the largest unit
+-- together the fields carry no more octets than the limit of their MAP and no more than the largest unit
 abbrev pub AreWithin : ℕ → List (List ℕ) → Type 0
 AreWithin limit fields = (length (joined_bodies fields) ≤ limit) × (length (joined_bodies fields) ≤ largest_unit)
 
@@ -68,7 +70,8 @@ abbrev pub BeginUnit : List (List ℕ) → Type 0
 BeginUnit [] = ⊥
 BeginUnit (next ∷ after) = IsPart parts.First next ⊎ IsPart parts.Unsegmented next
 
--- each share is what it is called. A run at the end of the stream is open, unless it is over its limit already
+-- Each share is of the kind that its name says. A run at the end of the stream is open, unless it is over its limit
+-- already.
 abbrev pub AreShares : ℕ → List Share → Type 0
 AreShares limit [] = Unit {0}
 AreShares limit (Ended fields ∷ later) = AreAllSegments fields × AreWithin limit fields × AreShares limit later
@@ -77,12 +80,12 @@ AreShares limit (OverLimit fields ∷ later) = (AreAllSegments fields ⊎ (IsRun
 AreShares limit (Broken fields ∷ later) = IsRun fields × BeginUnit (fields_in later) × AreShares limit later
 AreShares limit (WithoutRun field ∷ later) = (IsPart parts.Continuing field ⊎ IsPart parts.Last field) × AreShares limit later
 
--- the unit that one more data field makes, where it is of this stream
+-- the unit that one more data field makes, if it is of this stream
 abbrev pub unit_on : (ℕ → ℕ) → Settings → Service → ℕ → List Passed → Passed → List (List ℕ)
 unit_on limits s service map_id before p = if is_of service map_id p then as_list (unit_made limits s before p) else []
 
--- the shares are those of all fields of a stream, each once and in order; and just the units that these made, and the run that they left
--- open, are not lost
+-- The shares consist of all fields of a stream, each once and in order. The units of the shares are exactly the units
+-- that these fields made, and the open run of the shares is the run that they left.
 pub record AccountFor (limits : ℕ → ℕ) (s : Settings) (service : Service) (map_id : ℕ) (passed : List Passed) (shares : List Share) : Type 0 where
   pub are : AreShares (limits map_id) shares
   pub fields : fields_in shares ≡ stream service map_id passed

@@ -1,4 +1,5 @@
--- What the queues admit of a unit: the unit itself where its MAP is chosen (CCSDS 232.0-B, the MAP Access Service), else its packets. The capacities are this receiver's own rule.
+-- The part of a unit that the queues admit: the unit itself if its MAP is chosen (CCSDS 232.0-B, the MAP Access
+-- Service), otherwise its packets. The capacities are this receiver's own rule.
 use Rattle.std.specs.Prelude.{ℕ, ◌+◌, ◌-◌, Bool, true, false, List, [], ◌∷◌, ◌++◌, length, map, filter, take, sum_by, ◌==◌, ◌&&◌, Option, Some, None, is_some}
 use Rattle.tc_packet.specs.SpacePacket.{apid_of, is_telecommand, packets_of}
 use Rattle.tc_packet.specs.Segment as segment
@@ -12,31 +13,32 @@ map_of field = (segment.header_of field).map
 abbrev pub is_chosen : ChannelState → List ℕ → Bool
 is_chosen state field = is_some (queue_of (map_of field) state.units)
 
--- the packets that are offered of a unit, of a chosen MAP or not, where there is a unit: those that it is cut into, or none
+-- the packets that are offered to the queues if a unit, of a chosen MAP or not, was ended: none if the MAP is chosen,
+-- otherwise those that the unit is cut into
 abbrev pub packets_offered : Option (List ℕ) → Bool → List (List ℕ)
 packets_offered None chosen = []
 packets_offered (Some unit) true = []
 packets_offered (Some unit) false = packets_of unit
 
--- the units that are offered of it: itself, or none
+-- the units that are offered to the queues: the unit itself if its MAP is chosen, otherwise none
 abbrev pub units_offered : Option (List ℕ) → Bool → List (List ℕ)
 units_offered None chosen = []
 units_offered (Some unit) true = unit ∷ []
 units_offered (Some unit) false = []
 
--- what a packet queue wants, whose key is its APID: a telecommand packet with this APID
+-- a packet queue, whose key is its APID, wants each telecommand packet with this APID
 abbrev pub is_for : ℕ → List ℕ → Bool
 is_for apid packet = is_telecommand packet && apid_of packet == apid
 
--- what a unit queue wants of the units of a MAP, whose key is its own MAP: each of them where it is the same
+-- a unit queue, whose key is its MAP, wants each unit of this MAP
 abbrev pub is_of_map : ℕ → ℕ → List ℕ → Bool
 is_of_map map_id key unit = key == map_id
 
--- how many more items a queue can hold
+-- the number of items that a queue can hold besides those that wait
 abbrev pub room_of : Queue → ℕ
 room_of q = q.capacity - (length q.admitted - q.taken)
 
--- the first items that a queue wants by its key, as many as it has room for
+-- the first items that a queue wants by its key, if there are more than it has room for
 abbrev pub share_of : (ℕ → List ℕ → Bool) → List (List ℕ) → Queue → List (List ℕ)
 share_of wanted items q = take (room_of q) (filter (wanted q.key) items)
 
@@ -48,18 +50,18 @@ with_share wanted items q = record q { admitted = q.admitted ++ share_of wanted 
 abbrev pub with_shares : (ℕ → List ℕ → Bool) → List (List ℕ) → List Queue → List Queue
 with_shares wanted items queues = map (with_share wanted items) queues
 
--- how many of the items are queued
+-- the number of items that are queued
 abbrev pub queued_of : (ℕ → List ℕ → Bool) → List (List ℕ) → List Queue → ℕ
 queued_of wanted items queues = sum_by (λ q. length (share_of wanted items q)) queues
 
--- the unit that a data field ended, if any, is offered to the queues
+-- the state after the unit that a data field ended, if any, was offered to the queues
 abbrev pub offered : List ℕ → Option (List ℕ) → ChannelState → ChannelState
 offered field unit state = record state {
   queues = with_shares is_for (packets_offered unit (is_chosen state field)) state.queues;
   units = with_shares (is_of_map (map_of field)) (units_offered unit (is_chosen state field)) state.units;
 }
 
--- how many packets and units of it are queued
+-- the number of packets and units that are queued when this unit is offered
 abbrev pub count_queued : List ℕ → Option (List ℕ) → ChannelState → ℕ
 count_queued field unit state =
     queued_of is_for (packets_offered unit (is_chosen state field)) state.queues

@@ -1,4 +1,4 @@
--- What the fields of a channel hold of the run of its journal.
+-- The relation between the parts of a channel and the run of its journal.
 use Rattle.std.specs.Prelude.{◌≡◌, ◌≢◌, ℕ, ◌<◌, Bool, List, [], ◌∷◌, ◌++◌, Option, Some, None, map, ◌==◌, ◌&&◌, if◌then◌else◌}
 use Rattle.circular_buffer.specs.Buffer.{Buffer}
 use Rattle.tc_link.specs.Farm.{Machine}
@@ -15,7 +15,7 @@ use Rattle.tc_channel.specs.ChannelState.{buffer}
 use Rattle.tc_channel.specs.StoredQueues.{stored, StoredQueue}
 use Rattle.tc_channel.specs.Run.{run_within, IsLawfulWithin}
 
--- the fields leave the run at this place, if it is no longer than the limit
+-- the run that the fields leave is the one at this place, if it is no longer than the limit
 abbrev pub LeaveAtMost : ℕ → List (List ℕ) → OpenRuns → ℕ → Type 0
 LeaveAtMost limit fields open_runs place = at_most limit (run_left open_runs.segmented fields) ≡ run_at open_runs.runs place
 
@@ -30,14 +30,14 @@ pub record FollowsWithin (limit : ℕ) (old new : OpenRuns) (service : Service) 
   pub others : (other : ℕ) → other ≢ stream_place service field → run_at new.runs other ≡ run_at old.runs other
   pub segmented : new.segmented ≡ old.segmented
 
--- the data field of a BD frame is passed on at once, and no other
+-- the data field of a BD frame is passed on at once, and no other field is
 abbrev pub FollowsKindWithin : ℕ → Kind → OpenRuns → OpenRuns → List ℕ → Type 0
 FollowsKindWithin limit kinds.Bd old new field = FollowsWithin limit old new Bd field
 FollowsKindWithin limit (kinds.Ad ns) old new field = new ≡ old
 FollowsKindWithin limit (kinds.Bc command) old new field = new ≡ old
 FollowsKindWithin limit kinds.Invalid old new field = new ≡ old
 
--- the unit that a data field ends, where it is within the limit
+-- the unit that a data field ends, if the unit is within the limit
 abbrev pub EndsWithin : ℕ → OpenRuns → Service → List ℕ → Option (List ℕ) → Type 0
 EndsWithin limit open_runs service field unit = (fields : List (List ℕ)) → LeaveAtMost limit fields open_runs (stream_place service field) → unit ≡ at_most limit (unit_ended open_runs.segmented fields field)
 
@@ -48,7 +48,7 @@ EndsAtOnceWithin limit (kinds.Ad ns) open_runs field unit = unit ≡ None
 EndsAtOnceWithin limit (kinds.Bc command) open_runs field unit = unit ≡ None
 EndsAtOnceWithin limit kinds.Invalid open_runs field unit = unit ≡ None
 
--- what goes into the buffer of a frame: the data field of an accepted AD frame
+-- the data field that goes into the buffer: the field of an accepted AD frame
 abbrev pub buffered_of : Act → List ℕ → Option (List ℕ)
 buffered_of act field = if act.event == 1 && act.accepted then Some field else None
 
@@ -56,7 +56,8 @@ abbrev pub with_field : List (List ℕ) → Option (List ℕ) → List (List ℕ
 with_field fields None = fields
 with_field fields (Some field) = fields ++ field ∷ []
 
--- what a channel works with: FARM-1, the ring of buffered data fields, the open runs, and the rings of the packet queues and of the unit queues
+-- the parts of a channel: FARM-1, the ring of buffered data fields, the open runs, and the rings of the packet queues
+-- and of the unit queues
 pub record Inside : Type 0 where
   pub farm : Machine
   pub ring : Buffer (List ℕ)
@@ -64,7 +65,7 @@ pub record Inside : Type 0 where
   pub rings : List StoredQueue
   pub unit_rings : List StoredQueue
 
--- all that a channel works with is that of the journal's run, with a limit for each MAP
+-- all parts of a channel are those of the journal's run, with a limit for each MAP
 pub record HoldsWithin (limits : ℕ → ℕ) (s : Settings) (journal : List Event) (inside : Inside) : Type 0 where
   pub allowed : IsAllowed s
   pub lawful : IsLawfulWithin limits s journal

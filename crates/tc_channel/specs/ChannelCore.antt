@@ -1,4 +1,4 @@
--- What a channel works with, in rooms, and how large these are.
+-- The parts of a channel in rooms, and the sizes of the rooms.
 use Rattle.std.specs.Prelude.{◌≡◌, ◌<◌, ◌≤◌, ℕ, List, [], ◌∷◌, ◌++◌, min}
 use Rattle.std.specs.List.{AllByRecursion}
 use Rattle.tc_link.specs.Farm.{Machine}
@@ -21,15 +21,15 @@ HaveLimits limits store = (service : Service) (map_id : ℕ) → map_id < 64 →
 abbrev pub AreSmall : Store → Type 0
 AreSmall store = (place : ℕ) → place < stream_count → limit_at store place ≤ largest_unit
 
--- the rooms are large enough for the unit of each stream: on a plain channel it is a data field
+-- the rooms are large enough for the unit of each stream, which on a plain channel is a data field
 abbrev pub AreEnough : Store → List ℕ → Type 0
 AreEnough store sizes = (place : ℕ) → place < stream_count → AllByRecursion (λ (n : ℕ). min (limit_at store place) (largest_item store.segmented) ≤ n) sizes
 
--- so many octets are enough for the unit of each stream
+-- this number of octets is enough for the unit of each stream
 abbrev pub IsEnough : Store → ℕ → Type 0
 IsEnough store size = (place : ℕ) → place < stream_count → min (limit_at store place) (largest_item store.segmented) ≤ size
 
--- what a data field is passed on with: units within the largest one, distinct queues, and rooms that are large enough
+-- a data field can be passed on: limits are within the largest unit, queues are distinct, and rooms are large enough
 pub record CanPassOn (store : Store) (queues units : List Keyed) : Type 0 where
   pub small : AreSmall store
   pub distinct : AreDistinct (keys_of (rings_in queues))
@@ -56,11 +56,12 @@ pub record Parts : Type 0 where
   pub queues : List Keyed
   pub units : List Keyed
 
--- the same without the rooms
+-- the parts of a channel without their rooms
 abbrev pub inside_of : Parts → Inside
 inside_of parts = record { farm = parts.farm; ring = parts.fields.ring; open_runs = open_runs parts.store; rings = rings_in parts.queues; unit_rings = rings_in parts.units }
 
--- all of it is that of the journal's run within these limits, nothing is staged that doesn't count, and each room is large enough
+-- all parts are those of the journal's run within these limits, nothing is staged that doesn't count, and each room is
+-- large enough
 pub record HoldsInRooms (limits : ℕ → ℕ) (s : Settings) (journal : List Event) (parts : Parts) : Type 0 where
   pub holds : HoldsWithin limits s journal (inside_of parts)
   pub field_size : parts.fields.size ≡ largest_field
@@ -72,18 +73,18 @@ pub record HoldsInRooms (limits : ℕ → ℕ) (s : Settings) (journal : List Ev
   pub sizes : AreEnough parts.store (room_sizes parts.queues)
   pub unit_sizes : AreEnough parts.store (room_sizes parts.units)
 
--- it is that of some channel's run
+-- the parts are those of the run of some channel
 abbrev pub AreChannelCore : Parts → Type 0
 AreChannelCore parts = (limits : ℕ → ℕ) × (s : Settings) × (journal : List Event) × HoldsInRooms limits s journal parts
 
--- it is so of whatever limits, settings and journal these parts are those of
+-- the statement holds for all limits, settings and journals that these parts belong to
 abbrev pub WhereverItHolds : Parts → ((ℕ → ℕ) → Settings → List Event → Type 0) → Type 0
 WhereverItHolds parts P = (limits : ℕ → ℕ) (s : Settings) (journal : List Event) → HoldsInRooms limits s journal parts → P limits s journal
 
--- whatever journal the first parts are those of, the others are those of that journal and one more event
+-- if the old parts belong to a journal, the new ones belong to that journal with one more event
 abbrev pub GoOn : Event → Parts → Parts → Type 0
 GoOn event old new = WhereverItHolds old (λ limits s journal. HoldsInRooms limits s (journal ++ event ∷ []) new)
 
--- or they are those of the same journal
+-- if the old parts belong to a journal, the new ones belong to it, too
 abbrev pub Stay : Parts → Parts → Type 0
 Stay old new = WhereverItHolds old (λ limits s journal. HoldsInRooms limits s journal new)

@@ -1,4 +1,4 @@
--- What the queues take of a unit, packet by packet.
+-- The delivery of a unit to the queues, packet by packet.
 use Rattle.std.specs.Prelude.{◌≡◌, ℕ, ◌+◌, is_some, List, ◌∷◌, [], length, map, get_or, ◌<◌, Bool, true, false, ◌⊎◌, Option, Some}
 use Rattle.std.specs.List.{AllByRecursion}
 use Rattle.tc_packet.specs.SpacePacket.{packets_of}
@@ -8,7 +8,8 @@ use Rattle.tc_channel.specs.StoredQueues.{StoredQueue, Placed, copies_from, put,
 use Rattle.tc_channel.specs.declared.reply.Delivery.{Delivery}
 use Rattle.tc_channel.specs.Keyed.{Keyed}
 
--- after some of a unit's packets: what went into the queues, what they then hold, and how many packets these were
+-- the state after some of a unit's packets: the items that went into the queues, the queues with them, and the number
+-- of these items
 pub record IsOnItsWay (base : List StoredQueue) (left all : List (List ℕ)) (queued : ℕ) (now : List StoredQueue) : Type 0 where
   pub made : List Placed
   pub free : List ℕ
@@ -23,14 +24,14 @@ pub record ArePut (unit : List ℕ) (old new : List StoredQueue) (delivery : Del
   pub new_is : new ≡ put_all old made
   pub delivery_is : delivery ≡ delivered (Some unit) false (length made)
 
--- a unit of this MAP is in its queue, or dropped whole
+-- a unit of this MAP is in its queue, or was dropped whole
 pub record IsPutWhole (map_id : ℕ) (unit : List ℕ) (old new : List StoredQueue) (delivery : Delivery) : Type 0 where
   pub made : Option Placed
   pub whole : placed made ≡ copies_from (is_of_map map_id) 0 (unit ∷ []) old
   pub new_is : new ≡ put_all old (placed made)
   pub delivery_is : delivery ≡ delivered (Some unit) true (length (placed made))
 
--- a unit, if any, is delivered: whole where its MAP is chosen, else by its packets
+-- a unit, if any, is delivered: whole if its MAP is chosen, otherwise as its packets
 pub record IsDelivered (map_id : ℕ) (unit : Option (List ℕ)) (queues later units later_units : List StoredQueue) (delivery : Delivery) : Type 0 where
   pub made : List Placed
   pub whole : Option Placed
@@ -40,11 +41,11 @@ pub record IsDelivered (map_id : ℕ) (unit : Option (List ℕ)) (queues later u
   pub queues_are : later ≡ put_all queues made
   pub units_are : later_units ≡ put_all units (placed whole)
 
--- how much room the ring at this place has
+-- the room that the ring at this place has
 abbrev pub room_at : ℕ → List StoredQueue → ℕ
 room_at place rings = get_or (map room_in rings) place 0
 
--- an item is put behind those of the ring at this place, or that is full
+-- an item is put behind those of the ring at this place, or that ring is full
 pub record IsPutAt (place : ℕ) (item : List ℕ) (old new : List StoredQueue) (room : Bool) : Type 0 where
   pub done : room ≡ true → (new ≡ put old place item) × (0 < room_at place old)
   pub full : room ≡ false → (new ≡ old) × (room_at place old ≡ 0)
@@ -54,6 +55,6 @@ abbrev pub IsAmong : ℕ → List (List ℕ) → Type 0
 IsAmong key [] = ⊥
 IsAmong key (packet ∷ packets) = (is_for key packet ≡ true) ⊎ IsAmong key packets
 
--- what is staged in the queues is of these packets: nothing is staged in a queue that none of them is for
+-- the items staged in the queues are of these packets: nothing is staged in a queue that none of the packets is for
 abbrev pub AreStagedOf : List (List ℕ) → List Keyed → Type 0
 AreStagedOf packets queues = AllByRecursion (λ (q : Keyed). (q.slots.staged ≡ []) ⊎ IsAmong q.key packets) queues

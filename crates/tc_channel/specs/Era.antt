@@ -1,4 +1,4 @@
--- The era of a journal: what came since V(R) was last set by a Set V(R) that was obeyed.
+-- The era of a journal: the events that came since V(R) was last set by a Set V(R) that was obeyed.
 use Rattle.std.specs.Prelude.{◌≡◌, ℕ, ◌+◌, ◌%◌, ◌<◌, false, List, [], ◌∷◌, ◌++◌, length, take, drop, ◌⊎◌, slice_get, Option, Some, None}
 use Rattle.tc_link.specs.Frame.{header_of}
 use Rattle.tc_link.specs.Farm.{Row, E8}
@@ -10,7 +10,7 @@ use Rattle.tc_channel.specs.declared.event.Event.TheVariants.{Frame, Release, Ta
 use Rattle.tc_channel.specs.ChannelState.{ChannelState, Accepted, no_limits}
 use Rattle.tc_channel.specs.Run.{field_of, row_of, run_within}
 
--- Set V(R) is obeyed in S1 and in S2
+-- the number that Set V(R) sets V(R) to, which it does in S1 and in S2
 abbrev pub set_at : Row → State → Option ℕ
 set_at (E8 x) S1 = Some x
 set_at (E8 x) S2 = Some x
@@ -23,17 +23,17 @@ set_by s state Release = None
 set_by s state (Take apid) = None
 set_by s state (TakeUnit map_id) = None
 
--- an era starts after these events, at V(R) = x: they are none, or the last of them set V(R) to x
+-- an era starts after these events, at V(R) = x: either there are none, or the last of them set V(R) to x
 abbrev pub StartsWithin : (ℕ → ℕ) → Settings → List Event → ℕ → Type 0
 StartsWithin limits s before x =
     ((before ≡ []) × (x ≡ s.first))
     ⊎ ((past : List Event) × (e : Event) × (before ≡ past ++ e ∷ []) × (set_by s (run_within limits s past) e ≡ Some x))
 
--- no event that came later set V(R)
+-- no event of those that came later set V(R)
 abbrev pub NoneSetsWithin : (ℕ → ℕ) → Settings → List Event → List Event → Type 0
 NoneSetsWithin limits s before later = (i : ℕ) (e : Event) → slice_get later i ≡ Some e → set_by s (run_within limits s (before ++ take i later)) e ≡ None
 
--- the era of the journal: what came before it, what came in it, and its first number
+-- the era of the journal: the events before it, the events in it, and its first number
 pub record IsEraWithin (limits : ℕ → ℕ) (s : Settings) (journal before later : List Event) (x : ℕ) : Type 0 where
   pub parts : journal ≡ before ++ later
   pub starts : StartsWithin limits s before x
@@ -43,17 +43,18 @@ pub record IsEraWithin (limits : ℕ → ℕ) (s : Settings) (journal before lat
 abbrev pub accepted_since_within : (ℕ → ℕ) → Settings → List Event → List Event → List Accepted
 accepted_since_within limits s before journal = drop (length (run_within limits s before).accepted) (run_within limits s journal).accepted
 
--- modulo 256, the accepted frames have the numbers from x on, one after the other, and V(R) is the one after them
+-- modulo 256, the accepted frames have the numbers from x on, one after the other, and V(R) is the number after them
 pub record CountsUpWithin (limits : ℕ → ℕ) (s : Settings) (journal before : List Event) (x : ℕ) : Type 0 where
   pub numbers : (i : ℕ) (a : Accepted) → slice_get (accepted_since_within limits s before journal) i ≡ Some a → a.ns ≡ (x + i) % 256
   pub vr : (run_within limits s journal).report.vr ≡ (x + length (accepted_since_within limits s before journal)) % 256
 
--- in whatever way a journal is parted into an era and what came before
+-- frames count up in whatever way a journal is parted into an era and the events before it
 abbrev pub CountsUpInItsEraWithin : (ℕ → ℕ) → Settings → List Event → Type 0
 CountsUpInItsEraWithin limits s journal = (before later : List Event) (x : ℕ) → IsEraWithin limits s journal before later x → CountsUpWithin limits s journal before x
 
--- the frame is one that a sender made, whose frame number i, from 0 on, has N(S) = x + i modulo 256 and the data field `sent i`; and it comes
--- where its number is less than 256 from the number of those that were accepted, so that no two are taken for one another
+-- The frame is one of a sender whose frame number i, from 0 on, has N(S) = x + i modulo 256 and the data field `sent
+-- i`. The frame comes when its number is less than 256 away from the number of accepted frames, so that no two frames
+-- are taken for one another.
 pub record IsSent (x : ℕ) (sent : ℕ → List ℕ) (accepted : ℕ) (octets : List ℕ) : Type 0 where
   pub number : ℕ
   pub ns : (header_of octets).ns ≡ (x + number) % 256
@@ -61,19 +62,20 @@ pub record IsSent (x : ℕ) (sent : ℕ → List ℕ) (accepted : ℕ) (octets :
   pub not_old : accepted < number + 256
   pub not_new : number < accepted + 256
 
--- what comes where so many were accepted is the sender's, if it is of Type-AD
+-- the event is the sender's, if it is a frame of Type-AD, when this number of frames were accepted before it
 abbrev pub IsOfSender : ℕ → (ℕ → List ℕ) → ℕ → Event → Type 0
 IsOfSender x sent accepted (Frame octets) = (header_of octets).bypass ≡ false → (header_of octets).control ≡ false → IsSent x sent accepted octets
 IsOfSender x sent accepted Release = Unit {0}
 IsOfSender x sent accepted (Take apid) = Unit {0}
 IsOfSender x sent accepted (TakeUnit map_id) = Unit {0}
 
--- each Type-AD frame that comes in the era is the sender's: lost, repeated and put in another order as may be, but none 256 frames old
+-- Each Type-AD frame that comes in the era is the sender's. Frames may be lost, repeated and put in another order, but
+-- none comes 256 frames late or early.
 abbrev pub ComesFromWithin : (ℕ → ℕ) → Settings → List Event → List Event → ℕ → (ℕ → List ℕ) → Type 0
 ComesFromWithin limits s before later x sent = (place : ℕ) (e : Event) → slice_get later place ≡ Some e
     → IsOfSender x sent (length (accepted_since_within limits s before (before ++ take place later))) e
 
--- the same of a channel that has no limit by MAP
+-- the definitions above for a channel that has no limit by MAP
 
 abbrev pub IsEra : Settings → List Event → List Event → List Event → ℕ → Type 0
 IsEra s journal before later x = IsEraWithin no_limits s journal before later x

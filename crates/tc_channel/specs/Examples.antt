@@ -1,4 +1,5 @@
--- Short journals whose answers are worked out by hand, to be read with the definitions: their settings and their frames, octet by octet.
+-- Short journals with results that are worked out by hand. The settings and the frames are given octet by octet, to be
+-- read with the definitions.
 use Rattle.std.specs.Prelude.{ℕ, ◌==◌, if◌then◌else◌, Bool, true, false, List, [], ◌∷◌, replicate}
 use Rattle.tc_link.specs.declared.Link.{Link}
 use Rattle.tc_packet.specs.declared.Service.{Service}
@@ -9,35 +10,36 @@ use Rattle.tc_channel.specs.declared.settings.MapSetting.{MapSetting}
 use Rattle.tc_channel.specs.declared.event.Event.{Event}
 use Rattle.tc_channel.specs.declared.event.Event.TheVariants.{Frame}
 
--- channel 1 with a window of 10, a buffer for so many data fields, V(R) 0, and a queue for one packet of application 5
+-- channel 1 with a window of 10, a buffer for this number of data fields, V(R) 0, and a queue for one packet of
+-- application 5
 abbrev pub buffer_of : ℕ → Settings
 buffer_of fields = record { vcid = 1; width = 10; buffer = fields; first = 0; segmented = true; queues = record { apid = 5; capacity = 1 } ∷ []; maps = [] }
 
--- the same without segment headers
+-- channel 1 with a buffer for one data field and without segment headers
 abbrev pub plain : Settings
 plain = record { vcid = 1; width = 10; buffer = 1; first = 0; segmented = false; queues = record { apid = 5; capacity = 1 } ∷ []; maps = [] }
 
--- the same with segment headers, where MAP 3 is chosen and one of its units may wait
+-- channel 1 with a buffer for one data field and the chosen MAP 3, of whose units one may wait
 abbrev pub map_3_chosen : Settings
 map_3_chosen = record { vcid = 1; width = 10; buffer = 1; first = 0; segmented = true; queues = record { apid = 5; capacity = 1 } ∷ []; maps = record { map = 3; capacity = 1 } ∷ [] }
 
--- a limit of so many octets for the units of one MAP, and that of the largest unit for the others
+-- a limit of this number of octets for the units of one MAP, and that of the largest unit for the others
 abbrev pub limited : ℕ → ℕ → ℕ → ℕ
 limited own octets map_id = if map_id == own then octets else 65542
 
 abbrev pub link_up : Link
 link_up = record { no_rf = false; no_bit_lock = false }
 
--- frames of Type-AD for spacecraft 42 and channel 1, with N(S) 0 where none is named; MAP 0 where none is named
+-- frames of Type-AD for spacecraft 42 and channel 1, with N(S) 0 and MAP 0 unless another one is named
 
--- N(S), an unsegmented packet of application 5 with the one octet aa
+-- a frame with this N(S), whose data is an unsegmented packet of application 5 with the one octet aa
 abbrev pub packet_octets : ℕ → List ℕ
 packet_octets ns = 0x00 ∷ 0x2a ∷ 0x04 ∷ 0x0c ∷ ns ∷ 0xc0 ∷ 0x10 ∷ 0x05 ∷ 0xc0 ∷ 0x00 ∷ 0x00 ∷ 0x00 ∷ 0xaa ∷ []
 
 abbrev pub one_packet : ℕ → Event
 one_packet ns = Frame (packet_octets ns)
 
--- the same packet of application 6
+-- a frame with such a packet of application 6
 abbrev pub packet_of_another : Event
 packet_of_another = Frame (0x00 ∷ 0x2a ∷ 0x04 ∷ 0x0c ∷ 0x00 ∷ 0xc0 ∷ 0x10 ∷ 0x06 ∷ 0xc0 ∷ 0x00 ∷ 0x00 ∷ 0x00 ∷ 0xaa ∷ [])
 
@@ -63,7 +65,7 @@ two_packets = Frame (0x00 ∷ 0x2a ∷ 0x04 ∷ 0x13 ∷ 0x00 ∷ 0xc0 ∷ 0x10 
 abbrev pub two_applications : Event
 two_applications = Frame (0x00 ∷ 0x2a ∷ 0x04 ∷ 0x13 ∷ 0x00 ∷ 0xc0 ∷ 0x10 ∷ 0x05 ∷ 0xc0 ∷ 0x00 ∷ 0x00 ∷ 0x00 ∷ 0xaa ∷ 0x10 ∷ 0x06 ∷ 0xc0 ∷ 0x00 ∷ 0x00 ∷ 0x00 ∷ 0xbb ∷ [])
 
--- a packet and one octet more
+-- a packet and one more octet
 abbrev pub packet_and_rest : Event
 packet_and_rest = Frame (0x00 ∷ 0x2a ∷ 0x04 ∷ 0x0d ∷ 0x00 ∷ 0xc0 ∷ 0x10 ∷ 0x05 ∷ 0xc0 ∷ 0x00 ∷ 0x00 ∷ 0x00 ∷ 0xaa ∷ 0xff ∷ [])
 
@@ -94,7 +96,7 @@ plain_packet = Frame (0x00 ∷ 0x2a ∷ 0x04 ∷ 0x0b ∷ 0x00 ∷ 0x10 ∷ 0x05
 abbrev pub map_3_octets : Event
 map_3_octets = Frame (0x00 ∷ 0x2a ∷ 0x04 ∷ 0x08 ∷ 0x00 ∷ 0xc3 ∷ 0xaa ∷ 0xbb ∷ 0xcc ∷ [])
 
--- two octets on MAP 3 by Type-BD, and none
+-- two octets on MAP 3 by Type-BD, and no octets on MAP 3 by Type-BD
 abbrev pub bypass_map_3_octets : List ℕ
 bypass_map_3_octets = 0x20 ∷ 0x2a ∷ 0x04 ∷ 0x07 ∷ 0x00 ∷ 0xc3 ∷ 0xaa ∷ 0xbb ∷ []
 
@@ -109,7 +111,8 @@ two_queues segmented = record { vcid = 1; width = 10; buffer = 4; first = 0; seg
 abbrev pub many_queues : Settings
 many_queues = record { vcid = 1; width = 10; buffer = 1; first = 0; segmented = true; queues = replicate 70 (record { apid = 5; capacity = 256 }); maps = record { map = 3; capacity = 3 } ∷ [] }
 
--- two data fields by these services, segments of MAP 3, which make the packet of application 5 with the octets aa and bb
+-- Two data fields that came by these services. They are segments of MAP 3 and make the packet of application 5 with the
+-- octets aa and bb.
 abbrev pub in_two_segments : Service → Service → List Passed
 in_two_segments one other =
     record { service = one; field = 0x43 ∷ 0x10 ∷ 0x05 ∷ 0xc0 ∷ [] } ∷ record { service = other; field = 0x83 ∷ 0x01 ∷ 0x00 ∷ 0x01 ∷ 0xaa ∷ 0xbb ∷ [] } ∷ []
@@ -117,7 +120,8 @@ in_two_segments one other =
 abbrev pub joined_packet : List ℕ
 joined_packet = 0x10 ∷ 0x05 ∷ 0xc0 ∷ 0x01 ∷ 0x00 ∷ 0x01 ∷ 0xaa ∷ 0xbb ∷ []
 
--- settings by their bounds: whether there are segment headers, the id, the width of the window, the size of the buffer, the queues and the chosen MAPs
+-- settings by their bounds: whether there are segment headers, the virtual channel identifier, the width of the window,
+-- the size of the buffer, the queues and the chosen MAPs
 abbrev pub channel_of : Bool → ℕ → ℕ → ℕ → List QueueSetting → List MapSetting → Settings
 channel_of segmented vcid width buffer queues maps = record { vcid = vcid; width = width; buffer = buffer; first = 0; segmented = segmented; queues = queues; maps = maps }
 
@@ -129,6 +133,6 @@ two_apids one other capacity = record { apid = one; capacity = capacity } ∷ re
 abbrev pub two_maps : ℕ → ℕ → ℕ → List MapSetting
 two_maps one other capacity = record { map = one; capacity = capacity } ∷ record { map = other; capacity = capacity } ∷ []
 
--- a sender's data fields: this one has this number, the others have no octet
+-- a sender's data fields: this field has this number, and the others have no octet
 abbrev pub sent_as : ℕ → List ℕ → ℕ → List ℕ
 sent_as number field i = if i == number then field else []

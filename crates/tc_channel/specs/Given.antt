@@ -1,4 +1,5 @@
--- What leaves a channel over a journal: the packets and units that were taken, and the data fields that were passed to reassembly.
+-- The packets, units and data fields that leave a channel over a journal: packets and units are taken, and data fields
+-- are passed to reassembly.
 use Rattle.std.specs.Prelude.{ℕ, ◌==◌, List, [], ◌∷◌, ◌++◌, map, filter, slice_get, Option, None, Some, option_map, if◌then◌else◌}
 use Rattle.std.specs.Option.{option_and_then}
 use Rattle.tc_packet.specs.declared.Service.{Service}
@@ -9,18 +10,18 @@ use Rattle.tc_channel.specs.declared.event.Event.TheVariants.{Frame, Release, Ta
 use Rattle.tc_channel.specs.ChannelState.{ChannelState, Queue, queue_of, waiting}
 use Rattle.tc_channel.specs.Run.{step}
 
--- what a take from the queue with this key gives: the oldest item that waits there
+-- the item that a take from the queue with this key gives: the oldest item that waits there
 abbrev pub oldest_in : ℕ → List Queue → Option (List ℕ)
 oldest_in key queues = option_and_then (λ items. slice_get items 0) (option_map waiting (queue_of key queues))
 
--- the packet of this application that an event gives at a state
+-- the packet of this application that an event gives in a state
 abbrev pub packet_given : ℕ → ChannelState → Event → Option (List ℕ)
 packet_given apid state (Frame octets) = None
 packet_given apid state Release = None
 packet_given apid state (Take other) = if other == apid then oldest_in apid state.queues else None
 packet_given apid state (TakeUnit map_id) = None
 
--- the unit of this MAP that an event gives at a state
+-- the unit of this MAP that an event gives in a state
 abbrev pub unit_given : ℕ → ChannelState → Event → Option (List ℕ)
 unit_given map_id state (Frame octets) = None
 unit_given map_id state Release = None

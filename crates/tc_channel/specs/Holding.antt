@@ -1,4 +1,5 @@
--- What a channel has come to after a journal: FARM-1's components, and how much waits in its buffer and its queues.
+-- The state of a channel after a journal: FARM-1's components, and the number of items that wait in its buffer and its
+-- queues.
 use Rattle.std.specs.Prelude.{List, Option, length, option_map}
 use Rattle.std.specs.List.{filter_map}
 use Rattle.tc_channel.specs.declared.settings.Settings.{Settings}
@@ -11,11 +12,11 @@ use Rattle.tc_channel.specs.declared.holding.MapHolding.{MapHolding}
 use Rattle.tc_channel.specs.Run.{run}
 use Rattle.tc_channel.specs.Reply.{buffered_fields, waiting_packets, waiting_units}
 
--- how many packets wait in a queue, where there is one for its APID
+-- the number of packets that wait in a queue, if there is one for its APID
 abbrev pub queue_holding : Settings → List Event → QueueSetting → Option QueueHolding
 queue_holding s journal queue = option_map (λ packets. record { apid = queue.apid; packets = length packets }) (waiting_packets s journal queue.apid)
 
--- how many units wait in the queue of a chosen MAP, where there is one
+-- the number of units that wait in the queue of a chosen MAP, if there is one
 abbrev pub map_holding : Settings → List Event → MapSetting → Option MapHolding
 map_holding s journal chosen = option_map (λ units. record { map = chosen.map; units = length units }) (waiting_units s journal chosen.map)
 

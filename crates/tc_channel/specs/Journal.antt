@@ -1,4 +1,4 @@
--- What a contract sees of a channel: its settings, and the events that it answered, the oldest first.
+-- The view that a contract has of a channel: its settings and its events, the oldest first.
 use Rattle.std.specs.Prelude.{◌<◌, List, [], ◌∷◌, ◌++◌, length}
 use Rattle.tc_channel.specs.declared.settings.Settings.{Settings}
 use Rattle.tc_channel.specs.declared.event.Event.{Event}
@@ -10,7 +10,7 @@ pub record History : Type 0 where
   pub settings : Settings
   pub journal : List Event
 
--- the same channel, one event later
+-- the channel one event later
 abbrev pub with_event : History → Event → History
 with_event history event = record history { journal = history.journal ++ event ∷ [] }
 
@@ -21,6 +21,6 @@ event_of Release = events.Release
 event_of (Take apid) = events.Take apid
 event_of (TakeUnit map_id) = events.TakeUnit map_id
 
--- the number of its events is reported as it is: 2^64 - 1 is reported for as many or more
+-- the number of events is reported as it is, or as 2^64 - 1 if there are more
 abbrev pub IsNumberReported : History → Type 0
 IsNumberReported channel = length channel.journal < 18446744073709551615

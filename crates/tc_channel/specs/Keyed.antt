@@ -1,11 +1,11 @@
--- Queues in rooms, with what is staged behind their items and without.
+-- Queues in rooms, with and without the items that are staged in them.
 use Rattle.std.specs.Prelude.{◌≡◌, ◌≤◌, ◌<◌, ◌++◌, ℕ, Bool, true, false, List, [], ◌∷◌, length, map, Option, IfSome}
 use Rattle.std.specs.List.{AllByRecursion}
 use Rattle.circular_buffer.specs.Buffer.{buffer}
 use Rattle.tc_channel.specs.StoredQueues.{StoredQueue, with_items}
 use Rattle.tc_rooms.specs.Rooms.{Slotted, slotted}
 
--- what a contract sees of a queue: its key, and the items in its slots
+-- the view that a contract has of a queue: its key, and the items in its slots
 pub record Keyed : Type 0 where
   pub key : ℕ
   pub slots : Slotted
@@ -17,14 +17,14 @@ ring_in q = record { key = q.key; ring = q.slots.ring }
 abbrev pub rings_in : List Keyed → List StoredQueue
 rings_in queues = map ring_in queues
 
--- the same with what is staged behind its items
+-- a queue without its rooms, with the staged items behind those that wait
 abbrev pub staged_in : Keyed → StoredQueue
 staged_in q = record { key = q.key; ring = buffer (q.slots.ring.items ++ q.slots.staged) q.slots.ring.capacity }
 
 abbrev pub all_staged_in : List Keyed → List StoredQueue
 all_staged_in queues = map staged_in queues
 
--- the most octets of an item of each queue
+-- the largest number of octets that an item of each queue may have
 abbrev pub room_sizes : List Keyed → List ℕ
 room_sizes queues = map (λ (q : Keyed). q.slots.size) queues
 
@@ -40,12 +40,12 @@ FitsIn sizes unit = IfSome unit (λ octets. Fit octets sizes)
 abbrev pub AreCommitted : List Keyed → Type 0
 AreCommitted queues = AllByRecursion (λ (q : Keyed). q.slots.staged ≡ []) queues
 
--- an item is put behind those of a ring, or that is full
+-- an item is put behind those of a ring, or that ring is full
 pub record IsPutBehind (item : List ℕ) (old new : StoredQueue) (place : Bool) : Type 0 where
   pub done : place ≡ true → (new ≡ with_items old (item ∷ [])) × (length old.ring.items < old.ring.capacity)
   pub full : place ≡ false → (new ≡ old) × (old.ring.capacity ≤ length old.ring.items)
 
--- what is staged counts, or is rolled back
+-- the queue after its staged items were made to count, and the queue after they were rolled back
 abbrev pub committed : Keyed → Keyed
 committed q = record q { slots = slotted (q.slots.ring.items ++ q.slots.staged) q.slots.ring.capacity [] q.slots.size }
 

@@ -1,4 +1,4 @@
--- What holds of the state of each journal, and of longer journals.
+-- Statements about the state after each journal, and about longer journals.
 use Rattle.std.specs.Prelude.{◌≡◌, ◌≢◌, ℕ, ◌+◌, ◌-◌, ◌≤◌, Bool, nat_lt, true, false, List, [], ◌∷◌, ◌++◌, length, Any, if◌then◌else◌}
 use Rattle.tc_link.specs.declared.State.TheVariants.{S1, S2, S3}
 use Rattle.tc_packet.specs.Reassembly.{Passed}
@@ -15,16 +15,16 @@ pub record IsSound (s : Settings) (state : ChannelState) : Type 0 where
   pub locked : state.report.lockout ≡ true → state.report.state ≡ S3
   pub lockout : state.report.state ≡ S3 → state.report.lockout ≡ true
 
--- a queue holds no more than its capacity, and gave no more than it admitted
+-- a queue holds no more items than its capacity, and gave no more than it admitted
 pub record KeepsToItsCapacity (q : Queue) : Type 0 where
   pub taken : q.taken ≤ length q.admitted
   pub capacity : length q.admitted ≤ q.capacity + q.taken
 
--- a queue has room for one more
+-- whether a queue has room for one more item
 abbrev pub has_room_for_one : Queue → Bool
 has_room_for_one q = nat_lt (length q.admitted - q.taken) q.capacity
 
--- a queue that one unit more came to: the unit stands at its end where there was room, and was dropped where there was none
+-- a queue that was offered one more unit: the unit stands at its end if there was room, and was dropped otherwise
 abbrev pub with_unit : Queue → List ℕ → Queue
 with_unit q unit = if has_room_for_one q then record q { admitted = q.admitted ++ unit ∷ [] } else q
 
@@ -41,7 +41,7 @@ QueuesGrow (old ∷ olds) (new ∷ news) = QueueGrows old new × QueuesGrow olds
 QueuesGrow [] (new ∷ news) = ⊥
 QueuesGrow (old ∷ olds) [] = ⊥
 
--- a state goes on: its lists begin with what they were, and no count falls
+-- a state goes on: its lists begin with the items that they had, and no count falls
 pub record Grows (old new : ChannelState) : Type 0 where
   pub accepted : (more : List Accepted) × (new.accepted ≡ old.accepted ++ more)
   pub released : old.released ≤ new.released

@@ -1,4 +1,5 @@
--- How many octets a channel asks an allocator for at most, beside its journal, in a program for a machine of 64 bits.
+-- The largest number of bytes that a channel requests from an allocator, besides its journal, in a program for a
+-- machine of 64 bits.
 use Rattle.std.specs.Prelude.{ℕ, ◌+◌, ◌*◌, ◌^◌, Bool, List, length, nat_lt, sum_by, if◌then◌else◌}
 use Rattle.tc_packet.specs.Reassembly.{largest_unit, stream_count}
 use Rattle.tc_channel.specs.declared.settings.QueueSetting.{QueueSetting}
@@ -6,15 +7,15 @@ use Rattle.tc_channel.specs.declared.settings.MapSetting.{MapSetting}
 use Rattle.tc_channel.specs.declared.settings.Settings.{Settings}
 use Rattle.tc_channel.specs.ChannelState.{ChannelState, Queue, buffer, waiting}
 
--- a room's own words: those of its block, and how many octets lie in it or may lie in it
+-- the bytes of a room's own words: the words of its block, and the numbers of octets that lie in it and may lie in it
 abbrev pub room_words : ℕ
 room_words = 32
 
--- a run's own words: those of its room, whether it is open, and how many octets it has
+-- the bytes of a run's own words: the words of its room, whether the run is open, and the number of its octets
 abbrev pub run_words : ℕ
 run_words = 40
 
--- a queue's own words: its key, the ring of its rooms, which of them are taken, and their size
+-- the bytes of a queue's own words: its key, the ring of its rooms, the numbers of rooms that are taken, and their size
 abbrev pub queue_words : ℕ
 queue_words = 64
 
@@ -26,15 +27,15 @@ largest_field = 1019
 abbrev pub run_room : ℕ
 run_room = 2 ^ 17
 
--- the largest unit of a channel, which is the largest packet that it can be given: on a plain channel a data field
+-- the largest unit of a channel, which is the largest packet that it can be given (on a plain channel, a data field)
 abbrev pub largest_item : Bool → ℕ
 largest_item segmented = if segmented then largest_unit else largest_field
 
--- how many packets the packet queues hold at most, all together
+-- the largest number of packets that the packet queues hold together
 abbrev pub packets_stored : Settings → ℕ
 packets_stored s = sum_by (λ (q : QueueSetting). q.capacity) s.queues
 
--- how many units the unit queues hold at most, all together
+-- the largest number of units that the unit queues hold together
 abbrev pub units_stored : Settings → ℕ
 units_stored s = sum_by (λ (m : MapSetting). m.capacity) s.maps
 
@@ -42,7 +43,7 @@ units_stored s = sum_by (λ (m : MapSetting). m.capacity) s.maps
 abbrev pub buffer_memory : Settings → ℕ
 buffer_memory s = s.buffer * (room_words + largest_field)
 
--- an open run of the largest unit on each MAP of each service; on a plain channel there is none
+-- an open run of the largest unit on each MAP of each service, or none on a plain channel
 abbrev pub runs_memory : Settings → ℕ
 runs_memory s = if s.segmented then stream_count * (run_words + run_room) else 0
 
@@ -50,7 +51,7 @@ runs_memory s = if s.segmented then stream_count * (run_words + run_room) else 0
 abbrev pub queues_memory : Settings → ℕ
 queues_memory s = (length s.queues + length s.maps) * queue_words + packets_stored s * (room_words + largest_item s.segmented) + units_stored s * (room_words + largest_unit)
 
--- the place of the queue of each of 2,048 keys, where there are 8 queues or more
+-- the place of the queue of each of 2,048 keys, if there are 8 queues or more
 abbrev pub table_memory : ℕ → ℕ
 table_memory queues = if nat_lt queues 8 then 0 else 2048 * 2
 
@@ -58,27 +59,27 @@ table_memory queues = if nat_lt queues 8 then 0 else 2048 * 2
 abbrev pub tables_memory : Settings → ℕ
 tables_memory s = table_memory (length s.queues) + table_memory (length s.maps)
 
--- a first segment for which the block of its run is too small, where it lies beside that block
+-- a first segment for which the block of its run is too small, and which lies beside that block
 abbrev pub segment_memory : Settings → ℕ
 segment_memory s = if s.segmented then largest_field else 0
 
--- all that a channel of these settings asks for at most, at whatever moment
+-- the largest number of bytes that a channel of these settings holds at any moment
 unfoldable pub memory_bound : Settings → ℕ
 memory_bound s = buffer_memory s + runs_memory s + queues_memory s + tables_memory s + segment_memory s
 
--- how many items wait in the queues, all together
+-- the number of items that wait in the queues together
 abbrev pub waiting_in_all : List Queue → ℕ
 waiting_in_all queues = sum_by (λ (q : Queue). length (waiting q)) queues
 
--- how many octets items have, all together
+-- the number of octets that items have together
 abbrev pub octets_in : List (List ℕ) → ℕ
 octets_in items = sum_by (λ (i : List ℕ). length i) items
 
--- how many octets wait in the queues, all together
+-- the number of octets that wait in the queues together
 abbrev pub octets_waiting : List Queue → ℕ
 octets_waiting queues = sum_by (λ (q : Queue). octets_in (waiting q)) queues
 
--- what waits in a channel: the octets of its items and of its data fields, and the words of each item and of each queue
+-- the memory that waiting items and data fields take: their octets, and the words of each item and of each queue
 abbrev pub memory_waiting : Settings → ChannelState → ℕ
 memory_waiting s state =
     (length s.queues + length s.maps) * queue_words + (waiting_in_all state.queues * room_words + octets_waiting state.queues)

@@ -1,15 +1,15 @@
--- Where a key stands among those of the queues, and a table of it.
+-- The place of a key among those of the queues, and a table of such places.
 use Rattle.std.specs.Prelude.{◌≡◌, ◌≢◌, ◌<◌, ◌≤◌, ℕ, zero, suc, List, [], ◌∷◌, length, get_or, ◌⊎◌}
 use Rattle.std.specs.List.{AllByRecursion}
 use Rattle.tc_channel.specs.StoredQueues.{apid_count}
 
--- the first of the numbers that is the key stands at this place
+-- the first one of these numbers that equals the key stands at this place
 abbrev pub IsFirst : ℕ → ℕ → List ℕ → Type 0
 IsFirst key place [] = ⊥
 IsFirst key zero (a ∷ rest) = key ≡ a
 IsFirst key (suc place) (a ∷ rest) = (key ≢ a) × IsFirst key place rest
 
--- a number shows the place of a key, or that none of the keys is it
+-- a number shows the place of a key, or that it is none of the keys
 abbrev pub ShowsFirst : List ℕ → ℕ → ℕ → ℕ → Type 0
 ShowsFirst keys none key n = IsFirst key n keys ⊎ ((n ≡ none) × AllByRecursion (λ other. key ≢ other) keys)
 
@@ -18,11 +18,12 @@ pub record AreFirst (keys : List ℕ) (none : ℕ) (table : List ℕ) : Type 0 w
   pub size : length table ≡ apid_count
   pub shows : (key : ℕ) → key < apid_count → ShowsFirst keys none key (get_or table key 0)
 
--- there is a table, or none
+-- there is a table of the places, or there is none
 abbrev pub IsTableOf : List ℕ → List ℕ → Type 0
 IsTableOf keys table = length table ≢ 0 → AreFirst keys (length keys) table
 
--- as above, and there is a table where it pays and can show the places
+-- there is a table of the places exactly when there are 8 queues or more, unless they are too many for a table to show
+-- their places
 pub record IsTabled (keys table : List ℕ) : Type 0 where
   pub reported : IsTableOf keys table
   pub few : length table ≢ 0 → 8 ≤ length keys

@@ -1,4 +1,4 @@
--- What a channel answers after a journal.
+-- The replies of a channel after a journal.
 use Rattle.std.specs.Prelude.{◌≡◌, ℕ, ◌-◌, Bool, true, false, List, length, nat_lt, Option, Some, None, option_map, slice_get}
 use Rattle.std.specs.Option.{option_and_then}
 use Rattle.tc_link.specs.declared.Act.{Act}
@@ -18,19 +18,19 @@ use Rattle.tc_channel.specs.ChannelState.{ChannelState, no_limits, buffer, queue
 use Rattle.tc_channel.specs.Admission.{is_chosen, count_queued}
 use Rattle.tc_channel.specs.Run.{field_of, row_of, unit_of, first_of, run_within}
 
--- the frame is of Type-BD: the only one for which a channel whose journal isn't kept may run out of memory
+-- The frame is of Type-BD. Only for such a frame may a channel whose journal isn't kept run out of memory.
 abbrev pub IsBypassData : List ℕ → Type 0
 IsBypassData octets = kind_of (header_of octets) (field_of octets) ≡ kinds.Bd
 
--- the octets begin with such a frame
+-- the octets begin with a frame of Type-BD
 abbrev pub BeginsWithBypassData : List ℕ → Type 0
 BeginsWithBypassData octets = (frame : List ℕ) × BeginsWith octets frame × IsBypassData frame
 
--- no unit was ended
+-- the delivery when no unit was ended
 abbrev pub nothing : Delivery
 nothing = record { queued = 0; dropped = 0; rest = false }
 
--- what became of a unit, of a chosen MAP or not, where so many units or packets were queued
+-- the delivery of a unit, of a chosen MAP or not, when this number of units or packets were queued
 abbrev pub delivered : Option (List ℕ) → Bool → ℕ → Delivery
 delivered None chosen queued = nothing
 delivered (Some unit) true queued = record { queued = queued; dropped = 1 - queued; rest = false }
@@ -53,7 +53,7 @@ frame_reply_at s state octets = record { act = act_of s state octets; delivery =
 abbrev pub release_reply_at : ChannelState → Delivery
 release_reply_at state = delivery_of (first_of (buffer state)) (unit_of state Ad (first_of (buffer state))) state
 
--- what a channel with a limit for each MAP answers after a journal
+-- the replies of a channel with a limit for each MAP after a journal
 
 -- the reply to a frame
 unfoldable pub frame_reply_within : (ℕ → ℕ) → Settings → List Event → List ℕ → FrameReply
@@ -63,7 +63,7 @@ frame_reply_within limits s journal octets = frame_reply_at s (run_within limits
 unfoldable pub release_reply_within : (ℕ → ℕ) → Settings → List Event → Delivery
 release_reply_within limits s journal = release_reply_at (run_within limits s journal)
 
--- the packets that wait in the queue with this APID, the oldest first; None where there is no such queue
+-- the packets that wait in the queue with this APID, the oldest first, or None if there is no such queue
 unfoldable pub waiting_packets_within : (ℕ → ℕ) → Settings → List Event → ℕ → Option (List (List ℕ))
 waiting_packets_within limits s journal apid = option_map waiting (queue_of apid (run_within limits s journal).queues)
 
@@ -71,11 +71,11 @@ waiting_packets_within limits s journal apid = option_map waiting (queue_of apid
 abbrev pub take_reply_within : (ℕ → ℕ) → Settings → List Event → ℕ → Option (List ℕ)
 take_reply_within limits s journal apid = option_and_then (λ packets. slice_get packets 0) (waiting_packets_within limits s journal apid)
 
--- the units that wait in the queue of this MAP, the oldest first; None where it isn't chosen
+-- the units that wait in the queue of this MAP, the oldest first, or None if the MAP isn't chosen
 unfoldable pub waiting_units_within : (ℕ → ℕ) → Settings → List Event → ℕ → Option (List (List ℕ))
 waiting_units_within limits s journal map_id = option_map waiting (queue_of map_id (run_within limits s journal).units)
 
--- the reply to the take of a unit: the oldest that waits
+-- the reply to the take of a unit: the oldest unit that waits
 abbrev pub unit_reply_within : (ℕ → ℕ) → Settings → List Event → ℕ → Option (List ℕ)
 unit_reply_within limits s journal map_id = option_and_then (λ units. slice_get units 0) (waiting_units_within limits s journal map_id)
 
@@ -87,7 +87,7 @@ buffered_fields_within limits s journal = buffer (run_within limits s journal)
 unfoldable pub clcw_within : (ℕ → ℕ) → Settings → List Event → Link → ℕ
 clcw_within limits s journal link = word_of (run_within limits s journal).report s.vcid link
 
--- what a channel that has no limit by MAP answers
+-- the replies of a channel that has no limit by MAP
 
 abbrev pub frame_reply : Settings → List Event → List ℕ → FrameReply
 frame_reply s journal octets = frame_reply_within no_limits s journal octets

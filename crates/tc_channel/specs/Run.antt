@@ -1,4 +1,4 @@
--- The run of a journal: what each event does to the state of a channel, and which journals are lawful.
+-- The run of a journal: the effect of each event on the state of a channel, and the journals that are lawful.
 use Rattle.std.specs.Prelude.{◌≡◌, ℕ, ◌+◌, ◌<◌, Bool, true, ◌==◌, ◌&&◌, nat_lt, List, [], ◌∷◌, ◌++◌, length, map, drop, Any, Option, IsSome, if◌then◌else◌}
 use Rattle.tc_link.specs.Frame.{IsWhole, header_of}
 use Rattle.tc_link.specs.Command.{kind_of}
@@ -16,19 +16,21 @@ use Rattle.tc_channel.specs.Admission.{map_of, offered}
 abbrev pub field_of : List ℕ → List ℕ
 field_of octets = drop 5 octets
 
--- FARM-1's row for a frame that comes at a state
+-- FARM-1's row for a frame that comes in a state
 abbrev pub row_of : Settings → ChannelState → List ℕ → Row
 row_of s state octets = frame_row s.width state.report.vr (kind_of (header_of octets) (field_of octets)) (has_room s state)
 
--- the unit that a data field ends where it is passed to reassembly, if it is no longer than the limit of its MAP
+-- the unit that a data field ends when it is passed to reassembly, if the unit is no longer than the limit of its MAP
 abbrev pub unit_of : ChannelState → Service → List ℕ → Option (List ℕ)
 unit_of state service field = at_most (state.limit (map_of field)) (unit_ended state.segmented (stream service (map_of field) state.passed) field)
 
--- a data field is passed to reassembly, and the queues admit what they can of the unit that it ends
+-- the state after a data field was passed to reassembly, and after the queues admitted all that they can of the unit
+-- that it ends
 unfoldable pub passed_on : Service → List ℕ → ChannelState → ChannelState
 passed_on service field state = record (offered field (unit_of state service field) state) { passed = state.passed ++ record { service = service; field = field } ∷ [] }
 
--- what a frame leaves, apart from the components: an AD frame is buffered and a BD frame passed on, where accepted
+-- the state after a frame, apart from the components: an accepted AD frame is buffered, and an accepted BD frame is
+-- passed on
 abbrev pub kept : Row → Bool → List ℕ → ChannelState → ChannelState
 kept E1 true octets state = record state { accepted = state.accepted ++ record { ns = (header_of octets).ns; field = field_of octets } ∷ [] }
 kept E6 true octets state = passed_on Bd (field_of octets) state
@@ -41,19 +43,19 @@ abbrev pub first_of : List (List ℕ) → List ℕ
 first_of [] = []
 first_of (x ∷ xs) = x
 
--- the oldest data field leaves the buffer and is passed on
+-- the state after the oldest data field left the buffer and was passed on
 abbrev pub after_release : ChannelState → ChannelState
 after_release state = record (passed_on Ad (first_of (buffer state)) state) { released = state.released + 1; report = after E10 state.report }
 
--- the queue with this key has one item more that was taken, where one waits
+-- the queue after one more item was taken, if it has this key and an item waits
 abbrev pub taken_from : ℕ → Queue → Queue
 taken_from key q = if q.key == key && nat_lt q.taken (length q.admitted) then record q { taken = q.taken + 1 } else q
 
--- the oldest packet leaves the queue with this APID
+-- the state after the oldest packet left the queue with this APID
 abbrev pub after_take : ℕ → ChannelState → ChannelState
 after_take apid state = record state { queues = map (taken_from apid) state.queues }
 
--- the oldest unit leaves the queue of this MAP
+-- the state after the oldest unit left the queue of this MAP
 abbrev pub after_take_unit : ℕ → ChannelState → ChannelState
 after_take_unit map_id state = record state { units = map (taken_from map_id) state.units }
 
@@ -61,14 +63,14 @@ after_take_unit map_id state = record state { units = map (taken_from map_id) st
 abbrev pub HasItem : ℕ → List Queue → Type 0
 HasItem key queues = Any (λ (q : Queue). (q.key ≡ key) × (q.taken < length q.admitted)) queues
 
--- the event can happen at the state
+-- the event can happen in the state
 abbrev pub HasStep : Settings → ChannelState → Event → Type 0
 HasStep s state (Frame octets) = IsWhole octets × IsSome (entry (row_of s state octets) state.report)
 HasStep s state Release = state.released < length state.accepted
 HasStep s state (Take apid) = HasItem apid state.queues
 HasStep s state (TakeUnit map_id) = HasItem map_id state.units
 
--- the state after the event; where it can't happen, what stands here is of no matter
+-- the state after the event (if the event can't happen, the value doesn't matter)
 abbrev pub step : Settings → ChannelState → Event → ChannelState
 step s state (Frame octets) = after_frame (row_of s state octets) octets state
 step s state Release = after_release state
@@ -79,7 +81,7 @@ abbrev pub run_from : Settings → ChannelState → List Event → ChannelState
 run_from s state [] = state
 run_from s state (e ∷ es) = run_from s (step s state e) es
 
--- each event has a step where it comes
+-- each event has a step at its place
 abbrev pub AreSteps : Settings → ChannelState → List Event → Type 0
 AreSteps s state [] = Unit {0}
 AreSteps s state (e ∷ es) = HasStep s state e × AreSteps s (step s state e) es
@@ -88,11 +90,11 @@ AreSteps s state (e ∷ es) = HasStep s state e × AreSteps s (step s state e) e
 unfoldable pub run_within : (ℕ → ℕ) → Settings → List Event → ChannelState
 run_within limits s journal = run_from s (first_state_within limits s) journal
 
--- each event of the journal could happen where it stands
+-- each event of the journal could happen at its place
 unfoldable pub IsLawfulWithin : (ℕ → ℕ) → Settings → List Event → Type 0
 IsLawfulWithin limits s journal = AreSteps s (first_state_within limits s) journal
 
--- the same of a channel that has no limit by MAP
+-- the run of a channel that has no limit by MAP
 
 abbrev pub run : Settings → List Event → ChannelState
 run s journal = run_within no_limits s journal

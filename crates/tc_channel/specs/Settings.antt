@@ -1,4 +1,5 @@
--- Which settings make a channel, and why others do not. The limits are this receiver's own; the APID 2047 marks idle packets (CCSDS 133.0-B, 4.1.2.3.4).
+-- The settings that a channel can have, and the faults of others. The limits are this receiver's own. The APID 2047
+-- marks idle packets (CCSDS 133.0-B, 4.1.2.3.4).
 use Rattle.std.specs.Prelude.{◌≡◌, ◌≢◌, ◌<◌, ◌≤◌, ◌⊎◌, ℕ, false, List, [], ◌∷◌, All, AllPairs}
 use Rattle.tc_link.specs.Window.{IsWidth}
 use Rattle.tc_channel.specs.declared.settings.QueueSetting.{QueueSetting}
@@ -36,7 +37,7 @@ AreMapsApart maps = AllPairs (λ (m n : MapSetting). m.map ≢ n.map) maps
 abbrev pub HaveUnitCapacities : List MapSetting → Type 0
 HaveUnitCapacities maps = All (λ m. (1 ≤ m.capacity) × (m.capacity ≤ 256)) maps
 
--- a plain channel, which has no segment headers, has no MAPs
+-- a channel without segment headers, a plain one, has no MAPs
 abbrev pub HasMapsByHeaders : Settings → Type 0
 HasMapsByHeaders s = s.segmented ≡ false → s.maps ≡ []
 
@@ -66,7 +67,7 @@ pub record IsAllowed (s : Settings) : Type 0 where
   pub unit_capacities : HaveUnitCapacities s.maps
   pub by_headers : HasMapsByHeaders s
 
--- what settings keep that are free of this fault; being out of memory is no fault of theirs
+-- the settings are free of this fault (running out of memory is no fault of settings)
 abbrev pub IsFreeOf : Settings → SettingsFault → Type 0
 IsFreeOf s BadVcid = IsVcid s.vcid
 IsFreeOf s BadWindow = IsWidth s.width
@@ -84,7 +85,7 @@ IsFreeOf s NoMemory = Unit {0}
 abbrev pub faults_in_order : List SettingsFault
 faults_in_order = BadVcid ∷ BadWindow ∷ BadBuffer ∷ BadApid ∷ DoubleApid ∷ BadCapacity ∷ BadMap ∷ DoubleMap ∷ BadUnits ∷ PlainMap ∷ []
 
--- of the listed faults the settings have this one, and none before it
+-- the settings have this one of the listed faults, and none that is listed before it
 abbrev pub IsFirstFault : Settings → List SettingsFault → SettingsFault → Type 0
 IsFirstFault s [] fault = ⊥
 IsFirstFault s (next ∷ later) fault = ((fault ≡ next) × ¬ IsFreeOf s next) ⊎ (IsFreeOf s next × IsFirstFault s later fault)
@@ -93,6 +94,6 @@ IsFirstFault s (next ∷ later) fault = ((fault ≡ next) × ¬ IsFreeOf s next)
 unfoldable pub IsFault : Settings → SettingsFault → Type 0
 IsFault s fault = IsFirstFault s faults_in_order fault
 
--- why no channel was made: out of memory only where the settings have no fault
+-- the reason why no channel was created: the fault of the settings, or running out of memory if they have none
 abbrev pub IsRefusal : Settings → SettingsFault → Type 0
 IsRefusal s fault = IsFault s fault ⊎ ((fault ≡ NoMemory) × IsAllowed s)

@@ -10,58 +10,62 @@ use Rattle.tc_channel.specs.StoredQueues.{apid_count}
 use Rattle.tc_channel.specs.Keyed.{Keyed}
 use Rattle.tc_channel.specs.Run.{field_of, first_of, row_of, run_within, unit_of}
 
--- how many queues are looked at where one is found: one by a table, else each at most
+-- the number of queues that are looked at to find one: one if there is a table, otherwise at most each
 abbrev pub looks : List Keyed → List ℕ → ℕ
 looks queues [] = length queues
 looks queues (n ∷ table) = 1
 
--- the same for so many queues, which have a table where it pays and can show their places
+-- the number of queues that are looked at to find one of this number of queues, which have a table if there are 8 or
+-- more and the table can show their places
 abbrev pub most_looks : ℕ → ℕ
 most_looks count = if nat_lt count 8 then count else if nat_lt 65535 count then count else 1
 
--- the same for a key: what no APID can be is in no table
+-- the number of queues that are looked at to find the one with a key (no table has a key that an APID can't be)
 abbrev pub looks_for : ℕ → ℕ → ℕ
 looks_for key count = if nat_lt key apid_count then most_looks count else count
 
--- each packet is cut, and its queue is found
+-- the steps of a pass over packets: each one is cut, and its queue is found
 abbrev pub pass_steps : ℕ → ℕ → ℕ
 pass_steps packets looks_for_one = packets * (looks_for_one + 1)
 
--- the queue of the MAP is looked for. Then the packets are staged in their queues, and these are committed: one by one, or all
+-- The steps of a unit. The queue of its MAP is looked for. Then the packets are staged in their queues, and these are
+-- committed: one by one, or all of them.
 abbrev pub unit_steps : ℕ → ℕ → ℕ → ℕ
 unit_steps packets looks_for_one looks_for_map = looks_for_map + (pass_steps packets looks_for_one + (pass_steps packets looks_for_one + looks_for_one))
 
--- the most steps of a unit with so many packets, where there are so many packet queues and unit queues
+-- the largest number of steps for a unit with this number of packets, given the numbers of packet queues and of unit
+-- queues
 abbrev pub packet_steps : ℕ → ℕ → ℕ → ℕ
 packet_steps packets queues units = unit_steps packets (most_looks queues) (most_looks units)
 
--- the most steps of a delivery: of no unit none, of a unit by its packets
+-- the largest number of steps for a delivery: none if there is no unit, otherwise the number that its packets need
 abbrev pub delivery_steps : Option (List ℕ) → ℕ → ℕ → ℕ
 delivery_steps None queues units = 0
 delivery_steps (Some unit) queues units = packet_steps (length (packets_of unit)) queues units
 
--- the most packets of a unit: those of the smallest, of seven octets (CCSDS 133.0-B, 4.1.2.1)
+-- the largest number of packets in a unit: that of packets of the least size, seven octets (CCSDS 133.0-B, 4.1.2.1)
 abbrev pub most_packets : ℕ
 most_packets = 9363
 
--- the unit that a frame ends at once: that of an accepted BD frame
+-- the unit that a frame ends at once, which only an accepted BD frame does
 abbrev pub ended_at_once : Row → List ℕ → ChannelState → Option (List ℕ)
 ended_at_once E6 octets state = unit_of state Bd (field_of octets)
 ended_at_once _ octets state = None
 
--- the most steps of a frame, by the unit that it ends
+-- the largest number of steps for a frame, by the unit that it ends
 unfoldable pub frame_steps_within : (ℕ → ℕ) → Settings → List Event → List ℕ → ℕ
 frame_steps_within limits s journal octets = delivery_steps (ended_at_once (row_of s (run_within limits s journal) octets) octets (run_within limits s journal)) (length s.queues) (length s.maps)
 
--- the most steps of a release, by the unit that the oldest data field ends
+-- the largest number of steps for a release, by the unit that the oldest data field ends
 unfoldable pub release_steps_within : (ℕ → ℕ) → Settings → List Event → ℕ
 release_steps_within limits s journal = delivery_steps (unit_of (run_within limits s journal) Ad (first_of (buffer (run_within limits s journal)))) (length s.queues) (length s.maps)
 
--- the most steps of a take from one of so many queues: it is looked for, and found once more
+-- the largest number of steps for a take from one of this number of queues: the queue is looked for, and found once
+-- more
 abbrev pub take_steps : ℕ → ℕ → ℕ
 take_steps key count = 2 * looks_for key count
 
--- the same of a channel that has no limit by MAP
+-- the steps of a channel that has no limit by MAP
 
 abbrev pub frame_steps : Settings → List Event → List ℕ → ℕ
 frame_steps s journal octets = frame_steps_within no_limits s journal octets

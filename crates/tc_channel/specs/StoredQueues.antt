@@ -1,4 +1,4 @@
--- What the code holds of the queues, and what a call puts into them.
+-- The queues as the code stores them, and the items that a call puts into them.
 use Rattle.std.specs.Prelude.{◌≡◌, ◌≢◌, ℕ, zero, suc, ◌-◌, ◌+◌, ◌<◌, Bool, List, [], ◌∷◌, ◌++◌, length, map, filter, take, drop, Option, Some, None, option_map, slice_get, ◌==◌, if◌then◌else◌}
 use Rattle.std.specs.List.{AllByRecursion, sum_by}
 use Rattle.std.specs.Option.{option_and_then}
@@ -16,7 +16,7 @@ pub record Placed : Type 0 where
   pub place : ℕ
   pub item : List ℕ
 
--- what a queue of the state is stored as
+-- the queue as which a queue of the state is stored
 abbrev pub stored : Queue → StoredQueue
 stored q = record { key = q.key; ring = ring_of (waiting q) q.capacity }
 
@@ -29,7 +29,7 @@ abbrev pub AreDistinct : List ℕ → Type 0
 AreDistinct [] = Unit {0}
 AreDistinct (a ∷ rest) = AllByRecursion (λ b. a ≢ b) rest × AreDistinct rest
 
--- how many more items a queue can hold
+-- the number of items that a queue can hold besides those that wait
 abbrev pub room_in : StoredQueue → ℕ
 room_in q = q.ring.capacity - length q.ring.items
 
@@ -45,7 +45,7 @@ with_items q items = record q { ring = ring_of (q.ring.items ++ items) q.ring.ca
 abbrev pub shared : (ℕ → List ℕ → Bool) → List (List ℕ) → List StoredQueue → List StoredQueue
 shared wanted items queues = map (λ (q : StoredQueue). with_items q (share wanted items q)) queues
 
--- how many of the items are queued
+-- the number of items that are queued
 abbrev pub shares_in : (ℕ → List ℕ → Bool) → List (List ℕ) → List StoredQueue → ℕ
 shares_in wanted items queues = sum_by length (map (share wanted items) queues)
 
@@ -53,12 +53,12 @@ shares_in wanted items queues = sum_by length (map (share wanted items) queues)
 abbrev pub copied_to : ℕ → List ℕ → Placed
 copied_to place item = record { place = place; item = item }
 
--- the share of each queue, one queue after the other, where the first queue has this place
+-- the share of each queue, one queue after the other, if the first queue has this place
 abbrev pub copies_from : (ℕ → List ℕ → Bool) → ℕ → List (List ℕ) → List StoredQueue → List Placed
 copies_from wanted place items [] = []
 copies_from wanted place items (q ∷ qs) = map (copied_to place) (share wanted items q) ++ copies_from wanted (place + 1) items qs
 
--- a queue with one more item, where a full one would lose its oldest
+-- a queue with one more item, which pushes the oldest one out of a full queue
 abbrev pub longer : StoredQueue → List ℕ → StoredQueue
 longer q item = record q { ring = ring_of (keep_last q.ring.capacity (q.ring.items ++ item ∷ [])) q.ring.capacity }
 
@@ -94,28 +94,28 @@ oldest_for key queues = option_and_then (λ items. slice_get items 0) (items_for
 abbrev pub shorter : StoredQueue → StoredQueue
 shorter q = record q { ring = ring_of (drop 1 q.ring.items) q.ring.capacity }
 
--- the queues without the oldest item of the one with a key
+-- the queues, with the oldest item dropped from the one that has this key
 abbrev pub popped : ℕ → List StoredQueue → List StoredQueue
 popped key [] = []
 popped key (q ∷ qs) = if q.key == key then shorter q ∷ qs else q ∷ popped key qs
 
--- the items that a unit's place gives: itself, or none
+-- the items that a place for a unit gives: the item itself, or none
 abbrev pub placed : Option Placed → List Placed
 placed None = []
 placed (Some one) = one ∷ []
 
--- how many APIDs there are: they have 11 bits (CCSDS 133.0-B, 4.1.3.3)
+-- the number of APIDs, which have 11 bits (CCSDS 133.0-B, 4.1.3.3)
 abbrev pub apid_count : ℕ
 apid_count = 2048
 
--- once put, the copies give each queue its share of the items
+-- when the copies are put into their queues, each queue has its share of the items
 pub record AreShares (wanted : ℕ → List ℕ → Bool) (items : List (List ℕ)) (queues : List StoredQueue) (made : List Placed) : Type 0 where
   pub places : HavePlaces (length queues) made
   pub put : put_all queues made ≡ shared wanted items queues
   pub count : length made ≡ shares_in wanted items queues
 
--- after some of a unit's packets: the copies so far, the room that they leave in each queue, and that the packets left
--- share it as all packets share the room of now
+-- The state after some of a unit's packets. It consists of the copies so far and the room that they leave in each
+-- queue. The packets that are left share that room as all packets share the room that there was at first.
 pub record IsUnderWay (queues : List StoredQueue) (left all : List (List ℕ)) (made : List Placed) (free : List ℕ) : Type 0 where
   pub places : HavePlaces (length queues) made
   pub keys : keys_of (put_all queues made) ≡ keys_of queues

@@ -1,4 +1,5 @@
--- The way of packets and units through a channel: what the data fields make that were passed to reassembly, and what a sender sent.
+-- The way of packets and units through a channel: the items that the data fields passed to reassembly make, and the
+-- fields that a sender sent.
 use Rattle.std.specs.Prelude.{◌≡◌, ℕ, zero, suc, ◌-◌, Bool, List, [], ◌∷◌, ◌++◌, ◌⊎◌, length, map, drop, filter, is_some, Option}
 use Rattle.tc_packet.specs.declared.Service.TheVariants.{Ad}
 use Rattle.tc_packet.specs.Reassembly.{Passed, at_most, stream, unit_ended}
@@ -9,13 +10,13 @@ use Rattle.tc_channel.specs.Admission.{map_of, is_for, is_of_map, packets_offere
 use Rattle.tc_channel.specs.Given.{fields_passed}
 use Rattle.tc_channel.specs.Run.{run_within}
 
--- the first list is the second, of which some items may be left out
+-- the first list is the second one, possibly with some items left out
 abbrev pub IsPartOf : List (List ℕ) → List (List ℕ) → Type 0
 IsPartOf [] all = Unit {0}
 IsPartOf (x ∷ xs) [] = ⊥
 IsPartOf (x ∷ xs) (y ∷ ys) = ((x ≡ y) × IsPartOf xs ys) ⊎ IsPartOf (x ∷ xs) ys
 
--- the unit that a data field ends, if it is within the limit of its MAP, where these were passed on before
+-- the unit that a data field ends, if it is within the limit of its MAP, after these fields were passed on
 abbrev pub unit_made : (ℕ → ℕ) → Settings → List Passed → Passed → Option (List ℕ)
 unit_made limits s before p = at_most (limits (map_of p.field)) (unit_ended s.segmented (stream p.service (map_of p.field) before) p.field)
 
@@ -23,36 +24,37 @@ unit_made limits s before p = at_most (limits (map_of p.field)) (unit_ended s.se
 abbrev pub is_chosen_by : Settings → List ℕ → Bool
 is_chosen_by s field = is_some (queue_of (map_of field) (map empty_unit_queue s.maps))
 
--- what one more data field makes for an application: the packets for it that its unit is cut into, unless the unit is taken whole
+-- the packets for an application that one more data field makes: those that its unit is cut into, unless the unit is
+-- taken whole
 abbrev pub packets_ended : (ℕ → ℕ) → Settings → ℕ → List Passed → Passed → List (List ℕ)
 packets_ended limits s apid before p = filter (is_for apid) (packets_offered (unit_made limits s before p) (is_chosen_by s p.field))
 
--- and for the units of a MAP: its unit
+-- the unit of a MAP that one more data field makes, if it makes one
 abbrev pub units_ended : (ℕ → ℕ) → Settings → ℕ → List Passed → Passed → List (List ℕ)
 units_ended limits s map_id before p = filter (is_of_map (map_of p.field) map_id) (units_offered (unit_made limits s before p) (is_chosen_by s p.field))
 
--- all that data fields make, one after the other, where others came before them
+-- all items that data fields make, one after the other, after others came before them
 abbrev pub all_made : (List Passed → Passed → List (List ℕ)) → List Passed → List Passed → List (List ℕ)
 all_made ended before [] = []
 all_made ended before (p ∷ ps) = ended before p ++ all_made ended (before ++ p ∷ []) ps
 
--- the packets for an application that the data fields make which were passed to reassembly
+-- the packets for an application that are made of the data fields passed to reassembly
 abbrev pub packets_made : (ℕ → ℕ) → Settings → ℕ → List Passed → List (List ℕ)
 packets_made limits s apid passed = all_made (packets_ended limits s apid) [] passed
 
--- the units of a chosen MAP that they make
+-- the units of a chosen MAP that are made of the data fields passed to reassembly
 abbrev pub units_made : (ℕ → ℕ) → Settings → ℕ → List Passed → List (List ℕ)
 units_made limits s map_id passed = all_made (units_ended limits s map_id) [] passed
 
--- so many data fields of a sender, from number k on
+-- this number of data fields of a sender, from number k on
 abbrev pub sent_from : (ℕ → List ℕ) → ℕ → ℕ → List (List ℕ)
 sent_from sent k zero = []
 sent_from sent k (suc n) = sent k ∷ sent_from sent (suc k) n
 
--- of the data fields that were passed to reassembly, the Type-AD ones of an era: those behind the ones accepted before it
+-- the Type-AD fields of an era that were passed to reassembly: those behind the ones accepted before it
 abbrev pub passed_since : (ℕ → ℕ) → Settings → List Event → List Passed → List (List ℕ)
 passed_since limits s before passed = drop (length (run_within limits s before).accepted) (fields_passed Ad passed)
 
--- how many of the data fields accepted in an era were released
+-- the number of data fields accepted in an era that were released
 abbrev pub released_since : (ℕ → ℕ) → Settings → List Event → List Event → ℕ
 released_since limits s before journal = (run_within limits s journal).released - length (run_within limits s before).accepted

@@ -25,7 +25,8 @@ use tc_link::{Frame, Link, Report, clcw_word};
 use tc_packet::LARGEST_UNIT;
 use tc_rooms::{GrowingRoom, Runs};
 
-// Steps that nobody counts. No other module can name it, so what the calls of a channel run counts all that it looks at.
+// A counter that counts no steps. No other module can name this type. So the functions that the calls of a channel use
+// can't create a counter of their own, and count every step with the counter that they were given.
 #[derive(Drop)]
 struct NoSteps;
 
@@ -39,8 +40,8 @@ impl Tick for NoSteps {
     fn tick(&mut self) {}
 }
 
-/// One virtual channel: FARM-1, the buffer of accepted data fields, reassembly, the packet queues, the unit queues of chosen
-/// MAPs, and the journal of all that it answered. A call that is refused leaves it as it was.
+/// One virtual channel: FARM-1, the buffer of accepted data fields, reassembly, the packet queues, the unit queues of
+/// chosen MAPs, and the journal of all events. A call that is refused leaves the channel as it was.
 #[derive(Drop)]
 pub struct ChannelWith<J: Journal> {
     alloc: Global,
@@ -49,14 +50,14 @@ pub struct ChannelWith<J: Journal> {
     journal: J,
 }
 
-/// A channel that keeps its journal in memory, and gives it out.
+/// A channel that keeps its journal in memory and gives it out.
 pub type Channel = ChannelWith<Recorded>;
 
-/// A channel whose journal is read by clauses alone and takes no memory, for flight software and long simulations. It does
-/// what [`Channel`] does, by the same proof, but gives no journal out.
+/// A channel whose journal takes no memory and is read by clauses alone, for flight software and long simulations. It
+/// behaves like [`Channel`], by the same proof, but gives no journal out.
 pub type CountingChannel = ChannelWith<Unrecorded>;
 
-/// The name of [`CountingChannel`] before version 0.3.0; the next version has it no longer.
+/// The name that [`CountingChannel`] had before version 0.3.0. The next version no longer has it.
 pub type FlightChannel = CountingChannel;
 
 impl<J: Journal> Model for ChannelWith<J> {
@@ -73,8 +74,8 @@ impl<J: Journal> Model for ChannelWith<J> {
 }
 
 impl<J: Journal> ChannelWith<J> {
-    /// A channel that starts: in S1, with nothing in it and an empty journal.
-    /// Its buffer gets room for all that it may hold, its queues a place for each packet and unit.
+    /// Creates a channel in S1, with nothing in it and an empty journal. The buffer gets the room for all data fields
+    /// that it may hold, and the queues get a place for each packet and unit.
     pub fn new(alloc: Global, settings: Settings) -> Result<ChannelWith<J>, SettingsFault>
         ensures settings { IfOk result (λ channel. channel.settings ≡ settings) }
         ensures journal { IfOk result (λ channel. channel.journal ≡ []) }
@@ -87,10 +88,10 @@ impl<J: Journal> ChannelWith<J> {
         }
     }
 
-    /// Takes a frame in, of whatever virtual channel. An accepted AD data field is buffered; of an accepted BD data field
-    /// the unit that it ends is queued at once: whole where its MAP is chosen, else its packets. It copies the octets for a
-    /// recorded journal, an accepted AD data field for the buffer, and the unit or each packet that is queued.
-    /// With one that isn't recorded, only a frame of Type-BD may be refused.
+    /// Takes in a frame of any virtual channel. An accepted AD data field is buffered. If an accepted BD data field
+    /// ends a unit, the unit is queued at once: whole if its MAP is chosen, otherwise as its packets. The call copies
+    /// the octets of the frame for a recorded journal, the data field of an accepted AD frame for the buffer, and the
+    /// unit or each packet that is queued. If the journal isn't recorded, only a frame of Type-BD may be refused.
     pub fn frame(&mut self, frame: &Frame) -> Result<FrameReply, NoMemory>
         ensures allowed { IsAllowed self.old.settings }
         ensures lawful { IsLawful self.old.settings self.old.journal }
@@ -102,8 +103,8 @@ impl<J: Journal> ChannelWith<J> {
         self.frame_with_steps(frame, &mut NoSteps)
     }
 
-    /// As [`frame`](ChannelWith::frame), which counts no steps. A step is a packet that is cut from the unit that the
-    /// frame ends, or a queue that is looked at; a frame that isn't of Type-BD takes none.
+    /// Takes in a frame as [`frame`](ChannelWith::frame) does, and counts steps. A step is a packet that is cut from
+    /// the unit that the frame ends, or a queue that is looked at. A frame that isn't of Type-BD takes no steps.
     pub fn frame_with_steps<C: Tick>(
         &mut self,
         frame: &Frame,
@@ -126,8 +127,8 @@ impl<J: Journal> ChannelWith<J> {
         Ok(reply)
     }
 
-    /// Lets the oldest data field out of the buffer, and queues the unit that it ends: whole where its MAP is chosen, else its
-    /// packets. It copies the unit, or each packet that is queued.
+    /// Releases the oldest data field from the buffer, and queues the unit that the field ends: whole if its MAP is
+    /// chosen, otherwise as its packets. The call copies the unit, or each packet that is queued.
     pub fn release(&mut self) -> Result<Delivery, ReleaseFault>
         ensures allowed { IsAllowed self.old.settings }
         ensures lawful { IsLawful self.old.settings self.old.journal }
@@ -139,8 +140,8 @@ impl<J: Journal> ChannelWith<J> {
         self.release_with_steps(&mut NoSteps)
     }
 
-    /// As [`release`](ChannelWith::release), which counts no steps. Steps are those of
-    /// [`frame_with_steps`](ChannelWith::frame_with_steps).
+    /// Releases a data field as [`release`](ChannelWith::release) does, and counts the steps as
+    /// [`frame_with_steps`](ChannelWith::frame_with_steps) does.
     pub fn release_with_steps<C: Tick>(&mut self, steps: &mut C) -> Result<Delivery, ReleaseFault>
         ensures allowed { IsAllowed self.old.settings }
         ensures lawful { IsLawful self.old.settings self.old.journal }
@@ -160,8 +161,8 @@ impl<J: Journal> ChannelWith<J> {
         Ok(delivery)
     }
 
-    /// Takes the oldest packet out of the queue with this APID. The packet is moved, not copied; a recorded journal may grow,
-    /// and nothing else does. So with one that isn't recorded it never runs out of memory.
+    /// Takes the oldest packet out of the queue with this APID. The packet is moved, not copied. A recorded journal may
+    /// grow, and nothing else does. So if the journal isn't recorded, the call never runs out of memory.
     pub fn take(&mut self, apid: u16) -> Result<Vec<u8>, TakeFault>
         ensures allowed { IsAllowed self.old.settings }
         ensures lawful { IsLawful self.old.settings self.old.journal }
@@ -175,7 +176,7 @@ impl<J: Journal> ChannelWith<J> {
         self.take_with_steps(apid, &mut NoSteps)
     }
 
-    /// As [`take`](ChannelWith::take), which counts no steps. A step is a queue that is looked at.
+    /// Takes a packet as [`take`](ChannelWith::take) does, and counts steps. A step is a queue that is looked at.
     pub fn take_with_steps<C: Tick>(
         &mut self,
         apid: u16,
@@ -203,8 +204,8 @@ impl<J: Journal> ChannelWith<J> {
         Ok(packet)
     }
 
-    /// Takes the oldest unit out of the queue of this chosen MAP. The unit is moved, not copied; a recorded journal may grow,
-    /// and nothing else does. So with one that isn't recorded it never runs out of memory.
+    /// Takes the oldest unit out of the queue of this chosen MAP. The unit is moved, not copied. A recorded journal may
+    /// grow, and nothing else does. So if the journal isn't recorded, the call never runs out of memory.
     pub fn take_unit(&mut self, map: u8) -> Result<Vec<u8>, TakeUnitFault>
         ensures allowed { IsAllowed self.old.settings }
         ensures lawful { IsLawful self.old.settings self.old.journal }
@@ -218,7 +219,8 @@ impl<J: Journal> ChannelWith<J> {
         self.take_unit_with_steps(map, &mut NoSteps)
     }
 
-    /// As [`take_unit`](ChannelWith::take_unit), which counts no steps. A step is a queue that is looked at.
+    /// Takes a unit as [`take_unit`](ChannelWith::take_unit) does, and counts steps. A step is a queue that is looked
+    /// at.
     pub fn take_unit_with_steps<C: Tick>(
         &mut self,
         map: u8,
@@ -246,8 +248,8 @@ impl<J: Journal> ChannelWith<J> {
         Ok(unit)
     }
 
-    /// The octets of the packet that [`take`](ChannelWith::take) with this APID gives next, lent. None where there is no such
-    /// queue, and where it is empty. It takes no memory, and is no event.
+    /// Lends the octets of the packet that [`take`](ChannelWith::take) with this APID gives next. Returns `None` if
+    /// there is no such queue or it is empty. The call takes no memory and is no event.
     pub fn oldest(&self, apid: u16) -> Option<&[u8]>
         ensures packet { option_map (λ octets. octets.now) result ≡ take_reply self.now.settings self.now.journal apid }
         ensures allowed { IsAllowed self.now.settings }
@@ -256,8 +258,8 @@ impl<J: Journal> ChannelWith<J> {
         self.channel_core.oldest(apid, &mut NoSteps)
     }
 
-    /// The octets of the unit that [`take_unit`](ChannelWith::take_unit) with this MAP gives next, lent. None where the MAP isn't
-    /// chosen, and where its queue is empty. It takes no memory, and is no event.
+    /// Lends the octets of the unit that [`take_unit`](ChannelWith::take_unit) with this MAP gives next. Returns `None`
+    /// if the MAP isn't chosen or its queue is empty. The call takes no memory and is no event.
     pub fn oldest_unit(&self, map: u8) -> Option<&[u8]>
         ensures unit { option_map (λ octets. octets.now) result ≡ unit_reply self.now.settings self.now.journal map }
         ensures allowed { IsAllowed self.now.settings }
@@ -266,7 +268,7 @@ impl<J: Journal> ChannelWith<J> {
         self.channel_core.oldest_unit(map, &mut NoSteps)
     }
 
-    /// FARM-1's components.
+    /// Returns FARM-1's components.
     pub fn report(&self) -> Report
         ensures report { result ≡ (run self.now.settings self.now.journal).report }
         ensures farm_b { result.farm_b < 4 }
@@ -277,7 +279,7 @@ impl<J: Journal> ChannelWith<J> {
         self.channel_core.report()
     }
 
-    /// The communications link control word.
+    /// Returns the communications link control word (CLCW).
     pub fn clcw(&self, link: Link) -> u32
         ensures word { result ≡ clcw_of self.now.settings self.now.journal link }
         ensures allowed { IsAllowed self.now.settings }
@@ -286,7 +288,7 @@ impl<J: Journal> ChannelWith<J> {
         clcw_word(&self.channel_core.report(), self.settings.vcid, link)
     }
 
-    /// How many data fields wait in the buffer.
+    /// Returns the number of data fields that wait in the buffer.
     pub fn buffered(&self) -> usize
         ensures count { result ≡ length (buffered_fields self.now.settings self.now.journal) }
         ensures allowed { IsAllowed self.now.settings }
@@ -295,7 +297,7 @@ impl<J: Journal> ChannelWith<J> {
         self.channel_core.buffered()
     }
 
-    /// How many packets wait in the queue with this APID, if there is one.
+    /// Returns the number of packets that wait in the queue with this APID, if there is one.
     pub fn queued(&self, apid: u16) -> Option<usize>
         ensures count { result ≡ option_map length (waiting_packets self.now.settings self.now.journal apid) }
         ensures allowed { IsAllowed self.now.settings }
@@ -304,7 +306,7 @@ impl<J: Journal> ChannelWith<J> {
         self.channel_core.queued(apid, &mut NoSteps)
     }
 
-    /// How many units wait in the queue of this MAP, if it is chosen.
+    /// Returns the number of units that wait in the queue of this MAP, if the MAP is chosen.
     pub fn units(&self, map: u8) -> Option<usize>
         ensures count { result ≡ option_map length (waiting_units self.now.settings self.now.journal map) }
         ensures allowed { IsAllowed self.now.settings }
@@ -313,7 +315,7 @@ impl<J: Journal> ChannelWith<J> {
         self.channel_core.units(map, &mut NoSteps)
     }
 
-    /// How many events there are in the journal; where they are more than 2^64 - 1, that number.
+    /// Returns the number of events in the journal, or 2^64 - 1 if there are more than that.
     pub fn events(&self) -> u64
         ensures count { result ≡ min (length self.now.journal) (2 ^ 64 - 1) }
         ensures allowed { IsAllowed self.now.settings }
@@ -322,7 +324,7 @@ impl<J: Journal> ChannelWith<J> {
         self.journal.count()
     }
 
-    /// What clauses see of the channel at this moment. It takes no memory.
+    /// Returns the view that clauses have of the channel at this moment. The call takes no memory.
     pub fn past(&self) -> Past
         ensures past { result ≡ self.now }
         ensures allowed { IsAllowed self.now.settings }
@@ -334,7 +336,7 @@ impl<J: Journal> ChannelWith<J> {
         }
     }
 
-    /// The settings that the channel was made by.
+    /// Lends the settings that the channel was created from.
     pub fn settings(&self) -> &Settings
         ensures settings { result.now ≡ self.now.settings }
         ensures allowed { IsAllowed self.now.settings }
@@ -345,7 +347,7 @@ impl<J: Journal> ChannelWith<J> {
 }
 
 impl ChannelWith<Recorded> {
-    /// The events so far, the oldest first.
+    /// Lends the events so far, the oldest first.
     pub fn journal(&self) -> &[Event]
         ensures journal { result.now ≡ self.now.journal }
         ensures allowed { IsAllowed self.now.settings }
@@ -355,7 +357,7 @@ impl ChannelWith<Recorded> {
     }
 }
 
-// A channel by settings that were checked.
+// Creates a channel from settings that were checked.
 fn start<J: Journal>(alloc: Global, settings: Settings) -> Result<ChannelWith<J>, NoMemory>
     requires { IsAllowed settings }
     ensures settings { IfOk result (λ channel. channel.settings ≡ settings) }

@@ -1,4 +1,4 @@
-//! What a channel works with, in rooms that are made at the start or that grow.
+//! All parts of a channel but its settings and its journal, in rooms that are created at the start or that grow.
 
 ghost use Rattle.std.specs.Prelude.{List, ℕ, ◌≡◌, false, [], ◌<◌, ◌≤◌, ◌+◌, ◌⊎◌, length, option_map, IfOk, IsOk, OnOk, OnErr, IsSome, IsTrue, ◌↔◌, None, Option};
 ghost use Rattle.tc_packet.specs.declared.Service.{Service};
@@ -30,15 +30,17 @@ use tc_link::{Act, Arrival, Farm, Frame, Kind, Report, Window, each_arrival_has_
 use tc_packet::{Service, read_segment};
 use tc_rooms::{FixedRoom, GrowingRoom, Room, Runs, Slots};
 
-/// The most octets of a data field: a frame has 1,024 at most (CCSDS 232.0-B, 4.1.2.7), and 5 of them are its primary header.
+/// The largest length of a data field in octets: a frame has at most 1,024 octets (CCSDS 232.0-B, 4.1.2.7), and 5 of
+/// them are its primary header.
 pub const LARGEST_FIELD: usize = 1_019;
 
-/// FARM-1, the buffer of accepted data fields, reassembly, the packet queues and the unit queues of chosen MAPs: all that a channel
-/// has but its settings and its journal. A [`ChannelWith`](crate::ChannelWith) has its core in rooms that grow, a channel in rooms
-/// has it in rooms that are made at the start. The room of a data field never grows.
+/// FARM-1, the buffer of accepted data fields, reassembly, the packet queues and the unit queues of chosen MAPs: all
+/// parts of a channel but its settings and its journal. A [`ChannelWith`](crate::ChannelWith) has its core in rooms
+/// that grow. A channel in rooms has its core in rooms that are created at the start. The room of a data field never
+/// grows.
 ///
-/// What is said of a call holds for whatever limits, settings and journal this core is that of. Where memory runs out it stays
-/// that of the same journal.
+/// The contract of a call holds for all limits, settings and journals that this core belongs to. If memory runs out,
+/// the core still belongs to the same journal.
 #[derive(Drop)]
 pub struct ChannelCore<R: Room> {
     farm: Farm,
@@ -59,8 +61,8 @@ impl<R: Room> Model for ChannelCore<R> {
 }
 
 impl<R: Room> ChannelCore<R> {
-    /// The core of a channel that starts: with these open runs, of which none is open, a room for each data field of the buffer, and
-    /// rooms of `size` octets for packets and units.
+    /// Creates the core of a channel that starts. It has these runs, none of which is open, a room for each data field
+    /// of the buffer, and rooms of `size` octets for packets and units.
     pub fn new<C: Tick>(
         alloc: Global,
         settings: &Settings,
@@ -97,9 +99,9 @@ impl<R: Room> ChannelCore<R> {
         })
     }
 
-    /// Takes a frame in: an accepted AD data field is copied into the buffer; of an accepted BD data field the unit that it ends is queued
-    /// at once. Only a frame of Type-BD may be refused, and only where rooms grow. A step is counted for each packet that is cut from the
-    /// unit, and for each queue that is looked at.
+    /// Takes a frame in. An accepted AD data field is copied into the buffer. If an accepted BD data field ends a unit,
+    /// the unit is queued at once. Only a frame of Type-BD may be refused, and only if rooms grow. A step is counted
+    /// for each packet that is cut from the unit and for each queue that is looked at.
     #[inline(always)]
     pub fn frame<C: Tick>(&mut self, frame: &Frame, steps: &mut C) -> Result<FrameReply, AllocError>
         ensures reply { IfOk result (λ reply. WhereverItHolds self.old (λ limits s journal. reply ≡ frame_reply_within limits s journal frame.now)) }
@@ -128,7 +130,7 @@ impl<R: Room> ChannelCore<R> {
         Ok(FrameReply { act, delivery })
     }
 
-    /// Lets the oldest data field out of the buffer, where one waits, and queues the unit that it ends, with steps as of
+    /// Releases the oldest data field from the buffer and queues the unit that the field ends. Steps are counted as in
     /// [`frame`](ChannelCore::frame).
     #[inline(always)]
     pub fn release<C: Tick>(&mut self, steps: &mut C) -> Result<Delivery, AllocError>
@@ -154,7 +156,7 @@ impl<R: Room> ChannelCore<R> {
         Ok(delivery)
     }
 
-    /// Drops the oldest packet of the queue with this APID, where one waits, and says whether it did.
+    /// Drops the oldest packet of the queue with this APID, if one waits, and returns whether it did.
     #[tactic(auto, using(crate::proofs::Closing::at_work))]
     pub fn drop_packet<C: Tick>(&mut self, apid: u16, steps: &mut C) -> bool
         ensures waits { WhereverItHolds self.old (λ limits s journal. IsTrue result ↔ IsSome (take_reply_within limits s journal apid)) }
@@ -165,7 +167,7 @@ impl<R: Room> ChannelCore<R> {
         self.queues.pop(apid, steps)
     }
 
-    /// Drops the oldest unit of the queue of this chosen MAP, where one waits, and says whether it did.
+    /// Drops the oldest unit of the queue of this chosen MAP, if one waits, and returns whether it did.
     #[tactic(auto, using(crate::proofs::Closing::at_work))]
     pub fn drop_unit<C: Tick>(&mut self, map: u8, steps: &mut C) -> bool
         ensures waits { WhereverItHolds self.old (λ limits s journal. IsTrue result ↔ IsSome (unit_reply_within limits s journal map)) }
@@ -176,7 +178,8 @@ impl<R: Room> ChannelCore<R> {
         self.units.pop(map as u16, steps)
     }
 
-    /// Copies the oldest packet of the queue with this APID to the front of these octets and drops it, and says how many it has.
+    /// Copies the oldest packet of the queue with this APID to the front of `into`, drops it, and returns the number of
+    /// its octets.
     #[inline(always)]
     pub fn copy_packet<C: Tick>(
         &mut self,
@@ -193,7 +196,8 @@ impl<R: Room> ChannelCore<R> {
         self.queues.copy_out(apid, into, steps)
     }
 
-    /// Copies the oldest unit of the queue of this chosen MAP to the front of these octets and drops it, and says how many it has.
+    /// Copies the oldest unit of the queue of this chosen MAP to the front of `into`, drops it, and returns the number
+    /// of its octets.
     #[inline(always)]
     pub fn copy_unit<C: Tick>(
         &mut self,
@@ -210,7 +214,7 @@ impl<R: Room> ChannelCore<R> {
         self.units.copy_out(map as u16, into, steps)
     }
 
-    /// The oldest packet of the queue with this APID, lent.
+    /// Lends the oldest packet of the queue with this APID.
     #[tactic(auto, using(crate::proofs::Closing::at_work))]
     pub fn oldest<C: Tick>(&self, apid: u16, steps: &mut C) -> Option<&[u8]>
         ensures packet { WhereverItHolds self.now (λ limits s journal. option_map (λ octets. octets.now) result ≡ take_reply_within limits s journal apid) }
@@ -219,7 +223,7 @@ impl<R: Room> ChannelCore<R> {
         self.queues.oldest(apid, steps)
     }
 
-    /// The oldest unit of the queue of this chosen MAP, lent.
+    /// Lends the oldest unit of the queue of this chosen MAP.
     #[tactic(auto, using(crate::proofs::Closing::at_work))]
     pub fn oldest_unit<C: Tick>(&self, map: u8, steps: &mut C) -> Option<&[u8]>
         ensures unit { WhereverItHolds self.now (λ limits s journal. option_map (λ octets. octets.now) result ≡ unit_reply_within limits s journal map) }
@@ -228,7 +232,7 @@ impl<R: Room> ChannelCore<R> {
         self.units.oldest(map as u16, steps)
     }
 
-    /// FARM-1's components.
+    /// Returns FARM-1's components.
     pub fn report(&self) -> Report
         ensures report { WhereverItHolds self.now (λ limits s journal. result ≡ (run_within limits s journal).report) }
         ensures farm_b { result.farm_b < 4 }
@@ -236,7 +240,7 @@ impl<R: Room> ChannelCore<R> {
         self.farm.report()
     }
 
-    /// How many data fields wait in the buffer.
+    /// Returns the number of data fields that wait in the buffer.
     pub fn buffered(&self) -> usize
         ensures count { WhereverItHolds self.now (λ limits s journal. result ≡ length (buffered_fields_within limits s journal)) }
         ensures fields { result ≡ length self.now.fields.ring.items }
@@ -244,7 +248,7 @@ impl<R: Room> ChannelCore<R> {
         self.fields.len()
     }
 
-    /// How many packets wait in the queue with this APID, if there is one.
+    /// Returns the number of packets that wait in the queue with this APID, if there is one.
     pub fn queued<C: Tick>(&self, apid: u16, steps: &mut C) -> Option<usize>
         ensures count { WhereverItHolds self.now (λ limits s journal. result ≡ option_map length (waiting_packets_within limits s journal apid)) }
         ensures cost { C.taken steps.new ≤ C.taken steps.old + looks_for apid (length self.now.queues) }
@@ -252,7 +256,7 @@ impl<R: Room> ChannelCore<R> {
         Some(self.queues.find(apid, steps)?.len())
     }
 
-    /// How many units wait in the queue of this MAP, if it is chosen.
+    /// Returns the number of units that wait in the queue of this MAP, if the MAP is chosen.
     pub fn units<C: Tick>(&self, map: u8, steps: &mut C) -> Option<usize>
         ensures count { WhereverItHolds self.now (λ limits s journal. result ≡ option_map length (waiting_units_within limits s journal map)) }
         ensures cost { C.taken steps.new ≤ C.taken steps.old + looks_for map (length self.now.units) }
@@ -262,7 +266,8 @@ impl<R: Room> ChannelCore<R> {
 }
 
 impl ChannelCore<GrowingRoom> {
-    /// The oldest packet of the queue with this APID, moved out of it; none where there is no such queue, and where it is empty.
+    /// Moves the oldest packet out of the queue with this APID. Returns `None` if there is no such queue or it is
+    /// empty.
     #[tactic(auto, using(crate::proofs::Closing::at_work))]
     pub fn take<C: Tick>(&mut self, apid: u16, steps: &mut C) -> Option<Vec<u8>>
         ensures packet { WhereverItHolds self.old (λ limits s journal. option_map (λ packet. packet.items) result ≡ take_reply_within limits s journal apid) }
@@ -273,7 +278,8 @@ impl ChannelCore<GrowingRoom> {
         self.queues.take(apid, steps)
     }
 
-    /// The oldest unit of the queue of this chosen MAP, moved out of it; none where the MAP isn't chosen, and where its queue is empty.
+    /// Moves the oldest unit out of the queue of this chosen MAP. Returns `None` if the MAP isn't chosen or its queue
+    /// is empty.
     #[tactic(auto, using(crate::proofs::Closing::at_work))]
     pub fn take_unit<C: Tick>(&mut self, map: u8, steps: &mut C) -> Option<Vec<u8>>
         ensures unit { WhereverItHolds self.old (λ limits s journal. option_map (λ unit. unit.items) result ≡ unit_reply_within limits s journal map) }
@@ -285,7 +291,7 @@ impl ChannelCore<GrowingRoom> {
     }
 }
 
-// Copies the data field of an accepted AD frame, for which there is room, to the buffer's end.
+// Copies the data field of an accepted AD frame to the end of the buffer, which has room for it.
 fn put_field(fields: &mut Slots<FixedRoom>, act: &Act, field: &[u8])
     requires field { length field.now ≤ fields.old.size }
     requires room { IsSome (buffered_of act.now field.now) → length fields.old.ring.items < fields.old.ring.capacity }
@@ -300,8 +306,8 @@ fn put_field(fields: &mut Slots<FixedRoom>, act: &Act, field: &[u8])
     }
 }
 
-// Passes a data field to reassembly, and delivers the unit that it ends. Where memory runs out the open runs and the queues are as they
-// were.
+// Passes a data field to reassembly, and delivers the unit that the field ends. If memory runs out, the open runs and
+// the queues are as they were before the call.
 #[inline(always)]
 #[tactic(auto, using(crate::proofs::Closing::at_work))]
 fn pass<R: Room, C: Tick>(
@@ -333,7 +339,7 @@ fn pass<R: Room, C: Tick>(
     Ok(delivery)
 }
 
-// Passes the field of a BD frame on at once, and no other.
+// Passes on the field of a BD frame at once, and no other field.
 #[inline(always)]
 #[tactic(auto, using(crate::proofs::Closing::at_work))]
 fn pass_bypass<R: Room, C: Tick>(

@@ -1,4 +1,4 @@
-//! What was staged in the queues counts, or is rolled back.
+//! Committing the items that are staged in the queues, and rolling them back.
 
 ghost use Rattle.std.specs.Prelude.{ℕ, List, ◌∷◌, ◌≡◌, ◌≤◌, ◌+◌, false, length, map};
 ghost use Rattle.std.specs.Box.{boxed_slice_items};
@@ -17,7 +17,7 @@ use std::boxed::BoxedSlice;
 use tc_packet::{Packet, each_unit_has_one_cut, next_packet};
 use tc_rooms::Room;
 
-// All that was staged counts.
+// Makes everything count that is staged in the queues.
 fn commit_all<R: Room, C: Tick>(queues: &mut BoxedSlice<Queue<R>>, steps: &mut C)
     ensures committed { boxed_slice_items queues.new ≡ map committed (boxed_slice_items queues.old) }
     ensures cost { C.taken steps.new ≤ C.taken steps.old + length (boxed_slice_items queues.old) }
@@ -28,7 +28,7 @@ fn commit_all<R: Room, C: Tick>(queues: &mut BoxedSlice<Queue<R>>, steps: &mut C
     }
 }
 
-// What was staged in the queue of this packet counts.
+// Makes the items count that are staged in the queue of this packet.
 #[inline(always)]
 #[tactic(auto, using(crate::proofs::Closing::passing))]
 fn commit_packet<R: Room, C: Tick>(
@@ -54,9 +54,9 @@ fn commit_packet<R: Room, C: Tick>(
     queues[place].commit();
 }
 
-/// What was staged of the packets of this unit counts, of which `staged` packets were staged. Where no memory can be refused it does already.
-/// Where a table shows the places, and the queues are at least as many as these packets, only the queues of the unit's packets are
-/// looked at.
+/// Makes the staged packets of this unit count. `staged` is their number. If no memory can be refused, they count
+/// already. If a table shows the places of the queues, and there are at least `staged` queues, only the queues of the
+/// unit's packets are looked at.
 pub(crate) fn commit_packets<R: Room, C: Tick>(
     queues: &mut BoxedSlice<Queue<R>>,
     table: &[u16],
@@ -88,7 +88,7 @@ pub(crate) fn commit_packets<R: Room, C: Tick>(
     }
 }
 
-/// All that was staged is rolled back.
+/// Rolls back everything that is staged in the queues.
 pub(crate) fn roll_back<R: Room, C: Tick>(queues: &mut BoxedSlice<Queue<R>>, steps: &mut C)
     ensures roll_back { boxed_slice_items queues.new ≡ map rolled_back_of (boxed_slice_items queues.old) }
     ensures cost { C.taken steps.new ≤ C.taken steps.old + length (boxed_slice_items queues.old) }

@@ -1,4 +1,4 @@
-//! A unit is delivered: whole where its MAP is chosen, else by its packets.
+//! The delivery of a unit: whole if its MAP is chosen, otherwise as its packets.
 
 ghost use Rattle.std.specs.Prelude.{◌<◌, ◌≤◌, ◌≡◌, ◌+◌, length, get_or, false, IfOk, IsOk, OnErr, Some};
 ghost use Rattle.std.specs.Box.{boxed_slice_items};
@@ -20,7 +20,7 @@ use std::boxed::BoxedSlice;
 use tc_packet::LARGEST_UNIT;
 use tc_rooms::Room;
 
-// Puts an item behind the others of the queue at this place, where there is room, and says whether there was.
+// Puts an item behind the others of the queue at this place, if there is room, and returns whether there was.
 #[tactic(auto, using(crate::proofs::Closing::at_place))]
 fn put_item_at<R: Room>(
     queues: &mut BoxedSlice<Queue<R>>,
@@ -41,7 +41,7 @@ fn put_item_at<R: Room>(
     queue.put(octets)
 }
 
-// Delivers a unit whole to the unit queue at this place, where that has room.
+// Delivers a unit whole to the unit queue at this place, if that queue has room.
 fn deliver_whole<R: Room>(
     units: &mut BoxedSlice<Queue<R>>,
     place: usize,
@@ -75,7 +75,7 @@ fn deliver_whole<R: Room>(
     })
 }
 
-// Delivers a unit by its packets. Where memory runs out the queues are as they were.
+// Delivers the packets of a unit. If memory runs out, the queues are as they were before the call.
 #[inline(always)]
 fn deliver_packets<R: Room, C: Tick>(
     queues: &mut BoxedSlice<Queue<R>>,
@@ -109,7 +109,8 @@ fn deliver_packets<R: Room, C: Tick>(
     }
 }
 
-/// Delivers a unit: whole where its MAP is chosen, else by its packets. Where memory runs out all queues are as they were.
+/// Delivers a unit: whole if its MAP is chosen, otherwise as its packets. If memory runs out, all queues are as they
+/// were before the call.
 #[inline(always)]
 pub(crate) fn deliver<R: Room, C: Tick>(
     queues: &mut BoxedSlice<Queue<R>>,

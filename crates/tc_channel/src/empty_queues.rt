@@ -10,7 +10,7 @@ use crate::settings::{MapSetting, QueueSetting};
 use std::alloc::{AllocError, Global};
 use tc_rooms::Room;
 
-/// A packet queue for each setting, whose packets have at most so many octets.
+/// Creates an empty packet queue for each setting, for packets of at most `size` octets.
 pub(crate) fn empty_queues<R: Room>(
     alloc: Global,
     settings: &[QueueSetting],
@@ -28,7 +28,7 @@ pub(crate) fn empty_queues<R: Room>(
     Ok(queues)
 }
 
-/// A unit queue for each chosen MAP, whose units have at most so many octets.
+/// Creates an empty unit queue for each chosen MAP, for units of at most `size` octets.
 pub(crate) fn empty_unit_queues<R: Room>(
     alloc: Global,
     maps: &[MapSetting],

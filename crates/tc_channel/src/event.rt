@@ -2,15 +2,15 @@
 
 use crate::items::Octets;
 
-/// An operation that a channel answered. An operation that it refused is no event.
+/// An operation that a channel carried out. An operation that it refused is no event.
 #[derive(Debug, Drop, PartialEq, Eq)]
 pub enum Event {
-    /// A frame came in: its octets, without fill, whatever FARM-1 did with it.
+    /// A frame that came in, as its octets without fill, whatever FARM-1 did with it.
     Frame(Octets),
-    /// The oldest data field left the buffer.
+    /// The release of the oldest data field from the buffer.
     Release,
-    /// The oldest packet of the queue with this APID was taken.
+    /// A take of the oldest packet from the queue with this APID.
     Take(u16),
-    /// The oldest unit of this chosen MAP was taken.
+    /// A take of the oldest unit from the queue of this chosen MAP.
     TakeUnit(u8),
 }

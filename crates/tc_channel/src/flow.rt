@@ -1,4 +1,4 @@
-//! Laws on what leaves a channel: it is what came in, in order.
+//! Laws on the data that leaves a channel: it is the data that came in, in order.
 #![tactic(auto, using(crate::proofs::Closing::flow))]
 
 ghost use Rattle.std.specs.Prelude.{◌≡◌, ◌≤◌, ◌∷◌, ◌+◌, ◌%◌, ℕ, true, List, [], Some, length, map, take};
@@ -19,15 +19,16 @@ ghost use Rattle.tc_channel.specs.Through.{IsPartOf, packets_made, units_made, s
 
 use tc_link::a_written_clcw_reads_back;
 
-/// The data fields of Type-AD that were passed to reassembly are the accepted ones, each once and in order, as far as they were
-/// released.
+/// The data fields of Type-AD that were passed to reassembly are the accepted ones that were released, each once and in
+/// order.
 pub fn what_was_accepted_is_passed_on_in_order()
     ensures { (limits : ℕ → ℕ) (s : Settings) (journal : List Event) → IsLawfulWithin limits s journal
         → fields_passed Service.Ad (run_within limits s journal).passed ≡ map (λ (a : Accepted). a.field) (take (run_within limits s journal).released (run_within limits s journal).accepted) }
 {}
 
-/// All that the takes of an application gave, in their order, is the beginning of what its queue ever admitted: each packet once,
-/// and none left out. The same holds of the units of a chosen MAP. What each take gives is what its reply says.
+/// All packets that the takes of an application gave are, in order, the first ones that its queue ever admitted: each
+/// packet once, and none left out. This also holds for the units of a chosen MAP. Each take gives the item that is in
+/// its reply.
 #[tactic(auto, using(crate::proofs::Closing::flow), unfolding(crate::specs::Reply::waiting_packets_within, crate::specs::Reply::waiting_units_within))]
 pub fn what_was_admitted_is_given_in_order()
     ensures packets { (limits : ℕ → ℕ) (s : Settings) (journal : List Event) (apid : ℕ) (q : Queue) → queue_of apid (run_within limits s journal).queues ≡ Some q
@@ -38,8 +39,9 @@ pub fn what_was_admitted_is_given_in_order()
     ensures unit { (limits : ℕ → ℕ) (s : Settings) (journal : List Event) (map_id : ℕ) → unit_reply_within limits s journal map_id ≡ oldest_in map_id (run_within limits s journal).units }
 {}
 
-/// All that a packet queue ever admitted are packets that the data fields make that were passed to reassembly, in their order, of which
-/// some may be left out. Where it admitted as many as they make, none is left out. The same holds of the units of a chosen MAP.
+/// All packets that a packet queue ever admitted are, in order, packets made from the data fields that were passed to
+/// reassembly. Some may be left out. If the queue admitted as many packets as the fields make, none is left out. This
+/// also holds for the units of a chosen MAP.
 pub fn what_was_passed_on_is_admitted_in_order()
     ensures packets { (limits : ℕ → ℕ) (s : Settings) (journal : List Event) (apid : ℕ) (q : Queue) → queue_of apid (run_within limits s journal).queues ≡ Some q
         → IsPartOf q.admitted (packets_made limits s apid (run_within limits s journal).passed) }
@@ -48,12 +50,14 @@ pub fn what_was_passed_on_is_admitted_in_order()
     ensures whole { (one other : List (List ℕ)) → IsPartOf one other → length other ≤ length one → one ≡ other }
 {}
 
-/// From a sender to what was taken. In an era a sender numbers its Type-AD frames on from the V(R) with which the era starts, with the
-/// data fields `sent`, and none comes 256 numbers or more early or late; frames may be lost, come several times and out of order. Then,
-/// after any lawful journal, the AD fields of the era that were passed to reassembly are the first that were sent, as many as were
-/// released. Where no Set V(R) was obeyed, the era is the whole journal. Whoever sent, all packets of an application that takes ever
-/// gave are, in their order, packets that the passed fields make, of which some may be left out. The same holds of the units of a chosen
-/// MAP.
+/// This law leads from the frames of a sender to the items that were taken. Suppose that in an era a sender numbers its
+/// Type-AD frames, with the data fields `sent`, from the V(R) with which the era starts, and that no frame comes 256
+/// numbers or more early or late. Frames may be lost, come several times and come out of order. Then, after any lawful
+/// journal, the AD fields of the era that were passed to reassembly are the first fields that were sent, and their
+/// number is the number of released fields. If no Set V(R) was obeyed, the era is the whole journal.
+///
+/// All packets that takes of an application ever gave are, in order, packets made from the passed fields, whoever sent
+/// the frames. Some may be left out. This also holds for the units of a chosen MAP.
 pub fn what_was_sent_is_given_in_order()
     ensures fields { (limits : ℕ → ℕ) (s : Settings) (journal before later : List Event) (x : ℕ) (sent : ℕ → List ℕ) → IsLawfulWithin limits s journal
         → IsEraWithin limits s journal before later x → ComesFromWithin limits s before later x sent
@@ -64,19 +68,20 @@ pub fn what_was_sent_is_given_in_order()
         → IsPartOf (units_given s map_id (first_state_within limits s) journal) (units_made limits s map_id (run_within limits s journal).passed) }
 {}
 
-/// Each data field that was passed to reassembly is accounted for. The fields of a service and a MAP part, each once and in order, into
-/// shares: all segments of a unit that was made; the open run; or fields that are lost, since they are over the limit of their MAP or over
-/// 65,542 octets, since another unit began before theirs ended, or since no run was open for them. The units are all that these fields
-/// made, and the run is all that they left open. On a plain channel each field is a unit, or over its limit
+/// Each data field that was passed to reassembly is accounted for. The fields of a service and a MAP are parted into
+/// shares, each field once and in order. A share is all segments of a unit that was made, or the open run, or fields
+/// that are lost. Fields are lost if they are over the limit of their MAP or over 65,542 octets, if another unit began
+/// before theirs ended, or if no run was open for them. The units are all units that these fields made, and the run is
+/// all that they left open. On a plain channel each field is a unit, or is over its limit
 /// ([`a_plain_channel_takes_each_field_as_a_unit`](crate::a_plain_channel_takes_each_field_as_a_unit)).
 pub fn each_passed_field_is_accounted_for()
     ensures { (limits : ℕ → ℕ) (s : Settings) (journal : List Event) (service : Service) (map_id : ℕ) → s.segmented ≡ true
         → (shares : List Share) × AccountFor limits s service map_id (run_within limits s journal).passed shares }
 {}
 
-/// What data fields make, worked out by hand: a packet in two segments, for its own application alone; none where the two came by
-/// different services, or where its unit is over the limit of its MAP; on a chosen MAP the unit as it is, and no packet; and a packet that
-/// is a field without segment header.
+/// These data fields make the items that were worked out by hand. Two segments make a packet, for its own application
+/// alone. They make none if they came by different services, or if their unit is over the limit of its MAP. On a chosen
+/// MAP they make the unit as it is, and no packet. A field without a segment header is a packet by itself.
 #[tactic(auto, unfolding(crate::specs::ChannelState::no_limits))]
 pub fn passed_fields_make_so()
     ensures two_segments { packets_made no_limits (example.buffer_of 2) 5 (example.in_two_segments Service.Ad Service.Ad) ≡ example.joined_packet ∷ [] }
@@ -88,8 +93,8 @@ pub fn passed_fields_make_so()
     ensures plain_field { packets_made no_limits example.plain 5 (record { service = Service.Bd; field = example.joined_packet } ∷ []) ≡ example.joined_packet ∷ [] }
 {}
 
-/// What a CLCW reports to the sender: its report value is the number with which the era began, and one more for each Type-AD frame that was
-/// accepted since, modulo 256.
+/// The report value of a CLCW tells the sender how many frames were accepted: it is the number with which the era
+/// began, plus one for each Type-AD frame that was accepted since, modulo 256.
 pub fn a_clcw_reports_how_many_were_accepted()
     ensures { (limits : ℕ → ℕ) (s : Settings) (journal before later : List Event) (x : ℕ) (link : Link) → IsAllowed s → IsLawfulWithin limits s journal → IsEraWithin limits s journal before later x
         → (fields_of (clcw_within limits s journal link)).vr ≡ (x + length (accepted_since_within limits s before journal)) % 256 }

@@ -1,4 +1,4 @@
-//! What a channel has come to.
+//! The state of a channel, as a record.
 
 ghost use Rattle.std.specs.Prelude.{◌≡◌, IfOk};
 ghost use Rattle.std.specs.List.{filter_map};
@@ -14,12 +14,12 @@ use crate::settings::{MapSetting, QueueSetting};
 use std::alloc::Global;
 use tc_link::Report;
 
-/// What a channel has come to at one moment.
+/// The state of a channel at one moment.
 #[derive(Debug, Drop)]
 pub struct Holding {
     /// FARM-1's components.
     pub report: Report,
-    /// How many data fields wait in the buffer.
+    /// The number of data fields that wait in the buffer.
     pub buffered: usize,
     /// The packet queues, in the order of the settings.
     pub queues: Items<QueueHolding>,
@@ -27,21 +27,21 @@ pub struct Holding {
     pub maps: Items<MapHolding>,
 }
 
-/// How many packets wait in the queue of an APID.
+/// The number of packets that wait in the queue of an APID.
 #[derive(Clone, Copy, Debug, PartialEq, Eq)]
 pub struct QueueHolding {
     pub apid: u16,
     pub packets: usize,
 }
 
-/// How many units wait in the queue of a chosen MAP.
+/// The number of units that wait in the queue of a chosen MAP.
 #[derive(Clone, Copy, Debug, PartialEq, Eq)]
 pub struct MapHolding {
     pub map: u8,
     pub units: usize,
 }
 
-/// What a channel has come to. The two lists are all that is allocated.
+/// Returns the state of a channel. Only the two lists are allocated.
 pub fn holding_in<J: Journal>(alloc: Global, channel: &ChannelWith<J>) -> Result<Holding, NoMemory>
     ensures holding { IfOk result (λ holding. holding ≡ holding_of channel.now.settings channel.now.journal) }
     ensures allowed { IsAllowed channel.now.settings }

@@ -1,4 +1,4 @@
-//! Items on the heap that contracts see as their list.
+//! Items on the heap, which contracts see as a list.
 
 ghost use Rattle.std.specs.Prelude.{◌≡◌, ◌==◌, IfOk, length};
 ghost use Rattle.std.specs.Cmp.Lexicographic.{pointwise, lists_per, lists_equiv};
@@ -7,7 +7,7 @@ use std::alloc::{AllocError, Global};
 use std::marker::Model;
 use std::ops::DerefSlice;
 
-/// A `Vec` whose contracts see its items alone, so that events and settings are plain data in a clause.
+/// A `Vec` whose items alone contracts see, so that events and settings are plain data in a clause.
 #[derive(Debug, Drop)]
 pub struct Items<T> {
     items: Vec<T>,
@@ -22,28 +22,28 @@ impl<T> Model for Items<T> {
 }
 
 impl<T> Items<T> {
-    /// The items, the first one first.
+    /// Lends the items, the first one first.
     pub fn as_slice(&self) -> &[T]
         ensures { result.now ≡ self.now }
     {
         self.items.as_slice()
     }
 
-    /// How many items there are.
+    /// Returns the number of items.
     pub fn len(&self) -> usize
         ensures { result ≡ length self.now }
     {
         self.items.len()
     }
 
-    /// Whether there is none.
+    /// Returns whether there is no item.
     pub fn is_empty(&self) -> bool
         ensures { result ≡ (length self.now == 0) }
     {
         self.items.is_empty()
     }
 
-    /// The items as a `Vec`, moved.
+    /// Returns the items as a `Vec`, moved.
     pub fn into_vec(self) -> Vec<T>
         ensures { result.items ≡ self }
     {
@@ -93,7 +93,7 @@ impl<T: Eq> Eq for Items<T> {
 }
 
 impl Items<u8> {
-    /// A copy of the octets: one allocation.
+    /// Returns a copy of the octets, by one allocation.
     pub fn copied(alloc: Global, octets: &[u8]) -> Result<Items<u8>, AllocError>
         ensures { IfOk result (λ o. o ≡ octets.now) }
     {

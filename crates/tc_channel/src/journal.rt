@@ -1,4 +1,4 @@
-//! What a channel does with the events that it answers.
+//! The journal of a channel, which keeps its events or only counts them.
 
 ghost use Rattle.std.specs.Prelude.{◌≡◌, Bool, false, List, ◌∷◌, [], ◌++◌, length, min, ◌^◌, ◌-◌, IfOk, IsOk};
 ghost use Rattle.tc_channel.specs.declared.event.Event.{Event};
@@ -9,26 +9,27 @@ use crate::lent::LentEvent;
 use crate::unrecorded::EventsSeen;
 use std::alloc::{AllocError, Global};
 
-/// The journal of a channel: all events that it answered, the oldest first. The clauses of a channel read them, whether the
-/// journal keeps them in memory ([`Recorded`](crate::Recorded)) or not ([`Unrecorded`](crate::Unrecorded)).
+/// The journal of a channel: all events of the channel, the oldest first. The clauses of a channel read them, whether
+/// the journal keeps them in memory ([`Recorded`](crate::Recorded)) or not ([`Unrecorded`](crate::Unrecorded)).
 pub trait Journal: Drop {
-    /// What is made of an event before the channel changes, so that nothing can be refused after it.
+    /// The entry of an event, which is made before the channel changes, so that nothing can be refused after the
+    /// change.
     type Entry: Drop;
 
     // the events, the oldest first
     ghost events: { Self → List Event };
 
-    // this entry is this event's, and there is room for it
+    // this entry is the entry of this event, and there is room for it
     ghost is_ready: { Self → Self.Entry → Event → Type 0 };
 
-    // whether entries take memory; where they take none, no entry is refused
+    // whether entries take memory (if they take none, no entry is refused)
     ghost grows: { Bool };
 
-    /// The journal of no event. It allocates nothing.
+    /// Creates a journal of no event. It allocates nothing.
     fn start(alloc: Global) -> Self
         ensures events { events result ≡ [] };
 
-    /// Makes the entry of an event, and room for it; the events stay the same.
+    /// Makes the entry of an event, and room for it. The events stay the same.
     fn prepare(&mut self, alloc: Global, event: &LentEvent<'_>) -> Result<Self::Entry, AllocError>
         ensures same { events self.new ≡ events self.old }
         ensures ready { IfOk result (λ entry. is_ready self.new entry (event_of event.now)) }
@@ -39,11 +40,11 @@ pub trait Journal: Drop {
         requires { is_ready self.old entry (event_of event.now) }
         ensures events { events self.new ≡ events self.old ++ event_of event.now ∷ [] };
 
-    /// The events as clauses see them, without an octet.
+    /// Returns the events as clauses see them. They take no memory.
     fn seen(&self) -> EventsSeen
         ensures events { result.events ≡ events self.now };
 
-    /// How many events there are; where they are more than 2^64 - 1, that number.
+    /// Returns the number of events, or 2^64 - 1 if there are more than that.
     fn count(&self) -> u64
         ensures count { result ≡ min (length (events self.now)) (2 ^ 64 - 1) };
 }

@@ -1,5 +1,5 @@
-//! Laws over the definitions. A law over the run of a journal is one of each run, with any limit for each MAP (`run_within`); so it is
-//! one of a channel that has no limit by MAP (`run`), too.
+//! Laws over the definitions. A law over the run of a journal holds for each run, with any limit for each MAP
+//! (`run_within`). So it also holds for a channel that has no limit by MAP (`run`).
 #![tactic(auto, using(crate::proofs::Closing::laws))]
 
 ghost use Rattle.std.specs.Prelude.{List, ℕ, ◌≡◌, ◌≤◌, ◌<◌, ◌+◌, ◌*◌, ◌%◌, ◌^◌, ◌++◌, ◌↔◌, Option, Some, None, false, [], ◌∷◌, ◌≢◌, IsTrue, length, map, slice_get};
@@ -36,36 +36,37 @@ pub fn allowed_settings_have_no_fault()
     ensures { (s : Settings) (fault : SettingsFault) → IsAllowed s → IsFault s fault → ⊥ }
 {}
 
-/// In S2 Wait is set. Wait means that there is no room, and is never set in S1. Lockout is set just in S3.
+/// In S2 the Wait flag is set. Wait means that there is no room, and is never set in S1. Lockout is set exactly in S3.
 pub fn wait_means_no_room()
     ensures { (limits : ℕ → ℕ) (s : Settings) (journal : List Event) → IsSound s (run_within limits s journal) }
 {}
 
-/// Whatever came before, each frame has its step: a frame that is expected and finds room never comes in S2.
+/// Whatever came before, each frame has a step. A frame that is expected and finds room never comes in S2.
 pub fn each_frame_has_a_step()
     ensures { (limits : ℕ → ℕ) (s : Settings) (journal : List Event) (octets : List ℕ) → IsWhole octets → HasStep s (run_within limits s journal) (Event.Frame octets) }
 {
     each_arrival_has_an_entry();
 }
 
-/// A journal can be parted into its era and what came before.
+/// Each journal can be parted into its era and the events before it.
 pub fn each_journal_has_an_era()
     ensures { (limits : ℕ → ℕ) (s : Settings) (journal : List Event) → (before : List Event) × (later : List Event) × (x : ℕ) × IsEraWithin limits s journal before later x }
 {}
 
-/// In a lawful journal of allowed settings the AD frames that were accepted since V(R) was last set by a Set V(R) that was
-/// obeyed, or else since the start, have consecutive numbers modulo 256 from that V(R) on, and V(R) is the next one.
+/// In a lawful journal of allowed settings, consider the AD frames that were accepted since the last Set V(R) that was
+/// obeyed, or since the start if none was. They have consecutive numbers modulo 256, from the V(R) of that moment on,
+/// and V(R) is the next number.
 pub fn accepted_frames_count_up()
     ensures { (limits : ℕ → ℕ) (s : Settings) (journal : List Event) → IsAllowed s → IsLawfulWithin limits s journal → CountsUpInItsEraWithin limits s journal }
 {}
 
-/// No queue ever holds more than its capacity, or gives more than it was given.
+/// No queue ever holds more items than its capacity, or gives more items than it was given.
 pub fn queues_keep_to_their_capacity()
     ensures queues { (limits : ℕ → ℕ) (s : Settings) (journal : List Event) → AllByRecursion KeepsToItsCapacity (run_within limits s journal).queues }
     ensures units { (limits : ℕ → ℕ) (s : Settings) (journal : List Event) → AllByRecursion KeepsToItsCapacity (run_within limits s journal).units }
 {}
 
-/// The run of a longer journal begins with the run of its beginning: it goes on from there, and nothing is cut.
+/// The run of a longer journal goes on from the run of its beginning, and nothing is cut.
 pub fn a_longer_run_goes_on()
     ensures run { (limits : ℕ → ℕ) (s : Settings) (past future : List Event) → run_within limits s (past ++ future) ≡ run_from s (run_within limits s past) future }
     ensures grows { (limits : ℕ → ℕ) (s : Settings) (past future : List Event) → Grows (run_within limits s past) (run_within limits s (past ++ future)) }
@@ -78,9 +79,9 @@ pub fn buffer_keeps_to_its_size()
     ensures { (limits : ℕ → ℕ) (s : Settings) (journal : List Event) → length (buffer (run_within limits s journal)) ≤ s.buffer }
 {}
 
-/// Where settings are allowed, of the packets that a unit is cut into the queued and the dropped are together as many as there
-/// are; a unit of a chosen MAP is queued whole or dropped whole. Queues that are given the same packet have the same APID, which
-/// is their key.
+/// If settings are allowed, each packet that a unit is cut into is either queued or dropped, so that the two counts add
+/// up. A unit of a chosen MAP is queued whole or dropped whole. Queues that are given the same packet have the same
+/// APID, which is their key.
 pub fn each_packet_is_queued_or_dropped()
     ensures count { (limits : ℕ → ℕ) (s : Settings) (journal : List Event) (field : List ℕ) (unit : Option (List ℕ)) → IsAllowed s
         → (delivery_of field unit (run_within limits s journal)).queued + (delivery_of field unit (run_within limits s journal)).dropped
@@ -93,8 +94,8 @@ pub fn each_clcw_fits_its_word()
     ensures { (limits : ℕ → ℕ) (s : Settings) (journal : List Event) (link : Link) → IsAllowed s → IsLawfulWithin limits s journal → clcw_within limits s journal link < 2 ^ 32 }
 {}
 
-/// No event makes a plain channel a segmented one, or back. On a plain channel each data field within the limits is a unit by
-/// itself, and no run is ever open.
+/// No event makes a plain channel segmented or a segmented channel plain. On a plain channel each data field within the
+/// limits is a unit by itself, and no run is ever open.
 pub fn a_plain_channel_takes_each_field_as_a_unit()
     ensures stays { (limits : ℕ → ℕ) (s : Settings) (journal : List Event) → (run_within limits s journal).segmented ≡ s.segmented }
     ensures unit { (limits : ℕ → ℕ) (s : Settings) (journal : List Event) (service : Service) (field octets : List ℕ) → s.segmented ≡ false
@@ -105,40 +106,42 @@ pub fn a_plain_channel_takes_each_field_as_a_unit()
     a_plain_field_is_a_unit_by_itself();
 }
 
-/// The chosen MAPs are those of the settings, whatever comes.
+/// Whatever comes, the chosen MAPs are those of the settings.
 pub fn chosen_maps_stay()
     ensures { (limits : ℕ → ℕ) (s : Settings) (journal : List Event) (field : List ℕ) → IsTrue (is_chosen (run_within limits s journal) field) ↔ IsOfChosenMap s field }
 {}
 
-/// A unit of a chosen MAP is appended whole to the queue of its MAP where that has room, else it is dropped; the queues of other
-/// MAPs stay.
+/// A unit of a chosen MAP is appended whole to the queue of its MAP if that queue has room. Otherwise it is dropped.
+/// The queues of other MAPs stay the same.
 pub fn a_unit_is_kept_where_its_queue_has_room()
     ensures kept { (q : Queue) (unit : List ℕ) → with_share (is_of_map q.key) (unit ∷ []) q ≡ with_unit q unit }
     ensures others { (q : Queue) (map_id : ℕ) (unit : List ℕ) → q.key ≢ map_id → with_share (is_of_map map_id) (unit ∷ []) q ≡ q }
 {}
 
-/// A data field of a chosen MAP gives no application a packet, and one of another MAP gives no unit queue a unit.
+/// A data field of a chosen MAP gives no packet to an application, and a data field of another MAP gives no unit to a
+/// unit queue.
 pub fn a_unit_is_delivered_whole_or_by_packets()
     ensures whole { (state : ChannelState) (service : Service) (field : List ℕ) → IsTrue (is_chosen state field) → (passed_on service field state).queues ≡ state.queues }
     ensures by_packets { (state : ChannelState) (service : Service) (field : List ℕ) → ¬ IsTrue (is_chosen state field) → (passed_on service field state).units ≡ state.units }
 {}
 
-/// Where each Type-AD frame of an era is a sender's, which numbers its frames from x on modulo 256, and none comes 256 frames too
-/// early or too late, the accepted data fields are what was sent: each once, in order, and none left out. Frames may be lost, come
-/// several times, and out of order.
+/// Suppose that each Type-AD frame of an era is from a sender that numbers its frames from x on modulo 256, and that
+/// none comes 256 frames too early or too late. Then the accepted data fields are the fields that were sent: each once,
+/// in order, and none left out. Frames may be lost, come several times, and come out of order.
 pub fn what_was_sent_is_accepted_once_and_in_order()
     ensures { (limits : ℕ → ℕ) (s : Settings) (journal before later : List Event) (x : ℕ) (sent : ℕ → List ℕ) → IsEraWithin limits s journal before later x → ComesFromWithin limits s before later x sent
         → (i : ℕ) (a : Accepted) → slice_get (accepted_since_within limits s before journal) i ≡ Some a → a.field ≡ sent i }
 {}
 
-/// The queues of a channel are those of its settings, in their order, each with its capacity, whatever comes.
+/// Whatever comes, the queues of a channel are those of its settings, in their order, each with its capacity.
 pub fn queues_are_those_of_the_settings()
     ensures queues { (limits : ℕ → ℕ) (s : Settings) (journal : List Event) → map {B = ℕ × ℕ} (λ (q : Queue). (q.key, q.capacity)) (run_within limits s journal).queues ≡ map {B = ℕ × ℕ} (λ (q : QueueSetting). (q.apid, q.capacity)) s.queues }
     ensures units { (limits : ℕ → ℕ) (s : Settings) (journal : List Event) → map {B = ℕ × ℕ} (λ (q : Queue). (q.key, q.capacity)) (run_within limits s journal).units ≡ map {B = ℕ × ℕ} (λ (m : MapSetting). (m.map, m.capacity)) s.maps }
 {}
 
-/// No event changes the limits. A data field ends a unit where it would without the limits, if the unit is no longer than the limit of
-/// its MAP. Where there is no limit by MAP, it ends each unit that reassembly makes: the limit of the largest unit leaves none out.
+/// No event changes the limits. A data field ends a unit if it ends the unit without the limits and the unit is no
+/// longer than the limit of its MAP. If there is no limit by MAP, the field ends each unit that reassembly makes,
+/// because the limit of the largest unit leaves none out.
 pub fn a_unit_beyond_the_limit_of_its_map_is_none()
     ensures stays { (limits : ℕ → ℕ) (s : Settings) (journal : List Event) → (run_within limits s journal).limit ≡ limits }
     ensures within { (limits : ℕ → ℕ) (s : Settings) (journal : List Event) (service : Service) (field octets : List ℕ)
@@ -148,8 +151,8 @@ pub fn a_unit_beyond_the_limit_of_its_map_is_none()
         → unit_of (run s journal) service field ≡ unit_ended (run s journal).segmented (stream service (map_of field) (run s journal).passed) field }
 {}
 
-/// Frames of a sender that numbers from 0 on, worked out by hand: one that was accepted comes once more, also much later, and one comes
-/// behind two that got lost. None comes 256 numbers late or early.
+/// These frames of a sender that numbers from 0 on may come as was worked out by hand: an accepted frame may come once
+/// more, also much later, and a frame may come behind two that got lost. No frame may come 256 numbers late or early.
 pub fn a_sender_s_frames_may_come_so()
     ensures repeated { IsSent 0 (λ i. field_of (example.packet_octets 0)) 1 (example.packet_octets 0) }
     ensures late { IsSent 0 (λ i. field_of (example.packet_octets 0)) 255 (example.packet_octets 0) }
@@ -168,7 +171,8 @@ pub fn unlock_and_set_v_r_open_a_channel()
     unlock_and_set_v_r_open_farm_1();
 }
 
-/// The steps of a unit by its octets: one of n octets has at most n / 7 packets, and the largest, of 65,542 octets, at most 9,363.
+/// The octets of a unit bound the steps that it takes: a unit of n octets has at most n / 7 packets, and the largest
+/// unit, of 65,542 octets, has at most 9,363.
 pub fn a_unit_takes_steps_by_its_octets()
     ensures packets { (unit : List ℕ) → 7 * length (packets_of unit) ≤ length unit }
     ensures steps { (unit : List ℕ) (packets queues units : ℕ) → length unit < 7 * (packets + 1) → delivery_steps (Some unit) queues units ≤ packet_steps packets queues units }

@@ -1,14 +1,15 @@
 //! An event whose octets are lent.
 
-/// An operation that a channel answered, as [`Event`](crate::Event), before a journal keeps it.
+/// An operation that a channel carried out, as an [`Event`](crate::Event) whose octets are lent, before a journal keeps
+/// it.
 #[derive(Clone, Copy, Debug)]
 pub enum LentEvent<'a> {
-    /// A frame came in: its octets, without fill.
+    /// A frame that came in, as its octets without fill.
     Frame(&'a [u8]),
-    /// The oldest data field left the buffer.
+    /// The release of the oldest data field from the buffer.
     Release,
-    /// The oldest packet of the queue with this APID was taken.
+    /// A take of the oldest packet from the queue with this APID.
     Take(u16),
-    /// The oldest unit of this chosen MAP was taken.
+    /// A take of the oldest unit from the queue of this chosen MAP.
     TakeUnit(u8),
 }

@@ -1,4 +1,4 @@
-//! How much memory a channel can come to hold.
+//! The bound of a channel's memory, computed from its settings.
 
 ghost use Rattle.std.specs.Prelude.{List, ℕ, true, ◌≡◌, ◌≤◌, ◌^◌, ◌-◌, ◌<◌, ◌*◌, min, sum_by};
 ghost use Rattle.tc_channel.specs.declared.settings.QueueSetting.{QueueSetting};
@@ -16,29 +16,33 @@ use crate::places::{KEYS, QUEUES_FOR_A_TABLE};
 use crate::settings::{LentSettings, MapSetting, QueueSetting, Settings};
 use tc_packet::LARGEST_UNIT;
 
-/// The octets of a room's own words: those of its block, and how many octets lie in it or may lie in it.
+/// The number of bytes of a room's own words: the words of its block, and the numbers of octets that lie in it and may
+/// lie in it.
 pub const ROOM_WORDS: u128 = 32;
 
-/// The octets of a run's own words: those of its room, whether it is open, and how many octets it has.
+/// The number of bytes of a run's own words: the words of its room, whether the run is open, and the number of its
+/// octets.
 pub const RUN_WORDS: u128 = 40;
 
-/// The octets of a queue's own words: its key, the ring of its rooms, which of them are taken, and their size.
+/// The number of bytes of a queue's own words: its key, the ring of its rooms, the numbers of rooms that are taken, and
+/// their size.
 pub const QUEUE_WORDS: u128 = 64;
 
-// The octets of a place in a table.
+// The number of bytes of a place in a table.
 const PLACE_WORDS: u128 = 2;
 
-// The room of a run that was doubled until it holds the largest unit.
+// The number of bytes in the room of a run that was doubled until it holds the largest unit.
 const RUN_ROOM: u128 = 131_072;
 
-// Two services of 64 MAPs.
+// The number of streams: two services of 64 MAPs.
 const STREAMS: u128 = 128;
 
 impl Settings {
-    /// The most octets that a [`CountingChannel`](crate::CountingChannel) of these settings asks its allocator for and has not given
-    /// back, at whatever moment from the start of `new` on, on a machine of 64 bits; 2^64 - 1 where it is more. What an allocator
-    /// adds to a block is not counted, nor is the room of the lists of these settings themselves, which whoever made them chose.
-    /// It takes a step a queue and a MAP, and no memory.
+    /// Returns the largest number of bytes that a [`CountingChannel`](crate::CountingChannel) of these settings holds
+    /// at any moment from the start of `new` on, on a machine of 64 bits. These are the bytes that it has requested
+    /// from its allocator and not freed. The result is 2^64 - 1 if the number is larger. The bytes that an allocator
+    /// adds to a block aren't counted, and neither are the lists of these settings themselves, whose memory the caller
+    /// has chosen. The call takes a step for each queue and each MAP, and no memory.
     pub fn memory_bound(&self) -> u64
         ensures { result ≡ min (memory_bound self.now) (2 ^ 64 - 1) }
     {
@@ -47,7 +51,7 @@ impl Settings {
 }
 
 impl LentSettings<'_> {
-    /// The same of settings whose lists are lent.
+    /// Returns the bound that [`Settings::memory_bound`] returns for settings with these lists.
     #[tactic(auto, unfolding(crate::specs::Memory::memory_bound))]
     pub fn memory_bound(self) -> u64
         ensures { result ≡ min (memory_bound (settings_of self.entry)) (2 ^ 64 - 1) }
@@ -63,7 +67,7 @@ impl LentSettings<'_> {
         }
     }
 
-    /// How many packets the packet queues hold at most, all together.
+    /// Returns the largest number of packets that the packet queues hold together.
     pub fn packets_stored(self) -> u128
         ensures value { result ≡ packets_stored (settings_of self.entry) }
         ensures within { result < 2 ^ 80 }
@@ -71,7 +75,7 @@ impl LentSettings<'_> {
         stored_packets(self.queues)
     }
 
-    /// How many units the unit queues hold at most, all together.
+    /// Returns the largest number of units that the unit queues hold together.
     pub fn units_stored(self) -> u128
         ensures value { result ≡ units_stored (settings_of self.entry) }
         ensures within { result < 2 ^ 80 }
@@ -79,7 +83,8 @@ impl LentSettings<'_> {
         stored_units(self.maps)
     }
 
-    /// The octets of the largest packet: on a plain channel those of a data field, else those of the largest unit.
+    /// Returns the number of octets in the largest packet: those of a data field on a plain channel, otherwise those of
+    /// the largest unit.
     pub fn largest_item(self) -> u128
         ensures value { result ≡ largest_item self.entry.segmented }
         ensures within { result < 2 ^ 20 }
@@ -91,7 +96,7 @@ impl LentSettings<'_> {
         }
     }
 
-    /// The octets of the rooms of the buffer.
+    /// Returns the number of bytes in the rooms of the buffer.
     pub fn buffer_octets(self) -> u128
         ensures value { result ≡ buffer_memory (settings_of self.entry) }
         ensures within { result < 2 ^ 100 }
@@ -99,7 +104,8 @@ impl LentSettings<'_> {
         u128::from(self.buffer) * (ROOM_WORDS + LARGEST_FIELD as u128)
     }
 
-    /// The octets of the tables by which queues are found: one for the packet queues and one for the unit queues, where there are many.
+    /// Returns the number of bytes in the tables by which queues are found: one for the packet queues and one for the
+    /// unit queues, each if there are 8 queues or more.
     pub fn table_octets(self) -> u128
         ensures value { result ≡ tables_memory (settings_of self.entry) }
         ensures within { result < 2 ^ 20 }
@@ -108,7 +114,7 @@ impl LentSettings<'_> {
     }
 }
 
-// How many packets the packet queues hold, all together.
+// Returns the largest number of packets that the packet queues hold together.
 fn stored_packets(queues: &[QueueSetting]) -> u128
     ensures value { result ≡ sum_by (λ (q : QueueSetting). q.capacity) queues.now }
     ensures within { result < 2 ^ 80 }
@@ -120,7 +126,7 @@ fn stored_packets(queues: &[QueueSetting]) -> u128
     stored
 }
 
-// How many units the unit queues hold, all together.
+// Returns the largest number of units that the unit queues hold together.
 fn stored_units(maps: &[MapSetting]) -> u128
     ensures value { result ≡ sum_by (λ (m : MapSetting). m.capacity) maps.now }
     ensures within { result < 2 ^ 80 }
@@ -132,7 +138,7 @@ fn stored_units(maps: &[MapSetting]) -> u128
     stored
 }
 
-// The open runs, each of the largest unit.
+// Returns the number of bytes in the open runs, if each is of the largest unit.
 fn run_octets(settings: LentSettings<'_>) -> u128
     ensures value { result ≡ runs_memory (settings_of settings.entry) }
     ensures within { result < 2 ^ 100 }
@@ -144,7 +150,7 @@ fn run_octets(settings: LentSettings<'_>) -> u128
     }
 }
 
-// The queues, full of the largest packets and units.
+// Returns the number of bytes in the queues when they are full of the largest packets and units.
 fn queue_octets(settings: LentSettings<'_>) -> u128
     ensures value { result ≡ queues_memory (settings_of settings.entry) }
     ensures within { result < 2 ^ 110 }
@@ -155,7 +161,7 @@ fn queue_octets(settings: LentSettings<'_>) -> u128
         + settings.units_stored() * (ROOM_WORDS + LARGEST_UNIT as u128)
 }
 
-// The table of places of so many queues.
+// Returns the number of bytes in the table of places for this number of queues.
 fn table_of(queues: usize) -> u128
     ensures { result ≡ table_memory queues }
 {
@@ -166,7 +172,7 @@ fn table_of(queues: usize) -> u128
     }
 }
 
-// A first segment for which the block of its run is too small.
+// Returns the number of bytes in a first segment for which the block of its run is too small.
 fn segment_octets(settings: LentSettings<'_>) -> u128
     ensures value { result ≡ segment_memory (settings_of settings.entry) }
     ensures within { result < 2 ^ 20 }
@@ -178,8 +184,9 @@ fn segment_octets(settings: LentSettings<'_>) -> u128
     }
 }
 
-/// Whatever journal a channel has, its queues hold no more packets and units than the bound of its memory counts, and of each no
-/// more octets than as many largest units; in a lawful one its buffer holds no more octets than as many largest data fields.
+/// Whatever journal a channel has, its queues hold no more packets and units than the bound of its memory counts. Their
+/// octets are no more than if each of these packets and units were the largest unit. After a lawful journal, the octets
+/// in the buffer are no more than if the buffer were full of the largest data fields.
 #[tactic(auto, using(crate::proofs::Closing::memory))]
 pub fn no_more_items_wait_than_memory_counts()
     ensures packets { (limits : ℕ → ℕ) (s : Settings) (journal : List Event) → waiting_in_all (run_within limits s journal).queues ≤ packets_stored s }
@@ -189,8 +196,8 @@ pub fn no_more_items_wait_than_memory_counts()
     ensures field_octets { (limits : ℕ → ℕ) (s : Settings) (journal : List Event) → IsLawfulWithin limits s journal → octets_in (buffer (run_within limits s journal)) ≤ s.buffer * largest_field }
 {}
 
-/// After each lawful journal, what waits in a channel with segment headers is within the bound of its memory: the octets of packets,
-/// units and data fields, and the words of each item and of each queue.
+/// After each lawful journal, the items that wait in a channel with segment headers are within the bound of its memory:
+/// the octets of packets, units and data fields, and the words of each item and of each queue.
 #[tactic(auto, using(crate::proofs::Closing::memory))]
 pub fn what_waits_is_within_the_bound_of_memory()
     ensures { (limits : ℕ → ℕ) (s : Settings) (journal : List Event) → s.segmented ≡ true → IsLawfulWithin limits s journal → memory_waiting s (run_within limits s journal) ≤ memory_bound s }

@@ -1,11 +1,12 @@
-//! What clauses see of a channel, without an octet.
+//! The part of a channel that clauses see. It takes no memory.
 
 use crate::settings::Settings;
 use crate::unrecorded::EventsSeen;
 use std::marker::Model;
 use std::snapshot::Snapshot;
 
-/// The settings of a channel and its journal at a moment, as clauses see them. It takes no memory, and no program can read it.
+/// The settings of a channel and its journal at one moment, as clauses see them. They take no memory, and no program
+/// can read them.
 #[derive(Drop)]
 pub struct Past {
     pub(crate) settings: Snapshot<Settings>,

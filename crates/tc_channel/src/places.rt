@@ -1,4 +1,4 @@
-//! Where the queue with a key stands: by a search, or by a table where there are many queues.
+//! Finding the place of the queue with a key: by a search, or by a table if there are many queues.
 
 ghost use Rattle.std.specs.Prelude.{◌<◌, ◌≤◌, ◌+◌, ◌≡◌, ◌≢◌, length, get_or, IfOk, IfSome, IfNone, option_map};
 ghost use Rattle.std.specs.Box.{boxed_slice_items};
@@ -15,16 +15,17 @@ use std::alloc::{AllocError, Global};
 use std::boxed::BoxedSlice;
 use tc_rooms::Room;
 
-// How many keys a table has: one for each APID, which has 11 bits (CCSDS 133.0-B, 4.1.3.3).
+// The number of keys in a table: one for each APID, which has 11 bits (CCSDS 133.0-B, 4.1.3.3).
 pub(crate) const KEYS: usize = 2_048;
 
-// A table pays for so many queues.
+// The smallest number of queues for which a table is worthwhile.
 pub(crate) const QUEUES_FOR_A_TABLE: usize = 8;
 
-// So many places a number of a table can show, and that there is none.
+// The largest number of queues for which there is a table. Each number in the table is the place of a queue, or means
+// that there is none.
 const QUEUES_IN_A_TABLE: usize = 65_535;
 
-// The place of the queue with this key, found by a search.
+// Returns the place of the queue with this key, found by a search.
 #[tactic(auto, using(crate::proofs::Closing::searched))]
 fn search_place<R: Room, C: Tick>(queues: &[Queue<R>], key: u16, steps: &mut C) -> Option<usize>
     ensures first { IfSome result (λ place. IsFirst key place (keys_of (rings_in queues.now))) }
@@ -40,8 +41,8 @@ fn search_place<R: Room, C: Tick>(queues: &[Queue<R>], key: u16, steps: &mut C) 
     None
 }
 
-/// The place of the queue with this key: from the table where there is one and the key is in it. A step is taken for each queue that
-/// is looked at.
+/// Returns the place of the queue with this key, from the table if there is one that has the key. A step is counted for
+/// each queue that is looked at.
 #[inline(always)]
 #[tactic(auto, using(crate::proofs::Closing::reported))]
 pub(crate) fn place_of<R: Room, C: Tick>(
@@ -68,7 +69,7 @@ pub(crate) fn place_of<R: Room, C: Tick>(
     None
 }
 
-/// A table of the places of these queues, or an empty one where there are few.
+/// Returns a table of the places of these queues, or an empty one if there are few.
 pub(crate) fn see_places<R: Room, C: Tick>(
     alloc: Global,
     queues: &[Queue<R>],
@@ -90,7 +91,7 @@ pub(crate) fn see_places<R: Room, C: Tick>(
     Ok(table.into_boxed_slice())
 }
 
-/// The queue with this key.
+/// Returns the queue with this key.
 #[tactic(auto, using(crate::proofs::Closing::by_key))]
 pub(crate) fn find_in<'a, R: Room, C: Tick>(
     queues: &'a [Queue<R>],

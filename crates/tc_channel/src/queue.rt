@@ -9,7 +9,8 @@ use std::alloc::{AllocError, Global};
 use std::marker::Model;
 use tc_rooms::{GrowingRoom, Room, Slots};
 
-/// The items that wait in one queue. The key of a packet queue is the APID of its application, that of a unit queue its MAP.
+/// The items that wait in one queue. The key of a packet queue is the APID of its application, and the key of a unit
+/// queue is its MAP.
 #[derive(Drop)]
 pub struct Queue<R: Room> {
     key: u16,
@@ -25,7 +26,7 @@ impl<R: Room> Model for Queue<R> {
 }
 
 impl<R: Room> Queue<R> {
-    /// A queue of so many items of at most `size` octets each, with no item in it.
+    /// Creates an empty queue for `capacity` items of at most `size` octets each.
     pub fn with_capacity(
         alloc: Global,
         key: u16,
@@ -38,7 +39,7 @@ impl<R: Room> Queue<R> {
         Ok(Queue { key, slots })
     }
 
-    /// Its key. To look at it is a step, and there is no other way to it.
+    /// Returns the key and counts a step. There is no other way to read the key.
     #[inline(always)]
     pub fn key_with_steps<C: Tick>(&self, steps: &mut C) -> u16
         ensures key { result ≡ self.now.key }
@@ -49,14 +50,14 @@ impl<R: Room> Queue<R> {
         self.key
     }
 
-    /// How many items wait.
+    /// Returns the number of items that wait.
     pub fn len(&self) -> usize
         ensures { result ≡ length self.now.slots.ring.items }
     {
         self.slots.len()
     }
 
-    /// Whether as many items wait as may.
+    /// Returns whether the queue is full.
     #[inline(always)]
     pub(crate) fn is_full(&self) -> bool
         ensures full { result ≡ true → self.now.slots.ring.capacity ≤ length self.now.slots.ring.items }
@@ -65,15 +66,15 @@ impl<R: Room> Queue<R> {
         self.slots.len() >= self.slots.capacity()
     }
 
-    /// The oldest item, lent.
+    /// Lends the oldest item.
     pub fn front(&self) -> Option<&[u8]>
         ensures { option_map (λ octets. octets.now) result ≡ slice_get self.now.slots.ring.items 0 }
     {
         self.slots.front()
     }
 
-    // Stages an item behind the others, where there is a place, and says whether there was. It counts at once where no memory can be
-    // refused.
+    // Stages an item behind the others, if there is a place, and returns whether there was. The item counts at once if
+    // no memory can be refused.
     #[inline(always)]
     pub(crate) fn stage(&mut self, octets: &[u8]) -> Result<bool, AllocError>
         requires fits { length octets.now ≤ self.old.slots.size }
@@ -92,7 +93,8 @@ impl<R: Room> Queue<R> {
         self.put(octets)
     }
 
-    // Puts an item behind the others, where there is a place and nothing is staged, and says whether there was.
+    // Puts an item behind the others, if there is a place, when nothing is staged, and returns whether there was a
+    // place.
     #[inline(always)]
     pub(crate) fn put(&mut self, octets: &[u8]) -> Result<bool, AllocError>
         requires fits { length octets.now ≤ self.old.slots.size }
@@ -107,7 +109,7 @@ impl<R: Room> Queue<R> {
         self.slots.put(octets)
     }
 
-    // What was staged counts.
+    // Makes the staged items count.
     #[inline(always)]
     pub(crate) fn commit(&mut self)
         ensures { self.new ≡ committed self.old }
@@ -115,7 +117,7 @@ impl<R: Room> Queue<R> {
         self.slots.commit();
     }
 
-    // What was staged is rolled back.
+    // Rolls back the staged items.
     pub(crate) fn roll_back(&mut self)
         ensures { self.new ≡ rolled_back_of self.old }
     {

@@ -1,4 +1,4 @@
-//! The queues of a channel, and what they take of a unit.
+//! The queues of a channel, and the delivery of units to them.
 
 ghost use Rattle.std.specs.Prelude.{ℕ, List, ◌≡◌, ◌≤◌, ◌↔◌, ◌+◌, length, false, IfOk, IsOk, IsTrue, IsSome, OnErr, OnOk, Some, None, option_map};
 ghost use Rattle.std.specs.Option.{option_copied};
@@ -27,7 +27,7 @@ use tc_rooms::{Ended, GrowingRoom, Room, Runs};
 #[derive(Drop)]
 pub struct Queues<R: Room> {
     queues: BoxedSlice<Queue<R>>,
-    // the place of the queue with each key that an APID can be, where there are many
+    // the place of the queue with each key that an APID can be, if there are 8 queues or more
     table: BoxedSlice<u16>,
 }
 
@@ -46,7 +46,8 @@ impl<R: Room> Model for Queues<R> {
 }
 
 impl<R: Room> Queues<R> {
-    /// These queues, whose keys stay. Where they are 8 or more, a table of the place of each APID's queue is made with them.
+    /// Creates the collection of these queues, whose keys stay. If there are 8 queues or more, a table of the place of
+    /// each APID's queue is made with them.
     pub fn new<C: Tick>(
         alloc: Global,
         queues: Vec<Queue<R>>,
@@ -61,7 +62,7 @@ impl<R: Room> Queues<R> {
         })
     }
 
-    /// The queue with this key.
+    /// Returns the queue with this key.
     pub fn find<C: Tick>(&self, key: u16, steps: &mut C) -> Option<&Queue<R>>
         ensures queue { option_map ring_in (option_copied result) ≡ queue_for key (rings_in self.now) }
         ensures cost { C.taken steps.new ≤ C.taken steps.old + looks_for key (length self.now) }
@@ -69,7 +70,7 @@ impl<R: Room> Queues<R> {
         find_in(&self.queues, &self.table, key, steps)
     }
 
-    /// The octets of the oldest item of the queue with this key.
+    /// Lends the octets of the oldest item of the queue with this key.
     pub fn oldest<C: Tick>(&self, key: u16, steps: &mut C) -> Option<&[u8]>
         ensures item { option_map (λ octets. octets.now) result ≡ oldest_for key (rings_in self.now) }
         ensures cost { C.taken steps.new ≤ C.taken steps.old + looks_for key (length self.now) }
@@ -77,7 +78,7 @@ impl<R: Room> Queues<R> {
         self.find(key, steps)?.front()
     }
 
-    /// Drops the oldest item of the queue with this key, where one waits, and says whether it did.
+    /// Drops the oldest item of the queue with this key, if one waits, and returns whether it did.
     pub fn pop<C: Tick>(&mut self, key: u16, steps: &mut C) -> bool
         ensures waits { IsTrue result ↔ IsSome (oldest_for key (rings_in self.old)) }
         ensures rings { rings_in self.new ≡ popped key (rings_in self.old) }
@@ -89,7 +90,8 @@ impl<R: Room> Queues<R> {
         pop_from(&mut self.queues, &self.table, key, steps)
     }
 
-    /// Copies the oldest item of the queue with this key to the front of these octets and drops it, and says how many it has.
+    /// Copies the oldest item of the queue with this key to the front of `into`, drops it, and returns the number of
+    /// its octets.
     #[inline(always)]
     pub fn copy_out<C: Tick>(
         &mut self,
@@ -110,8 +112,8 @@ impl<R: Room> Queues<R> {
 }
 
 impl Queues<GrowingRoom> {
-    /// Takes the oldest item out of the queue with this key, where one waits, in its own block: none of its octets is copied, and no
-    /// memory is asked for.
+    /// Takes the oldest item out of the queue with this key, if one waits, in its own block. No octet is copied, and no
+    /// memory is requested.
     pub fn take<C: Tick>(&mut self, key: u16, steps: &mut C) -> Option<Vec<u8>>
         ensures item { option_map (λ block. block.items) result ≡ oldest_for key (rings_in self.old) }
         ensures rings { rings_in self.new ≡ popped key (rings_in self.old) }
@@ -124,7 +126,8 @@ impl Queues<GrowingRoom> {
     }
 }
 
-// Delivers a unit: whole where its MAP is chosen, else by its packets. Where memory runs out all queues are as they were.
+// Delivers a unit: whole if its MAP is chosen, otherwise as its packets. If memory runs out, all queues are as they
+// were before the call.
 #[inline(always)]
 fn deliver_unit<R: Room, C: Tick>(
     queues: &mut Queues<R>,
@@ -161,7 +164,7 @@ fn deliver_unit<R: Room, C: Tick>(
     )
 }
 
-// The unit that a data field ended, lent from where it lies.
+// Lends the unit that a data field ended, at the place in memory at which it lies.
 #[inline(always)]
 fn unit_of<'a, R: Room>(runs: &'a Runs<R>, field: &'a [u8], ended: Ended) -> Option<&'a [u8]>
     requires { IsThere ended runs.now field.now }
@@ -174,10 +177,11 @@ fn unit_of<'a, R: Room>(runs: &'a Runs<R>, field: &'a [u8], ended: Ended) -> Opt
     }
 }
 
-/// Delivers the unit that a data field ended, if it ended one, from where it lies. Where memory runs out all queues are as they were.
-/// A step is counted for each packet that is cut from the unit, and for each queue that is looked at while one is found,
-/// committed or rolled back. So the steps grow as the unit's packets times the queues that are looked at where one is found: one
-/// where there are 8 queues or more, else each at most.
+/// Delivers the unit that a data field ended, if it ended one, without moving it first. If memory runs out, all queues
+/// are as they were before the call. A step is counted for each packet that is cut from the unit, and for each queue
+/// that is looked at while one is found, committed or rolled back. So the number of steps grows as the number of the
+/// unit's packets times the number of queues that are looked at to find one. That is one queue if there are 8 queues or
+/// more, otherwise at most each queue.
 #[inline(always)]
 pub(crate) fn deliver_ended<R: Room, C: Tick>(
     runs: &Runs<R>,
@@ -214,7 +218,7 @@ pub(crate) fn deliver_ended<R: Room, C: Tick>(
     }
 }
 
-/// Delivers no unit.
+/// Returns the delivery of no unit.
 pub(crate) fn deliver_nothing() -> Delivery
     ensures { (map_id : ℕ) (queues units : List StoredQueue) → IsDelivered map_id None queues queues units units result }
 {

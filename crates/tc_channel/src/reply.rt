@@ -1,4 +1,4 @@
-//! What the calls of a channel answer.
+//! Replies of a channel's calls.
 
 ghost use Rattle.std.specs.Prelude.{◌≡◌};
 ghost use Rattle.tc_channel.specs.declared.reply.ReleaseFault.TheVariants as release_faults;
@@ -9,34 +9,34 @@ use std::alloc::AllocError;
 use tc_link::Act;
 use thiserror::Error;
 
-/// What became of the unit that a call ended: of its packets or, where its MAP is chosen, of it as a whole. Where it ended none,
-/// the numbers are 0 and `rest` is false.
+/// The outcome for the unit that a call ended. It counts the packets of the unit, or the unit as a whole if its MAP is
+/// chosen. If the call ended no unit, the numbers are 0 and `rest` is false.
 #[derive(Clone, Copy, Debug, PartialEq, Eq)]
 pub struct Delivery {
-    /// How many packets were queued; 1 for a unit that was queued whole.
+    /// The number of packets that were queued, or 1 for a unit that was queued whole.
     pub queued: u32,
-    /// How many packets were dropped: no telecommand, no queue with that APID, or no room in it; 1 for a whole unit without room
-    /// in its queue.
+    /// The number of packets that were dropped because they are no telecommands, there is no queue with their APID, or
+    /// the queue has no room. It is 1 for a whole unit without room in its queue.
     pub dropped: u32,
-    /// Whether octets were left after the last packet; never of a whole unit.
+    /// Whether octets were left after the last packet. It is never true for a whole unit.
     pub rest: bool,
 }
 
-/// What became of a frame.
+/// The outcome for a frame.
 #[derive(Clone, Copy, Debug, PartialEq, Eq)]
 pub struct FrameReply {
     /// FARM-1's event, and whether the frame was accepted.
     pub act: Act,
-    /// What was delivered; of an AD frame nothing is, before its release.
+    /// The outcome for the unit that the frame ended. An AD frame ends none before its release.
     pub delivery: Delivery,
 }
 
-/// A growth was refused.
+/// A refused request for memory.
 #[derive(Clone, Copy, Debug, PartialEq, Eq, Error)]
 #[error("no memory")]
 pub struct NoMemory;
 
-/// Why no data field was released.
+/// A reason why no data field was released.
 #[derive(Clone, Copy, Debug, PartialEq, Eq, Error)]
 pub enum ReleaseFault {
     #[error("the buffer is empty")]
@@ -45,7 +45,7 @@ pub enum ReleaseFault {
     NoMemory,
 }
 
-/// Why no packet was taken.
+/// A reason why no packet was taken.
 #[derive(Clone, Copy, Debug, PartialEq, Eq, Error)]
 pub enum TakeFault {
     #[error("no queue with that application process identifier")]
@@ -56,7 +56,7 @@ pub enum TakeFault {
     NoMemory,
 }
 
-/// Why no unit was taken.
+/// A reason why no unit was taken.
 #[derive(Clone, Copy, Debug, PartialEq, Eq, Error)]
 pub enum TakeUnitFault {
     #[error("no queue for that multiplexer access point")]
@@ -67,14 +67,14 @@ pub enum TakeUnitFault {
     NoMemory,
 }
 
-/// Why no item was copied out of a queue.
+/// A reason why no item was copied out of a queue.
 #[derive(Clone, Copy, Debug, PartialEq, Eq)]
 pub enum NotCopied {
-    /// There is no queue with that key.
+    /// The lack of a queue with that key.
     NoQueue,
-    /// No item waits there.
+    /// A queue in which no item waits.
     Empty,
-    /// The item has so many octets, and there is room for fewer. It still waits.
+    /// An item that is too long for the room that there is. The number is its length in octets. The item still waits.
     NoRoom(usize),
 }
 

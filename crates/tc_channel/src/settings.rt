@@ -8,46 +8,47 @@ use std::alloc::{AllocError, Global};
 use tc_link::Window;
 use thiserror::Error;
 
-/// One packet queue.
+/// The settings of one packet queue.
 #[repr(C)]
 #[derive(Clone, Copy, Debug, PartialEq, Eq)]
 pub struct QueueSetting {
     /// The application process identifier of its packets, at most 2,046.
     pub apid: u16,
-    /// How many packets it holds, 1 to 256.
+    /// The largest number of packets that it holds, 1 to 256.
     pub capacity: u16,
 }
 
-/// One chosen MAP: units of both services are delivered whole to one queue (the MAP Access Service of CCSDS 232.0-B).
+/// The settings of one chosen MAP. Its units of both services are delivered whole to one queue (the MAP Access Service
+/// of CCSDS 232.0-B).
 #[repr(C)]
 #[derive(Clone, Copy, Debug, PartialEq, Eq)]
 pub struct MapSetting {
     /// The multiplexer access point, at most 63.
     pub map: u8,
-    /// How many units its queue holds, 1 to 256.
+    /// The largest number of units that its queue holds, 1 to 256.
     pub capacity: u16,
 }
 
-/// What a channel is made by.
+/// The settings from which a channel is created.
 #[derive(Debug, Drop, PartialEq, Eq)]
 pub struct Settings {
     /// The virtual channel identifier, at most 63.
     pub vcid: u8,
     /// The width of the FARM-1 sliding window, even, 2 to 254.
     pub width: u8,
-    /// How many data fields the buffer holds, 1 to 64.
+    /// The largest number of data fields that the buffer holds, 1 to 64.
     pub buffer: u8,
     /// V(R) at the start.
     pub first: u8,
-    /// Whether data fields begin with a segment header. On a plain channel, which has none, each is a unit by itself.
+    /// Whether data fields begin with a segment header. On a plain channel they don't, and each is a unit by itself.
     pub segmented: bool,
-    /// The packet queues, no two with one APID.
+    /// The packet queues, no two of which have the same APID.
     pub queues: Items<QueueSetting>,
-    /// The chosen MAPs, no two the same, and none on a plain channel.
+    /// The chosen MAPs, no two of which are the same. A plain channel has none.
     pub maps: Items<MapSetting>,
 }
 
-/// What a channel is made by, with both lists lent, so that it can be looked at without memory.
+/// The settings from which a channel is created, with both lists lent, so that they can be looked at without memory.
 #[derive(Clone, Copy, Debug)]
 pub struct LentSettings<'a> {
     pub vcid: u8,
@@ -59,7 +60,7 @@ pub struct LentSettings<'a> {
     pub maps: &'a [MapSetting],
 }
 
-/// Why settings make no channel: the first fault that they have, in this order.
+/// A reason why no channel can be created from settings: the first fault that they have, in this order.
 #[derive(Clone, Copy, Debug, PartialEq, Eq, Error)]
 pub enum SettingsFault {
     #[error("bad virtual channel identifier")]
@@ -89,7 +90,7 @@ pub enum SettingsFault {
 impl Settings {
     ghost use Rattle.tc_channel.specs.Settings.{IsAllowed, IsFault};
 
-    /// The same settings, with both lists lent.
+    /// Returns these settings with both lists lent.
     pub fn lent(&self) -> LentSettings<'_>
         ensures { settings_of result ≡ self.now }
     {
@@ -104,7 +105,7 @@ impl Settings {
         }
     }
 
-    /// Whether a channel can be made by these settings. It never answers `NoMemory`.
+    /// Checks whether a channel can be created from these settings. It never returns `NoMemory`.
     pub fn check(&self) -> Result<(), SettingsFault>
         ensures { MatchResult result (λ _. IsAllowed self.now) (IsFault self.now) }
     {
@@ -115,7 +116,7 @@ impl Settings {
 impl LentSettings<'_> {
     ghost use Rattle.tc_channel.specs.Settings.{IsAllowed, IsFault};
 
-    /// The same settings, with a copy of each list: two allocations.
+    /// Returns these settings with a copy of each list, by two allocations.
     pub fn copied(self, alloc: Global) -> Result<Settings, AllocError>
         ensures { IfOk result (λ settings. settings ≡ settings_of self.entry) }
     {
@@ -132,12 +133,12 @@ impl LentSettings<'_> {
         })
     }
 
-    /// Whether a channel can be made by these settings. It never answers `NoMemory`, and takes no memory.
+    /// Checks whether a channel can be created from these settings. It never returns `NoMemory`, and takes no memory.
     #[tactic(auto, unfolding(crate::specs::Settings::IsFault))]
     pub fn check(self) -> Result<(), SettingsFault>
         ensures { MatchResult result (λ _. IsAllowed (settings_of self.entry)) (IsFault (settings_of self.entry)) }
     {
-        // Read, so that it is known to be an octet.
+        // This line reads the number, so that the proof knows that it is an octet.
         let _first = self.first;
         if !is_vcid(self.vcid) {
             return Err(SettingsFault::BadVcid);
@@ -172,7 +173,7 @@ impl LentSettings<'_> {
         Ok(())
     }
 
-    // Whether there is no MAP where there are no segment headers.
+    // Returns whether there are segment headers or there is no MAP.
     fn has_maps_by_headers(self) -> bool
         ensures { IsTrue result ↔ HasMapsByHeaders (settings_of self.entry) }
     {
@@ -213,7 +214,8 @@ fn have_unit_capacities(maps: &[MapSetting]) -> bool
         .all(|map| map.capacity >= 1 && map.capacity <= 256)
 }
 
-// Whether no two queues have one APID. Each APID is marked where it was seen, so that this takes a step a queue.
+// Returns whether no two queues have the same APID. Each APID is marked when it is seen, so that this takes one step
+// for each queue.
 fn are_apart(queues: &[QueueSetting]) -> bool
     requires { HaveApids queues.now }
     ensures { IsTrue result ↔ AreApart queues.now }
@@ -229,14 +231,14 @@ fn are_apart(queues: &[QueueSetting]) -> bool
     true
 }
 
-// Whether one of the maps is this one.
+// Returns whether one of the maps is this one.
 fn has_map(maps: &[MapSetting], map: u8) -> bool
     ensures { IsTrue result ↔ Any (λ m. m.map ≡ map) maps.now }
 {
     maps.iter().any(|other| other.map == map)
 }
 
-// Whether no two maps are the same.
+// Returns whether no two maps are the same.
 fn are_maps_apart(maps: &[MapSetting]) -> bool
     ensures { IsTrue result ↔ AreMapsApart maps.now }
 {

@@ -1,4 +1,4 @@
-//! The packets of a unit are staged behind what counts in their queues.
+//! Staging the packets of a unit behind the items that count in their queues.
 
 ghost use Rattle.std.specs.Prelude.{ℕ, List, ◌∷◌, ◌<◌, ◌≤◌, ◌≡◌, ◌+◌, length, get_or, true, false, IfOk, IsOk};
 ghost use Rattle.std.specs.Box.{boxed_slice_items};
@@ -20,8 +20,8 @@ use std::boxed::BoxedSlice;
 use tc_packet::{LARGEST_UNIT, Packet, each_unit_has_one_cut, next_packet};
 use tc_rooms::Room;
 
-// Stages an item behind the others of the queue at this place, where there is room, and says whether there was. It counts at once where
-// no memory can be refused.
+// Stages an item behind the others of the queue at this place, if there is room, and returns whether there was. The
+// item counts at once if no memory can be refused.
 #[inline(always)]
 #[tactic(auto, using(crate::proofs::Closing::at_place))]
 fn stage_at<R: Room>(
@@ -45,7 +45,8 @@ fn stage_at<R: Room>(
     queue.stage(octets)
 }
 
-// Whether the queue at this place is seen to be full before a packet is copied: where no memory can be refused.
+// Returns whether the queue at this place is known to be full before a packet is copied. It is known only if no memory
+// can be refused.
 #[inline(always)]
 #[tactic(auto, using(crate::proofs::Closing::at_place))]
 fn is_full_at<R: Room>(queues: &BoxedSlice<Queue<R>>, place: usize) -> bool
@@ -58,7 +59,7 @@ fn is_full_at<R: Room>(queues: &BoxedSlice<Queue<R>>, place: usize) -> bool
     queues[place].is_full()
 }
 
-// Stages a packet into its queue, where one takes it, and says how many packets that were.
+// Stages a packet into its queue, if there is one with room, and returns the number of packets staged, 0 or 1.
 #[inline(always)]
 fn stage_packet<R: Room, C: Tick>(
     queues: &mut BoxedSlice<Queue<R>>,

@@ -1,26 +1,26 @@
-//! How many steps a call takes, counted at no cost when a program runs.
+//! Counting the steps that a call takes, at no cost when a program runs.
 
 ghost use Rattle.std.specs.Prelude.{◌≡◌, ◌≤◌, ◌+◌, ℕ, Bool, true};
 
 use std::marker::Model;
 use std::sync::ledger::{Blank, Book, Ledger, Share};
 
-/// What counts steps. The bodies that count are generic over it, and can't make one of their own: each step that they take is counted by
-/// the count that they were given.
+/// A counter of steps. The functions that count are generic over it and can't create a counter of their own, so each
+/// step that they take is counted by the counter that they were given.
 pub trait Tick {
-    // how many steps were counted
+    // the number of steps that were counted
     ghost taken: { Self → ℕ };
 
     // each step counts
     ghost counts: { Bool };
 
-    /// One step.
+    /// Counts one step.
     fn tick(&mut self)
         ensures most { taken self.new ≤ taken self.old + 1 }
         ensures one { counts ≡ true → taken self.new ≡ taken self.old + 1 };
 }
 
-/// How many steps were taken. It takes no octets, and only [`tick`](Tick::tick) changes it.
+/// The number of steps that were taken. It takes no memory, and only [`tick`](Tick::tick) changes it.
 #[derive(Drop)]
 pub struct Steps<L: Ledger> {
     book: Book<L>,
@@ -38,7 +38,7 @@ impl<L: Ledger> Model for Steps<L> {
 }
 
 impl<L: Ledger> Steps<L> {
-    /// No step was taken.
+    /// Creates a counter of no steps.
     pub fn new(blank: Blank) -> Steps<L>
         requires name { blank.name ≡ L.name }
         requires parts { blank.parts ≡ L.parts }

@@ -1,4 +1,4 @@
-//! What is taken from the queue with a key.
+//! Taking items from the queue with a key.
 
 ghost use Rattle.std.specs.Prelude.{ℕ, ◌<◌, ◌≤◌, ◌≡◌, ◌↔◌, ◌+◌, length, false, IfOk, IsTrue, IsSome, None, OnErr, OnOk, option_map};
 ghost use Rattle.std.specs.Box.{boxed_slice_items};
@@ -15,7 +15,7 @@ use crate::steps::Tick;
 use std::boxed::BoxedSlice;
 use tc_rooms::{GrowingRoom, Room};
 
-// Drops the oldest item of the queue at this place, and says whether there was one.
+// Drops the oldest item of the queue at this place, and returns whether there was one.
 #[tactic(auto, using(crate::proofs::Closing::at_place))]
 fn pop_at<R: Room>(queues: &mut BoxedSlice<Queue<R>>, place: usize) -> bool
     requires { place < length (boxed_slice_items queues.old) }
@@ -47,7 +47,7 @@ fn take_at(queues: &mut BoxedSlice<Queue<GrowingRoom>>, place: usize) -> Option<
     queues[place].take_front()
 }
 
-/// Drops the oldest item of the queue with this key, where one waits, and says whether it did.
+/// Drops the oldest item of the queue with this key, if one waits, and returns whether it did.
 pub(crate) fn pop_from<R: Room, C: Tick>(
     queues: &mut BoxedSlice<Queue<R>>,
     table: &[u16],
@@ -93,7 +93,7 @@ pub(crate) fn take_from<C: Tick>(
     }
 }
 
-// Copies an item, where there is one, to the front of these octets, and says how many it has.
+// Copies an item, if there is one, to the front of `into`, and returns the number of its octets.
 #[inline(always)]
 fn copy_to_front(item: Option<&[u8]>, into: &mut [u8]) -> Result<usize, NotCopied>
     ensures count { result ≡ copied_in (length into.old) (option_map (λ octets. octets.now) item.entry) }
@@ -110,7 +110,8 @@ fn copy_to_front(item: Option<&[u8]>, into: &mut [u8]) -> Result<usize, NotCopie
     Ok(octets.len())
 }
 
-/// Copies the oldest item of the queue with this key to the front of these octets and drops it, and says how many it has.
+/// Copies the oldest item of the queue with this key to the front of `into`, drops it, and returns the number of its
+/// octets.
 #[inline(always)]
 #[tactic(auto, using(crate::proofs::Closing::at_place))]
 pub(crate) fn copy_from<R: Room, C: Tick>(

@@ -11,7 +11,7 @@ use crate::recorded::Recorded;
 use std::alloc::{AllocError, Global};
 use std::marker::Model;
 
-/// A list of events without an octet of memory: clauses read it, no program can.
+/// A list of events that takes no memory. Clauses read it, and no program can.
 #[derive(Drop)]
 pub struct EventsSeen {
     pub ghost events: { List Event },
@@ -22,14 +22,14 @@ impl Model for EventsSeen {
 }
 
 impl EventsSeen {
-    /// The list of no event.
+    /// Creates a list of no events.
     pub(crate) fn new() -> EventsSeen
         ensures { result.events ≡ [] }
     {
         EventsSeen {}
     }
 
-    /// The same events once more.
+    /// Returns these events once more.
     #[inline(always)]
     pub(crate) fn again(&self) -> EventsSeen
         ensures { result.events ≡ self.now.events }
@@ -37,7 +37,7 @@ impl EventsSeen {
         EventsSeen {}
     }
 
-    /// The events of a recorded journal.
+    /// Returns the events of a recorded journal.
     #[inline(always)]
     pub(crate) fn of(_kept: &Recorded) -> EventsSeen
         ensures { result.events ≡ _kept.now.events.items }
@@ -45,14 +45,14 @@ impl EventsSeen {
         EventsSeen {}
     }
 
-    /// One event more. It does nothing at run time.
+    /// Appends an event to the list. It does nothing at run time.
     #[inline(always)]
     pub(crate) fn note(&mut self, _event: &LentEvent<'_>)
         ensures { self.new.events ≡ self.old.events ++ event_of _event.now ∷ [] }
     {}
 }
 
-/// A journal that isn't recorded, but for the number of its events.
+/// A journal that isn't recorded, apart from the number of its events.
 #[derive(Drop)]
 pub struct Unrecorded {
     pub seen: EventsSeen,

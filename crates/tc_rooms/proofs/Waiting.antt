@@ -43,7 +43,7 @@ module _ (places waiting count size : ℕ) (rooms : List Contents) (k : AreSlots
       let d = length-drop waiting rooms in
       rw (take-set-le waiting rooms (waiting + count) x (omega arith), drop-set-add waiting rooms count x, take_more_set (drop waiting rooms) count x (omega arith), map-append octets_of (take count (drop waiting rooms)) (x ∷ [])) refl
 
-  -- this also holds for rooms that are said to be those with this room filled
+  -- if an item is staged, the items that wait stay the same
   pub staged-ring : (later : List Contents) (octets : List ℕ) (old : Slotted) → waiting + count < places → later ≡ set rooms (waiting + count) (contents_of octets size) → seen places waiting count size rooms ≡ old
       → (seen places waiting (count + 1) size later).ring ≡ old.ring
   staged-ring later octets old lt later_is view = rw (← view, later_is) (ap (λ (s : Slotted). s.ring) (staged-seen octets lt))

@@ -46,7 +46,7 @@ maps-not a b n = first-not (λ (m : MapSetting). m.map ≤ 63) (chosen a n) (cho
 units-not : (a b n : ℕ) → ¬ ((1 ≤ n) × (n ≤ 256)) → ¬ HaveUnitCapacities (two_maps a b n)
 units-not a b n = first-not (λ (m : MapSetting). (1 ≤ m.capacity) × (m.capacity ≤ 256)) (chosen a n) (chosen b n ∷ [])
 
--- what the first faults leave to the later ones, by the last values and by the least ones
+-- the first conditions, with the greatest values and with the least ones, together with those that are left
 
 abbrev Front : ℕ → ℕ → ℕ → Type 0 → Type 0
 Front v w b Later = IsVcid v × (IsWidth w × (IsBufferSize b × Later))

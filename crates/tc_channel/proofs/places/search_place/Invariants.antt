@@ -2,7 +2,7 @@ use Rattle.tc_channel.proofs.Names.{◌≤◌, ◌+◌, take}
 use Rattle.tc_channel.proofs.Found.{NoneHas}
 use Rattle.tc_channel.proofs.places.search_place.Given as goal
 
--- no queue so far has the key, and each took a step at most
+-- no queue so far has the key, and each took at most one step
 abbrev pub invariant-loop-place : goal.invariant-loop-place
 invariant-loop-place g l = record {
   none : NoneHas l.key (take l.place l.queues);

@@ -2,7 +2,7 @@ use Rattle.std.proofs.Common.{◌≡◌, length, map}
 use Rattle.tc_rooms.specs.Rooms.{HaveSize}
 use Rattle.tc_rooms.proofs.ring.full_of_rooms.Given as goal
 
--- as many rooms are made as rounds were done
+-- each round so far has put one room into the buffer
 abbrev pub invariant-loop : goal.invariant-loop
 invariant-loop g l = record {
   count : length l.rooms.items ≡ l.counter;

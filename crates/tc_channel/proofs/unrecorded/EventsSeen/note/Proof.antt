@@ -1,4 +1,4 @@
--- The body is empty: the borrow is opened, and closed at a list that is one event longer.
+-- The body is empty. The borrow is opened, and closed with a list that is one event longer.
 use Rattle.tc_channel.proofs.Walking.{[], ◌∷◌, ◌++◌, refl, proved, ftrue, flft, named, vunit, ‵, ◌⊛◌, ◌$◌, ◌∵◌, !, qed, done, move, keep, use1, split, join, fsplit, fsplit3, feq_i, suffices, frame, group, enter, of_opd, unit_lit, returns, alloc_all, pass_all, free_all, look_at, sets, mut_vals, mut_Tells, shr_vals, shr_Tells, plain, types_at, named_lft, owns, yes, RefOf, nothing, opens, closes, Stays, walk_of, says, stay_ref, Goes-ref, stay_dropped, Goes-dropped, ends_at}
 use base.Logic.{id⊢}
 use Rattle.tc_channel.specs.Journal.{event_of}
@@ -26,7 +26,7 @@ note_spec 𝓤 𝓛 𝓜 𝓡 wired =
     split ! $ split ! $ move ! (2 ∷ []) $ fsplit ! $ keep ! (0 ∷ 2 ∷ 3 ∷ []) $
     enter ! _ _ _ _ _ $ alloc_all ! (λ l. pass_all ! refl ((tt, tt), ((tt, tt), tt)) $
     fsplit3 ! $ move ! (1 ∷ 2 ∷ 3 ∷ []) $ opens ! tt row block offset (λ us.
-    -- the result is (), and what was borrowed is given back with the event noted
+    -- the result is (), and the borrowed value is returned with the event noted
     sets ! (of_opd ! (unit_lit !)) refl (tt, tt) $
     move ! (1 ∷ []) $ use1 𝓛 (‵ (row.own_val longer us)) (id⊢ 𝓤 _) $ move ! (1 ∷ 0 ∷ []) $ closes ! tt row longer us block offset $
     returns ! (look_at ! 0 refl) $ free_all ! refl $ move ! (3 ∷ []) $
