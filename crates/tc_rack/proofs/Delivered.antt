@@ -1,9 +1,9 @@
--- Queues are emptied one after the other, and what is taken is reported.
+-- Queues are emptied one after the other, and each item taken is reported.
 use Rattle.tc_rack.proofs.Names.{◌≡◌, ◌≢◌, ℕ, ◌+◌, ◌<◌, List, [], ◌∷◌, ◌++◌, length, take, get_or, Option, refl, sym, ap, ◌∙◌, subst, append_assoc, append-nil, arith, Appends-nil, Appends-trans, get_or-map, length-map, take_more, Appends, Answer, QueueId, Packets, Units, Settings, QueueSetting, MapSetting, AreEmptied, AreEmpty, AreTakenFrom, AreAnswersWritten, IsHandedOn, IsTakenFrom, packet_queues, queues_of, reported_line, reported_lines, unit_queues, waiting_in, Linked, reported_word}
 use Rattle.std.proofs.lemmas.Grind.{flat_map-append}
 use Rattle.tc_rack.proofs.Waiting.{stays-empty}
 
--- ---- what is written
+-- ---- the lines that are written
 
 reported-more : (a b c : Option (List ℕ)) (one two : List Answer) → Appends a b (reported_lines one) → Appends b c (reported_lines two) → Appends a c (reported_lines (one ++ two))
 reported-more a b c one two first second = subst (Appends a c) (sym (flat_map-append reported_line one two)) (Appends-trans a b c _ _ first second)
@@ -18,7 +18,7 @@ taken-more : (queue : QueueId) (old between new : Linked) (answers : List Answer
 taken-more queue old between new [] answer none one = (new, subst (λ x. IsTakenFrom queue x answer new) none one, refl)
 taken-more queue old between new (first ∷ answers) answer (next, here, rest) one = (next, here, taken-more queue next between new answers answer rest one)
 
--- what was taken of a queue so far, and how much is left
+-- the answers to the takes from a queue so far, and the number of items that are left
 pub record IsSoFar (queue : QueueId) (first now : Linked) (a b : Option (List ℕ)) (count : ℕ) : Type 0 where
   pub reported : AreAnswersWritten a b (λ answers. AreTakenFrom queue first answers now)
   pub left : length (waiting_in queue now) + count ≡ length (waiting_in queue first)
@@ -72,7 +72,7 @@ emptied-more (queue ∷ queues) more old between new one two (next, first, later
   ap (λ (xs : List Answer). xs ++ two) is ∙ append_assoc first later two,
 )
 
--- those of the first queues of a list
+-- the answers to the takes from the first queues of a list
 pub record AreSoFar (queues : List QueueId) (first now : Linked) (a b : Option (List ℕ)) (place : ℕ) : Type 0 where
   pub reported : AreAnswersWritten a b (λ answers. AreEmptied (take place queues) first answers now)
   pub settings : now.history.settings ≡ first.history.settings
@@ -96,7 +96,7 @@ one-more-emptied queues queue first now new a b c place so_far less is (two, (ta
       settings = settings ∙ so_far.settings;
     }
 
--- the next of the packet queues, and of the unit queues
+-- the next packet queue, and the next unit queue, is emptied
 
 pub packets-emptied : (settings : Settings) (list : List QueueSetting) (place : ℕ) (d : QueueSetting) (first now new : Linked) (a b c : Option (List ℕ)) → AreSoFar (packet_queues settings) first now a b place
     → list ≡ settings.queues → place < length settings.queues → AreAnswersWritten b c (λ answers. AreTakenFrom (Packets (get_or list place d).apid) now answers new × (waiting_in (Packets (get_or list place d).apid) new ≡ []))
@@ -116,7 +116,7 @@ units-emptied settings list place d first now new a b c so_far is less reported 
     get_or-map (λ (q : MapSetting). Units q.map) settings.maps place d queue less ∙ ap (λ (l : List MapSetting). Units (get_or l place d).map) (sym is) in
     one-more-emptied (unit_queues settings) queue first now new a b c place so_far (omega (arith, length-map settings.maps (λ (q : MapSetting). Units q.map), less)) found reported same
 
--- ---- nothing is left
+-- ---- no item is left
 
 chain-stays-empty : (queue other : QueueId) (old new : Linked) (answers : List Answer) → AreTakenFrom queue old answers new → waiting_in other old ≡ [] → waiting_in other new ≡ []
 chain-stays-empty queue other old new [] same empty = ap (waiting_in other) same ∙ empty
@@ -133,7 +133,7 @@ nothing-left [] old new answers emptied = tt
 nothing-left (queue ∷ queues) old new answers (next, first, later, taken, out, emptied, is) =
     (others-stay-empty queues queue next new later emptied out, nothing-left queues next new later emptied)
 
--- packets, then units, then the CLCW
+-- if the packets, then the units and then the CLCW are written, everything is handed on
 pub all-handed-on : (old between new : Linked) (a b c d : Option (List ℕ)) (word : Answer) → between.history.settings ≡ old.history.settings
     → AreAnswersWritten a b (λ answers. AreEmptied (packet_queues old.history.settings) old answers between)
     → AreAnswersWritten b c (λ answers. AreEmptied (unit_queues between.history.settings) between answers new)

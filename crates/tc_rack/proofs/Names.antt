@@ -1,4 +1,4 @@
--- The types, definitions and lemmas that most proofs speak of, imported from one file.
+-- Types, definitions and lemmas that most proofs use, imported from one file.
 pub use Rattle.std.proofs.Common.{All, Bool, List, None, Option, Some, [], ap, append-nil, append_assoc, arith, cond, drop, eq-eqb, eqb, false, get_or, inl, inr, length, map, refl, subst, sym, take, true, vec_capacity, vec_len, ℕ, ◌&&◌, ◌++◌, ◌+◌, ◌<◌, ◌∙◌, ◌∷◌, ◌≡◌, ◌≢◌, ◌≤◌}
 pub use Rattle.std.proofs.KnownBytes.{Appends-nil, Appends-trans}
 pub use Rattle.std.proofs.lemmas.List.{drop-drop, flat_map_more, get_or-map, length-drop, length-map, take_more}

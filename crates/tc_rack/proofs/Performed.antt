@@ -1,4 +1,4 @@
--- An operation of a script at the channels that it finds.
+-- The effect of a script's operation on the channels that it finds.
 use Rattle.tc_rack.proofs.Names.{◌≡◌, ℕ, refl, subst, Racked, Answer}
 use Rattle.tc_rack.specs.Operation.{IsAnswerOf}
 use Rattle.tc_rack.specs.Performing.{IsFound}

@@ -1,4 +1,4 @@
--- The channel that was found at its place, and channels that are made with ids of their own.
+-- The channel that was found is at its place, and channels that are created have ids of their own.
 use Rattle.tc_rack.proofs.Names.{◌≡◌, ◌≢◌, ℕ, ◌<◌, List, [], ◌∷◌, length, map, get_or, sym, ap, ◌∙◌, subst, arith, get_or-map, length-map, AllPairs, Settings, Linked, vcid_of, new_linked, IsChannelAt, AreChannelsApart}
 use Rattle.std.proofs.lemmas.Option.{get_or_from_slice_get}
 

@@ -1,4 +1,4 @@
--- Something is taken from one of the queues of a channel, and all else waits on.
+-- An item is taken from one of the queues of a channel, and all other items still wait.
 use Rattle.tc_rack.proofs.Names.{◌≡◌, ◌≢◌, ℕ, ◌+◌, ◌<◌, Bool, true, false, cond, eqb, eq-eqb, ◌&&◌, List, [], ◌∷◌, ◌++◌, length, map, drop, Option, Some, None, refl, sym, ap, ◌∙◌, subst, inl, inr, arith, nat_lt, option_map, slice_get, drop-drop, length-drop, Settings, Answer, QueueId, Packets, Units, IsTakenFrom, none_or, waiting_in, Linked, IsPacketTaken, IsTakeAnswered, IsUnitAnswered, IsUnitTaken}
 use Rattle.std.specs.Option.{option_and_then}
 use Rattle.std.proofs.lemmas.Bool.Decides.{nat_tests}
@@ -39,7 +39,7 @@ gives-one key (Some q) item keyed e =
     subst (λ (x : Queue). length (waiting x) + 1 ≡ length (waiting q)) (sym (one-taken key q (eq-eqb q.key key (keyed q refl)) some))
     (omega (arith, length-drop (q.taken + 1) q.admitted, length-drop q.taken q.admitted))
 
--- an empty queue stays so
+-- an empty queue stays empty
 still-empty : (key : ℕ) (found : Option Queue) → none_or (option_map waiting found) ≡ [] → none_or (option_map waiting (option_map (taken_from key) found)) ≡ []
 still-empty key None e = refl
 still-empty key (Some q) e = by (eqb q.key key && nat_lt q.taken (length q.admitted)) where
@@ -47,7 +47,7 @@ still-empty key (Some q) e = by (eqb q.key key && nat_lt q.taken (length q.admit
   by true = sym (drop-drop 1 q.taken q.admitted) ∙ ap (λ (items : List (List ℕ)). drop 1 items) e
   by false = e
 
--- the packets and the units that wait, by the state; and what a take makes of them
+-- the packets and the units that wait, by the state, and those that wait after a take
 
 packets-now : (s : Settings) (journal : List Event) (apid : ℕ) → waiting_packets s journal apid ≡ option_map waiting (queue_of apid (run s journal).queues)
 unfolding waiting_packets_within
@@ -83,7 +83,7 @@ units-beside s journal taken map_id =
     ∙ ap (λ (state : ChannelState). option_map waiting (queue_of map_id state.units)) (run-push no_limits s journal (events.Take taken))
     ∙ sym (units-now s journal map_id)
 
--- one item less waits in the queue that it is taken from
+-- one item fewer waits in the queue from which an item is taken
 pub one-less : (queue : QueueId) (old : Linked) (answer : Answer) (new : Linked) → IsTakenFrom queue old answer new → length (waiting_in queue new) + 1 ≡ length (waiting_in queue old)
 one-less (Packets apid) old answer new (packet, is, reported, becomes) =
     let s = old.history.settings in
@@ -100,7 +100,7 @@ one-less (Units map_id) old answer new (unit, is, reported, becomes) =
     (gives-one map_id (queue_of map_id (run s journal).units) unit (found-key map_id (run s journal).units)
     (subst (λ o. option_and_then (λ items. slice_get items 0) o ≡ Some unit) (units-now s journal map_id) is)))
 
--- nothing comes into an empty queue by a take
+-- no item comes into an empty queue by a take
 pub stays-empty : (queue other : QueueId) (old : Linked) (answer : Answer) (new : Linked) → IsTakenFrom queue old answer new → waiting_in other old ≡ [] → waiting_in other new ≡ []
 stays-empty (Packets taken) (Packets apid) old answer new (packet, is, reported, becomes) empty =
     let s = old.history.settings in
@@ -117,7 +117,7 @@ stays-empty (Units taken) (Units map_id) old answer new (unit, is, reported, bec
     subst (λ (x : Linked). waiting_in (Units map_id) x ≡ []) (sym becomes)
     (ap none_or (units-taken s journal taken map_id) ∙ still-empty taken (queue_of map_id (run s journal).units) (sym (ap none_or (units-now s journal map_id)) ∙ empty))
 
--- a take where something waits gives it
+-- a take from a queue in which an item waits gives the item
 
 pub packet-given : (apid : ℕ) (old : Linked) (answer : Answer) (new : Linked) → waiting_in (Packets apid) old ≢ [] → IsTakeAnswered apid old answer new → IsPacketTaken apid old answer new
 packet-given apid old answer new some (inl taken) = taken
@@ -129,7 +129,7 @@ unit-given map_id old answer new some (inl taken) = taken
 unit-given map_id old answer new some (inr (inl (none, reported), same)) = absurd (some (ap none_or none))
 unit-given map_id old answer new some (inr (inr (none, reported), same)) = absurd (some (ap none_or none))
 
--- how much waits is counted
+-- the number of items that wait is the count
 pub counted : (found : Option (List (List ℕ))) (count : ℕ) → option_map length found ≡ Some count → count ≡ length (none_or found)
 counted None count e = absurd cc
 counted (Some items) count e = cc

@@ -3,7 +3,7 @@ use Rattle.tc_rack.proofs.Names.{◌≡◌, ◌<◌, ℕ, ◌+◌, List, [], ◌
 use Rattle.std.proofs.lemmas.List.Elements.{All-more}
 use Rattle.tc_channel.specs.Journal.{History}
 
--- one element more is written
+-- if the first i elements and then the next one are written, the first i + 1 are written
 pub one-more-written : {X : Type 0} (f : X → List ℕ) (xs : List X) (i : ℕ) (d : X) (a b c : Option (List ℕ)) → i < length xs
     → Appends a b (flat_map f (take i xs)) → Appends b c (f (get_or xs i d)) → Appends a c (flat_map f (take (i + 1) xs))
 one-more-written f xs i d a b c lt before more =
@@ -11,7 +11,7 @@ one-more-written f xs i d a b c lt before more =
     flat_map_more f [] (take i xs) (get_or xs i d) ∙ ap (flat_map f) (sym (take_more xs i d lt)) in
     subst (Appends a c) joined (Appends-trans a b c _ _ before more)
 
--- the same, where the element is known by its place
+-- this also holds for an element that is known by its place
 pub item-written : {X : Type 0} (f : X → List ℕ) (xs : List X) (i : ℕ) (x : X) (a b c : Option (List ℕ)) → i < length xs → x ≡ get_or xs i x
     → Appends a b (flat_map f (take i xs)) → Appends b c (f x) → Appends a c (flat_map f (take (i + 1) xs))
 item-written f xs i x a b c lt is before more = one-more-written f xs i x a b c lt before (subst (λ y. Appends b c (f y)) is more)
@@ -19,7 +19,7 @@ item-written f xs i x a b c lt is before more = one-more-written f xs i x a b c 
 pub lawful-more : (xs : List History) (i : ℕ) (x : History) → i < length xs → x ≡ get_or xs i x → All IsLawfulHistory (take i xs) → IsLawfulHistory x → All IsLawfulHistory (take (i + 1) xs)
 lawful-more xs i x lt is before more = All-more IsLawfulHistory xs i x lt before (subst IsLawfulHistory is more)
 
--- the lines of a channel
+-- if the lines of a channel's parts are written, the text of the channel is written
 pub channel-written : (channel : History) (queues : List QueueSetting) (maps : List MapSetting) (a b c d : Option (List ℕ)) → queues ≡ channel.settings.queues → maps ≡ channel.settings.maps
     → Appends a b (final_line channel) → Appends b c (flat_map (queue_line channel) queues) → Appends c d (flat_map (map_line channel) maps)
     → Appends a d (channel_text channel)

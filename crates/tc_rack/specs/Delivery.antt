@@ -1,4 +1,5 @@
--- A delivery hands on, once its release is answered, all that waits in the queues of a channel, and then the CLCW.
+-- The end of a delivery. Once its release is answered, all items that wait in the queues of a channel are handed on,
+-- and then the CLCW.
 use Rattle.std.specs.Prelude.{◌≡◌, ◌⊎◌, ℕ, List, [], ◌∷◌, ◌++◌, map, codes, Option, Some, None}
 use Rattle.std.specs.List.{flat_map, AllByRecursion}
 use Rattle.std.specs.Io.KnownBytes.{Appends}
@@ -27,17 +28,17 @@ abbrev pub none_or : Option (List (List ℕ)) → List (List ℕ)
 none_or None = []
 none_or (Some items) = items
 
--- what waits in a queue, the oldest first; nothing where there is no such queue
+-- the items that wait in a queue, the oldest first (none if there is no such queue)
 abbrev pub waiting_in : QueueId → Linked → List (List ℕ)
 waiting_in (Packets apid) channel = none_or (waiting_packets channel.history.settings channel.history.journal apid)
 waiting_in (Units map_id) channel = none_or (waiting_units channel.history.settings channel.history.journal map_id)
 
--- the oldest of a queue is taken: the answer is that of a take, or that of the take of a unit
+-- the oldest item of a queue is taken, and the answer is that of a take or of the take of a unit
 abbrev pub IsTakenFrom : QueueId → Linked → Answer → Linked → Type 0
 IsTakenFrom (Packets apid) old answer new = IsPacketTaken apid old answer new
 IsTakenFrom (Units map_id) old answer new = IsUnitTaken map_id old answer new
 
--- one after the other is taken, and these are the answers
+-- items are taken one after the other, with these answers
 abbrev pub AreTakenFrom : QueueId → Linked → List Answer → Linked → Type 0
 AreTakenFrom queue old [] new = new ≡ old
 AreTakenFrom queue old (answer ∷ answers) new =
@@ -50,28 +51,29 @@ AreEmptied (queue ∷ queues) old answers new =
     (between : Linked) × (first : List Answer) × (rest : List Answer) × AreTakenFrom queue old first between × (waiting_in queue between ≡ [])
     × AreEmptied queues between rest new × (answers ≡ first ++ rest)
 
--- nothing waits in any of these queues
+-- no item waits in any of these queues
 abbrev pub AreEmpty : List QueueId → Linked → Type 0
 AreEmpty queues channel = AllByRecursion (λ queue. waiting_in queue channel ≡ []) queues
 
--- each queue of a channel is emptied, then none has anything, and at last the CLCW is reported
+-- each queue of a channel is emptied, then no queue has an item, and at last the CLCW is reported
 abbrev pub IsHandedOn : Linked → List Answer → Linked → Type 0
 IsHandedOn old answers new =
     (taken : List Answer) × AreEmptied (queues_of old.history.settings) old taken new × AreEmpty (queues_of old.history.settings) new
     × (answers ≡ taken ++ reported_word new ∷ [])
 
--- the channel with this id hands on what waits in it; or there is no such channel, and nothing is reported
+-- either the channel with this id hands on the items that wait in it, or there is no such channel and nothing is
+-- reported
 abbrev pub IsDeliveryEnded : ℕ → Racked → List Answer → Racked → Type 0
 IsDeliveryEnded vcid old answers new =
     Changes old vcid (λ before after. IsHandedOn before answers after) new ⊎ (¬ HasChannel old.channels vcid × (answers ≡ []) × (new ≡ old))
 
--- an answer, and answers, each with a line feed
+-- the line of an answer, and the lines of answers, each with a line feed
 abbrev pub reported_line : Answer → List ℕ
 reported_line answer = answer_text answer ++ codes "\n"
 
 abbrev pub reported_lines : List Answer → List ℕ
 reported_lines answers = flat_map reported_line answers
 
--- answers that are such were written
+-- answers with this property were written
 abbrev pub AreAnswersWritten : Option (List ℕ) → Option (List ℕ) → (List Answer → Type 0) → Type 0
 AreAnswersWritten before after Are = (answers : List Answer) × Are answers × Appends before after (reported_lines answers)

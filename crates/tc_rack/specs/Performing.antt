@@ -1,5 +1,6 @@
--- The lines of a script are run in order. The channels are made of what is set up, at the first operation: a backend says which are new
--- (`IsNew`), what operations are answered (`Answers`), and what is left where memory runs out (`Spares`).
+-- Performing the lines of a script in order. At the first operation the channels are created from the set-up. A backend
+-- defines which channels are new (`IsNew`), which answers operations get (`Answers`), and in which state channels are
+-- left when memory runs out (`Spares`).
 use Rattle.std.specs.Prelude.{◌≡◌, ◌⊎◌, List, Option, Some, None}
 use Rattle.tc_channel.specs.declared.settings.Settings.{Settings}
 use Rattle.tc_setup.specs.declared.instruction.Instruction.{Instruction}
@@ -12,26 +13,27 @@ use Rattle.tc_rack.specs.declared.operation.Operation.TheVariants as operations
 use Rattle.tc_rack.specs.declared.stage.Stage.{Stage}
 use Rattle.tc_rack.specs.declared.stage.Stage.TheVariants.{SettingUp, Operating}
 
--- what operations find: what is there, or a new one where no operation came before
+-- the channels that operations find: those that there are, or new ones if no operation came before
 abbrev pub IsFound : {O : Type 0} → (List Settings → O → Type 0) → Stage O → O → Type 0
 IsFound IsNew (SettingUp list) found = IsNew list found
 IsFound IsNew (Operating there) found = found ≡ there
 
--- what a refused line leaves: all as it was, or where memory runs out what the operation found, spared
+-- A refused line leaves everything as it was. Only if memory runs out may it leave the channels that the operation
+-- found in a state that the backend allows.
 abbrev pub IsLeft : {O : Type 0} → (List Settings → O → Type 0) → (O → O → Type 0) → Reason → Stage O → Stage O → Type 0
 IsLeft {O} IsNew Spares reason old new =
     (new ≡ old) ⊎ ((reason ≡ NoMemory) × (found after : O) × IsFound IsNew old found × Spares found after × (new ≡ Operating after))
 
--- an operation is answered by what it finds
+-- an operation is answered by the channels that it finds
 abbrev pub IsOperated : {O : Type 0} → (List Settings → O → Type 0) → (Operation → O → Answer → O → Type 0) → Operation → Stage O → Answer → Stage O → Type 0
 IsOperated {O} IsNew Answers operation old answer new =
     (found after : O) × IsFound IsNew old found × Answers operation found answer after × (new ≡ Operating after)
 
--- an operation is answered so, where this relates what was, the answer and what is then
+-- an operation gets an answer that this relation allows between the stage before and the stage after
 abbrev pub IsDoneSo : {O : Type 0} → (Operation → Stage O → Answer → Stage O → Type 0) → Operation → Stage O → Option Answer → Stage O → Type 0
 IsDoneSo Operates operation old answer new = (a : Answer) × Operates operation old a new × (answer ≡ Some a)
 
--- what a line is answered: an operation its answer, and any other line nothing; a blank line leaves all as it is
+-- An operation gets its answer, and any other line gets none. A blank line leaves everything as it is.
 abbrev pub IsInstructionAnswered : {O : Type 0} → (Operation → Stage O → Answer → Stage O → Type 0) → Stage O → Instruction → Stage O → Option Answer → Type 0
 IsInstructionAnswered Operates old Nothing new answer = (answer ≡ None) × (new ≡ old)
 IsInstructionAnswered Operates old (Channel settings) new answer = answer ≡ None

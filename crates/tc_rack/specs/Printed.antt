@@ -1,4 +1,4 @@
--- Answers to operations, as text: docs/reference/scripts.md shows it, under "Answers".
+-- Answers to operations, as text. They are shown in docs/reference/scripts.md, under "Answers".
 use Rattle.std.specs.Prelude.{ℕ, List, [], ◌++◌, Option, Some, None, codes, decimal}
 use Rattle.tc_link.specs.declared.frame.FrameFault.{FrameFault}
 use Rattle.tc_link.specs.declared.frame.FrameFault.TheVariants.{Short, Version, Spare, LengthSmall, Truncated}
@@ -9,7 +9,7 @@ use Rattle.tc_rack.specs.declared.answer.Refusal.TheVariants.{Unlocated, Unknown
 use Rattle.tc_rack.specs.declared.answer.Answer.{Answer}
 use Rattle.tc_rack.specs.declared.answer.Answer.TheVariants.{Frame, Release, Take, Unit as TakeUnit, Clcw, Refused}
 
--- why octets are no frame
+-- the words for the reason why octets are no frame
 abbrev pub frame_fault_text : FrameFault → List ℕ
 frame_fault_text Short = codes "short"
 frame_fault_text Version = codes "version"
@@ -17,7 +17,7 @@ frame_fault_text Spare = codes "spare"
 frame_fault_text LengthSmall = codes "length"
 frame_fault_text Truncated = codes "truncated"
 
--- why an operation is refused
+-- the words for the reason why an operation is refused
 abbrev pub refusal_text : Refusal → List ℕ
 refusal_text (Unlocated (locations.Frame fault)) = frame_fault_text fault
 refusal_text (Unlocated locations.OtherSpacecraft) = codes "spacecraft"
@@ -27,7 +27,7 @@ refusal_text NoQueue = codes "no queue"
 refusal_text NoMap = codes "no map"
 refusal_text Empty = codes "empty"
 
--- what an operation is answered
+-- the text of the answer to an operation
 abbrev pub answer_text : Answer → List ℕ
 answer_text (Frame vcid reply) =
     codes "frame " ++ decimal vcid ++ codes " E" ++ decimal reply.act.event ++ codes " accepted " ++ flag_text reply.act.accepted
@@ -38,7 +38,7 @@ answer_text (TakeUnit vcid map_id unit) = codes "unit " ++ decimal vcid ++ codes
 answer_text (Clcw vcid word) = codes "clcw " ++ decimal vcid ++ codes " " ++ word_text word
 answer_text (Refused refusal) = codes "refused " ++ refusal_text refusal
 
--- what a line of a script writes: its answer with a line feed, or nothing
+-- the text that a line of a script writes: its answer with a line feed, or nothing
 abbrev pub answer_line : Option Answer → List ℕ
 answer_line None = []
 answer_line (Some answer) = answer_text answer ++ codes "\n"

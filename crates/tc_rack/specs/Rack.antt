@@ -1,4 +1,4 @@
--- The channels of one spacecraft, one after the other, and what becomes of them.
+-- The channels of one spacecraft, one after the other, and changes of them.
 use Rattle.std.specs.Prelude.{◌≡◌, ◌≢◌, ℕ, Bool, true, false, List, AllPairs, Any, map, slice_get, slice_set, Option, Some, None}
 use Rattle.tc_link.specs.Frame.{BeginsWith, header_of, fault_of}
 use Rattle.tc_link.specs.declared.clcw.Link.{Link}
@@ -15,11 +15,11 @@ pub record Racked : Type 0 where
   pub scid : ℕ
   pub channels : List Linked
 
--- one that starts, with a channel for each of the settings
+-- a rack that starts, with a channel for each of the settings
 abbrev pub new_rack : ℕ → List Settings → Racked
 new_rack scid list = record { scid = scid; channels = map new_linked list }
 
--- the settings and the journals of its channels
+-- the settings and the journals of the channels
 abbrev pub histories : Racked → List History
 histories rack = map (λ (channel : Linked). channel.history) rack.channels
 
@@ -31,24 +31,24 @@ HasChannel channels vcid = Any (λ (channel : Linked). vcid_of channel ≡ vcid)
 abbrev pub IsChannelAt : List Linked → ℕ → ℕ → Linked → Type 0
 IsChannelAt channels vcid place channel = (slice_get channels place ≡ Some channel) × (vcid_of channel ≡ vcid)
 
--- this holds of the channel with this id
+-- this property holds for the channel with this id
 abbrev pub IsOf : Racked → ℕ → (Linked → Type 0) → Type 0
 IsOf rack vcid Holds = (place : ℕ) × (channel : Linked) × IsChannelAt rack.channels vcid place channel × Holds channel
 
--- the channel with this id becomes what this relates it to, and all others are as before
+-- the channel with this id changes as this relation allows, and all others are as before
 abbrev pub Changes : Racked → ℕ → (Linked → Linked → Type 0) → Racked → Type 0
 Changes old vcid Becomes new =
     (place : ℕ) × (before : Linked) × (after : Linked) × IsChannelAt old.channels vcid place before × Becomes before after
     × (new ≡ record old { channels = slice_set old.channels place after })
 
--- why octets are for none of the channels: the first of these that applies
+-- the reason why octets are for none of the channels: the first of these that applies
 abbrev pub IsRackLocateFault : Racked → List ℕ → LocateFault → Type 0
 IsRackLocateFault rack octets (Frame f) = fault_of octets ≡ Some f
 IsRackLocateFault rack octets OtherSpacecraft = (frame : List ℕ) × BeginsWith octets frame × ((header_of frame).scid ≢ rack.scid)
 IsRackLocateFault rack octets UnknownChannel =
     (frame : List ℕ) × BeginsWith octets frame × ((header_of frame).scid ≡ rack.scid) × ¬ HasChannel rack.channels (header_of frame).vcid
 
--- no two channels have one id
+-- no two channels have the same id
 abbrev pub AreChannelsApart : List Linked → Type 0
 AreChannelsApart channels = AllPairs (λ (p q : Linked). vcid_of p ≢ vcid_of q) channels
 
@@ -57,12 +57,12 @@ abbrev pub IsLocatedInRack : Racked → List ℕ → ℕ → List ℕ → Type 0
 IsLocatedInRack rack octets place frame =
     BeginsWith octets frame × ((header_of frame).scid ≡ rack.scid) × ((channel : Linked) × IsChannelAt rack.channels (header_of frame).vcid place channel)
 
--- the channel with this id has these flags of its link from now on, if there is one
+-- if there is a channel with this id, it has these flags of its link from now on
 abbrev pub IsLinkSet : Racked → ℕ → Link → Bool → Racked → Type 0
 IsLinkSet old vcid link true new = Changes old vcid (λ before after. after ≡ record before { link = link }) new
 IsLinkSet old vcid link false new = ¬ HasChannel old.channels vcid × (new ≡ old)
 
--- what the channel with this id has come to, if there is one
+-- this is the state of the channel with this id, if there is one
 abbrev pub IsReported : Racked → ℕ → Option Holding → Type 0
 IsReported rack vcid None = ¬ HasChannel rack.channels vcid
 IsReported rack vcid (Some holding) =

@@ -1,4 +1,4 @@
--- The final report of channels: docs/reference/scripts.md shows it, under "The final report".
+-- The final report of channels. It is shown in docs/reference/scripts.md, under "The final report".
 use Rattle.std.specs.Prelude.{◌≡◌, ℕ, List, ◌++◌, Option, Some, None, All, codes, decimal, length}
 use Rattle.std.specs.List.{flat_map}
 use Rattle.std.specs.List.Sorted.{IsNonDecreasingBy}
@@ -17,34 +17,35 @@ vcid_of channel = channel.settings.vcid
 abbrev pub AreRising : List History → Type 0
 AreRising channels = IsNonDecreasingBy vcid_of channels
 
--- its settings are allowed, and its journal is one of them
+-- the settings of the channel are allowed, and its journal is lawful for them
 abbrev pub IsLawfulHistory : History → Type 0
 IsLawfulHistory channel = IsAllowed channel.settings × IsLawful channel.settings channel.journal
 
--- how much waits in a queue: `WORD VC ID N`; nothing where there is no such queue
+-- the line that reports the number of items in a queue, `WORD VC ID N` (empty if there is no such queue)
 abbrev pub waiting_line : List ℕ → ℕ → ℕ → Option (List (List ℕ)) → List ℕ
 waiting_line word vcid id None = codes ""
 waiting_line word vcid id (Some waiting) =
     word ++ codes " " ++ decimal vcid ++ codes " " ++ decimal id ++ codes " " ++ decimal (length waiting) ++ codes "\n"
 
--- how many packets wait in a queue
+-- the line that reports the number of packets in a queue
 abbrev pub queue_line : History → QueueSetting → List ℕ
 queue_line channel queue =
     waiting_line (codes "queue") channel.settings.vcid queue.apid (waiting_packets channel.settings channel.journal queue.apid)
 
--- how many units wait in the queue of a chosen MAP
+-- the line that reports the number of units in the queue of a chosen MAP
 abbrev pub map_line : History → MapSetting → List ℕ
 map_line channel chosen =
     waiting_line (codes "map") channel.settings.vcid chosen.map (waiting_units channel.settings channel.journal chosen.map)
 
--- what a channel has come to: its CLCW with both link flags 0, how many events it has had, and how many data fields wait in its buffer
+-- the line that reports the state of a channel: its CLCW with both link flags 0, the number of its events, and the
+-- number of data fields in its buffer
 abbrev pub final_line : History → List ℕ
 final_line channel =
     codes "final " ++ decimal channel.settings.vcid ++ codes " " ++ word_text (clcw channel.settings channel.journal no_flag)
     ++ codes " events " ++ decimal (length channel.journal)
     ++ codes " buffered " ++ decimal (length (buffered_fields channel.settings channel.journal)) ++ codes "\n"
 
--- the lines of a channel: its queues and its chosen MAPs come in the order in which they were set up
+-- the lines of a channel, with its queues and its chosen MAPs in the order in which they were set up
 abbrev pub channel_text : History → List ℕ
 channel_text channel =
     final_line channel ++ flat_map (queue_line channel) channel.settings.queues ++ flat_map (map_line channel) channel.settings.maps
@@ -53,8 +54,8 @@ channel_text channel =
 abbrev pub report_text : List History → List ℕ
 report_text channels = flat_map channel_text channels
 
--- the text is the report of these channels, which come in rising id, and of which each has the journal of some lawful history, with
--- fewer events than 2^64 - 1
+-- The text is the report of these channels. The channels come in rising id. Each has a lawful journal, with fewer
+-- events than 2^64 - 1.
 pub record IsReportOf (channels : List History) (text : List ℕ) : Type 0 where
   pub rising : AreRising channels
   pub reported : All IsNumberReported channels

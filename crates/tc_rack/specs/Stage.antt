@@ -1,4 +1,4 @@
--- How far a script has come, as a phase, and what a refused line leaves.
+-- The progress of a script, as a phase, and the stage after a refused line.
 use Rattle.std.specs.Prelude.{◌≡◌, ◌≢◌, ◌⊎◌}
 use Rattle.tc_setup.specs.Phase.{Phase, Setup, Operation}
 use Rattle.tc_rack.specs.declared.stage.Stage.{Stage}
@@ -10,6 +10,6 @@ abbrev pub phase_of : {O : Type 0} → Stage O → Phase
 phase_of (SettingUp list) = Setup list
 phase_of (Operating operating) = Operation
 
--- a line that is refused for this reason leaves all as it is, unless memory is refused before operation
+-- a line that is refused for this reason leaves everything as it is, unless memory is refused before operation
 abbrev pub IsStageKept : {O : Type 0} → Reason → Stage O → Stage O → Type 0
 IsStageKept reason old new = (new ≡ old) ⊎ ((reason ≡ NoMemory) × (phase_of old ≢ Operation))

@@ -1,4 +1,4 @@
-//! Answers the operations of a script.
+//! Answers to the operations of a script.
 
 ghost use Rattle.std.specs.Prelude.{◌≡◌, Some};
 ghost use Rattle.std.specs.Fmt.{WritesOnOk};
@@ -9,7 +9,7 @@ use tc_channel::{Delivery, FrameReply, Octets};
 use tc_link::{FrameFault, LocateFault};
 use tc_text::{Delivered, Digits, UnitDigits, WordDigits};
 
-/// Answers an operation.
+/// The answer to an operation.
 #[derive(Debug, Drop)]
 pub enum Answer {
     Frame { vcid: u8, reply: FrameReply },
@@ -20,7 +20,7 @@ pub enum Answer {
     Refused(Refusal),
 }
 
-/// Why an operation is refused.
+/// A reason why an operation is refused.
 #[derive(Clone, Copy, Debug, PartialEq, Eq)]
 pub enum Refusal {
     /// Octets that are no frame for a channel of the station.
@@ -102,7 +102,7 @@ fn write_clcw<W: fmt::Write>(f: &mut fmt::Formatter<W>, vcid: u8, word: u32) -> 
 }
 
 impl Refusal {
-    // The words after `refused`.
+    // Returns the words after `refused`.
     fn words(&self) -> &'static str
         ensures { result.now ≡ refusal_text self.now }
     {

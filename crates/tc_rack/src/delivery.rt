@@ -1,4 +1,4 @@
-//! Handing on all that waits in the queues of a channel. Nothing is allocated.
+//! Handing on all items that wait in the queues of a channel. Nothing is allocated.
 
 ghost use Rattle.std.specs.Prelude.{◌≡◌, ◌∷◌, [], OnOk};
 ghost use Rattle.std.specs.Io.KnownBytes.{Appends};
@@ -10,8 +10,8 @@ use crate::queue::QueueId;
 use std::io;
 use std::io::Write;
 
-/// Takes each packet of each queue, and then each unit of each chosen MAP, in the order of the settings, until nothing waits; writes
-/// the answer to each take, and then the CLCW. Each answer is written before the next is made.
+/// Takes each packet of each queue, and then each unit of each chosen MAP, in the order of the settings, until no item
+/// waits. Writes the answer to each take, and then the CLCW. Each answer is written before the next is made.
 pub(crate) fn hand_on<W: Write>(channel: &mut LinkedChannel, writer: &mut W) -> io::Result<()>
     ensures reported { OnOk result (AreAnswersWritten (W.contents writer.old) (W.contents writer.new) (λ answers. IsHandedOn channel.old answers channel.new)) }
     ensures settings { channel.new.history.settings ≡ channel.old.history.settings }
@@ -46,7 +46,7 @@ fn empty_unit_queues<W: Write>(channel: &mut LinkedChannel, writer: &mut W) -> i
     Ok(())
 }
 
-// Takes what waits in a queue, one after the other.
+// Takes the items that wait in a queue, one after the other.
 fn empty_queue<W: Write>(
     channel: &mut LinkedChannel,
     queue: QueueId,

@@ -1,8 +1,10 @@
-//! The channels of one spacecraft for one thread, which needs no lock; and what operations are, how they are answered, and the final report,
-//! for threads that share channels, too. A [`Stage`] has what is set up, and then what operates on it.
+//! The channels of one spacecraft for one thread, which needs no lock. Operations, their answers and the final report
+//! are also here, for threads that share channels, too. A [`Stage`] has the set-up of a script, and later the channels
+//! that operate.
 //!
-//! A contract sees each channel of a [`Rack`] with its journal and the flags of its link. So what an operation is answered is an
-//! equation: the reply of the channel that it names, at the journal that this channel has.
+//! A contract sees each channel of a [`Rack`] with its journal and the flags of its link. So the answer to an operation
+//! is given by an equation: it is the reply of the channel that the operation names, after the journal that this
+//! channel has.
 #![tactic(auto)]
 
 mod answer;

@@ -1,4 +1,4 @@
-//! A channel with the flags of its link, and what it is answered.
+//! A channel with the flags of its link, and its answers.
 
 ghost use Rattle.std.specs.Prelude.{◌≡◌, ◌≢◌, ◌⊎◌, ◌+◌, [], length, IfOk, OnErr};
 ghost use Rattle.tc_rack.specs.Linked.{new_linked, later, IsFrameAnswered, IsReleaseAnswered, IsTakeAnswered, IsUnitAnswered, reported_word};
@@ -15,7 +15,7 @@ use tc_channel::{
 };
 use tc_link::{Frame, Link};
 
-/// Neither flag of the link is set.
+/// The state of a link with neither flag set.
 pub(crate) const NO_FLAG: Link = Link {
     no_rf: false,
     no_bit_lock: false,
@@ -37,8 +37,8 @@ impl Model for LinkedChannel {
 }
 
 impl LinkedChannel {
-    /// A channel that starts, with no flag of its link. The settings are ones that a channel can have; else the answer is `NoMemory`
-    /// too.
+    /// Creates a channel with no flag of its link set. If no channel can have these settings, the call returns
+    /// `NoMemory`, too.
     pub(crate) fn new(alloc: Global, settings: Settings) -> Result<LinkedChannel, NoMemory>
         ensures { IfOk result (λ channel. channel ≡ new_linked settings) }
     {
@@ -51,14 +51,14 @@ impl LinkedChannel {
         }
     }
 
-    /// The settings that the channel was made by.
+    /// Lends the settings that the channel was created from.
     pub(crate) fn settings(&self) -> &Settings
         ensures { result.now ≡ self.now.history.settings }
     {
         self.channel.settings()
     }
 
-    /// The virtual channel id.
+    /// Returns the virtual channel id.
     pub(crate) fn vcid(&self) -> u8
         ensures { result ≡ self.now.history.settings.vcid }
     {
@@ -76,7 +76,7 @@ impl LinkedChannel {
         Ok(Answer::Frame { vcid, reply })
     }
 
-    /// Lets the oldest data field out of the buffer.
+    /// Releases the oldest data field from the buffer.
     pub(crate) fn release(&mut self) -> Result<Answer, NoMemory>
         ensures answer { IfOk result (λ answer. IsReleaseAnswered self.old answer self.new) }
         ensures settings { self.new.history.settings ≡ self.old.history.settings }
@@ -126,7 +126,7 @@ impl LinkedChannel {
         }
     }
 
-    /// How much waits in a queue; nothing where there is no such queue.
+    /// Returns the number of items that wait in a queue, or 0 if there is no such queue.
     pub(crate) fn waiting(&self, queue: QueueId) -> usize
         ensures { result ≡ length (waiting_in queue self.now) }
     {
@@ -137,7 +137,7 @@ impl LinkedChannel {
         count.unwrap_or(0)
     }
 
-    /// Takes the oldest of what waits in a queue, and leaves the rest. Nothing is allocated.
+    /// Takes the oldest item that waits in a queue, and leaves the others. Nothing is allocated.
     pub(crate) fn take_from(&mut self, queue: QueueId) -> Answer
         requires { waiting_in queue self.old ≢ [] }
         ensures taken { IsTakenFrom queue self.old result self.new }
@@ -150,7 +150,7 @@ impl LinkedChannel {
         }
     }
 
-    /// Reports the CLCW, with the flags of the link.
+    /// Returns the CLCW with the flags of the link.
     pub(crate) fn clcw(&self) -> Answer
         ensures { result ≡ reported_word self.now }
     {
@@ -167,14 +167,14 @@ impl LinkedChannel {
         self.link = link;
     }
 
-    /// Reports the channel. The lists of its queues and MAPs are allocated.
+    /// Returns the state of the channel. The lists of its queues and MAPs are allocated.
     pub(crate) fn holding(&self, alloc: Global) -> Result<Holding, NoMemory>
         ensures { IfOk result (λ holding. holding ≡ holding_of self.now.history.settings self.now.history.journal) }
     {
         holding_in(alloc, &self.channel)
     }
 
-    /// The channel, without the flags of its link.
+    /// Returns the channel without the flags of its link.
     pub(crate) fn into_channel(self) -> CountingChannel
         ensures { result ≡ self.history }
     {

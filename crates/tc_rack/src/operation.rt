@@ -1,18 +1,18 @@
-//! Asks the channels for operations.
+//! Operations on the channels.
 
 use tc_channel::Octets;
 
-/// Asks the channels of a spacecraft for an operation.
+/// An operation on one of a spacecraft's channels.
 #[derive(Drop)]
 pub enum Operation {
-    /// To bring octets.
+    /// The octets of a frame, which are brought to the channel that the frame names.
     Frame(Octets),
-    /// To let the oldest data field out of the buffer of a channel.
+    /// A release of the oldest data field from the buffer of a channel.
     Release(u8),
-    /// To take the oldest packet of a channel with an APID.
+    /// A take of a channel's oldest packet with an APID.
     Take(u8, u16),
-    /// To take the oldest unit of a channel with a MAP.
+    /// A take of a channel's oldest unit of a MAP.
     Unit(u8, u8),
-    /// To report the CLCW of a channel, with the flags of its link.
+    /// A report of a channel's CLCW, with the flags of its link.
     Clcw(u8),
 }

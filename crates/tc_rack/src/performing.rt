@@ -1,4 +1,5 @@
-//! Runs the lines of a script in order: they set up, and then operate on what is made of that at the first operation.
+//! Performing the lines of a script in order. They set channels up. At the first operation the channels are created,
+//! and from then on lines operate on them.
 
 ghost use Rattle.std.specs.Prelude.{◌≡◌, ◌≢◌, ◌⊎◌, [], IfOk, IfErr, OnErr, OnOk};
 ghost use Rattle.tc_setup.specs.Phase.{Does, IsBad, IsBadOperation, Operates, Setup};
@@ -13,7 +14,7 @@ use std::alloc::Global;
 use tc_setup::{Configuration, Instruction};
 use tc_text::Reason;
 
-/// Makes the channels that were set up, in a form of its own, and carries out operations on them.
+/// The creation of a script's channels, in a form of its own, and the operations on them.
 pub trait Backend {
     ghost use Rattle.std.specs.Prelude.{List};
     ghost use Rattle.tc_channel.specs.declared.settings.Settings.{Settings};
@@ -23,29 +24,29 @@ pub trait Backend {
     /// The channels in that form.
     type Founded: Drop;
 
-    // they are new, and have these settings
+    // the channels are new, and have these settings
     ghost is_new: { Self → List Settings → Self.Founded → Type 0 };
 
-    // what they answer an operation, and what that leaves
+    // the channels give this answer to an operation, and become those after it
     ghost answers: { Operation → Self.Founded → Answer → Self.Founded → Type 0 };
 
-    // what an operation leaves at which memory runs out
+    // an operation at which memory runs out may change the channels in this way
     ghost spares: { Self.Founded → Self.Founded → Type 0 };
 
-    /// Makes them.
+    /// Creates the channels that were set up.
     fn found(&self, alloc: Global, list: Configuration) -> Result<Self::Founded, Reason>
         ensures new { IfOk result (is_new self.now list) }
         ensures some { OnOk result (list ≢ []) }
         ensures reason { IfErr result (λ reason. (reason ≡ Reason.NoMemory) ⊎ ((reason ≡ Reason.NoChannel) × (list ≡ []))) };
 
-    /// Carries out an operation on them.
+    /// Carries out an operation on the channels.
     fn operate(&self, founded: &mut Self::Founded, operation: Operation) -> Result<Answer, Reason>
         ensures answer { IfOk result (λ answer. answers operation founded.old answer founded.new) }
         ensures reason { IfErr result (λ reason. reason ≡ Reason.NoMemory) }
         ensures refused { OnErr result (spares founded.old founded.new) };
 }
 
-/// Makes the channels of the spacecraft with this id, for one thread.
+/// A backend for one thread, with the channels of the spacecraft with this id.
 #[derive(Clone, Copy, Debug)]
 pub struct RackBackend {
     pub scid: u16,
@@ -82,8 +83,9 @@ impl Backend for RackBackend {
     }
 }
 
-/// Carries out what a line asks for; an operation has an answer. A line that is refused leaves all as it is, and where memory runs out at
-/// an operation what its backend says; for the first operation the channels may have been made.
+/// Performs a line. Only an operation has an answer. A line that is refused leaves everything as it is. If memory runs
+/// out at an operation, the channels are left as the backend promises, and they may have been created if it was the
+/// first operation.
 pub fn perform<F: Backend>(
     backend: &F,
     alloc: Global,
@@ -118,7 +120,7 @@ pub fn perform<F: Backend>(
     }
 }
 
-// Carries out an operation on the channels, which are made where no operation came before.
+// Carries out an operation on the channels, which are created first if no operation came before.
 fn operate<F: Backend>(
     backend: &F,
     alloc: Global,
@@ -137,7 +139,8 @@ fn operate<F: Backend>(
     }
 }
 
-/// Makes the channels, where no operation came before: by a copy of what was set up, which stays where memory runs out.
+/// Creates the channels if no operation came before. It does so from a copy of the set-up, which stays if memory runs
+/// out.
 #[inline(always)]
 pub fn begin<F: Backend>(
     backend: &F,
@@ -155,7 +158,7 @@ pub fn begin<F: Backend>(
     }
 }
 
-// The same, apart from what runs for each line.
+// Creates the channels as `begin` does. It is kept apart from the code that runs for each line.
 #[cold]
 #[inline(never)]
 fn begin_anew<F: Backend>(
@@ -179,7 +182,7 @@ fn begin_anew<F: Backend>(
     }
 }
 
-/// Gives the channels, which are made of what was set up where no operation came before.
+/// Returns the channels, which are created from the set-up if no operation came before.
 pub fn start<F: Backend>(
     backend: &F,
     alloc: Global,

@@ -18,8 +18,8 @@ use tc_channel::{CountingChannel, Holding, NoMemory, Settings};
 use tc_link::{Frame, Link, LocateFault, read_frame};
 use tc_setup::Configuration;
 
-/// The channels of one spacecraft, in the order in which they were set up, each with the flags of its link. They belong to one
-/// thread. A call that is refused leaves all as it was.
+/// The channels of one spacecraft, in the order in which they were set up, each with the flags of its link. They belong
+/// to one thread. A call that is refused leaves everything as it was.
 ///
 /// A contract sees the settings, the journal and the flags of each channel.
 #[derive(Drop)]
@@ -40,7 +40,8 @@ impl Model for Rack {
 }
 
 impl Rack {
-    /// A new channel for each of those that were set up, with no flag of its link. It takes a list, and what each channel takes.
+    /// Creates a channel for each of those that were set up, with no flag of its link set. The call allocates a list,
+    /// and the memory of each channel.
     pub fn new(alloc: Global, scid: u16, configuration: Configuration) -> Result<Rack, NoMemory>
         ensures { IfOk result (λ rack. rack ≡ new_rack scid configuration) }
     {
@@ -48,13 +49,13 @@ impl Rack {
         Ok(Rack { scid, channels })
     }
 
-    /// Carries out an operation. No more is allocated than by the channel that it names.
+    /// Carries out an operation. Only the channel that the operation names allocates.
     pub fn operate(&mut self, operation: Operation) -> Result<Answer, NoMemory>
         ensures apart { AreChannelsApart self.old.channels }
         ensures answer { IfOk result (λ answer. IsAnswerOf operation self.old answer self.new) }
         ensures refused { OnErr result (self.new ≡ self.old) }
     {
-        // The type ensures that no two channels have one id.
+        // The invariant of the type ensures that no two channels have the same id.
         let _ = &self.channels;
         match operation {
             Operation::Frame(octets) => self.bring(octets.as_slice()),
@@ -79,7 +80,7 @@ impl Rack {
         }
     }
 
-    // The frame at the front of the octets, and the place of the channel that it is for.
+    // Returns the frame at the front of the octets, and the place of the channel that the frame is for.
     fn locate<'a>(&self, octets: &'a [u8]) -> Result<(usize, Frame<'a>), LocateFault>
         ensures { MatchResult result (λ located. IsLocatedInRack self.now octets.now located.0 located.1) (IsRackLocateFault self.now octets.now) }
     {
@@ -94,7 +95,7 @@ impl Rack {
         Ok((place, frame))
     }
 
-    // Lets the oldest data field out of the buffer of a channel.
+    // Releases the oldest data field from the buffer of a channel.
     fn release(&mut self, vcid: u8) -> Result<Answer, NoMemory>
         ensures answer { IfOk result (λ answer. IsChannelAnswer vcid IsReleaseAnswered self.old answer self.new) }
         ensures refused { OnErr result (self.new ≡ self.old) }
@@ -106,7 +107,7 @@ impl Rack {
         Ok(answer)
     }
 
-    // Takes the oldest packet of a channel with this APID.
+    // Takes the oldest packet with this APID from a channel.
     fn take(&mut self, vcid: u8, apid: u16) -> Answer
         ensures { IsChannelAnswer vcid (IsTakeAnswered apid) self.old result self.new }
     {
@@ -116,7 +117,7 @@ impl Rack {
         }
     }
 
-    // Takes the oldest unit of a channel's chosen MAP.
+    // Takes the oldest unit of a chosen MAP from a channel.
     fn unit(&mut self, vcid: u8, map: u8) -> Answer
         ensures { IsChannelAnswer vcid (IsUnitAnswered map) self.old result self.new }
     {
@@ -126,7 +127,7 @@ impl Rack {
         }
     }
 
-    // Reports the CLCW of a channel, with the flags of its link.
+    // Returns the CLCW of a channel with the flags of its link.
     fn clcw(&self, vcid: u8) -> Answer
         ensures { IsClcwAnswer vcid self.now result }
     {
@@ -136,10 +137,10 @@ impl Rack {
         }
     }
 
-    /// Ends a delivery, which an [`Operation::Release`] begins: takes each packet of each queue of a channel, and then each unit of each
-    /// chosen MAP, in the order of the set-up, until nothing waits; and writes the answer to each take, and then the CLCW, each with a line
-    /// feed. Where there is no such channel, nothing is written. Nothing is allocated, and each answer is written before the next is made.
-    /// Where the writer fails, what was taken last is lost.
+    /// Ends a delivery, which an [`Operation::Release`] begins. Takes each packet of each queue of a channel, and then
+    /// each unit of each chosen MAP, in the order of the set-up, until no item waits. Writes the answer to each take,
+    /// and then the CLCW, each with a line feed. If there is no such channel, nothing is written. Nothing is allocated,
+    /// and each answer is written before the next is made. If the writer fails, the item that was taken last is lost.
     pub fn hand_on<W: Write>(&mut self, vcid: u8, writer: &mut W) -> io::Result<()>
         ensures { OnOk result (AreAnswersWritten (W.contents writer.old) (W.contents writer.new) (λ answers. IsDeliveryEnded vcid self.old answers self.new)) }
     {
@@ -149,7 +150,8 @@ impl Rack {
         }
     }
 
-    /// Sets the flags of the link that the CLCWs of a channel report from now on, and answers whether there is such a channel.
+    /// Sets the flags of the link that the CLCWs of a channel report from now on, and returns whether there is such a
+    /// channel.
     pub fn link(&mut self, vcid: u8, link: Link) -> bool
         ensures { IsLinkSet self.old vcid link result self.new }
     {
@@ -160,7 +162,7 @@ impl Rack {
         true
     }
 
-    /// Reports the channel with this id, if there is one. The lists of its queues and MAPs are allocated.
+    /// Returns the state of the channel with this id, if there is one. The lists of its queues and MAPs are allocated.
     pub fn report(&self, alloc: Global, vcid: u8) -> Result<Option<Holding>, NoMemory>
         ensures { IfOk result (IsReported self.now vcid) }
     {
@@ -170,7 +172,7 @@ impl Rack {
         }
     }
 
-    /// The channels, moved, in the order in which they were set up. A list is allocated.
+    /// Returns the channels, moved, in the order in which they were set up. A list is allocated.
     pub fn into_channels(self, alloc: Global) -> Result<Vec<CountingChannel>, NoMemory>
         ensures { IfOk result (λ channels. channels.items ≡ map (λ (channel : Linked). channel.history) self.channels) }
     {
@@ -179,14 +181,14 @@ impl Rack {
     }
 }
 
-// The place of the channel with this id.
+// Returns the place of the channel with this id.
 fn place_of(channels: &[LinkedChannel], vcid: u8) -> Option<usize>
     ensures { MatchOption result (¬ HasChannel channels.now vcid) (λ place. (channel : Linked) × IsChannelAt channels.now vcid place channel) }
 {
     channels.iter().position(|channel| channel.vcid() == vcid)
 }
 
-// A new channel for each of the settings.
+// Creates a channel for each of the settings.
 fn make(alloc: Global, list: Vec<Settings>) -> Result<Vec<LinkedChannel>, NoMemory>
     ensures { IfOk result (λ channels. channels.items ≡ map new_linked list.items) }
 {
@@ -197,7 +199,7 @@ fn make(alloc: Global, list: Vec<Settings>) -> Result<Vec<LinkedChannel>, NoMemo
     Ok(channels)
 }
 
-// The channels without the flags of their links.
+// Returns the channels without the flags of their links.
 fn bare(alloc: Global, channels: Vec<LinkedChannel>) -> Result<Vec<CountingChannel>, NoMemory>
     ensures { IfOk result (λ bare. bare.items ≡ map (λ (channel : Linked). channel.history) channels.items) }
 {

@@ -25,8 +25,8 @@ pub fn write_report<W: Write>(channels: &[CountingChannel], writer: &mut W) -> i
     Ok(())
 }
 
-// Writes what a channel has come to, then how many packets wait in each of its queues and how many units on each of its
-// chosen MAPs.
+// Writes the state of a channel, then the number of packets in each of its queues and the number of units on each of
+// its chosen MAPs.
 fn write_channel<W: Write>(channel: &CountingChannel, writer: &mut W) -> io::Result<()>
     requires { IsNumberReported channel.now }
     ensures written { OnOk result (Appends (W.contents writer.old) (W.contents writer.new) (channel_text channel.now)) }

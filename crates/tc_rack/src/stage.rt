@@ -1,4 +1,4 @@
-//! How far a script has come: first its channels are set up, then it operates.
+//! The progress of a script: first its channels are set up, then it operates.
 
 ghost use Rattle.std.specs.Prelude.{◌≡◌, ◌⊎◌, IfErr, OnOk, OnErr};
 ghost use Rattle.tc_setup.specs.Phase.{Does, IsBad};
@@ -9,13 +9,13 @@ use tc_channel::Settings;
 use tc_setup::{Addition, Configuration, Instruction};
 use tc_text::Reason;
 
-/// How far a script has come. What operates is made at the first operation, with the channels that are
-/// set up by then.
+/// The progress of a script. The channels that operate are created at the first operation, from those that are set up
+/// by then.
 #[derive(Drop)]
 pub enum Stage<O> {
-    /// These channels are set up so far.
+    /// The channels that are set up so far.
     SettingUp(Configuration),
-    /// An operation came.
+    /// The channels after an operation came.
     Operating(O),
 }
 
@@ -32,7 +32,7 @@ impl<O: Drop> Stage<O> {
         }
     }
 
-    /// Gives a channel the queue of a queue line or the chosen MAP of a map line.
+    /// Adds the queue of a queue line or the chosen MAP of a map line to a channel.
     pub fn add_to_channel(
         &mut self,
         alloc: Global,

@@ -1,11 +1,11 @@
--- Looking for a channel of a configuration, and setting one up besides.
+-- Finding a channel of a configuration, and setting up one more.
 use Rattle.tc_setup.proofs.Names.{◌≡◌, ◌≢◌, ℕ, ◌<◌, ◌≤◌, Bool, true, false, true≢false, eqb, Option, Some, None, List, [], ◌∷◌, ◌++◌, length, map, get_or, set, refl, sym, ap, ◌∙◌, subst, arith, eqb-true, eq-eqb, get_or-map, get_or-set_other, get_or-set_same, get_or_default, length-map, length-set, All-push, All-set, Any-from_list_any, all_pairs_push, list_any, AllPairs, is_some, MatchOption, Settings, IsAllowed, HasSettings, IsAt, IsConfiguration}
 use Rattle.std.proofs.lemmas.Bool.Decides.{Decides-eqb}
 use Rattle.std.proofs.lemmas.Map.Made.{IsDistinct-from_AllPairs}
 use Rattle.std.proofs.lemmas.Map.Steps.{length-le_from_distinct_below}
 use Rattle.std.proofs.lemmas.Option.{get_or_from_slice_get, slice_get_within}
 
--- ids have 6 bits, and no two are the same
+-- ids have 6 bits, and no two are the same, so that there are at most 64 channels
 pub few : (list : List Settings) → IsConfiguration list → length list ≤ 64
 few [] c = omega arith
 few (none ∷ rest) c =
@@ -28,11 +28,11 @@ few (none ∷ rest) c =
     in
     rw (← length-map list of) (length-le_from_distinct_below (map of list) 64 (IsDistinct-from_AllPairs Decides-eqb (map of list) apart) small)
 
--- the settings that stand at the place that was found
+-- the settings that were read at the place that was found are those with the id
 pub found : (list : List Settings) (vcid place : ℕ) (x : Settings) → (s : Settings) × IsAt list vcid place s → x ≡ get_or list place x → IsAt list vcid place x
 found list vcid place x (s, (at, v)) is = subst (IsAt list vcid place) (sym (is ∙ get_or_from_slice_get list place s x at)) (at, v)
 
--- what a search by id says of the channels, by whether it found one
+-- the outcome of a search by id: either no channel has the id, or one has it at the place found
 abbrev pub IsSearched : List Settings → ℕ → Option ℕ → Type 0
 IsSearched list vcid place = MatchOption place (¬ HasSettings list vcid) (λ place. (s : Settings) × IsAt list vcid place s)
 
@@ -44,7 +44,7 @@ pub not-there : (list : List Settings) (vcid : ℕ) (place : Option ℕ) → is_
 not-there list vcid None e h = h
 not-there list vcid (Some place) e h = absurd cc
 
--- one channel more, with the id of no other
+-- with one more channel, whose id no other has, a configuration still is one
 pub one-more : (list : List Settings) (s : Settings) → IsConfiguration list → ¬ HasSettings list s.vcid → IsAllowed s → IsConfiguration (list ++ s ∷ [])
 one-more list s c new allowed = record {
   distinct = all_pairs_push (λ (p q : Settings). p.vcid ≢ q.vcid) list s c.distinct
@@ -56,7 +56,7 @@ one-more list s c new allowed = record {
 pub within : (list : List Settings) (vcid place : ℕ) → (s : Settings) × IsAt list vcid place s → place < length list
 within list vcid place (s, (at, v)) = slice_get_within list place s at
 
--- other settings with the same id
+-- with other settings of the same id in place of some, a configuration still is one
 pub other-settings : (list : List Settings) (place : ℕ) (old new : Settings) → IsConfiguration list → place < length list → old ≡ get_or list place old → new.vcid ≡ old.vcid → IsAllowed new
     → IsConfiguration (set list place new)
 other-settings list place old new c lt is same allowed = record {

@@ -1,4 +1,4 @@
--- The types, definitions and lemmas that most proofs speak of, imported from one file.
+-- Types, definitions and lemmas that most proofs use, imported from one file.
 pub use Rattle.std.proofs.Common.{Bool, List, None, Option, Some, [], ap, arith, eqb, false, get_or, inl, inr, length, map, refl, replicate, set, subst, suc, sym, take, true, true≢false, vec_capacity, zero, ℕ, ◌++◌, ◌<◌, ◌||◌, ◌∙◌, ◌∷◌, ◌≡◌, ◌≢◌, ◌≤◌}
 pub use Rattle.std.proofs.lemmas.Bool.{eq-eqb, eqb-true}
 pub use Rattle.std.proofs.lemmas.List.{get_or-map, get_or-set_other, get_or-set_same, get_or_default, length-map, length-replicate, length-set}

@@ -7,7 +7,7 @@ use Rattle.tc_channel.specs.Settings.{IsAllowed}
 use Rattle.tc_setup.specs.declared.instruction.Addition.{Addition}
 use Rattle.tc_setup.specs.declared.instruction.Addition.TheVariants.{Queue, Map}
 
--- a station can have these settings, as soon as there are some
+-- a station can have these settings, as soon as there are any
 pub record IsConfiguration (list : List Settings) : Type 0 where
   pub distinct : AllPairs (λ (p q : Settings). p.vcid ≢ q.vcid) list
   pub allowed : All IsAllowed list
@@ -29,20 +29,20 @@ abbrev pub with_addition : Settings → Addition → Settings
 with_addition s (Queue queue) = record s { queues = s.queues ++ queue ∷ [] }
 with_addition s (Map chosen) = record s { maps = s.maps ++ chosen ∷ [] }
 
--- a channel is set up besides, with the id of no other
+-- one more channel is set up, with the id of no other
 abbrev pub AddsChannel : List Settings → Settings → List Settings → Type 0
 AddsChannel list s new = ¬ HasSettings list s.vcid × IsAllowed s × (new ≡ list ++ s ∷ [])
 
--- the channel with this id gets a queue or a chosen MAP besides, and the others stay
+-- the channel with this id gets one more queue or chosen MAP, and the other channels stay the same
 abbrev pub AddsToChannel : List Settings → ℕ → Addition → List Settings → Type 0
 AddsToChannel list vcid addition new =
     (place : ℕ) × (s : Settings) × IsAt list vcid place s × IsAllowed (with_addition s addition) × (new ≡ slice_set list place (with_addition s addition))
 
--- for each APID, whether a queue has it
+-- the list tells for each APID whether a queue has it
 pub record AreApidsOf (queues : List QueueSetting) (apids : List Bool) : Type 0 where
   pub size : length apids ≡ 2047
   pub reported : (apid : ℕ) → apid ≤ 2046 → get_or apids apid false ≡ list_any (λ (q : QueueSetting). q.apid == apid) queues
 
--- the same for the queues of each channel
+-- each list tells for each APID whether a queue of its channel has it
 abbrev pub AreApidsOfEach : List Settings → List (List Bool) → Type 0
 AreApidsOfEach = AllZip (λ (s : Settings) (apids : List Bool). AreApidsOf s.queues apids)

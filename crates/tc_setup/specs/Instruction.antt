@@ -1,4 +1,4 @@
--- Says what the lines of a script ask for.
+-- The instructions that the lines of a script are.
 use Rattle.std.specs.Prelude.{[]}
 use Rattle.tc_text.specs.declared.line.Line.{Line}
 use Rattle.tc_text.specs.declared.line.Line.TheVariants.{Blank, Channel, Queue, Map, Frame, Release, Take, Unit as TakeUnit, Clcw}
@@ -6,7 +6,8 @@ use Rattle.tc_setup.specs.declared.instruction.Addition.TheVariants as additions
 use Rattle.tc_setup.specs.declared.instruction.Instruction.{Instruction}
 use Rattle.tc_setup.specs.declared.instruction.Instruction.TheVariants as instructions
 
--- a channel line asks for a channel with its settings, no queues and no chosen MAPs, and a blank line for nothing
+-- the instruction of a line: a channel line sets up a channel with its settings, no queues and no chosen MAPs, and a
+-- blank line does nothing
 abbrev pub instruction_of : Line → Instruction
 instruction_of Blank = instructions.Nothing
 instruction_of (Channel vcid width buffer first segmented) =

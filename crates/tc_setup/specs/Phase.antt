@@ -1,4 +1,4 @@
--- Says what the lines of a script do to what is set up, and why a line is bad.
+-- The effect of a script's lines on the set-up, and the reasons why a line is bad.
 use Rattle.std.specs.Prelude.{◌≡◌, ◌≢◌, ℕ, List, [], ◌⊎◌}
 use Rattle.tc_channel.specs.declared.settings.Settings.{Settings}
 use Rattle.tc_channel.specs.declared.settings.SettingsFault.{SettingsFault}
@@ -11,7 +11,8 @@ use Rattle.tc_setup.specs.declared.instruction.Addition.{Addition}
 use Rattle.tc_setup.specs.declared.instruction.Instruction.{Instruction}
 use Rattle.tc_setup.specs.declared.instruction.Instruction.TheVariants.{Nothing, Channel, Add, Frame, Release, Take, Unit as TakeUnit, Clcw}
 
--- before the first operation the settings of the channels so far; from then on nothing is set up any more
+-- The phase of a script. Before the first operation it has the settings of the channels so far. From then on nothing
+-- more is set up.
 pub data Phase : Type 0 where
   Setup : List Settings → Phase
   Operation : Phase
@@ -20,7 +21,7 @@ pub data Phase : Type 0 where
 abbrev pub Operates : Phase → Phase → Type 0
 Operates phase new = (phase ≢ Setup []) × (new ≡ Operation)
 
--- what a line that isn't bad does, by what it asks for
+-- the effect of a line that isn't bad, by its instruction
 abbrev pub Does : Phase → Instruction → Phase → Type 0
 Does phase Nothing new = new ≡ phase
 Does phase (Channel settings) new =
@@ -33,16 +34,16 @@ Does phase (Take vcid apid) new = Operates phase new
 Does phase (TakeUnit vcid map_id) new = Operates phase new
 Does phase (Clcw vcid) new = Operates phase new
 
--- no channel can have the settings, and this is why
+-- no channel can have the settings, for this reason
 abbrev pub IsSettingsReason : Settings → Reason → Type 0
 IsSettingsReason s reason = (fault : SettingsFault) × (reason ≡ reason_of fault) × IsFault s fault
 
--- why a channel can't be set up besides these
+-- the reason why a channel can't be set up in addition to these
 abbrev pub IsChannelRefused : List Settings → Settings → Reason → Type 0
 IsChannelRefused list s reason =
     (HasSettings list s.vcid × (reason ≡ DoubleChannel)) ⊎ (¬ HasSettings list s.vcid × IsSettingsReason s reason)
 
--- why none of these channels gets a queue or a chosen MAP
+-- the reason why none of these channels gets the queue or chosen MAP
 abbrev pub IsAdditionRefused : List Settings → ℕ → Addition → Reason → Type 0
 IsAdditionRefused list vcid addition reason =
     (¬ HasSettings list vcid × (reason ≡ UnknownChannel))
@@ -59,7 +60,7 @@ IsBadAddition (Setup list) vcid addition reason = IsAdditionRefused list vcid ad
 abbrev pub IsBadOperation : Phase → Reason → Type 0
 IsBadOperation phase reason = (phase ≡ Setup []) × (reason ≡ NoChannel)
 
--- why a line is bad, by what it asks for, memory aside
+-- the reason why a line is bad, by its instruction, apart from running out of memory
 abbrev pub IsBad : Phase → Instruction → Reason → Type 0
 IsBad phase Nothing reason = ⊥
 IsBad phase (Channel settings) reason = IsBadChannel phase settings reason

@@ -1,17 +1,17 @@
-//! Which APIDs the queues of a channel have.
+//! A table of the APIDs that the queues of a channel have.
 
 ghost use Rattle.std.specs.Prelude.{◌≤◌, All};
 ghost use Rattle.tc_setup.specs.Configuration.{AreApidsOf};
 
 use tc_channel::QueueSetting;
 
-/// How many APIDs a queue can have: all but that of idle packets.
+/// The number of APIDs that a queue can have: all but that of idle packets.
 const APIDS: usize = 2047;
 
-/// For each APID, whether a queue has it.
+/// A table that tells for each APID whether a queue has it.
 pub(crate) type Apids = [bool; APIDS];
 
-/// The APIDs of these queues.
+/// Returns the table of the APIDs of these queues.
 pub(crate) fn apids_of(queues: &[QueueSetting]) -> Apids
     requires { All (λ q. q.apid ≤ 2046) queues.now }
     ensures apids { AreApidsOf queues.now result }

@@ -15,12 +15,12 @@ use std::marker::Model;
 use tc_channel::{MapSetting, QueueSetting, Settings, SettingsFault};
 use tc_text::Reason;
 
-/// The settings of the channels so far, in the order of their lines. A station can have them, as
-/// soon as there are some.
+/// The settings of the channels so far, in the order of their lines. A station can have them as soon as there are any.
 #[derive(Drop)]
 pub struct Configuration {
     channels: Vec<Settings>,
-    // The APIDs of each channel's queues, so that a queue line need not go through the lines before it.
+    // The APIDs of each channel's queues, so that a queue line can be checked without going through the lines before
+    // it.
     apids: Vec<Apids>,
 }
 
@@ -37,7 +37,7 @@ impl Model for Configuration {
 }
 
 impl Configuration {
-    /// No channel.
+    /// Creates a configuration without channels.
     pub fn new(alloc: Global) -> Configuration
         ensures { result ≡ [] }
     {
@@ -47,7 +47,7 @@ impl Configuration {
         }
     }
 
-    /// Sets up the channel of a channel line besides.
+    /// Adds the channel of a channel line.
     pub fn add_channel(&mut self, settings: Settings) -> Result<(), Reason>
         ensures done { OnOk result (AddsChannel self.old settings self.new) }
         ensures reason { IfErr result (λ reason. (reason ≡ Reason.NoMemory) ⊎ IsChannelRefused self.old settings reason) }
@@ -70,7 +70,7 @@ impl Configuration {
         }
     }
 
-    /// Gives a channel the queue of a queue line or the chosen MAP of a map line besides.
+    /// Adds the queue of a queue line or the chosen MAP of a map line to a channel.
     pub fn add_to_channel(
         &mut self,
         alloc: Global,
@@ -88,7 +88,7 @@ impl Configuration {
         add_checked(alloc, settings, &mut self.apids[place], addition)
     }
 
-    /// The ids of the channels, in their order.
+    /// Returns the ids of the channels, in their order.
     pub fn vcids(&self, alloc: Global) -> Result<Vec<u8>, Reason>
         ensures vcids { IfOk result (λ vcids. vcids.items ≡ vcids_of self.now) }
         ensures reason { IfErr result (λ reason. reason ≡ Reason.NoMemory) }
@@ -102,7 +102,7 @@ impl Configuration {
         Ok(vcids)
     }
 
-    /// The same settings once more.
+    /// Returns a copy of the configuration.
     pub fn copy(&self, alloc: Global) -> Result<Configuration, Reason>
         ensures copy { IfOk result (λ copy. copy ≡ self.now) }
         ensures reason { IfErr result (λ reason. reason ≡ Reason.NoMemory) }
@@ -114,7 +114,7 @@ impl Configuration {
         Ok(Configuration { channels, apids })
     }
 
-    /// The settings of the channels, at most one for each id of six bits.
+    /// Lends the settings of the channels, at most one for each id of six bits.
     pub fn channels(&self) -> &[Settings]
         ensures channels { result.now ≡ self.now }
         ensures few { length self.now ≤ 64 }
@@ -122,7 +122,7 @@ impl Configuration {
         self.channels.as_slice()
     }
 
-    /// The settings of the channels, moved.
+    /// Returns the settings of the channels, moved.
     pub fn into_channels(self) -> Vec<Settings>
         ensures channels { result.items ≡ self }
         ensures configuration { IsConfiguration result.items }
@@ -132,14 +132,14 @@ impl Configuration {
     }
 }
 
-// The place of the settings with this id.
+// Returns the place of the settings with this id.
 fn place_of(list: &[Settings], vcid: u8) -> Option<usize>
     ensures { MatchOption result (¬ HasSettings list.now vcid) (λ place. (s : Settings) × IsAt list.now vcid place s) }
 {
     list.iter().position(|settings| settings.vcid == vcid)
 }
 
-// Whether a channel can have these settings.
+// Checks whether a channel can have these settings.
 fn check(settings: &Settings) -> Result<(), Reason>
     ensures { MatchResult result (λ _. IsAllowed settings.now) (IsSettingsReason settings.now) }
 {
@@ -147,7 +147,7 @@ fn check(settings: &Settings) -> Result<(), Reason>
     Ok(())
 }
 
-// One queue or one chosen MAP more, where a channel can have it.
+// Adds a queue or a chosen MAP to the settings, if a channel can have it.
 fn add_checked(
     alloc: Global,
     settings: &mut Settings,
@@ -177,8 +177,8 @@ fn add_checked(
     }
 }
 
-// Whether a channel whose queues have these APIDs can have this queue besides. Its settings before it are allowed, so only the queue
-// is looked at.
+// Checks whether a channel whose queues have these APIDs can have this queue, too. The settings without the queue are
+// allowed, so only the queue is looked at.
 fn check_queue(apids: &Apids, queue: QueueSetting) -> Result<(), SettingsFault>
     ensures { (s : Settings) → IsAllowed s → AreApidsOf s.queues apids.now → MatchResult result (λ _. IsAllowed (with_addition s (Addition.Queue queue))) (IsFault (with_addition s (Addition.Queue queue))) }
 {
@@ -194,7 +194,7 @@ fn check_queue(apids: &Apids, queue: QueueSetting) -> Result<(), SettingsFault>
     Ok(())
 }
 
-// Whether a channel can have this chosen MAP besides.
+// Checks whether a channel can have this chosen MAP, too.
 fn check_map(settings: &Settings, map: MapSetting) -> Result<(), SettingsFault>
     requires { IsAllowed settings.now }
     ensures { MatchResult result (λ _. IsAllowed (with_addition settings.now (Addition.Map map))) (IsFault (with_addition settings.now (Addition.Map map))) }

@@ -6,7 +6,7 @@ use std::alloc::Global;
 use tc_channel::{Items, Settings};
 use tc_text::Reason;
 
-/// The settings once more, in their order. What is copied takes as much memory again.
+/// Copies the settings, in their order. The copies take as much memory as the originals.
 pub(crate) fn copy_each(alloc: Global, list: &[Settings]) -> Result<Vec<Settings>, Reason>
     ensures copies { IfOk result (λ copies. copies.items ≡ list.now) }
     ensures reason { IfErr result (λ reason. reason ≡ Reason.NoMemory) }

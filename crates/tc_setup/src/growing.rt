@@ -1,4 +1,4 @@
-//! Lists that lines make longer.
+//! Lists that grow line by line.
 
 ghost use Rattle.std.specs.Prelude.{◌≡◌, [], ◌∷◌, ◌++◌, IfErr, OnOk, OnErr};
 
@@ -7,7 +7,7 @@ use std::mem;
 use tc_channel::Items;
 use tc_text::Reason;
 
-/// One item more, at the end. Where memory is refused, the items stay as they are.
+/// Appends an item. If memory is refused, the items stay as they are.
 pub fn append<T: Drop>(alloc: Global, items: &mut Items<T>, item: T) -> Result<(), Reason>
     ensures done { OnOk result (items.new ≡ items.old ++ item ∷ []) }
     ensures reason { IfErr result (λ reason. reason ≡ Reason.NoMemory) }

@@ -1,4 +1,4 @@
-//! Says what the lines of a script ask for.
+//! The instructions that the lines of a script are.
 
 ghost use Rattle.std.specs.Prelude.{◌≡◌};
 ghost use Rattle.tc_setup.specs.Instruction.{instruction_of};
@@ -7,7 +7,7 @@ use std::alloc::Global;
 use tc_channel::{Items, MapSetting, Octets, QueueSetting, Settings};
 use tc_text::Line;
 
-/// A line gives this to a channel that is set up.
+/// An addition to a channel that is set up.
 #[derive(Clone, Copy, Debug, PartialEq, Eq)]
 pub enum Addition {
     /// A queue for packets.
@@ -16,29 +16,29 @@ pub enum Addition {
     Map(MapSetting),
 }
 
-/// A line asks for this. Here alone the fields of a channel line become settings.
+/// The instruction of a line. The fields of a channel line become settings nowhere but here.
 #[derive(Drop)]
 pub enum Instruction {
-    /// Nothing.
+    /// A line without an instruction.
     Nothing,
-    /// To set up a channel.
+    /// The set-up of a channel.
     Channel(Settings),
-    /// To give a queue or a chosen MAP to a channel.
+    /// The addition of a queue or a chosen MAP to a channel.
     Add(u8, Addition),
-    /// To bring octets.
+    /// The octets of a frame, which are brought to the channel that the frame names.
     Frame(Octets),
-    /// To let the oldest data field out of the buffer of a channel.
+    /// A release of the oldest data field from the buffer of a channel.
     Release(u8),
-    /// To take the oldest packet of a channel with an APID.
+    /// A take of a channel's oldest packet with an APID.
     Take(u8, u16),
-    /// To take the oldest unit of a channel with a MAP.
+    /// A take of a channel's oldest unit of a MAP.
     Unit(u8, u8),
-    /// To report the CLCW of a channel.
+    /// A report of a channel's CLCW.
     Clcw(u8),
 }
 
 impl Instruction {
-    /// Says what a line asks for. The channel of a channel line has no queue and no chosen MAP yet.
+    /// Returns the instruction of a line. The channel of a channel line has no queue and no chosen MAP yet.
     pub fn of(alloc: Global, line: Line) -> Instruction
         ensures { result ≡ instruction_of line }
     {

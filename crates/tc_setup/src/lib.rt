@@ -1,7 +1,8 @@
-//! Says what the lines of a script ask for, and has the channels that they set up.
+//! The instructions of a script's lines, and the channels that lines set up.
 //!
-//! [`Instruction::of`] says what a line asks for. A [`Configuration`] has the settings of the channels so far: each is allowed, and
-//! no two have one id, so that a station can have them as soon as there are some.
+//! [`Instruction::of`] returns the instruction of a line. A [`Configuration`] has the settings of the channels so far.
+//! Each of these settings is allowed, and no two have the same id, so that a station can have them as soon as there are
+//! any.
 #![tactic(auto)]
 
 mod apids;
