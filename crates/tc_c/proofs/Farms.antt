@@ -1,4 +1,4 @@
--- What starts is a FARM-1, and a channel has one after each lawful journal.
+-- A FARM-1 that starts can be read from its record, and so can that of a channel after each lawful journal.
 use Rattle.tc_c.proofs.Names.{◌≡◌, ℕ, Bool, true, false, List, [], ◌∷◌, Ok, Err, refl, if◌then◌else◌, arith, IsSome, Report, header_of, Machine, E10, row_of, entry_at, entry, first_report, BadWidth, IsFarm, is_width, first_farm, left}
 use Rattle.tc_link.specs.declared.farm.Arrival.{Arrival}
 use Rattle.tc_link.specs.declared.farm.Arrival.TheVariants as arrivals
@@ -13,7 +13,7 @@ use Rattle.tc_channel.specs.Settings.{IsAllowed}
 use Rattle.tc_channel.specs.Run.{field_of, HasStep, AreSteps, IsLawfulWithin, step, passed_on, run_from, run_within}
 use Rattle.tc_c.proofs.Records.{wide}
 
--- what a law of this crate says of steps
+-- the statement of this crate's law on steps
 abbrev pub StepsLeaveFarms : Type 0
 StepsLeaveFarms = (farm : Machine) (arrival : Arrival) → IsFarm farm → IsSome (entry (row_of farm.width farm.report.vr arrival) farm.report)
     → IsFarm (left farm arrival)

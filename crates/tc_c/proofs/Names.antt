@@ -1,4 +1,4 @@
--- The types, definitions and lemmas that most proofs speak of, imported from one file.
+-- Types, definitions and lemmas that most proofs use, imported from one file.
 pub use Rattle.std.proofs.BoxSteps.Form.{Bx, handle}
 pub use Rattle.std.proofs.Common.{Bool, Err, IfNone, IfSome, IsSome, List, None, Ok, OnSome, Option, Result, Some, [], ap, append_assoc, arith, drop, false, get_or, if◌then◌else◌, inl, length, length-append, refl, rules, set, sym, take, true, ℕ, ◌*◌, ◌++◌, ◌+◌, ◌-◌, ◌/◌, ◌<◌, ◌∙◌, ◌∷◌, ◌≡◌, ◌≢◌, ◌≤◌}
 pub use Rattle.std.proofs.Math.Seq.{drop-append-add, drop-append_seam, map-set_same}

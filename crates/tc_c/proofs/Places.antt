@@ -1,4 +1,4 @@
--- A place with a channel, and the parts of its box, own what the box owns.
+-- A place with a channel owns the memory that a box owns, and so do the parts of a box.
 use Rattle.tc_c.proofs.Names.{◌≡◌, refl, [], Option, Some, None, IsSome, impl, tnil, dnil, Slot, plain, Bx, channel_row}
 use Rattle.std.specs.contracts.alloc.Global as Heap
 use Rattle.std.specs.contracts.impls.GlobalAllocator.TheImpl.{ghosts, dict}
@@ -24,7 +24,7 @@ FromParts = plain (λ _. Parts.the_row channel_row Heap.the_row ghosts)
 abbrev pub FromPlace : Slot 0
 FromPlace = plain (λ _. Place.the_row)
 
--- what is there
+-- the value that an option has
 pub found : {X : Type 0} (o : Option X) → IsSome o → (x : X) × (o ≡ Some x)
 found (Some x) e = (x, refl)
 found None e = absurd cc

@@ -11,11 +11,11 @@ channel_of seat = seat.place.channel
 abbrev vcid_of : LimitedHistory → ℕ
 vcid_of h = h.settings.vcid
 
--- a seat is replaced by one with the same channel
+-- if a seat is replaced by one with the same channel, the channels stay the same
 pub still : (seats : List Seat) (i : ℕ) (new d : Seat) → new.place.channel ≡ (get_or seats i d).place.channel → channels_in (set seats i new) ≡ channels_in seats
 still seats i new d same = map-set_same channel_of seats i new d same
 
--- the channel in the seat at a place
+-- there is a channel, or none, in the seat at a place
 pub there : (seats : List Seat) (i : ℕ) (d : Seat) → i < length seats → slice_get (channels_in seats) i ≡ Some (get_or seats i d).place.channel
 there seats i d here =
     let inside : i < length (channels_in seats) = omega (arith, here, length-map seats channel_of) in
@@ -28,7 +28,7 @@ held seats i d old h here same is =
     let e : Some (get_or seats i d).place.channel ≡ Some (Some h) = sym (there seats i d here) ∙ (ap (λ (cs : List (Option LimitedHistory)). slice_get cs i) same ∙ is) in
     cc
 
--- another channel in one seat
+-- if one seat gets another channel, the channels change at this place
 pub changed : (seats : List Seat) (i : ℕ) (new : Seat) (old : List (Option LimitedHistory)) (after : Option LimitedHistory)
     → channels_in seats ≡ old → new.place.channel ≡ after → channels_in (set seats i new) ≡ set old i after
 changed seats i new old after same is =
@@ -45,7 +45,7 @@ differs None vcid e = λ is. cc
 abbrev pub AreLater : List (Option LimitedHistory) → ℕ → ℕ → Type 0
 AreLater channels vcid place = (at : ℕ) (other : LimitedHistory) → IsHeldAt channels vcid at other → place ≤ at
 
--- the channel in a seat has the id, and none before it
+-- if the channel in a seat has the id, and none before it has, it is the first one with the id
 pub first : (seats : List Seat) (i : ℕ) (d : Seat) (old : List (Option LimitedHistory)) (vcid : ℕ) → i < length seats
     → channels_in seats ≡ old → option_map (λ (h : LimitedHistory). h.settings.vcid) (get_or seats i d).place.channel ≡ Some vcid → AreLater old vcid i
     → (h : LimitedHistory) × IsFirstWithVcid old vcid i h
@@ -54,7 +54,7 @@ first seats i d old vcid inside same is later =
     let here : slice_get old i ≡ Some (Some named.0) = sym (ap (λ (cs : List (Option LimitedHistory)). slice_get cs i) same) ∙ (there seats i d inside ∙ ap Some named.1) in
     (named.0, ((here, named.2), later))
 
--- nor has the channel in this seat
+-- if the channel in this seat doesn't have the id either, the first channel with the id comes later
 pub passed : (seats : List Seat) (i : ℕ) (d : Seat) (old : List (Option LimitedHistory)) (vcid : ℕ) → i < length seats → channels_in seats ≡ old
     → option_map (λ (h : LimitedHistory). h.settings.vcid) (get_or seats i d).place.channel ≢ Some vcid → AreLater old vcid i → AreLater old vcid (i + 1)
 passed seats i d old vcid inside same not later = λ place other is.
@@ -64,7 +64,7 @@ passed seats i d old vcid inside same not later = λ place other is.
     not (ap (option_map vcid_of) (held seats i d old other inside same found) ∙ ap Some is.1) in
     omega (arith, below, apart)
 
--- none has the id
+-- if no seat is left, no channel has the id
 pub nowhere : (seats : List Seat) (n : ℕ) (old : List (Option LimitedHistory)) (vcid : ℕ) → length seats ≤ n → channels_in seats ≡ old → AreLater old vcid n → ¬ IsHeld old vcid
 nowhere seats n old vcid all same later = λ there.
     let at : there.0 < length old = slice_get_within old there.0 (Some there.1) there.2.0 in

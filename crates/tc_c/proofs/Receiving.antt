@@ -5,13 +5,13 @@ use Rattle.tc_cltu.specs.declared.block.Mode.{Mode}
 use Rattle.tc_cltu.specs.declared.block.Fate.{Fate}
 use Rattle.tc_c.specs.declared.decoder.DecoderRecord.{DecoderRecord}
 
--- the octet behind those of a block that have come
+-- the next octet of a block stands behind those that have come
 block-more : (h c o : ℕ) (f : List ℕ) → h + c < length f → take (c + 1) (drop h (set f (h + c) o)) ≡ take c (drop h f) ++ o ∷ []
 block-more h c o f room =
     let rest = length-drop h f in
     ap (take (c + 1)) (drop-set-add h f c o) ∙ take_more_set (drop h f) c o (omega arith)
 
--- what was carried stays
+-- the octets that were carried stay the same
 carried-stays : (h c o : ℕ) (f : List ℕ) → take h (set f (h + c) o) ≡ take h f
 carried-stays h c o f = take-set-le h f (h + c) o (omega arith)
 
@@ -27,7 +27,7 @@ more-state mode o d n f g on less room made next =
     let short = lt-ltb (length (take d.count (drop d.carried f))) 7 (omega arith) in
     rw (next, made, on, short, carried-stays d.carried d.count o f, block-more d.carried d.count o f room)
 
--- the octets of a block are all there
+-- after its eighth octet, all octets of a block are there
 full : (h : ℕ) (f : List ℕ) → h + 7 < length f → ltb (length (take 7 (drop h f))) 7 ≡ false
 full h f room =
     let long = block-length h 7 f room in
@@ -43,7 +43,7 @@ pub last-fate : (mode : Mode) (o : ℕ) (d : DecoderRecord) (f g : List ℕ) →
 last-fate mode o d f g on last room made =
     rw (on, made, last, full d.carried f room, carried-stays d.carried 7 o f, block-more d.carried 7 o f room)
 
--- a block that is taken goes behind what was carried
+-- the octets of a block that is taken go behind those that were carried
 pub taken-state : (d n : DecoderRecord) (f x rest information : List ℕ) (o : Option (List ℕ)) → d.decoding ≡ 1 → d.carried + 7 ≤ 1029 → d.carried ≤ length f
     → length information ≡ 7 → o ≡ Some information → n ≡ record d { count = 0; carried = d.carried + 7 } → x ≡ take d.carried f ++ (information ++ rest)
     → reception_of n x ≡ (after_block 1029 (take d.carried f) o).0
@@ -54,7 +54,7 @@ taken-state d n f x rest information o on fits room seven is next whole =
     let cut = take_at (take d.carried f ++ information) rest (d.carried + 7) (omega arith) in
     rw (next, on, is, small, whole, ← append_assoc (take d.carried f) information rest, cut)
 
--- ---- some octets more
+-- ---- several octets
 both : (i n : ℕ) (os : List ℕ) → take (i + n) os ≡ take i os ++ take n (drop i os)
 both i n os = sym (take-append-drop i (take (i + n) os)) ∙ rw (take-take i (i + n) os (omega arith), drop-take i n os) refl
 
@@ -78,7 +78,7 @@ counted-more count mode room i n k m os first state at now h =
     let more : k ≡ counted_in count mode room (state_after mode room first (take i os)) (take n (drop i os)) = now ∙ ap (λ (s : Reception). counted_in count mode room s (take n (drop i os))) at in
     omega (arith, all, more, h)
 
--- nothing ends before the last octet of a code block
+-- no candidate frame ends before the last octet of a code block
 pub block-quiet : (mode : Mode) (room : ℕ) (frame os : List ℕ) → 8 ≤ length os → frames_of mode room (Decoding frame []) (take 7 os) ≡ []
 block-quiet mode room frame (a ∷ b ∷ c ∷ d ∷ e ∷ f ∷ g ∷ h ∷ os) some = refl
 block-quiet mode room frame _ some = absurd (omega arith)

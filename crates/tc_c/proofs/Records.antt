@@ -1,4 +1,4 @@
--- What a record keeps is a FARM-1.
+-- A record from which a FARM-1 can be read is that FARM-1's.
 use Rattle.tc_c.proofs.Names.{rules, arith, ◌≡◌, ℕ, ◌<◌, Bool, true, Result, Ok, Err, refl, if◌then◌else◌, common_steps, Report, Machine, BadWidth, IsFarm, is_width, with_ok, report_of, farm_of, agrees}
 use Rattle.tc_link.specs.Window.{IsWidth}
 use Rattle.tc_c.specs.declared.status.Status.{Status}
@@ -10,7 +10,7 @@ few kept report e = search (rules, arith) steps 1000000
 pub agreed : (kept : FarmRecord) (report : Report) → report_of kept ≡ Ok report → agrees report.state report.lockout report.wait report.retransmit ≡ true
 agreed kept report e = grind (arith, common_steps) steps 1000000
 
--- a width and components, each of which can be wanting
+-- a FARM-1 that could be read has an allowed width, and the components that could be read
 parted : (w : Bool) (r : Result Report Status) (width : ℕ) (farm : Machine)
     → (if w then with_ok r (λ report. Ok (record { width = width; report = report })) else Err BadWidth) ≡ Ok farm
     → (w ≡ true) × (r ≡ Ok farm.report) × (farm.width ≡ width)

@@ -1,4 +1,4 @@
--- A seat's channel, once what was lent of it came back.
+-- A seat's channel, once the borrow of it has ended.
 use Rattle.tc_c.proofs.Names.{◌≡◌, ◌≤◌, ◌∙◌, ℕ, List, length, Option, Some, None, OnSome, IfSome, IfNone, ap, BeginsWith, frame_reply_within, LimitedHistory, with_limited_event, limit_of}
 use Rattle.tc_channel.specs.declared.event.Event.TheVariants as Event
 use Rattle.std.proofs.Common.{◌<◌, arith}
@@ -12,7 +12,7 @@ pub left-so : {A : Type 0} (lent : Option A) (held : A) (left : Option LimitedHi
 left-so (Some x) held left new is holds = holds
 left-so None held left new is holds = absurd cc
 
--- after a frame, and after a take
+-- the seat's channel after a frame, and after a take
 pub frame-left : {A : Type 0} (fault : Option A) (octets : List ℕ) (result : ReplyRecord) (held new : LimitedHistory) (left : Option LimitedHistory) → left ≡ Some new
     → IfNone fault ((frame : List ℕ) × BeginsWith octets frame × (result ≡ reply_record (frame_reply_within (limit_of held.limits) held.settings held.journal frame))
     × (new ≡ with_limited_event held (Event.Frame frame)))
@@ -27,7 +27,7 @@ pub take-left : (item : Option (List ℕ)) (old to : List ℕ) (result : Written
 take-left None old to result new after left is each = tt
 take-left (Some octets) old to result new after left is each = λ fits. let done = each fits in (done.0, done.1, is ∙ ap Some done.2)
 
--- where there is no room for an item, it isn't taken, and its length is answered
+-- if there is no room for an item, the item isn't taken, and its length is returned
 pub not-taken : (item : Option (List ℕ)) (room needed : ℕ) (P : List ℕ → Type 0) → IsOver room needed item → IfSome item (λ octets. length octets ≤ room → P octets)
 not-taken None room needed P over = tt
 not-taken (Some octets) room needed P over = λ fits. absurd (omega (arith, over.0, fits))

@@ -1,4 +1,4 @@
--- Says what a channel answers, as records of numbers.
+-- The replies of a channel, as records of numbers.
 use Rattle.std.specs.Prelude.{◌≡◌, ◌⊎◌, ◌++◌, ℕ, List, length, drop, Result, Ok, Err}
 use Rattle.tc_link.specs.Bits.{bit}
 use Rattle.tc_link.specs.declared.Link.{Link}
@@ -66,12 +66,12 @@ count_record count = record { status = code_of Done; count = count }
 abbrev pub no_count : Status → CountRecord
 no_count fault = record { status = code_of fault; count = 0 }
 
--- why no channel can be made of what the records stand for: a flag, else the first fault of the settings
+-- the reason why no channel can be created from these records: a flag, otherwise the first fault of the settings
 abbrev pub IsUnfit : Result Settings Status → Status → Type 0
 IsUnfit (Err flag) fault = fault ≡ flag
 IsUnfit (Ok s) fault = (f : SettingsFault) × IsFault s f × (fault ≡ settings_status f)
 
--- why none is made: that, or out of memory where one can be made
+-- the reason why no channel is created: one of those above, or running out of memory if a channel can be created
 abbrev pub IsRefusedBy : Result Settings Status → Status → Type 0
 IsRefusedBy given fault = IsUnfit given fault ⊎ ((fault ≡ NoMemory) × (s : Settings) × (given ≡ Ok s) × IsAllowed s)
 
@@ -79,27 +79,28 @@ IsRefusedBy given fault = IsUnfit given fault ⊎ ((fault ≡ NoMemory) × (s : 
 abbrev pub limits_given : ℕ → List MapLimit → Limits
 limits_given others maps = record { others = others; maps = maps }
 
--- why no channel can be made of what the records stand for within these limits: a flag, else the first fault of the settings, else
--- that of the limits
+-- the reason why no channel can be created from these records within these limits: a flag, otherwise the first fault of
+-- the settings, otherwise the first fault of the limits
 abbrev pub IsUnfitWithin : Result Settings Status → Limits → Status → Type 0
 IsUnfitWithin (Err flag) limits fault = fault ≡ flag
 IsUnfitWithin (Ok s) limits fault = (f : LimitsFault) × IsFaultWithLimits s limits f × (fault ≡ limits_status f)
 
--- why none is made: that, or out of memory where one can be made
+-- the reason why no channel is created within these limits: one of those above, or running out of memory if a channel
+-- can be created
 abbrev pub IsRefusedWithin : Result Settings Status → Limits → Status → Type 0
 IsRefusedWithin given limits fault = IsUnfitWithin given limits fault ⊎ ((fault ≡ NoMemory) × (s : Settings) × (given ≡ Ok s) × IsAllowed s × AreLimits s limits)
 
 abbrev pub no_octets : Status → WrittenRecord
 no_octets fault = record { status = code_of fault; length = 0 }
 
--- the answer to a buffer that is too short for so many octets
+-- the record for a buffer that is too short for this number of octets
 abbrev pub too_short : ℕ → WrittenRecord
 too_short needed = record { status = code_of NoRoom; length = needed }
 
--- the answer where so many octets were taken
+-- the record of a call that took this number of octets
 abbrev pub taken : ℕ → WrittenRecord
 taken count = record { status = code_of Done; length = count }
 
--- octets at the front of a buffer, whose rest is as it was
+-- the octets are at the front of a buffer, and the rest of the buffer is as it was
 abbrev pub IsCopied : List ℕ → List ℕ → List ℕ → Type 0
 IsCopied octets old new = new ≡ octets ++ drop (length octets) old

@@ -1,4 +1,4 @@
--- CLTUs as octets in a buffer, and why there are none.
+-- CLTUs as octets in a buffer, and the reasons why there are none.
 use Rattle.tc_cltu.specs.declared.writer.CltuFault.{CltuFault}
 use Rattle.tc_cltu.specs.declared.writer.CltuFault.TheVariants as cltus
 use Rattle.tc_c.specs.declared.status.Status.{Status}

@@ -1,4 +1,4 @@
--- A decoder of CLTUs as a record of numbers, and a buffer that has what it holds.
+-- A decoder of CLTUs as a record of numbers, and a buffer with the octets that it holds.
 use Rattle.std.specs.Prelude.{ℕ, ◌==◌, ◌||◌, Bool, true, false, List, [], ◌∷◌, take, drop, Result, Ok, Err, nat_lt, if◌then◌else◌}
 use Rattle.tc_cltu.specs.declared.block.Mode.{Mode}
 use Rattle.tc_cltu.specs.declared.block.Mode.TheVariants.{Detect, Correct}
@@ -15,11 +15,11 @@ abbrev pub mode_of : Bool → Mode
 mode_of true = Correct
 mode_of false = Detect
 
--- the octets that a buffer has: what a CLTU carries at most, and one code block behind that
+-- the number of octets that a buffer needs: the largest number of octets in a CLTU, and one code block behind them
 abbrev pub decoder_room : ℕ
 decoder_room = 1037
 
--- how code blocks are taken by what a record stands for, or the first reason why it stands for no decoder
+-- the mode in which the decoder of a record takes code blocks, or the first reason why the record stands for no decoder
 abbrev pub decoder_allowed : DecoderRecord → ℕ → Mode → Result Mode Status
 decoder_allowed decoder room mode =
     if nat_lt 7 decoder.count || nat_lt most_octets decoder.carried then Err BadDecoder
@@ -32,20 +32,21 @@ decoder_given decoder room =
     with_ok (flag_of decoder.decoding) (λ decoding.
     decoder_allowed decoder room (mode_of correct)))
 
--- where it is: while it decodes, the buffer has what the code blocks carried, and behind that what has come of the next block
+-- The state of a decoder. While it decodes, the buffer has the octets that the code blocks carried, and behind them the
+-- octets of the next block that have come.
 abbrev pub reception_of : DecoderRecord → List ℕ → Reception
 reception_of decoder frame =
     if decoder.decoding == 0 then Searching decoder.last
     else Decoding (take decoder.carried frame) (take decoder.count (drop decoder.carried frame))
 
--- the candidate frames that an answer gives
+-- the candidate frames that a record of octets taken gives
 abbrev pub given_by : DecodedRecord → List ℕ → List (List ℕ)
 given_by answer frame = if answer.ended == 0 then [] else take answer.decoder.carried frame ∷ []
 
--- no octet was taken
+-- the record when no octet was taken
 abbrev pub none_taken : Status → DecoderRecord → DecodedRecord
 none_taken fault decoder = record { status = code_of fault; decoder = decoder; ended = 0; taken = 0; corrected = 0; rejected = 0; overlong = 0 }
 
--- it looks for a start sequence, and no octet came before
+-- the decoder while it looks for a start sequence and no octet came before
 abbrev pub searching : DecoderRecord → DecoderRecord
 searching decoder = record { correct = decoder.correct; decoding = 0; last = 0; count = 0; carried = 0 }

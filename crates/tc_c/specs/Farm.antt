@@ -1,4 +1,4 @@
--- FARM-1 as a record of numbers, and what is asked of it.
+-- FARM-1 as a record of numbers, and the arrivals at it.
 use Rattle.std.specs.Prelude.{◌≡◌, ℕ, ◌<◌, ◌%◌, ◌==◌, ◌&&◌, Bool, true, false, Result, Ok, Err, is_some, nat_lt, if◌then◌else◌}
 use Rattle.tc_link.specs.Bits.{bit}
 use Rattle.tc_link.specs.Window.{IsWidth}
@@ -31,7 +31,7 @@ record_of farm = record {
   retransmit = bit farm.report.retransmit;
 }
 
--- the record of none
+-- the record when there is no FARM-1
 abbrev pub no_record : FarmRecord
 no_record = record { width = 0; state = 0; vr = 0; farm_b = 0; lockout = 0; wait = 0; retransmit = 0 }
 
@@ -44,8 +44,8 @@ state_of number = if number == 1 then Ok S1 else if number == 2 then Ok S2 else 
 abbrev pub flag_of : ℕ → Result Bool Status
 flag_of number = if number == 0 then Ok false else if number == 1 then Ok true else Err BadFlag
 
--- the flags that FARM-1 can have in a state, that is Lockout, Wait and Retransmit: Lockout in S3 alone, Wait in S2 and not in
--- S1, and with Wait Retransmit
+-- The flags that FARM-1 can have in a state, in the order Lockout, Wait, Retransmit. Lockout is set in S3 alone. Wait
+-- is set in S2 and not in S1. When Wait is set, Retransmit is.
 abbrev pub agrees : State → Bool → Bool → Bool → Bool
 agrees S1 false false retransmit = true
 agrees S2 false true true = true
@@ -53,12 +53,12 @@ agrees S3 true false retransmit = true
 agrees S3 true true true = true
 agrees _ _ _ _ = false
 
--- what follows where something could be read
+-- the next result if there is a value, otherwise the fault
 abbrev pub with_ok : {A : Type 0} {B : Type 0} → Result A Status → (A → Result B Status) → Result B Status
 with_ok (Ok x) next = next x
 with_ok (Err fault) next = Err fault
 
--- the components that a record keeps, or the first reason why it keeps none, in this order
+-- the components that a record has, or the first reason in this order why it has none
 abbrev pub report_of : FarmRecord → Result Report Status
 report_of kept =
     with_ok (state_of kept.state) (λ state.
@@ -75,11 +75,11 @@ farm_of kept =
     if is_width kept.width then with_ok (report_of kept) (λ report. Ok (record { width = kept.width; report = report }))
     else Err BadWidth
 
--- FARM-1 that starts
+-- FARM-1 at its start, or the reason why there is none
 abbrev pub first_farm : ℕ → ℕ → Result Machine Status
 first_farm width first = if is_width width then Ok (record { width = width; report = first_report first }) else Err BadWidth
 
--- what comes, by its number: a kind of frame, with an N(S) or a V(R), or a release
+-- the arrival with this number: a kind of frame, with an N(S) or a V(R), or a release
 abbrev pub arrival_by : ℕ → ℕ → Bool → Result Arrival Status
 arrival_by number value room =
     if number == 1 then Ok (Frame (Ad value) room)
@@ -93,18 +93,18 @@ arrival_by number value room =
 abbrev pub arrival_of : ℕ → ℕ → ℕ → Result Arrival Status
 arrival_of number value room = with_ok (flag_of room) (arrival_by number value)
 
--- FARM-1 and what comes to it, where the table has an entry for them, or the first reason why there is no such step
+-- FARM-1 and the arrival, if the table has an entry for them, or the first reason why there is no such step
 abbrev pub asked_of : FarmRecord → ℕ → ℕ → ℕ → Result (Machine × Arrival) Status
 asked_of kept number value room =
     with_ok (farm_of kept) (λ farm.
     with_ok (arrival_of number value room) (λ arrival.
     if is_some (entry (row_of farm.width farm.report.vr arrival) farm.report) then Ok (farm, arrival) else Err NoEntry))
 
--- FARM-1 after it
+-- FARM-1 after the arrival
 abbrev pub left : Machine → Arrival → Machine
 left farm arrival = record { width = farm.width; report = after (row_of farm.width farm.report.vr arrival) farm.report }
 
--- what FARM-1 can be
+-- this is a FARM-1 that a run can leave
 pub record IsFarm (farm : Machine) : Type 0 where
   pub width : IsWidth farm.width
   pub farm_b : farm.report.farm_b < 4

@@ -23,7 +23,7 @@ frame_record frame = record { status = code_of Done; header = header_record (hea
 abbrev pub no_frame : Status → FrameRecord
 no_frame fault = record { status = code_of fault; header = record { scid = 0; vcid = 0; ns = 0; bypass = 0; control = 0 }; length = 0 }
 
--- kinds by their numbers, which are those of what comes to FARM-1
+-- the numbers of kinds, which are those of the arrivals at FARM-1
 abbrev pub kind_number : Kind → ℕ
 kind_number (Ad ns) = 1
 kind_number Bd = 2
@@ -51,7 +51,7 @@ header_in header =
     with_ok (flag_of header.control) (λ control.
     Ok (record { bypass = bypass; control = control; scid = header.scid; vcid = header.vcid; ns = header.ns })))
 
--- the header of a frame that can be written, or the first reason why none can, in this order
+-- the header of a frame that can be written, or the first reason in this order why none can
 abbrev pub header_to_write : HeaderRecord → List ℕ → Result Header Status
 header_to_write header field =
     with_ok (header_in header) (λ read. elim (write_fault_of read field) [ None ↦ Ok read | Some fault ↦ Err (write_status fault) ])

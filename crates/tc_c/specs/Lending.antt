@@ -1,4 +1,4 @@
--- Lent of a place and of a seat is the channel that is there.
+-- The channel that is at a place or in a seat is lent.
 use Rattle.std.specs.Prelude.{◌≡◌, Option, Some, OnSome}
 use Rattle.std.specs.Borrow.{Lends, LendsSo, MutBor, Fml}
 use Rattle.tc_fixed.specs.History.{LimitedHistory}
@@ -11,11 +11,11 @@ use Rattle.tc_c.specs.contracts.seat.Seat.{the_row as seat_row}
 abbrev pub with_channel : Place → LimitedHistory → Place
 with_channel place channel = record place { channel = Some channel }
 
--- once the borrow ends, the channel that it left lies there
+-- once the borrow ends, the place has the channel that the borrow left
 abbrev pub LendsOfPlace : MutBor Place → MutBor LimitedHistory → Fml
 LendsOfPlace place channel = Lends place_row channel_row place channel (with_channel place.now)
 
--- once the borrow ends, the seat holds the channel that it left, or is as it was
+-- once the borrow ends, the seat holds the channel that the borrow left, or is as it was
 abbrev pub LendsOfSeat : MutBor Seat → Option (MutBor LimitedHistory) → Fml
 LendsOfSeat seat lent =
     LendsSo seat_row channel_row seat lent (λ left channel. OnSome lent (left.place.channel ≡ Some channel))

@@ -19,7 +19,7 @@ packet_record packet = record {
   sequence = bits (word_at packet 2) 14 2;
 }
 
--- the record of a packet of so many octets with this header
+-- the record of a packet with this header and this number of octets
 abbrev pub written_packet : ℕ → PacketHeader → PacketRecord
 written_packet n header = record {
   status = code_of Done;

@@ -1,4 +1,4 @@
--- A place owns nothing where no channel lies there, else the same as a box.
+-- A place owns nothing if no channel is there. Otherwise it owns the same memory as a box.
 use base.Fml.{Fml, ftrue}
 use base.Stored.{Coded}
 use denote.RattleType.{RattleType}

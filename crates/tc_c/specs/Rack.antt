@@ -1,4 +1,4 @@
--- Which of the channels in the caller's memory a frame is for, and what becomes of them.
+-- The channel in the caller's memory that a frame is for, and the channels after the frame.
 use Rattle.std.specs.Prelude.{◌≡◌, ◌≢◌, ◌≤◌, ◌⊎◌, ℕ, Bool, true, false, not, List, length, map, slice_get, slice_set, Option, Some}
 use Rattle.tc_link.specs.Bits.{bit}
 use Rattle.tc_link.specs.Frame.{IsWhole, BeginsWith, header_of, fault_of}
@@ -29,12 +29,12 @@ channels_in seats = map (λ (seat : Seat). seat.place.channel) seats
 abbrev pub IsHeldAt : List (Option LimitedHistory) → ℕ → ℕ → LimitedHistory → Type 0
 IsHeldAt channels vcid place h = (slice_get channels place ≡ Some (Some h)) × (h.settings.vcid ≡ vcid)
 
--- it is the first one that has it
+-- the channel at this place is the first one that has this id
 abbrev pub IsFirstWithVcid : List (Option LimitedHistory) → ℕ → ℕ → LimitedHistory → Type 0
 IsFirstWithVcid channels vcid place h =
     IsHeldAt channels vcid place h × ((at : ℕ) (other : LimitedHistory) → IsHeldAt channels vcid at other → place ≤ at)
 
--- one has it
+-- some channel has this id
 abbrev pub IsHeld : List (Option LimitedHistory) → ℕ → Type 0
 IsHeld channels vcid = (place : ℕ) × (h : LimitedHistory) × IsHeldAt channels vcid place h
 
@@ -43,7 +43,7 @@ abbrev pub IsLocatedAmong : List (Option LimitedHistory) → ℕ → List ℕ �
 IsLocatedAmong channels scid octets place frame h =
     BeginsWith octets frame × ((header_of frame).scid ≡ scid) × IsFirstWithVcid channels (header_of frame).vcid place h
 
--- why octets are for none of the channels: the first of these that applies
+-- the reason why octets are for none of the channels: the first of these that applies
 abbrev pub IsLocateFaultAmong : List (Option LimitedHistory) → ℕ → List ℕ → LocateFault → Type 0
 IsLocateFaultAmong channels scid octets (Frame fault) = fault_of octets ≡ Some fault
 IsLocateFaultAmong channels scid octets OtherSpacecraft = (frame : List ℕ) × BeginsWith octets frame × ((header_of frame).scid ≢ scid)
@@ -67,7 +67,7 @@ no_rack_reply fault = record { status = code_of fault; queued = 0; dropped = 0; 
 abbrev pub no_place : Status → PlaceRecord
 no_place fault = record { status = code_of fault; place = 0 }
 
--- what a channel replies to a frame
+-- the reply of a channel to a frame
 abbrev pub replied : LimitedHistory → List ℕ → RackReplyRecord
 replied h frame = rack_reply h.settings.vcid (frame_reply_within (limit_of h.limits) h.settings h.journal frame)
 
@@ -77,7 +77,7 @@ IsTakenIn old scid octets reply new =
     (place : ℕ) × (frame : List ℕ) × (h : LimitedHistory) × IsLocatedAmong old scid octets place frame h
     × (reply ≡ replied h frame) × (new ≡ slice_set old place (Some (with_limited_event h (events.Frame frame))))
 
--- the octets are for none of them, and all are as they were
+-- the octets are for none of the channels, and all channels are as they were
 abbrev pub IsUnlocated : List (Option LimitedHistory) → ℕ → List ℕ → RackReplyRecord → List (Option LimitedHistory) → Type 0
 IsUnlocated old scid octets reply new =
     (fault : LocateFault) × IsLocateFaultAmong old scid octets fault × (reply ≡ no_rack_reply (locate_status fault)) × (new ≡ old)
@@ -85,14 +85,15 @@ IsUnlocated old scid octets reply new =
 abbrev pub IsRackReplied : List (Option LimitedHistory) → ℕ → List ℕ → RackReplyRecord → List (Option LimitedHistory) → Type 0
 IsRackReplied old scid octets reply new = IsTakenIn old scid octets reply new ⊎ IsUnlocated old scid octets reply new
 
--- what becomes of a frame as it ends: with the frame error control field, it is brought without that where it is right
+-- The reply to a frame that may end with a frame error control field. If the field is right, the frame is brought
+-- without it.
 abbrev pub IsEndedReplied : List (Option LimitedHistory) → ℕ → Bool → List ℕ → RackReplyRecord → List (Option LimitedHistory) → Type 0
 IsEndedReplied old scid false frame reply new = IsRackReplied old scid frame reply new
 IsEndedReplied old scid true frame reply new =
     ((plain : List ℕ) × IsWhole plain × (frame ≡ frame_with_field plain) × IsRackReplied old scid plain reply new)
     ⊎ ((fault : FieldFault) × (taking_fault_of frame ≡ Some fault) × (reply ≡ no_rack_reply (field_status fault)) × (new ≡ old))
 
--- a reply, with how long the frame was, and whether more than fill follows it
+-- a reply with the length of the frame, and the flag for more octets behind it than fill
 abbrev pub candidate_reply : RackReplyRecord → ℕ → Bool → CandidateReplyRecord
 candidate_reply reply length more = record {
   status = reply.status;
@@ -109,7 +110,7 @@ candidate_reply reply length more = record {
 abbrev pub no_candidate_reply : Status → CandidateReplyRecord
 no_candidate_reply fault = candidate_reply (no_rack_reply fault) 0 false
 
--- the frame that stands at the front is taken off by its length field, and replied as it ends; or none stands there
+-- either the frame at the front is taken off by its length field and brought to its channel, or no frame stands there
 abbrev pub IsCandidateReplied : List (Option LimitedHistory) → ℕ → Bool → List ℕ → CandidateReplyRecord → List (Option LimitedHistory) → Type 0
 IsCandidateReplied old scid ends octets reply new =
     ((frame : List ℕ) × (rest : List ℕ) × (brought : RackReplyRecord) × IsDelimited octets frame rest × IsEndedReplied old scid ends frame brought new

@@ -1,4 +1,4 @@
--- Says what a call came to, as a number and as a text.
+-- The outcome of a call, as a number and as a text.
 use Rattle.std.specs.Prelude.{ℕ, ◌==◌, List, [], ◌∷◌, Option, Some, None, codes, if◌then◌else◌}
 use Rattle.tc_link.specs.declared.frame.FrameFault.{FrameFault}
 use Rattle.tc_link.specs.declared.frame.FrameFault.TheVariants as frames
@@ -15,10 +15,11 @@ use Rattle.tc_fixed.specs.declared.limits.LimitsFault.TheVariants as limits
 use Rattle.tc_c.specs.declared.status.Status.{Status}
 use Rattle.tc_c.specs.declared.status.Status.TheVariants as st
 
--- each status: its number, and its text in ASCII. 0 is done; from 1 on no frame stands there, or none with a right frame error
--- control field, from 10 on nothing is written, from 20 on FARM-1 refuses, from 30 on CLCWs, from 40 on packets, from 50 on buffers and
--- pointers, from 60 on no channel is made of settings, from 70 on one can't be asked, from 80 on no channel is made with limits, and from
--- 90 on it is of CLTUs and telemetry frames
+-- The number of each status, and its text in ASCII. 0 means that the call is done. From 1 on, no frame stands there, or
+-- none with a right frame error control field. From 10 on, nothing is written. The next ranges are for calls on FARM-1
+-- (from 20 on), on CLCWs (30), on packets (40), and with buffers and pointers (50). From 60 on, no channel is created
+-- from settings. From 70 on, a call on a channel fails. From 80 on, no channel is created with limits. From 90 on, the
+-- status is one of CLTUs and telemetry frames.
 abbrev pub entry_of : Status → ℕ × List ℕ
 entry_of st.Done = (0, codes "done")
 entry_of st.Short = (1, codes "fewer than 5 octets")
@@ -94,7 +95,7 @@ statuses =
     ∷ st.NoMap ∷ st.Empty ∷ st.OtherSpacecraft ∷ st.UnknownChannel ∷ st.BadOthers ∷ st.BadLimitMap ∷ st.DoubleLimit ∷ st.BadLimit
     ∷ st.PlainLimit ∷ st.UnlistedMap ∷ st.LongCltu ∷ st.BadLength ∷ st.NoControl ∷ st.BadDecoder ∷ []
 
--- the first of some that has this number
+-- the first status of a list that has this number
 abbrev pub status_numbered : ℕ → List Status → Option Status
 status_numbered number [] = None
 status_numbered number (status ∷ others) = if number == code_of status then Some status else status_numbered number others
@@ -102,7 +103,7 @@ status_numbered number (status ∷ others) = if number == code_of status then So
 abbrev pub status_of : ℕ → Option Status
 status_of number = status_numbered number statuses
 
--- the faults of frames, by their names
+-- the status with the name of a fault of frames
 abbrev pub frame_status : FrameFault → Status
 frame_status frames.Short = st.Short
 frame_status frames.Version = st.Version
@@ -110,7 +111,7 @@ frame_status frames.Spare = st.Spare
 frame_status frames.LengthSmall = st.LengthSmall
 frame_status frames.Truncated = st.Truncated
 
--- why octets are for none of the channels: the fault of their frame, or another
+-- the reason why octets are for none of the channels: the fault of their frame, or another one
 abbrev pub locate_status : LocateFault → Status
 locate_status (locations.Frame fault) = frame_status fault
 locate_status locations.OtherSpacecraft = st.OtherSpacecraft
@@ -122,7 +123,7 @@ write_status writing.EmptyData = st.EmptyData
 write_status writing.TooLong = st.TooLong
 write_status writing.NoMemory = st.NoMemory
 
--- why a field isn't added, and why none is taken
+-- the reason why a frame error control field isn't added, and the reason why none is taken
 abbrev pub field_status : FieldFault → Status
 field_status (fields.NoFrame fault) = frame_status fault
 field_status fields.Fill = st.Fill
@@ -131,7 +132,7 @@ field_status fields.TooShort = st.NoFecf
 field_status fields.WrongSum = st.WrongFecf
 field_status fields.NoMemory = st.NoMemory
 
--- the faults of settings, by their names
+-- the status with the name of a fault of settings
 abbrev pub settings_status : SettingsFault → Status
 settings_status settings.BadVcid = st.BadVcid
 settings_status settings.BadWindow = st.BadWidth
@@ -145,7 +146,7 @@ settings_status settings.BadUnits = st.BadUnits
 settings_status settings.PlainMap = st.PlainMap
 settings_status settings.NoMemory = st.NoMemory
 
--- the faults of limits, by their names, and those of the settings with them
+-- the status with the name of a fault of limits, or of a fault of the settings with them
 abbrev pub limits_status : LimitsFault → Status
 limits_status (limits.Settings fault) = settings_status fault
 limits_status limits.BadOthers = st.BadOthers

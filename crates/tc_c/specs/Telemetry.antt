@@ -25,7 +25,7 @@ error_of false = Absent
 abbrev pub error_given : ℕ → Result ErrorControl Status
 error_given fecf = with_ok (flag_of fecf) (λ present. Ok (error_of present))
 
--- the header that a record stands for, and the record of one
+-- the header that a record stands for, and the record of a header
 abbrev pub tm_header_in : TmHeaderRecord → TmHeader
 tm_header_in header = record {
   scid = header.scid;
@@ -54,7 +54,8 @@ tm_read_status reading.Version = st.Version
 tm_read_status reading.NoControl = st.NoControl
 tm_read_status reading.WrongSum = st.WrongFecf
 
--- with which frame error control field a frame of so many octets is written, or the first reason why none is
+-- whether a frame of this number of octets is written with a frame error control field, or the first reason why it
+-- can't be written
 abbrev pub tm_allowed : TmHeaderRecord → ℕ → ErrorControl → Result ErrorControl Status
 tm_allowed header size error = elim (tm_fault_of error header.scid header.vcid size) [ None ↦ Ok error | Some fault ↦ Err (tm_write_status fault) ]
 
@@ -65,7 +66,8 @@ tm_to_write header fecf size = with_ok (error_given fecf) (tm_allowed header siz
 abbrev pub tm_frame_carrying : ErrorControl → TmHeaderRecord → ℕ → ℕ → List ℕ
 tm_frame_carrying error header clcw size = tm_frame error (tm_header_in header) (to_be_bytes w32 clcw) size
 
--- what octets say as a frame, or the first reason why they say nothing: they are at most as many as a frame is written with
+-- the fields of octets as a frame, or the first reason why they are none (no frame is longer than those that can be
+-- written)
 abbrev pub tm_read : List ℕ → ErrorControl → Result TmFields Status
 tm_read octets error =
     if nat_lt most_length (length octets) then Err st.BadLength

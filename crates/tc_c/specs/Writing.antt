@@ -1,4 +1,4 @@
--- Says what is written of records of numbers, or the first reason why nothing is, in the order given.
+-- The octets that are written from records of numbers, or the first reason why none are, in the order given.
 use Rattle.std.specs.Prelude.{ℕ, ◌+◌, ◌==◌, ◌||◌, List, length, Some, Result, Ok, Err, nat_lt, if◌then◌else◌}
 use Rattle.tc_link.specs.declared.frame.Header.{Header}
 use Rattle.tc_link.specs.declared.command.Command.{Command}
@@ -20,7 +20,7 @@ packet_header_in header =
     with_ok (flag_of header.secondary) (λ secondary.
     Ok (record { telecommand = telecommand; secondary = secondary; apid = header.apid; flags = header.sequence; count = header.count })))
 
--- a header of which a packet with this packet data field is written
+-- the header with which a packet with this packet data field can be written, or the first reason why none can
 abbrev pub packet_allowed : List ℕ → PacketHeader → Result PacketHeader Status
 packet_allowed field header =
     if nat_lt 2047 header.apid || (nat_lt 16383 header.count || nat_lt 3 header.flags) then Err BadField
@@ -31,7 +31,8 @@ packet_allowed field header =
 abbrev pub packet_to_write : PacketHeaderRecord → List ℕ → Result PacketHeader Status
 packet_to_write header field = with_ok (packet_header_in header) (packet_allowed field)
 
--- the header of the frame that carries the segment at a place of a unit, by that of the first one; no Type-C frame has a segment header
+-- the header of the frame that carries the segment at a place of a unit, by the header of the first one (no Type-C
+-- frame has a segment header)
 abbrev pub segment_allowed : ℕ → ℕ → ℕ → List ℕ → Header → Result Header Status
 segment_allowed map size place unit header =
     if header.control || (nat_lt 1023 header.scid || nat_lt 63 header.vcid) then Err BadField
@@ -49,11 +50,11 @@ segment_to_write header map size place unit = with_ok (header_in header) (segmen
 abbrev pub IsSegmentFrame : List ℕ → Header → ℕ → ℕ → ℕ → List ℕ → Type 0
 IsSegmentFrame frame header map size place unit = IsMadeFrame frame header (Some (segment_at map size place unit)) (piece_at size unit place)
 
--- how many octets it has
+-- the number of octets in the frame of this segment
 abbrev pub segment_length : ℕ → ℕ → List ℕ → ℕ
 segment_length size place unit = length (piece_at size unit place) + 6
 
--- commands by the numbers that their kinds have
+-- the command with this number of a kind
 abbrev pub command_by : ℕ → ℕ → Result Command Status
 command_by kind number = if kind == 3 then Ok Unlock else if kind == 4 then Ok (SetVr number) else Err BadCommand
 

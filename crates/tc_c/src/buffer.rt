@@ -1,4 +1,4 @@
-//! Octets into the caller's buffer.
+//! Writing octets into the caller's buffer.
 
 ghost use Rattle.std.specs.Prelude.{◌≡◌, ◌<◌, ◌≤◌, ◌+◌, ◌∷◌, [], ◌++◌, length, take, drop, IfSome, IfNone};
 ghost use Rattle.tc_c.specs.Channel.{no_octets, taken, too_short};
@@ -6,16 +6,17 @@ ghost use Rattle.tc_c.specs.Status.{code_of, status_of, text_of};
 
 use crate::status::{Status, code, from_number, text};
 
-/// A status with a count of octets.
+/// A status with a number of octets.
 #[repr(C)]
 #[derive(Clone, Copy)]
 pub struct WrittenRecord {
     pub status: u32,
-    /// How many octets stand at the front of the buffer, or how many it would need where it is too short; else 0.
+    /// The number of octets that stand at the front of the buffer, or the number that it would need if it is too short,
+    /// or 0 otherwise.
     pub length: usize,
 }
 
-/// The answer of a call that is refused.
+/// Returns the record of a call that fails with this status.
 pub(crate) fn not_written(fault: Status) -> WrittenRecord
     ensures { result ≡ no_octets fault }
 {
@@ -25,7 +26,7 @@ pub(crate) fn not_written(fault: Status) -> WrittenRecord
     }
 }
 
-/// The answer of a call that wrote so many octets.
+/// Returns the record of a call that wrote this number of octets.
 pub(crate) fn written(length: usize) -> WrittenRecord
     ensures { result ≡ taken length }
 {
@@ -35,7 +36,7 @@ pub(crate) fn written(length: usize) -> WrittenRecord
     }
 }
 
-/// The answer where a buffer is too short for so many octets.
+/// Returns the record of a call whose buffer is too short for this number of octets.
 pub(crate) fn no_room(needed: usize) -> WrittenRecord
     ensures { result ≡ too_short needed }
 {
@@ -45,7 +46,7 @@ pub(crate) fn no_room(needed: usize) -> WrittenRecord
     }
 }
 
-/// Writes two runs of octets to the front of a buffer, one after the other; a shorter buffer stays as it was.
+/// Writes two runs of octets to the front of a buffer, one after the other. A buffer that is too short stays as it was.
 pub(crate) fn put(first: &[u8], second: &[u8], to: &mut [u8]) -> WrittenRecord
     ensures put { length first.now + length second.now ≤ length to.old → result ≡ record { status = code_of Status.Done; length = length first.now + length second.now } }
     ensures octets { length first.now + length second.now ≤ length to.old → take (length first.now + length second.now) to.new ≡ first.now ++ second.now }
@@ -66,8 +67,9 @@ pub(crate) fn put(first: &[u8], second: &[u8], to: &mut [u8]) -> WrittenRecord
 
 /// Writes the text of a status to the front of a buffer, in ASCII, with an octet 0 after it.
 ///
-/// The length counts that octet. Where the buffer is too short the status is NoRoom with the length that is needed, and where
-/// the number is no status it is NoStatus with length 0; then the buffer stays as it was. 64 octets have room for each text.
+/// The length counts that octet. If the buffer is too short, the status is NoRoom, with the length that is needed. If
+/// the number is no status, the status is NoStatus, with length 0. In both cases the buffer stays as it was. 64 octets
+/// have room for each text.
 #[unsafe(no_mangle)]
 pub extern "C" fn tcrx_text_at(number: u32, buffer: &mut [u8]) -> WrittenRecord
     ensures written { IfSome (status_of number) (λ st. length (text_of st) + 1 ≤ length buffer.old → result ≡ record { status = code_of Status.Done; length = length (text_of st) + 1 }) }

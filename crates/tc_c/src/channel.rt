@@ -1,4 +1,4 @@
-//! Frames into a channel that C holds, releases, and packets and units out of it.
+//! Calls on a channel that C holds: it takes in a frame, releases a data field, or is freed.
 
 ghost use Rattle.std.specs.Prelude.{◌≡◌, ◌≢◌, ◌<◌, ◌≤◌, ◌+◌, ℕ, List, [], Some, None, IfSome, IfNone};
 ghost use Rattle.tc_link.specs.Frame.{BeginsWith, fault_of};
@@ -17,14 +17,14 @@ use tc_channel::{Delivery, FrameReply, Tick};
 use tc_fixed::{FixedChannel, NothingReleased};
 use tc_link::read_frame;
 
-/// Reports what became of a frame. Flags are 0 or 1, and each number is 0 where the call is refused.
+/// The outcome for a frame. Flags are 0 or 1. If the call fails, each number is 0.
 #[repr(C)]
 #[derive(Clone, Copy)]
 pub struct ReplyRecord {
     pub status: u32,
-    /// How many packets were queued; 1 for a unit that was queued whole.
+    /// The number of packets that were queued, or 1 for a unit that was queued whole.
     pub queued: u32,
-    /// How many packets were dropped; 1 for a whole unit without room in its queue.
+    /// The number of packets that were dropped, or 1 for a whole unit without room in its queue.
     pub dropped: u32,
     /// The number of FARM-1's event, 1 to 9.
     pub event: u8,
@@ -34,14 +34,14 @@ pub struct ReplyRecord {
     pub rest: u8,
 }
 
-/// Reports what became of a data field that was released. Each number is 0 where the call is refused.
+/// The outcome for a data field that was released. If the call fails, each number is 0.
 #[repr(C)]
 #[derive(Clone, Copy)]
 pub struct DeliveryRecord {
     pub status: u32,
-    /// How many packets were queued; 1 for a unit that was queued whole.
+    /// The number of packets that were queued, or 1 for a unit that was queued whole.
     pub queued: u32,
-    /// How many packets were dropped; 1 for a whole unit without room in its queue.
+    /// The number of packets that were dropped, or 1 for a whole unit without room in its queue.
     pub dropped: u32,
     /// Whether octets were left after the last packet, 0 or 1.
     pub rest: u8,
@@ -95,8 +95,9 @@ fn delivery_refused(fault: Status) -> DeliveryRecord
     }
 }
 
-/// [`tcrx_channel_frame_at`] runs this once with the channel of its seat, and with a count that isn't kept. A step is a packet that is
-/// cut from the unit that the frame ends, or a queue that is looked at; what is refused takes none.
+/// Does the work of [`tcrx_channel_frame_at`], which runs this function once with the channel of its seat and with a
+/// counter that counts nothing. A step is a packet that is cut from the unit that the frame ends, or a queue that is
+/// looked at. A call that fails takes no steps.
 pub fn frame_with_steps<C: Tick>(
     channel: &mut FixedChannel,
     octets: &[u8],
@@ -114,11 +115,11 @@ pub fn frame_with_steps<C: Tick>(
     }
 }
 
-/// Gives the channel the frame at the front of the octets, of whatever virtual channel (CCSDS 232.0-B, 232.1-B). What follows
-/// it is fill.
+/// Brings the frame at the front of the octets to the channel, whatever virtual channel the frame names (CCSDS 232.0-B,
+/// 232.1-B). Octets that follow the frame are fill.
 ///
-/// Refused are a seat with no channel by NoChannel, and octets with which no frame begins by their first fault. Each frame is
-/// answered: no call but the one that makes the channel asks for memory.
+/// The call fails with NoChannel if the seat holds no channel, and with the first fault of the octets if no frame
+/// begins with them. It never runs out of memory, because only the call that creates the channel requests memory.
 #[unsafe(no_mangle)]
 pub extern "C" fn tcrx_channel_frame_at(seat: &mut Seat, octets: &[u8]) -> ReplyRecord
     ensures done { IfSome seat.old.place.channel (λ h. IfNone (fault_of octets.now) ((frame : List ℕ) × BeginsWith octets.now frame × (result ≡ reply_record (frame_reply_within (limit_of h.limits) h.settings h.journal frame)) × (seat.new.place.channel ≡ Some (with_limited_event h (Event.Frame frame))))) }
@@ -132,8 +133,8 @@ pub extern "C" fn tcrx_channel_frame_at(seat: &mut Seat, octets: &[u8]) -> Reply
     }
 }
 
-/// [`tcrx_channel_release_at`] runs this once with the channel of its seat, and with a count that isn't kept. Steps are those of
-/// [`frame_with_steps`].
+/// Does the work of [`tcrx_channel_release_at`], which runs this function once with the channel of its seat and with a
+/// counter that counts nothing. Steps are counted as in [`frame_with_steps`].
 pub fn release_with_steps<C: Tick>(channel: &mut FixedChannel, steps: &mut C) -> DeliveryRecord
     ensures done { buffered_fields_within (limit_of channel.old.limits) channel.old.settings channel.old.journal ≢ [] → (result ≡ delivery_record (release_reply_within (limit_of channel.old.limits) channel.old.settings channel.old.journal)) × (channel.new ≡ with_limited_event channel.old Event.Release) }
     ensures empty { buffered_fields_within (limit_of channel.old.limits) channel.old.settings channel.old.journal ≡ [] → result ≡ no_delivery Status.Empty }
@@ -146,10 +147,11 @@ pub fn release_with_steps<C: Tick>(channel: &mut FixedChannel, steps: &mut C) ->
     }
 }
 
-/// Lets the oldest data field out of the buffer, and queues the unit that it ends: whole where its MAP is chosen, else its
-/// packets.
+/// Releases the oldest data field from the buffer, and queues the unit that the field ends: whole if its MAP is chosen,
+/// otherwise as its packets.
 ///
-/// Refused are a seat with no channel by NoChannel, and an empty buffer by Empty, with the channel as it was.
+/// The call fails with NoChannel if the seat holds no channel, and with Empty if the buffer is empty. The channel then
+/// stays as it was.
 #[unsafe(no_mangle)]
 pub extern "C" fn tcrx_channel_release_at(seat: &mut Seat) -> DeliveryRecord
     ensures done { IfSome seat.old.place.channel (λ h. buffered_fields_within (limit_of h.limits) h.settings h.journal ≢ [] → (result ≡ delivery_record (release_reply_within (limit_of h.limits) h.settings h.journal)) × (seat.new.place.channel ≡ Some (with_limited_event h Event.Release))) }
@@ -163,7 +165,8 @@ pub extern "C" fn tcrx_channel_release_at(seat: &mut Seat) -> DeliveryRecord
     }
 }
 
-/// Frees the channel with all that it holds. Refused is a seat with no channel by NoChannel. The seat then holds none.
+/// Frees the channel with all that it holds, after which the seat holds none. The call fails with NoChannel if the seat
+/// holds no channel.
 #[unsafe(no_mangle)]
 pub extern "C" fn tcrx_channel_free_at(seat: &mut Seat) -> u32
     ensures freed { IfSome seat.old.place.channel (λ _. result ≡ code_of Status.Done) }

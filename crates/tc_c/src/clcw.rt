@@ -1,4 +1,4 @@
-//! CLCWs, made of a record of FARM-1 and read into one of their own.
+//! CLCWs, which are made from a record of FARM-1 and read into a record of their own.
 
 ghost use Rattle.std.specs.Prelude.{◌≡◌, ◌↔◌, IfOk, IfErr};
 ghost use Rattle.tc_link.specs.Clcw.{IsClcw, fields_of};
@@ -10,16 +10,16 @@ use crate::farm::{FarmRecord, farm, flag};
 use crate::status::{Status, code};
 use tc_link::{Link, clcw_word, read_clcw};
 
-/// A status with the word that it allows.
+/// A status with a CLCW.
 #[repr(C)]
 #[derive(Clone, Copy)]
 pub struct ClcwRecord {
     pub status: u32,
-    /// The 32 bits of the CLCW, or 0 where the call is refused.
+    /// The 32 bits of the CLCW, or 0 if the call fails.
     pub word: u32,
 }
 
-/// Has what a CLCW says (CCSDS 232.0-B, 4.2), apart from the fields that are fixed. Flags are 0 or 1.
+/// The fields of a CLCW (CCSDS 232.0-B, 4.2), apart from those that are fixed. Flags are 0 or 1.
 #[repr(C)]
 #[derive(Clone, Copy)]
 pub struct ClcwFieldsRecord {
@@ -39,10 +39,11 @@ pub struct ClcwFieldsRecord {
     pub vr: u8,
 }
 
-/// The CLCW that reports this FARM-1 for a virtual channel (CCSDS 232.0-B, 4.2).
+/// Returns the CLCW that reports this FARM-1 for a virtual channel (CCSDS 232.0-B, 4.2).
 ///
-/// Its status field is 0, and COP-1 is in effect. The channel's id is 0 to 63, the flags of the link are 0 or 1. A record that
-/// no FARM-1 has is refused as by `tcrx_farm_step`, another id by BadVcid, another flag by BadFlag; the word then is 0.
+/// Its status field is 0, and COP-1 is in effect. The channel's id is 0 to 63, and the flags of the link are 0 or 1. If
+/// no FARM-1 has this record, the call fails as `tcrx_farm_step` does. It fails with BadVcid for another id, and with
+/// BadFlag for another flag. The word then is 0.
 #[unsafe(no_mangle)]
 pub extern "C" fn tcrx_clcw(kept: FarmRecord, vcid: u8, no_rf: u8, no_bit_lock: u8) -> ClcwRecord
     ensures word { IfOk (clcw_or_status kept vcid no_rf no_bit_lock) (λ word. result ≡ record { status = code_of Status.Done; word = word }) }
@@ -57,7 +58,7 @@ pub extern "C" fn tcrx_clcw(kept: FarmRecord, vcid: u8, no_rf: u8, no_bit_lock: 
     }
 }
 
-/// The answer of a call that is refused.
+/// Returns the record of a call that fails with this status.
 pub(crate) fn no_word(fault: Status) -> ClcwRecord
     ensures { result ≡ record { status = code_of fault; word = 0 } }
 {
@@ -77,7 +78,7 @@ fn word(kept: FarmRecord, vcid: u8, no_rf: u8, no_bit_lock: u8) -> Result<u32, S
     Ok(clcw_word(&report, vcid, link(no_rf, no_bit_lock)?))
 }
 
-/// The link with these flags.
+/// Returns the link with these flags.
 pub(crate) fn link(no_rf: u8, no_bit_lock: u8) -> Result<Link, Status>
     ensures { result ≡ link_of no_rf no_bit_lock }
 {
@@ -87,9 +88,9 @@ pub(crate) fn link(no_rf: u8, no_bit_lock: u8) -> Result<Link, Status>
     })
 }
 
-/// Reads a word, if it is a CLCW of COP-1: type and version 0, COP 1, and both spares 0.
+/// Reads a word, if it is a CLCW of COP-1: type and version are 0, COP is 1, and both spares are 0.
 ///
-/// Another word is refused by NoClcw, with each other number of the answer 0.
+/// For another word the call fails with NoClcw, and each other number of the record is 0.
 #[unsafe(no_mangle)]
 pub extern "C" fn tcrx_read_clcw(word: u32) -> ClcwFieldsRecord
     ensures status { (result.status ≡ code_of Status.Done) ↔ IsClcw word }

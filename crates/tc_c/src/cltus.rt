@@ -1,4 +1,4 @@
-//! CLTUs, and what they are randomised by, into the caller's buffer.
+//! Writing CLTUs, and adding the random sequence, into the caller's buffer.
 
 ghost use Rattle.std.specs.Prelude.{◌≡◌, ◌<◌, ◌≤◌, ◌+◌, ◌*◌, ◌/◌, ◌++◌, Some, None, length, take, drop, IfSome, IfNone, IfOk, MatchResult, option_map};
 ghost use Rattle.tc_cltu.specs.CodeBlock.{code_block};
@@ -11,12 +11,12 @@ use crate::buffer::{WrittenRecord, no_room, not_written, written};
 use crate::status::Status;
 use tc_cltu::{MOST_OCTETS, START, TAIL, encode_block, randomise};
 
-/// Writes the CLTU that carries a frame, or other octets, to the front of a buffer: the start sequence, the code blocks, with fill in
-/// the last one where it needs some, and the tail sequence (CCSDS 231.0-B).
+/// Writes the CLTU that carries a frame, or other octets, to the front of a buffer. The CLTU has the start sequence,
+/// the code blocks, with fill in the last one if it needs some, and the tail sequence (CCSDS 231.0-B).
 ///
-/// It carries 1 to 1,029 octets, and has 10 octets more than 8 for each 7 of them. Others are refused by EmptyData and LongCltu, with
-/// length 0; then a buffer that is too short by NoRoom, with the length that is needed. A buffer stays as it was where the call is
-/// refused.
+/// A CLTU carries 1 to 1,029 octets. It has 8 octets for each 7 of them, and 10 more. For other numbers of octets the
+/// call fails with EmptyData or LongCltu, with length 0. After that it fails with NoRoom if the buffer is too short,
+/// with the length that is needed. If the call fails, the buffer stays as it was.
 #[unsafe(no_mangle)]
 pub extern "C" fn tcrx_write_cltu_at(frame: &[u8], octets: &mut [u8]) -> WrittenRecord
     ensures written { IfNone (cltu_fault_of frame.now) (length (cltu frame.now) ≤ length octets.old → result ≡ taken (length (cltu frame.now))) }
@@ -37,7 +37,7 @@ pub extern "C" fn tcrx_write_cltu_at(frame: &[u8], octets: &mut [u8]) -> Written
     written(needed)
 }
 
-// That a CLTU can carry as many octets.
+// Checks that a CLTU can carry these octets.
 fn check_carried(octets: &[u8]) -> Result<(), Status>
     ensures fault { MatchResult result (λ _. cltu_fault_of octets.now ≡ None) (λ status. option_map cltu_status (cltu_fault_of octets.now) ≡ Some status) }
     ensures most { IfOk result (λ _. length octets.now ≤ most_octets) }
@@ -51,7 +51,7 @@ fn check_carried(octets: &[u8]) -> Result<(), Status>
     Ok(())
 }
 
-// How many octets the CLTU has.
+// Returns the number of octets in the CLTU.
 fn cltu_length(frame: &[u8]) -> usize
     requires { length frame.now ≤ most_octets }
     ensures { result ≡ length (cltu frame.now) }
@@ -59,7 +59,7 @@ fn cltu_length(frame: &[u8]) -> usize
     8 * ((frame.len() + 6) / 7) + 10
 }
 
-// Writes the CLTU over as many octets as it has.
+// Writes the CLTU over a slice of its length.
 fn write_over(frame: &[u8], made: &mut [u8])
     requires most { length frame.now ≤ most_octets }
     requires all { length made.old ≡ length (cltu frame.now) }
@@ -76,7 +76,7 @@ fn write_over(frame: &[u8], made: &mut [u8])
     put_at(made, end, &TAIL);
 }
 
-// Writes the code block of what is left, with its fill, if anything is left; where it ends.
+// Writes the code block of the octets that are left, with its fill, if any are left. Returns the place behind it.
 fn put_last(made: &mut [u8], at: usize, octets: &[u8]) -> usize
     requires few { length octets.now < 7 }
     requires room { at + 8 * ((length octets.now + 6) / 7) ≤ length made.old }
@@ -90,7 +90,7 @@ fn put_last(made: &mut [u8], at: usize, octets: &[u8]) -> usize
     put_block(made, at, octets)
 }
 
-// Writes the code block of one to seven octets, with their fill; where it ends.
+// Writes the code block of one to seven octets, with their fill. Returns the place behind it.
 fn put_block(made: &mut [u8], at: usize, octets: &[u8]) -> usize
     requires some { 0 < length octets.now }
     requires few { length octets.now ≤ 7 }
@@ -102,7 +102,7 @@ fn put_block(made: &mut [u8], at: usize, octets: &[u8]) -> usize
     put_at(made, at, &encode_block(with_fill(octets)))
 }
 
-// Writes octets from a place on; where they end.
+// Writes octets from a place on. Returns the place behind them.
 fn put_at(made: &mut [u8], at: usize, octets: &[u8]) -> usize
     requires { at + length octets.now ≤ length made.old }
     ensures end { result ≡ at + length octets.now }
@@ -115,7 +115,7 @@ fn put_at(made: &mut [u8], at: usize, octets: &[u8]) -> usize
     at + octets.len()
 }
 
-// One to seven octets, and fill behind them.
+// Returns one to seven octets with fill behind them.
 fn with_fill(octets: &[u8]) -> [u8; 7]
     requires some { 0 < length octets.now }
     requires few { length octets.now ≤ 7 }
@@ -127,11 +127,13 @@ fn with_fill(octets: &[u8]) -> [u8; 7]
     information
 }
 
-/// Writes octets with the random sequence added, from its start on, to the front of a buffer (CCSDS 231.0-B). A sender gives it what a
-/// CLTU is to carry, a receiver each candidate frame: added twice, the sequence changes nothing.
+/// Writes octets with the random sequence added, from its start on, to the front of a buffer (CCSDS 231.0-B). A sender
+/// calls it with the octets that a CLTU is to carry, and a receiver with each candidate frame, because a sequence that
+/// is added twice changes nothing.
 ///
-/// They are 1 to 1,029, as a CLTU carries. Others are refused by EmptyData and LongCltu, with length 0; then a buffer that is too short
-/// by NoRoom, with the length that is needed. A buffer stays as it was where the call is refused.
+/// There are 1 to 1,029 octets, as in a CLTU. For other numbers of octets the call fails with EmptyData or LongCltu,
+/// with length 0. After that it fails with NoRoom if the buffer is too short, with the length that is needed. If the
+/// call fails, the buffer stays as it was.
 #[unsafe(no_mangle)]
 pub extern "C" fn tcrx_randomise_at(given: &[u8], octets: &mut [u8]) -> WrittenRecord
     ensures written { IfNone (cltu_fault_of given.now) (length given.now ≤ length octets.old → result ≡ taken (length given.now)) }

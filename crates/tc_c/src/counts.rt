@@ -21,7 +21,7 @@ use tc_fixed::FixedChannel;
 #[derive(Clone, Copy)]
 pub struct CountRecord {
     pub status: u32,
-    /// The count; 0 where the call is refused.
+    /// The count, or 0 if the call fails.
     pub count: u64,
 }
 
@@ -56,9 +56,10 @@ fn clcw(channel: &FixedChannel, no_rf: u8, no_bit_lock: u8) -> ClcwRecord
     }
 }
 
-/// The CLCW of the channel, with the two flags of the link, 0 or 1 (CCSDS 232.0-B, 4.2).
+/// Returns the CLCW of the channel, with the two flags of the link, 0 or 1 (CCSDS 232.0-B, 4.2).
 ///
-/// Refused are a seat with no channel by NoChannel and another flag by BadFlag; the word then is 0. The channel stays as it was.
+/// The call fails with NoChannel if the seat holds no channel, and with BadFlag for another flag. The word then is 0.
+/// The channel stays as it was.
 #[unsafe(no_mangle)]
 pub extern "C" fn tcrx_channel_clcw_at(seat: &mut Seat, no_rf: u8, no_bit_lock: u8) -> ClcwRecord
     ensures word { IfSome seat.old.place.channel (λ h. IfOk (link_of no_rf no_bit_lock) (λ link. result ≡ record { status = code_of Status.Done; word = clcw_within (limit_of h.limits) h.settings h.journal link })) }
@@ -84,9 +85,10 @@ fn farm_of(channel: &FixedChannel) -> FarmAnswer
     }
 }
 
-/// The record of the channel's FARM-1, as `tcrx_farm_step` and `tcrx_clcw` take it.
+/// Returns the record of the channel's FARM-1, which `tcrx_farm_step` and `tcrx_clcw` can take.
 ///
-/// Refused is a seat with no channel by NoChannel, with each number of the record 0. The channel stays as it was.
+/// The call fails with NoChannel if the seat holds no channel, and each number of the record is then 0. The channel
+/// stays as it was.
 #[unsafe(no_mangle)]
 pub extern "C" fn tcrx_channel_report_at(seat: &mut Seat) -> FarmAnswer
     ensures farm { IfSome seat.old.place.channel (λ h. result ≡ record { status = code_of Status.Done; farm = record_of (record { width = h.settings.width; report = (run_within (limit_of h.limits) h.settings h.journal).report }) }) }
@@ -102,7 +104,8 @@ pub extern "C" fn tcrx_channel_report_at(seat: &mut Seat) -> FarmAnswer
     }
 }
 
-/// How many data fields wait in the buffer. Refused is a seat with no channel by NoChannel. The channel stays as it was.
+/// Returns the number of data fields that wait in the buffer. The call fails with NoChannel if the seat holds no
+/// channel. The channel stays as it was.
 #[unsafe(no_mangle)]
 pub extern "C" fn tcrx_channel_buffered_at(seat: &mut Seat) -> CountRecord
     ensures count { IfSome seat.old.place.channel (λ h. result ≡ count_record (length (buffered_fields_within (limit_of h.limits) h.settings h.journal))) }
@@ -125,8 +128,8 @@ fn packets(channel: &FixedChannel, apid: u16) -> CountRecord
     }
 }
 
-/// How many packets wait in the queue with this APID. Refused are a seat with no channel by NoChannel, and an APID with no queue
-/// by NoQueue. The channel stays as it was.
+/// Returns the number of packets that wait in the queue with this APID. The call fails with NoChannel if the seat holds
+/// no channel, and with NoQueue if no queue has the APID. The channel stays as it was.
 #[unsafe(no_mangle)]
 pub extern "C" fn tcrx_channel_queued_at(seat: &mut Seat, apid: u16) -> CountRecord
     ensures count { IfSome seat.old.place.channel (λ h. IfSome (waiting_packets_within (limit_of h.limits) h.settings h.journal apid) (λ packets. result ≡ count_record (length packets))) }
@@ -150,8 +153,8 @@ fn units(channel: &FixedChannel, map: u8) -> CountRecord
     }
 }
 
-/// How many units wait in the queue of this chosen MAP. Refused are a seat with no channel by NoChannel, and a MAP that isn't
-/// chosen by NoMap. The channel stays as it was.
+/// Returns the number of units that wait in the queue of this chosen MAP. The call fails with NoChannel if the seat
+/// holds no channel, and with NoMap if the MAP isn't chosen. The channel stays as it was.
 #[unsafe(no_mangle)]
 pub extern "C" fn tcrx_channel_units_at(seat: &mut Seat, map: u8) -> CountRecord
     ensures count { IfSome seat.old.place.channel (λ h. IfSome (waiting_units_within (limit_of h.limits) h.settings h.journal map) (λ units. result ≡ count_record (length units))) }
@@ -165,8 +168,8 @@ pub extern "C" fn tcrx_channel_units_at(seat: &mut Seat, map: u8) -> CountRecord
     }
 }
 
-/// How many frames, releases and takes there were; where they are more than 2^64 - 1, that number. Refused is a seat with no
-/// channel by NoChannel. The channel stays as it was.
+/// Returns the number of frames, releases and takes so far, or 2^64 - 1 if there were more. The call fails with
+/// NoChannel if the seat holds no channel. The channel stays as it was.
 #[unsafe(no_mangle)]
 pub extern "C" fn tcrx_channel_events_at(seat: &mut Seat) -> CountRecord
     ensures count { IfSome seat.old.place.channel (λ h. result ≡ count_record (min (length h.journal) (2 ^ 64 - 1))) }

@@ -12,47 +12,52 @@ use crate::farm::flag;
 use crate::status::{Status, code};
 use tc_cltu::{Blocks, Fate, Judged, MOST_OCTETS, Mode, begins, judge};
 
-/// A decoder of CLTUs, apart from what it holds, which is in a buffer. Flags are 0 or 1.
+/// A decoder of CLTUs, apart from the octets that it holds, which are in a buffer. Flags are 0 or 1.
 #[repr(C)]
 #[derive(Clone, Copy)]
 pub struct DecoderRecord {
-    /// Whether one wrong bit of a code block is corrected; else wrong bits are only detected.
+    /// Whether one wrong bit of a code block is corrected. If not, wrong bits are only detected.
     pub correct: u8,
     /// Whether a start sequence has come, and code blocks are decoded.
     pub decoding: u8,
-    /// The octet before, while a start sequence is looked for.
+    /// The last octet so far, while a start sequence is looked for.
     pub last: u8,
-    /// How many octets of the next code block have come, 0 to 7.
+    /// The number of octets of the next code block that have come, 0 to 7.
     pub count: u8,
-    /// How many octets the code blocks carried since the start sequence, which stand at the front of the buffer.
+    /// The number of octets that the code blocks carried since the start sequence. These octets stand at the front of
+    /// the buffer.
     pub carried: u16,
 }
 
-/// Reports what octets came to.
+/// The outcome for octets.
 #[repr(C)]
 #[derive(Clone, Copy)]
 pub struct DecodedRecord {
     pub status: u32,
-    /// The decoder after those that were taken; where the call is refused, as it was given.
+    /// The decoder after the octets that were taken, or the given one if the call fails.
     pub decoder: DecoderRecord,
-    /// Whether the last of them ended a candidate frame: the first `carried` octets of the buffer.
+    /// Whether the last octet that was taken ended a candidate frame, which is the first `carried` octets of the
+    /// buffer.
     pub ended: u8,
-    /// How many were taken.
+    /// The number of octets that were taken.
     pub taken: u64,
-    /// How many code blocks ended in them of which one bit was corrected.
+    /// The number of code blocks that ended in these octets and had one bit corrected.
     pub corrected: u64,
-    /// How many ended in them that were rejected, and aren't the tail sequence.
+    /// The number of code blocks that ended in these octets and were rejected, except for tail sequences.
     pub rejected: u64,
-    /// How many CLTUs carried more in them than 1,029 octets, each of which ends no candidate frame.
+    /// The number of CLTUs that came to carry more than 1,029 octets in these octets. Each of them ends no candidate
+    /// frame.
     pub overlong: u64,
 }
 
-/// Gives a decoder the next octets of a stream (CCSDS 231.0-B), as the `Decoder` of tc_cltu takes them: up to and with the first that
-/// ends a candidate frame, or all. A decoder that begins has only zeros, apart from its mode.
+/// Takes the next octets of a stream (CCSDS 231.0-B), as the `Decoder` of tc_cltu does: all of them, or those up to the
+/// first octet that ends a candidate frame, that octet included. A decoder that begins has only zeros, apart from its
+/// mode.
 ///
-/// The buffer has 1,037 octets: those that a CLTU carries at most, and one code block. Its octets are the decoder's until a candidate
-/// frame has ended. A record with a flag that is neither 0 nor 1 is refused by BadFlag, another one that no decoder has by BadDecoder,
-/// and a shorter buffer by NoRoom; record and buffer then stay as they were.
+/// The buffer has 1,037 octets: those that a CLTU carries at most, and one code block. Its octets belong to the decoder
+/// until a candidate frame has ended. The call fails with BadFlag for a flag that is neither 0 nor 1, with BadDecoder
+/// for another record that no decoder has, and with NoRoom for a shorter buffer. The record and the buffer then stay as
+/// they were.
 #[unsafe(no_mangle)]
 pub extern "C" fn tcrx_cltu_octets_at(
     decoder: DecoderRecord,
@@ -77,10 +82,12 @@ pub extern "C" fn tcrx_cltu_octets_at(
     }
 }
 
-/// Has a decoder look for a start sequence anew, as after a loss of bit lock (CCSDS 231.0-B): code blocks that were taken since the last
-/// one end no candidate frame. The answer has the decoder then, and else only zeros.
+/// Makes a decoder look for a start sequence anew, as after a loss of bit lock (CCSDS 231.0-B). Code blocks that were
+/// taken since the last start sequence end no candidate frame. Returns the decoder after that, with zeros in all other
+/// fields.
 ///
-/// A record with a flag that is neither 0 nor 1 is refused by BadFlag, and another one that no decoder has by BadDecoder.
+/// The call fails with BadFlag for a flag that is neither 0 nor 1, and with BadDecoder for another record that no
+/// decoder has.
 #[unsafe(no_mangle)]
 pub extern "C" fn tcrx_cltu_search(decoder: DecoderRecord) -> DecodedRecord
     ensures searching { IfOk (decoder_given decoder decoder_room) (λ mode. result ≡ none_taken Status.Done (searching decoder)) }
@@ -106,7 +113,7 @@ fn nothing_taken(status: Status, decoder: DecoderRecord) -> DecodedRecord
     }
 }
 
-// It looks for a start sequence, and no octet came before.
+// Returns the decoder while it looks for a start sequence and no octet came before.
 fn searching(decoder: DecoderRecord) -> DecoderRecord
     ensures { result ≡ searching decoder }
 {
@@ -119,7 +126,7 @@ fn searching(decoder: DecoderRecord) -> DecoderRecord
     }
 }
 
-// After octets, up to and with the first that ends a candidate frame.
+// Takes octets up to the first that ends a candidate frame, that octet included, or all of them.
 fn take_octets(mode: Mode, decoder: DecoderRecord, octets: &[u8], frame: &mut [u8]) -> DecodedRecord
     requires count { decoder.count < 8 }
     requires carried { decoder.carried ≤ most_octets }
@@ -175,18 +182,18 @@ fn take_octets(mode: Mode, decoder: DecoderRecord, octets: &[u8], frame: &mut [u
     }
 }
 
-// Reports what an octet came to, or eight.
+// The outcome for one octet, or for eight octets.
 #[derive(Clone, Copy)]
 struct Taken {
-    // after them
+    // the decoder after the octets
     decoder: DecoderRecord,
-    // what became of the code block that it ended
+    // the outcome for the code block that they ended, if any
     fate: Option<Fate>,
-    // whether it ended a candidate frame
+    // whether they ended a candidate frame
     ended: bool,
 }
 
-// After the first octets, and how many these are: eight, where a code block begins with them and all of it is there, and else one.
+// Takes the first octets, and returns how many it took: eight if a whole code block begins with them, otherwise one.
 #[inline(always)]
 fn take_front(mode: Mode, decoder: DecoderRecord, octets: &[u8], frame: &mut [u8]) -> (Taken, usize)
     requires some { 0 < length octets.now }
@@ -214,7 +221,7 @@ fn take_front(mode: Mode, decoder: DecoderRecord, octets: &[u8], frame: &mut [u8
     (take_octet(mode, decoder, octets[0], frame), 1)
 }
 
-// After an octet.
+// Takes an octet.
 fn take_octet(mode: Mode, decoder: DecoderRecord, octet: u8, frame: &mut [u8]) -> Taken
     requires count { decoder.count < 8 }
     requires carried { decoder.carried ≤ most_octets }
@@ -253,7 +260,7 @@ fn take_octet(mode: Mode, decoder: DecoderRecord, octet: u8, frame: &mut [u8]) -
     }
 }
 
-// How the decoder takes code blocks.
+// Returns the mode in which the decoder takes code blocks.
 fn read_decoder(decoder: DecoderRecord, room: usize) -> Result<Mode, Status>
     ensures mode { MatchResult result (λ mode. decoder_given decoder room ≡ Ok mode) (λ fault. decoder_given decoder room ≡ Err fault) }
     ensures count { IfOk result (λ mode. decoder.count < 8) }
@@ -272,7 +279,7 @@ fn read_decoder(decoder: DecoderRecord, room: usize) -> Result<Mode, Status>
     Ok(if correct { Mode::Correct } else { Mode::Detect })
 }
 
-// After an octet while a start sequence is looked for.
+// Takes an octet while a start sequence is looked for.
 fn search(mode: Mode, decoder: DecoderRecord, octet: u8) -> DecoderRecord
     ensures { result ≡ (if is_start mode decoder.last octet then record decoder { decoding = 1; count = 0; carried = 0 } else record decoder { last = octet }) }
 {
@@ -291,7 +298,7 @@ fn search(mode: Mode, decoder: DecoderRecord, octet: u8) -> DecoderRecord
     }
 }
 
-// After the last octet of a code block.
+// Ends a code block whose last octet has come.
 #[inline(always)]
 fn end_block(mode: Mode, decoder: DecoderRecord, block: [u8; 8], frame: &mut [u8]) -> Taken
     requires decoding { decoder.decoding ≡ 1 }

@@ -9,19 +9,19 @@ ghost use Rattle.tc_c.specs.Farm.{no_record, record_of, state_of, flag_of, agree
 use crate::status::{Status, code};
 use tc_link::{Arrival, Command, Farm, Kind, Place, Report, State, Window};
 
-/// FARM-1 as C keeps it: its window's width and its six components (CCSDS 232.1-B, 6.1).
+/// FARM-1 as C keeps it: the width of its window and its six components (CCSDS 232.1-B, 6.1).
 #[repr(C)]
 #[derive(Clone, Copy)]
 pub struct FarmRecord {
     /// The width of the sliding window, even and 2 to 254.
     pub width: u8,
-    /// 1 Open, 2 Wait, 3 Lockout.
+    /// The state: 1 is Open, 2 is Wait, 3 is Lockout.
     pub state: u8,
     /// The receiver frame sequence number V(R), modulo 256.
     pub vr: u8,
     /// The FARM-B counter, 0 to 3.
     pub farm_b: u8,
-    /// 0 or 1, as the next two.
+    /// The Lockout flag. It is 0 or 1, as the two flags after it are.
     pub lockout: u8,
     pub wait: u8,
     pub retransmit: u8,
@@ -35,21 +35,21 @@ pub struct FarmAnswer {
     pub farm: FarmRecord,
 }
 
-/// Reports what FARM-1 made of an arrival, with its record after it.
+/// The outcome of an arrival at FARM-1, with its record after the arrival.
 #[repr(C)]
 #[derive(Clone, Copy)]
 pub struct StepAnswer {
     pub status: u32,
     pub farm: FarmRecord,
-    /// The number of the event, 1 to 10; 0 where the call is refused.
+    /// The number of the event, 1 to 10, or 0 if the call fails.
     pub event: u8,
-    /// 1 where the frame was accepted, else 0.
+    /// 1 if the frame was accepted, otherwise 0.
     pub accepted: u8,
 }
 
-/// Starts FARM-1 in S1, with every flag and the FARM-B counter at 0 and this first V(R) (CCSDS 232.1-B, 6.1).
+/// Starts FARM-1 in S1, with every flag and the FARM-B counter at 0, and with this first V(R) (CCSDS 232.1-B, 6.1).
 ///
-/// The width is even and 2 to 254; for another one the status is BadWidth and each number of the record 0.
+/// The width is even and 2 to 254. For another width the call fails with BadWidth, and each number of the record is 0.
 #[unsafe(no_mangle)]
 pub extern "C" fn tcrx_farm_start(width: u8, first: u8) -> FarmAnswer
     ensures started { IfOk (first_farm width first) (λ farm. result ≡ record { status = code_of Status.Done; farm = record_of farm }) }
@@ -64,7 +64,7 @@ pub extern "C" fn tcrx_farm_start(width: u8, first: u8) -> FarmAnswer
     }
 }
 
-/// The answer of a call that is refused.
+/// Returns the record of a call that fails with this status.
 pub(crate) fn no_farm(fault: Status) -> FarmAnswer
     ensures { result ≡ record { status = code_of fault; farm = no_record } }
 {
@@ -82,13 +82,15 @@ pub(crate) fn no_farm(fault: Status) -> FarmAnswer
     }
 }
 
-/// One step of FARM-1, by its state table (CCSDS 232.1-B, 6.3).
+/// Takes one step of FARM-1, by its state table (CCSDS 232.1-B, 6.3).
 ///
-/// `arrival` is the kind of a frame, 1 to 5 as `tcrx_kind` reports it, or 6 for a buffer release. `number` is the N(S) of an AD
-/// frame and the new V(R) of a Set V(R), and of no matter for all others. `room` is 1 where the buffer has room for an AD
-/// frame, else 0.
-/// A record that no FARM-1 has, another arrival or room, and an arrival for which the table has no entry, that is an expected AD
-/// frame that comes in S2 and is said to find room, are refused by their status, with the record as it was.
+/// `arrival` is the kind of a frame, 1 to 5 as `tcrx_kind` reports it, or 6 for a buffer release. `number` is the N(S)
+/// of an AD frame or the new V(R) of a Set V(R), and has no meaning for other arrivals. `room` is 1 if the buffer has
+/// room for an AD frame, otherwise 0.
+///
+/// The call fails if no FARM-1 has the record, for another arrival or room, and for an arrival for which the table has
+/// no entry, which is an expected AD frame that comes in S2 with `room` 1. Each case has its status. The record then
+/// stays as it was.
 #[unsafe(no_mangle)]
 pub extern "C" fn tcrx_farm_step(
     before: FarmRecord,
@@ -121,7 +123,7 @@ pub extern "C" fn tcrx_farm_step(
     }
 }
 
-/// The record of FARM-1 with these components.
+/// Returns the record of FARM-1 with these components.
 pub(crate) fn record(width: u8, report: Report) -> FarmRecord
     ensures { result ≡ record_of (record { width = width; report = report }) }
 {
@@ -140,7 +142,7 @@ pub(crate) fn record(width: u8, report: Report) -> FarmRecord
     }
 }
 
-/// The flag that a number stands for.
+/// Returns the flag that a number stands for.
 pub(crate) fn flag(number: u8) -> Result<bool, Status>
     ensures flag { result ≡ flag_of number }
     ensures fault { IfErr result (λ fault. fault ≡ Status.BadFlag) }
@@ -163,7 +165,7 @@ fn state(number: u8) -> Result<State, Status>
     }
 }
 
-// Whether some run of FARM-1 leaves this state with these flags.
+// Returns whether some run of FARM-1 leaves this state with these flags.
 fn agree(state: State, lockout: bool, wait: bool, retransmit: bool) -> bool
     ensures { result ≡ agrees state lockout wait retransmit }
 {
@@ -174,7 +176,7 @@ fn agree(state: State, lockout: bool, wait: bool, retransmit: bool) -> bool
     }
 }
 
-// The components that a record keeps.
+// Returns the components that a record has.
 fn report(kept: FarmRecord) -> Result<Report, Status>
     ensures { result ≡ report_of kept }
 {
@@ -198,7 +200,7 @@ fn report(kept: FarmRecord) -> Result<Report, Status>
     })
 }
 
-/// The FARM-1 that a record keeps.
+/// Returns the FARM-1 that a record stands for.
 pub(crate) fn farm(kept: FarmRecord) -> Result<Farm, Status>
     ensures { result ≡ farm_of kept }
 {
@@ -224,7 +226,7 @@ fn arrival(number: u8, value: u8, room: u8) -> Result<Arrival, Status>
     Ok(Arrival::Frame { kind, room })
 }
 
-// Whether the table has an entry: it has none for an expected AD frame that comes in S2 and finds room.
+// Returns whether the table has an entry. It has none for an expected AD frame that comes in S2 and finds room.
 fn has_entry(window: &Window, report: &Report, arrival: Arrival) -> bool
     ensures { result ≡ is_some (entry (row_of window.now report.now.vr arrival) report.now) }
 {
@@ -237,7 +239,7 @@ fn has_entry(window: &Window, report: &Report, arrival: Arrival) -> bool
     }
 }
 
-// Reads what C asks for: FARM-1 and what comes to it.
+// Reads the arguments of a call from C: a FARM-1 and an arrival.
 fn asked(kept: FarmRecord, number: u8, value: u8, room: u8) -> Result<(Farm, Arrival), Status>
     ensures asked { result ≡ asked_of kept number value room }
     ensures width { IfOk result (λ asked. asked.0.width ≡ kept.width) }

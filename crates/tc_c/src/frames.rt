@@ -1,4 +1,4 @@
-//! Transfer frames at the front of octets, and into a buffer.
+//! Reading transfer frames at the front of octets, and writing them into a buffer.
 
 ghost use Rattle.std.specs.Prelude.{◌≡◌, ◌<◌, ◌≤◌, ◌+◌, ◌++◌, ℕ, List, length, take, drop, IfSome, IfNone, IfOk, IfErr, MatchResult, Err};
 ghost use Rattle.tc_link.specs.Frame.{IsFrame, BeginsWith, header_of, fault_of};
@@ -11,7 +11,7 @@ use crate::farm::flag;
 use crate::status::{Status, code, frame_fault, write_fault};
 use tc_link::{Command, Header, Kind, kind, read_frame, written_header};
 
-/// Has what the primary header of a frame says, apart from its length (CCSDS 232.0-B, 4.1.2). Flags are 0 or 1.
+/// The fields of a frame's primary header, apart from its length (CCSDS 232.0-B, 4.1.2). Flags are 0 or 1.
 #[repr(C)]
 #[derive(Clone, Copy)]
 pub struct HeaderRecord {
@@ -21,37 +21,40 @@ pub struct HeaderRecord {
     pub vcid: u8,
     /// The frame sequence number N(S).
     pub ns: u8,
-    /// The bypass flag: Type-B frames have it.
+    /// The bypass flag, which is set in Type-B frames.
     pub bypass: u8,
-    /// The control command flag: Type-C frames have it.
+    /// The control command flag, which is set in Type-C frames.
     pub control: u8,
 }
 
-/// The frame at the front of octets, by its header and its length.
+/// The header and the length of the frame at the front of octets.
 #[repr(C)]
 #[derive(Clone, Copy)]
 pub struct FrameRecord {
     pub status: u32,
     pub header: HeaderRecord,
-    /// How many octets the frame has, 6 to 1,024, of which the first 5 are its header; 0 where no frame stands there.
+    /// The number of octets in the frame, 6 to 1,024, of which the first 5 are its header. It is 0 if no frame stands
+    /// there.
     pub length: u16,
 }
 
-/// Reports what kind the frame at the front of octets is.
+/// The kind of the frame at the front of octets.
 #[repr(C)]
 #[derive(Clone, Copy)]
 pub struct KindRecord {
     pub status: u32,
-    /// 1 Type-AD, 2 Type-BD, 3 Unlock, 4 Set V(R), 5 invalid; 0 where no frame stands there.
+    /// The number of the kind: 1 is Type-AD, 2 is Type-BD, 3 is Unlock, 4 is Set V(R), 5 is invalid. It is 0 if no
+    /// frame stands there.
     pub kind: u8,
-    /// The N(S) of a Type-AD frame, the new V(R) of a Set V(R), else 0.
+    /// The N(S) of a Type-AD frame, the new V(R) of a Set V(R), or 0 for other kinds.
     pub number: u8,
 }
 
-/// Reads the frame at the front of the octets (CCSDS 232.0-B, 4.1). What follows it is fill, whatever it is.
+/// Reads the frame at the front of the octets (CCSDS 232.0-B, 4.1). Octets that follow the frame are fill, whatever
+/// they are.
 ///
-/// Where no frame stands there the status is the first fault of the octets, Short, Version, Spare, LengthSmall or Truncated,
-/// with each other number of the answer 0.
+/// If no frame stands there, the call fails with the first fault of the octets, which is Short, Version, Spare,
+/// LengthSmall or Truncated. Each other number of the record is then 0.
 #[unsafe(no_mangle)]
 pub extern "C" fn tcrx_read_frame_at(octets: &[u8]) -> FrameRecord
     ensures frame { IfNone (fault_of octets.now) ((frame : List ℕ) × BeginsWith octets.now frame × (result ≡ frame_record frame)) }
@@ -89,9 +92,11 @@ fn reported(header: Header) -> HeaderRecord
     }
 }
 
-/// Reports what kind the frame at the front of the octets is, by its two flags and its data field (CCSDS 232.0-B, 4.1.2.3).
+/// Returns the kind of the frame at the front of the octets, by its two flags and its data field (CCSDS 232.0-B,
+/// 4.1.2.3).
 ///
-/// Its answer is what `tcrx_farm_step` takes. Where no frame stands there it is refused as by `tcrx_read_frame`.
+/// `tcrx_farm_step` takes the kind and the number as they are returned. If no frame stands there, the call fails as
+/// `tcrx_read_frame` does.
 #[unsafe(no_mangle)]
 pub extern "C" fn tcrx_kind_at(octets: &[u8]) -> KindRecord
     ensures kind { IfNone (fault_of octets.now) ((frame : List ℕ) × BeginsWith octets.now frame × (result ≡ kind_record (kind_of (header_of frame) (drop 5 frame)))) }
@@ -124,11 +129,12 @@ fn kind_reported(kind: Kind) -> KindRecord
     }
 }
 
-/// Writes the frame of this header and this data field to the front of a buffer (CCSDS 232.0-B, 4.1).
+/// Writes the frame with this header and this data field to the front of a buffer (CCSDS 232.0-B, 4.1).
 ///
-/// The data field has 1 to 1,019 octets, and the frame 5 more. Refused are a flag that is neither 0 nor 1 by BadFlag, ids over
-/// their bounds by BadField, and data fields of other lengths by EmptyData and TooLong, with length 0; then a buffer that is too
-/// short by NoRoom, with the length that is needed. A buffer stays as it was where the call is refused.
+/// The data field has 1 to 1,019 octets, and the frame has 5 more. The call fails with BadFlag for a flag that is
+/// neither 0 nor 1, with BadField for ids over their bounds, and with EmptyData or TooLong for data fields of other
+/// lengths, with length 0. After that it fails with NoRoom if the buffer is too short, with the length that is needed.
+/// If the call fails, the buffer stays as it was.
 #[unsafe(no_mangle)]
 pub extern "C" fn tcrx_write_frame_at(
     header: HeaderRecord,
@@ -147,7 +153,7 @@ pub extern "C" fn tcrx_write_frame_at(
     }
 }
 
-// The header's octets before this data field.
+// Returns the octets of the header before this data field.
 fn front(header: HeaderRecord, field: &[u8]) -> Result<[u8; 5], Status>
     ensures five { IfOk result (λ front. length front ≡ 5) }
     ensures frame { IfOk result (λ front. IfOk (header_to_write header field.now) (λ h. IsFrame (front ++ field.now) h field.now)) }

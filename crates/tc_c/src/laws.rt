@@ -28,7 +28,7 @@ ghost use Rattle.tc_c.specs.Farm.{IsFarm, first_farm, record_of, farm_of, arriva
 ghost use Rattle.tc_c.specs.Frame.{kind_number, kind_value, header_record, frame_record};
 ghost use Rattle.tc_c.specs.Packet.{packet_record, written_packet};
 
-/// Each FARM-1 is read from its record, and a record from which one is read is that one's.
+/// Each FARM-1 can be read from its record. If a FARM-1 can be read from a record, the record is that FARM-1's.
 pub fn a_record_reads_back()
     ensures back { (farm : Machine) → IsFarm farm → farm_of (record_of farm) ≡ Ok farm }
     ensures kept { (kept : FarmRecord) (farm : Machine) → farm_of kept ≡ Ok farm → record_of farm ≡ kept }
@@ -41,7 +41,8 @@ pub fn a_step_leaves_a_farm()
         → IsFarm (left farm arrival) }
 {}
 
-/// What starts is a FARM-1 whose record the next call reads, and so are the components of a channel after each lawful journal.
+/// A FARM-1 that starts can be read from its record by the next call, and so can the components of a channel after each
+/// lawful journal.
 pub fn each_channel_has_a_farm()
     ensures start { (width first : ℕ) (farm : Machine) → first_farm width first ≡ Ok farm → IsFarm farm }
     ensures run { (limits : ℕ → ℕ) (s : Settings) (journal : List Event) → IsAllowed s → IsLawfulWithin limits s journal → IsFarm (record { width = s.width; report = (run_within limits s journal).report }) }
@@ -49,7 +50,7 @@ pub fn each_channel_has_a_farm()
     a_step_leaves_a_farm();
 }
 
-/// The number and the value by which a kind is reported are those by which it comes to FARM-1.
+/// The number and the value by which a kind is reported are those by which `tcrx_farm_step` takes it.
 pub fn each_kind_comes_to_farm_1()
     ensures { (kind : Kind) (room : Bool) → arrival_of (kind_number kind) (kind_value kind) (bit room) ≡ Ok (Frame kind room) }
 {}
@@ -59,8 +60,9 @@ pub fn each_status_has_a_number()
     ensures { (st : Status) → status_of (code_of st) ≡ Some st }
 {}
 
-/// No two faults have one status: those of octets with which no frame begins, of octets that are for none of the channels, of frames
-/// that aren't written, of frame error control fields, of settings, and of settings with limits.
+/// No two faults have the same status. This holds for the faults of octets with which no frame begins, of octets that
+/// are for none of the channels, of frames that aren't written, of frame error control fields, of settings, and of
+/// settings with limits.
 pub fn each_fault_has_a_status_of_its_own()
     ensures frames { (one other : FrameFault) → frame_status one ≡ frame_status other → one ≡ other }
     ensures locations { (one other : LocateFault) → locate_status one ≡ locate_status other → one ≡ other }
@@ -70,8 +72,9 @@ pub fn each_fault_has_a_status_of_its_own()
     ensures limits { (one other : LimitsFault) → limits_status one ≡ limits_status other → one ≡ other }
 {}
 
-/// The numbers are those of `c/tcrx.h`, in its order: those of frames that are read; of what is written; of FARM-1, CLCWs, packets and buffers; of
-/// channels, their settings and their limits; and of CLTUs and telemetry frames.
+/// The numbers of statuses are those of `c/tcrx.h`, in its order. First come the statuses for frames that are read,
+/// then for octets that are written, then for FARM-1, CLCWs, packets and buffers, then for channels, their settings and
+/// their limits, and then for CLTUs and telemetry frames.
 pub fn statuses_have_these_numbers()
     ensures frames { map code_of (st.Done ∷ st.Short ∷ st.Version ∷ st.Spare ∷ st.LengthSmall ∷ st.Truncated ∷ st.Fill ∷ st.NoFecf ∷ st.WrongFecf ∷ []) ≡ 0 ∷ 1 ∷ 2 ∷ 3 ∷ 4 ∷ 5 ∷ 6 ∷ 7 ∷ 8 ∷ [] }
     ensures writing { map code_of (st.BadField ∷ st.EmptyData ∷ st.TooLong ∷ st.NoMemory ∷ st.LongPacket ∷ st.LongUnit ∷ st.LongFrame ∷ st.BadSize ∷ st.NoSegment ∷ st.BadCommand ∷ []) ≡ 10 ∷ 11 ∷ 12 ∷ 13 ∷ 14 ∷ 15 ∷ 16 ∷ 17 ∷ 18 ∷ 19 ∷ [] }
@@ -82,14 +85,15 @@ pub fn statuses_have_these_numbers()
     ensures edges { map code_of (st.LongCltu ∷ st.BadLength ∷ st.NoControl ∷ st.BadDecoder ∷ []) ≡ 90 ∷ 91 ∷ 92 ∷ 93 ∷ [] }
 {}
 
-/// FARM-1 asks for a frame again where it has no room, and Wait stays set with Retransmit until there is room: so there is no Wait without
-/// Retransmit in S2, nor in S3, into which a frame outside the window leads.
+/// FARM-1 sets Retransmit when it has no room for a frame, and Wait stays set together with Retransmit until there is
+/// room. So Wait is never set without Retransmit in S2. This also holds in S3, into which a frame outside the window
+/// leads.
 pub fn no_farm_waits_without_retransmit()
     ensures wait { farm_of (record { width = 10; state = 2; vr = 0; farm_b = 0; lockout = 0; wait = 1; retransmit = 0 }) ≡ Err st.FlagsDisagree }
     ensures lockout { farm_of (record { width = 10; state = 3; vr = 0; farm_b = 0; lockout = 1; wait = 1; retransmit = 0 }) ≡ Err st.FlagsDisagree }
 {}
 
-/// A frame and a packet that were written read back with the header that they were written with.
+/// A frame and a packet that were written can be read back with the header with which they were written.
 pub fn what_was_written_reads_back()
     ensures frame { (frame field : List ℕ) (header : Header) → IsFrame frame header field
         → frame_record frame ≡ record { status = code_of Status.Done; header = header_record header; length = length frame } }

@@ -1,4 +1,5 @@
-//! The channel that a seat holds, lent to a call. What stands here can't reach the handles by which memory is asked for.
+//! The channel that a seat holds, lent to a call. The code in this file can't reach the handles by which memory is
+//! requested.
 
 ghost use Rattle.std.specs.Prelude.{◌≡◌, is_some, option_map};
 ghost use Rattle.std.specs.Borrow.{sem};
@@ -7,7 +8,7 @@ use crate::seat::Seat;
 use tc_channel::Tick;
 use tc_fixed::FixedChannel;
 
-/// A count that isn't kept. It is for the calls that C makes, each of which runs its counted body with it.
+/// A counter that counts no steps. The calls that C makes use it to run the functions that count.
 #[derive(Drop)]
 pub(crate) struct NoSteps;
 
@@ -24,14 +25,14 @@ impl Tick for NoSteps {
 impl Seat {
     ghost use Rattle.tc_c.specs.Lending.{LendsOfSeat};
 
-    /// Whether a channel is held.
+    /// Returns whether a channel is held.
     pub(crate) fn holds(&self) -> bool
         ensures { result ≡ is_some self.now.place.channel }
     {
         self.held
     }
 
-    /// The channel that is held, lent.
+    /// Lends the channel that is held.
     pub(crate) fn lend(&mut self) -> Option<&mut FixedChannel>
         ensures* writes_back { sem 𝓛 (LendsOfSeat self.entry result) }
         ensures channel { option_map (λ held. held.now) result ≡ self.old.place.channel }

@@ -1,9 +1,9 @@
-//! The receiver's calls for C: FARM-1, CLCWs, transfer frames, space packets, CLTUs and telemetry frames over plain numbers,
-//! records and octets, which keep no state and allocate nothing; and a channel that the caller holds by a seat in its own
-//! memory, or many in an array.
+//! The receiver's calls for C. Those for FARM-1, CLCWs, transfer frames, space packets, CLTUs and telemetry frames work
+//! on plain numbers, records and octets, keep no state and allocate nothing. Others work on a channel that the caller
+//! holds by a seat in its own memory, or on many channels in an array of seats.
 //!
-//! Each call answers with a status, alone or as the first field of a record. It keeps no pointer that it is given.
-//! The header `c/tcrx.h` says the same to callers in C.
+//! Each call returns a status, alone or as the first field of a record. No call keeps a pointer that is passed to it.
+//! The header `c/tcrx.h` documents these calls for callers in C.
 #![tactic(auto)]
 
 mod buffer;

@@ -8,14 +8,16 @@ ghost use Rattle.tc_c.specs.Packet.{packet_record, no_packet};
 use crate::status::{Status, code};
 use tc_packet::read_packet;
 
-/// The packet at the front of octets, by what its primary header says (CCSDS 133.0-B, 4.1.3). Flags are 0 or 1.
+/// The fields of the primary header of the packet at the front of octets (CCSDS 133.0-B, 4.1.3), and its length. Flags
+/// are 0 or 1.
 #[repr(C)]
 #[derive(Clone, Copy)]
 pub struct PacketRecord {
     pub status: u32,
-    /// How many octets the packet has, 7 to 65,542, of which the first 6 are its header; 0 where no packet stands there.
+    /// The number of octets in the packet, 7 to 65,542, of which the first 6 are its header. It is 0 if no packet
+    /// stands there.
     pub length: u32,
-    /// The application process identifier, at most 2,047, which marks idle packets.
+    /// The application process identifier, at most 2,047. The identifier 2,047 marks idle packets.
     pub apid: u16,
     /// The sequence count or the name, at most 16,383.
     pub count: u16,
@@ -27,10 +29,10 @@ pub struct PacketRecord {
     pub sequence: u8,
 }
 
-/// Reads the packet at the front of the octets (CCSDS 133.0-B, 4.1). What follows it is of no matter.
+/// Reads the packet at the front of the octets (CCSDS 133.0-B, 4.1). Octets that follow the packet don't matter.
 ///
-/// Secondary header, sequence flags and count are not judged. Where no whole packet of version 0 stands there the status is
-/// NoPacket, with each other number of the answer 0.
+/// The secondary header, the sequence flags and the count aren't checked. If no whole packet of version 0 stands there,
+/// the call fails with NoPacket, and each other number of the record is 0.
 #[unsafe(no_mangle)]
 pub extern "C" fn tcrx_read_packet_at(octets: &[u8]) -> PacketRecord
     ensures packet { result.status ≡ code_of Status.Done → (packet : List ℕ) × IsPacket packet × (packet ≡ take (length packet) octets.now) × (result ≡ packet_record packet) }

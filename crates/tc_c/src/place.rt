@@ -1,4 +1,4 @@
-//! Where a channel lies in memory, or that none does.
+//! The place of a channel in memory, or of none.
 
 ghost use Rattle.std.specs.Prelude.{◌≡◌, Option, Some, None, IsSome};
 ghost use Rattle.std.specs.Borrow.{sem};
@@ -11,7 +11,8 @@ use std::marker::Model;
 use std::ptr;
 use tc_fixed::FixedChannel;
 
-/// The place of a channel, or of none. C passes it on, and never reads or copies it. It is dropped only where no channel is.
+/// The place of a channel, or of none. C passes it on, and never reads or copies it. It is dropped only if it has no
+/// channel.
 #[repr(C)]
 #[derive(Drop)]
 pub struct Place {
@@ -27,7 +28,7 @@ impl Model for Place {
 impl Place {
     ghost use Rattle.tc_c.specs.Lending.{LendsOfPlace};
 
-    /// The place of no channel.
+    /// Creates the place of no channel.
     pub(crate) fn empty(alloc: Global) -> Place
         ensures { result.channel ≡ None }
     {
@@ -37,7 +38,7 @@ impl Place {
         }
     }
 
-    /// The place of a channel in these parts.
+    /// Creates the place of the channel in these parts.
     pub(crate) fn of(parts: Parts<FixedChannel, Global>) -> Place
         ensures { result.channel ≡ Some parts.value }
     {
@@ -48,7 +49,7 @@ impl Place {
         }
     }
 
-    /// The parts of the channel that lies here.
+    /// Returns the parts of the channel that lies here.
     pub(crate) fn into_parts(self) -> Parts<FixedChannel, Global>
         requires { IsSome self.channel }
         ensures { self.channel ≡ Some result.value }
@@ -60,7 +61,7 @@ impl Place {
         }
     }
 
-    /// The channel that lies here, lent.
+    /// Lends the channel that lies here.
     pub(crate) fn lend(&mut self) -> &mut FixedChannel
         requires { IsSome self.old.channel }
         ensures* writes_back { sem 𝓛 (LendsOfPlace self.entry result) }

@@ -1,4 +1,4 @@
-//! The channels of a spacecraft in the caller's memory: which of them a frame is for.
+//! The channels of a spacecraft in the caller's memory, and finding the one that a frame is for.
 
 ghost use Rattle.std.specs.Prelude.{◌≡◌, ◌<◌, ℕ, List, true, false, length, Some, None, IfSome, IfNone, IfOk, MatchOption, MatchResult, option_map};
 ghost use Rattle.tc_link.specs.Frame.{IsWhole, BeginsWith, header_of, fault_of};
@@ -18,14 +18,14 @@ use tc_fecf::{Delimited, delimit, is_fill};
 use tc_link::{LocateFault, each_input_begins_with_one_frame_at_most, read_frame};
 use tc_write::{check_taking, write_without_field};
 
-/// Reports what became of a frame, and of which channel. Flags are 0 or 1, and each number is 0 where the call is refused.
+/// The outcome for a frame, and the channel that took it in. Flags are 0 or 1. If the call fails, each number is 0.
 #[repr(C)]
 #[derive(Clone, Copy)]
 pub struct RackReplyRecord {
     pub status: u32,
-    /// How many packets were queued; 1 for a unit that was queued whole.
+    /// The number of packets that were queued, or 1 for a unit that was queued whole.
     pub queued: u32,
-    /// How many packets were dropped; 1 for a whole unit without room in its queue.
+    /// The number of packets that were dropped, or 1 for a whole unit without room in its queue.
     pub dropped: u32,
     /// The number of FARM-1's event, 1 to 9.
     pub event: u8,
@@ -37,22 +37,22 @@ pub struct RackReplyRecord {
     pub vcid: u8,
 }
 
-/// Reports what became of the frame at the front of a candidate, and what follows it. Flags are 0 or 1. Where the call is refused, each number
-/// is 0, but for the last two of a frame that was found.
+/// The outcome for the frame at the front of a candidate, and a flag for the octets behind it. Flags are 0 or 1. If the
+/// call fails, each number is 0, except that the last two are set if a frame was found.
 #[repr(C)]
 #[derive(Clone, Copy)]
 pub struct CandidateReplyRecord {
     pub status: u32,
-    /// As in [`RackReplyRecord`], down to the virtual channel id.
+    /// The fields of [`RackReplyRecord`], from this one to the virtual channel id.
     pub queued: u32,
     pub dropped: u32,
     pub event: u8,
     pub accepted: u8,
     pub rest: u8,
     pub vcid: u8,
-    /// Whether more follows the frame than can be fill.
+    /// Whether more octets follow the frame than can be fill.
     pub more: u8,
-    /// How many octets the frame has, with its frame error control field.
+    /// The number of octets in the frame, with its frame error control field.
     pub length: u16,
 }
 
@@ -61,7 +61,7 @@ pub struct CandidateReplyRecord {
 #[derive(Clone, Copy)]
 pub struct PlaceRecord {
     pub status: u32,
-    /// The place, from 0 on; 0 where the call is refused.
+    /// The place, from 0 on, or 0 if the call fails.
     pub place: usize,
 }
 
@@ -79,7 +79,7 @@ fn reply_refused(fault: Status) -> RackReplyRecord
     }
 }
 
-// The virtual channel id of the channel in a seat, if one is held there.
+// Returns the virtual channel id of the channel in a seat, if one is held there.
 fn vcid_in(seat: &mut Seat) -> Option<u8>
     ensures vcid { result ≡ option_map (λ (h : LimitedHistory). h.settings.vcid) seat.old.place.channel }
     ensures unchanged { seat.new.place.channel ≡ seat.old.place.channel }
@@ -90,7 +90,7 @@ fn vcid_in(seat: &mut Seat) -> Option<u8>
     }
 }
 
-// The place of the first channel with this id.
+// Returns the place of the first channel with this id.
 fn place_of(seats: &mut [Seat], vcid: u8) -> Option<usize>
     ensures place { MatchOption result (¬ IsHeld (channels_in seats.old) vcid) (λ place. (h : LimitedHistory) × IsFirstWithVcid (channels_in seats.old) vcid place h) }
     ensures bound { IfSome result (λ place. place < length seats.new) }
@@ -104,7 +104,7 @@ fn place_of(seats: &mut [Seat], vcid: u8) -> Option<usize>
     None
 }
 
-// The place of the channel that the frame at the front of the octets is for, and the virtual channel id.
+// Returns the place of the channel that the frame at the front of the octets is for, and its virtual channel id.
 fn located(seats: &mut [Seat], scid: u16, octets: &[u8]) -> Result<(usize, u8), LocateFault>
     ensures located { MatchResult result (λ found. (frame : List ℕ) × (h : LimitedHistory) × IsLocatedAmong (channels_in seats.old) scid octets.now found.0 frame h × ((header_of frame).vcid ≡ found.1)) (IsLocateFaultAmong (channels_in seats.old) scid octets.now) }
     ensures frame { IfOk result (λ _. fault_of octets.now ≡ None) }
@@ -122,8 +122,8 @@ fn located(seats: &mut [Seat], scid: u16, octets: &[u8]) -> Result<(usize, u8), 
     }
 }
 
-// Gives the channel in a seat, which has this id, the frame at the front of the octets: by the call for one channel, so that what a frame
-// does to a channel stands once in the library.
+// Brings the frame at the front of the octets to the channel in a seat, which has this id. It does so by the call for
+// one channel, so that the library has the code for a frame only once.
 fn answer(seat: &mut Seat, vcid: u8, octets: &[u8]) -> RackReplyRecord
     ensures answer { IfSome seat.old.place.channel (λ h. IfNone (fault_of octets.now) ((frame : List ℕ) × BeginsWith octets.now frame × (result ≡ rack_reply vcid (frame_reply_within (limit_of h.limits) h.settings h.journal frame)) × (seat.new.place.channel ≡ Some (with_limited_event h (Event.Frame frame))))) }
 {
@@ -139,7 +139,7 @@ fn answer(seat: &mut Seat, vcid: u8, octets: &[u8]) -> RackReplyRecord
     }
 }
 
-// Brings the frame at the front of the octets to the channel that it is for.
+// Brings the frame at the front of the octets to the channel that the frame is for.
 fn bring(seats: &mut [Seat], scid: u16, octets: &[u8]) -> RackReplyRecord
     ensures answer { IsRackReplied (channels_in seats.old) scid octets.now result (channels_in seats.new) }
 {
@@ -151,7 +151,7 @@ fn bring(seats: &mut [Seat], scid: u16, octets: &[u8]) -> RackReplyRecord
     }
 }
 
-// The same of a frame that ends with a frame error control field, without it.
+// Brings a frame that ends with a frame error control field to its channel, without the field.
 fn bring_checked(seats: &mut [Seat], scid: u16, octets: &[u8]) -> RackReplyRecord
     ensures right { IfNone (taking_fault_of octets.now) ((frame : List ℕ) × IsWhole frame × (octets.now ≡ frame_with_field frame) × IsRackReplied (channels_in seats.old) scid frame result (channels_in seats.new)) }
     ensures wrong { IfSome (taking_fault_of octets.now) (λ fault. (result ≡ no_rack_reply (field_status fault)) × (channels_in seats.new ≡ channels_in seats.old)) }
@@ -165,13 +165,15 @@ fn bring_checked(seats: &mut [Seat], scid: u16, octets: &[u8]) -> RackReplyRecor
     bring(seats, scid, plain)
 }
 
-/// Gives the frame at the front of the octets to the first channel with its virtual channel id, of those that the seats hold, if it is
-/// for the spacecraft (CCSDS 232.0-B, 232.1-B). Where `fecf` is 1 the octets are to be one frame that ends with a frame error control
-/// field, which is checked first and taken off; where it is 0 what follows the frame is fill.
+/// Brings the frame at the front of the octets to the first channel with its virtual channel id among those that the
+/// seats hold, if the frame is for the spacecraft (CCSDS 232.0-B, 232.1-B). If `fecf` is 1, the octets must be one
+/// frame that ends with a frame error control field, which is checked first and removed. If `fecf` is 0, octets that
+/// follow the frame are fill.
 ///
-/// Refused are another `fecf` by BadFlag; then, where it is 1, octets as by `tcrx_check_fecf_at`; octets with which no frame begins by
-/// their first fault; a frame for another spacecraft by OtherSpacecraft, and one for no channel by UnknownChannel. Then each channel
-/// stays as it was. No call but those that make channels asks for memory.
+/// The call fails with BadFlag for another `fecf`. Then, if `fecf` is 1, it fails as `tcrx_check_fecf_at` does. It
+/// fails with the first fault of the octets if no frame begins with them, with OtherSpacecraft for a frame for another
+/// spacecraft, and with UnknownChannel for a frame for no channel. Each channel then stays as it was. Only the calls
+/// that create channels request memory.
 #[unsafe(no_mangle)]
 pub extern "C" fn tcrx_rack_frame_at(
     seats: &mut [Seat],
@@ -192,7 +194,7 @@ pub extern "C" fn tcrx_rack_frame_at(
     }
 }
 
-// A frame as it ends: with the frame error control field, or without.
+// Brings a frame to its channel, with or without a frame error control field at its end.
 fn bring_ended(seats: &mut [Seat], scid: u16, ends: bool, frame: &[u8]) -> RackReplyRecord
     ensures replied { IsEndedReplied (channels_in seats.old) scid ends frame.now result (channels_in seats.new) }
 {
@@ -203,7 +205,7 @@ fn bring_ended(seats: &mut [Seat], scid: u16, ends: bool, frame: &[u8]) -> RackR
     }
 }
 
-// A reply with how long the frame was, and whether more follows.
+// Returns a reply with the length of the frame, and with the flag for the octets behind it.
 fn found(reply: RackReplyRecord, length: u16, more: bool) -> CandidateReplyRecord
     ensures { result ≡ candidate_reply reply length more }
 {
@@ -220,7 +222,7 @@ fn found(reply: RackReplyRecord, length: u16, more: bool) -> CandidateReplyRecor
     }
 }
 
-// Takes the frame off the front of a candidate, and brings it as it ends.
+// Takes the frame off the front of a candidate, and brings it to its channel.
 fn bring_candidate(seats: &mut [Seat], scid: u16, ends: bool, octets: &[u8]) -> CandidateReplyRecord
     ensures replied { IsCandidateReplied (channels_in seats.old) scid ends octets.now result (channels_in seats.new) }
 {
@@ -233,12 +235,13 @@ fn bring_candidate(seats: &mut [Seat], scid: u16, ends: bool, octets: &[u8]) -> 
     }
 }
 
-/// Gives the frame at the front of a candidate, which is what a CLTU carried, to the first channel with its virtual channel id, as
-/// [`tcrx_rack_frame_at`] does: the frame is as long as its length field says, which is looked at first, and what follows it is fill, or
-/// the next frame (frame delimiting and fill removal, and then frame validation: CCSDS 232.0-B).
+/// Brings the frame at the front of a candidate, which is the octets that a CLTU carried, to the first channel with its
+/// virtual channel id, as [`tcrx_rack_frame_at`] does. First the length field is read, which gives the length of the
+/// frame. The octets that follow are fill, or the next frame (frame delimiting and fill removal, and then frame
+/// validation: CCSDS 232.0-B).
 ///
-/// Refused are another `fecf` by BadFlag; then octets with which no frame begins by their first fault; then the frame as by
-/// `tcrx_rack_frame_at`. Then each channel stays as it was.
+/// The call fails with BadFlag for another `fecf`, then with the first fault of the octets if no frame begins with
+/// them, and then as `tcrx_rack_frame_at` does for the frame. Each channel then stays as it was.
 #[unsafe(no_mangle)]
 pub extern "C" fn tcrx_rack_candidate_at(
     seats: &mut [Seat],
@@ -256,8 +259,8 @@ pub extern "C" fn tcrx_rack_candidate_at(
     }
 }
 
-/// The place of the first channel with this virtual channel id, of those that the seats hold. Refused is an id that none has by
-/// UnknownChannel. Each channel stays as it was.
+/// Returns the place of the first channel with this virtual channel id among those that the seats hold. The call fails
+/// with UnknownChannel if none has the id. Each channel stays as it was.
 #[unsafe(no_mangle)]
 pub extern "C" fn tcrx_rack_find_at(seats: &mut [Seat], vcid: u8) -> PlaceRecord
     ensures found { result.status ≡ 0 → (h : LimitedHistory) × IsFirstWithVcid (channels_in seats.old) vcid result.place h }

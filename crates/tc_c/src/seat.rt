@@ -1,4 +1,4 @@
-//! The memory of C's by which it holds a channel: how one comes there, and how it goes.
+//! The part of C's memory by which C holds a channel, and the ways in which a channel comes there and goes.
 
 ghost use Rattle.std.specs.Prelude.{◌≡◌, Some, None, is_some, option_map};
 
@@ -8,7 +8,7 @@ use std::alloc::Global;
 use std::mem::replace;
 use tc_fixed::FixedChannel;
 
-/// A channel that C holds, or none. All zero, it holds none.
+/// A channel that C holds, or none. A seat of zeros holds none.
 #[repr(C)]
 pub struct Seat {
     pub(crate) held: bool,
@@ -55,7 +55,7 @@ impl Seat {
         }
     }
 
-    /// Puts a channel in where none is.
+    /// Puts a channel into a seat that holds none.
     pub(crate) fn put(&mut self, held: Box<FixedChannel>)
         requires { self.old.place.channel ≡ None }
         ensures { self.new.place.channel ≡ Some held.value }
@@ -68,7 +68,7 @@ impl Seat {
         drop(place);
     }
 
-    /// Frees the channel, and says whether one was held.
+    /// Frees the channel, and returns whether one was held.
     pub(crate) fn free(&mut self) -> bool
         ensures freed { result ≡ is_some self.old.place.channel }
         ensures empty { self.new.place.channel ≡ None }

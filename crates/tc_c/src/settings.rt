@@ -15,7 +15,8 @@ use std::alloc::Global;
 use tc_channel::{LentSettings, MapSetting, QueueSetting};
 use tc_fixed::{FixedChannel, LentLimits, MapLimit};
 
-/// Has what a channel is made by, apart from its queues. Those come as lists of `QueueSetting` and `MapSetting`.
+/// The settings from which a channel is created, apart from its queues. Those are given as lists of `QueueSetting` and
+/// `MapSetting`.
 #[repr(C)]
 #[derive(Clone, Copy)]
 pub struct SettingsRecord {
@@ -23,15 +24,15 @@ pub struct SettingsRecord {
     pub vcid: u8,
     /// The width of the sliding window, even and 2 to 254.
     pub width: u8,
-    /// How many data fields the buffer holds, 1 to 64.
+    /// The largest number of data fields that the buffer holds, 1 to 64.
     pub buffer: u8,
     /// V(R) at the start.
     pub first: u8,
-    /// 1 where data fields begin with a segment header, else 0.
+    /// 1 if data fields begin with a segment header, otherwise 0.
     pub segmented: u8,
 }
 
-/// The settings that the records stand for, with the lists lent.
+/// Returns the settings that the records stand for, with the lists lent.
 fn lent<'a>(
     given: SettingsRecord,
     queues: &'a [QueueSetting],
@@ -52,7 +53,7 @@ fn lent<'a>(
     })
 }
 
-/// The same where a channel can be made by them.
+/// Returns the settings that the records stand for, if a channel can be created from them.
 pub(crate) fn checked<'a>(
     given: SettingsRecord,
     queues: &'a [QueueSetting],
@@ -70,7 +71,7 @@ pub(crate) fn checked<'a>(
     }
 }
 
-/// The same where a channel can be made by them within these limits.
+/// Returns the settings that the records stand for, if a channel can be created from them within these limits.
 pub(crate) fn checked_within<'a>(
     given: SettingsRecord,
     queues: &'a [QueueSetting],
@@ -89,7 +90,7 @@ pub(crate) fn checked_within<'a>(
     }
 }
 
-// A channel of the settings that the records stand for.
+// Creates a channel from the settings that the records stand for.
 fn channel(
     alloc: Global,
     given: SettingsRecord,
@@ -109,7 +110,7 @@ fn channel(
     }
 }
 
-// A channel of the settings that the records stand for, within these limits.
+// Creates a channel from the settings that the records stand for, within these limits.
 fn channel_within(
     alloc: Global,
     given: SettingsRecord,
@@ -137,12 +138,13 @@ fn channel_within(
     }
 }
 
-/// Makes a channel of these settings, without limits by MAP, in a seat that holds none, in which it then lies until it is freed. All
-/// memory that it ever has is asked for here: the octets that `tcrx_storage_at` answers, the channel's own block, and a copy of each
-/// list.
+/// Creates a channel with these settings, without limits by MAP, in a seat that holds none. The channel stays there
+/// until it is freed. All memory that it ever has is requested here: the bytes that `tcrx_storage_at` returns, the
+/// channel's own block, and a copy of each list.
 ///
-/// Refused are a seat with a channel by InUse, a flag that is neither 0 nor 1 by BadFlag, the first fault of the settings by its
-/// status, and no memory by NoMemory, where the settings have no fault; then the seat stays as it was.
+/// The call fails with InUse if the seat holds a channel, with BadFlag for a flag that is neither 0 nor 1, and with the
+/// status of the first fault of the settings. It fails with NoMemory if the settings have no fault and there is no
+/// memory. The seat then stays as it was.
 #[unsafe(no_mangle)]
 pub extern "C" fn tcrx_channel_new_at(
     alloc: Global,
@@ -168,10 +170,12 @@ pub extern "C" fn tcrx_channel_new_at(
     }
 }
 
-/// The same within limits by MAP, so that it asks for less memory: the octets that `tcrx_storage_with_limits_at` answers. A unit of
-/// more octets than its MAP's limit is dropped where it ends, and no answer says so.
+/// Creates a channel with these settings within limits by MAP, so that it requests less memory: the bytes that
+/// `tcrx_storage_with_limits_at` returns. A unit with more octets than its MAP's limit is dropped when it ends, and no
+/// reply reports that.
 ///
-/// Refused as by `tcrx_channel_new_at`; after the faults of the settings come those of the limits, each by its status.
+/// The call fails as `tcrx_channel_new_at` does. After the faults of the settings come those of the limits, each with
+/// its status.
 #[unsafe(no_mangle)]
 pub extern "C" fn tcrx_channel_new_with_limits_at(
     alloc: Global,

@@ -1,4 +1,4 @@
-//! Reports what a call came to.
+//! The outcome of a call.
 
 ghost use Rattle.std.specs.Prelude.{◌≡◌, ◌<◌};
 ghost use Rattle.tc_c.specs.Status.{code_of, status_of, text_of, frame_status, locate_status, write_status, field_status, settings_status, limits_status};
@@ -8,9 +8,9 @@ use tc_fecf::FieldFault;
 use tc_fixed::LimitsFault;
 use tc_link::{FrameFault, LocateFault, WriteFault};
 
-/// Reports what a call came to: that it is done, or the first reason why it isn't.
+/// The outcome of a call: that it is done, or the first reason why it isn't.
 ///
-/// Where no frame stands, and where none is written, the names are those of the faults of tc_link.
+/// If no frame stands there, or none is written, the names are those of the faults of tc_link.
 #[derive(Clone, Copy, Debug, PartialEq, Eq)]
 pub enum Status {
     Done,
@@ -43,7 +43,7 @@ pub enum Status {
     NoClcw,
     NoPacket,
     NoRoom,
-    /// A pointer is null: no call of this library answers it, but the guards of the header do.
+    /// A null pointer. No call of this library returns this status, but the guards of the header do.
     Null,
     NoStatus,
     BadBuffer,
@@ -73,7 +73,8 @@ pub enum Status {
     BadDecoder,
 }
 
-/// Each status with its number and its text in ASCII: the one list, which another macro reads for a value.
+/// The list of all statuses, each with its number and its text in ASCII. It is written once, and each reading of a
+/// value by it names another macro (`$read`).
 macro_rules! each_status {
     ($read:ident of $value:expr) => {
         $read! { $value;
@@ -163,28 +164,28 @@ macro_rules! text_of_status {
     };
 }
 
-/// The number of a status.
+/// Returns the number of a status.
 pub(crate) fn code(status: Status) -> u32
     ensures { result ≡ code_of status }
 {
     each_status!(number_of_status of status)
 }
 
-/// The status of a number.
+/// Returns the status with this number.
 pub(crate) fn from_number(number: u32) -> Option<Status>
     ensures { result ≡ status_of number }
 {
     each_status!(status_of_number of number)
 }
 
-/// The text of a status, in ASCII.
+/// Returns the text of a status, in ASCII.
 pub(crate) fn text(status: Status) -> &'static [u8]
     ensures { result.now ≡ text_of status }
 {
     each_status!(text_of_status of status)
 }
 
-/// The status of octets with which no frame begins.
+/// Returns the status for octets with which no frame begins.
 pub(crate) fn frame_fault(fault: FrameFault) -> Status
     ensures status { result ≡ frame_status fault }
     ensures refusal { 0 < code_of result }
@@ -198,7 +199,7 @@ pub(crate) fn frame_fault(fault: FrameFault) -> Status
     }
 }
 
-/// The status of octets that are for none of the channels.
+/// Returns the status for octets that are for none of the channels.
 pub(crate) fn locate_fault(fault: LocateFault) -> Status
     ensures status { result ≡ locate_status fault }
     ensures refusal { 0 < code_of result }
@@ -210,7 +211,7 @@ pub(crate) fn locate_fault(fault: LocateFault) -> Status
     }
 }
 
-/// The status of a header and a data field of which no frame is written.
+/// Returns the status for a header and a data field from which no frame is written.
 pub(crate) fn write_fault(fault: WriteFault) -> Status
     ensures { result ≡ write_status fault }
 {
@@ -222,7 +223,7 @@ pub(crate) fn write_fault(fault: WriteFault) -> Status
     }
 }
 
-/// The status of octets which get no frame error control field, or from which none is taken.
+/// Returns the status for octets to which no frame error control field is added, or from which none is taken.
 pub(crate) fn field_fault(fault: FieldFault) -> Status
     ensures { result ≡ field_status fault }
 {
@@ -236,7 +237,7 @@ pub(crate) fn field_fault(fault: FieldFault) -> Status
     }
 }
 
-/// The status of settings of which no channel is made.
+/// Returns the status for settings from which no channel is created.
 pub(crate) fn settings_fault(fault: SettingsFault) -> Status
     ensures status { result ≡ settings_status fault }
     ensures refusal { 0 < code_of result }
@@ -256,7 +257,7 @@ pub(crate) fn settings_fault(fault: SettingsFault) -> Status
     }
 }
 
-/// The status of settings and limits of which no channel is made.
+/// Returns the status for settings and limits from which no channel is created.
 pub(crate) fn limits_fault(fault: LimitsFault) -> Status
     ensures status { result ≡ limits_status fault }
     ensures refusal { 0 < code_of result }

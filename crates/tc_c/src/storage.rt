@@ -1,4 +1,4 @@
-//! How much memory the making of a channel asks for.
+//! The memory that the creation of a channel requests.
 
 ghost use Rattle.std.specs.Prelude.{◌≡◌, ◌<◌, ◌^◌, ◌-◌, min, IfOk, IfErr, Ok};
 ghost use Rattle.tc_channel.specs.declared.settings.Settings.{Settings as ChannelSettings};
@@ -15,7 +15,7 @@ use crate::status::Status;
 use tc_channel::{MapSetting, QueueSetting};
 use tc_fixed::{LentLimits, MapLimit, storage_of_lent, storage_with_lent};
 
-// The storage of the settings that the records stand for.
+// Returns the storage for the settings that the records stand for.
 fn storage(
     given: SettingsRecord,
     queues: &[QueueSetting],
@@ -28,7 +28,7 @@ fn storage(
     Ok(storage_of_lent(checked(given, queues, maps)?))
 }
 
-// The same within these limits.
+// Returns the storage for the settings that the records stand for, within these limits.
 fn limited_storage(
     given: SettingsRecord,
     queues: &[QueueSetting],
@@ -42,11 +42,11 @@ fn limited_storage(
     Ok(storage_with_lent(checked_within(given, queues, maps, limits)?, limits))
 }
 
-/// How many octets `tcrx_channel_new_at` asks for by these settings. The channel's own block and the copies of both lists are not
-/// counted. No other call of the channel asks for any.
+/// Returns the number of bytes that `tcrx_channel_new_at` requests for these settings. The channel's own block and the
+/// copies of both lists aren't counted. No other call of the channel requests memory.
 ///
-/// Refused are a flag that is neither 0 nor 1 by BadFlag, and the first fault of the settings by its status. The count then is 0.
-/// It takes no memory.
+/// The call fails with BadFlag for a flag that is neither 0 nor 1, and with the status of the first fault of the
+/// settings. The count then is 0. The call takes no memory.
 #[unsafe(no_mangle)]
 pub extern "C" fn tcrx_storage_at(
     given: SettingsRecord,
@@ -62,8 +62,9 @@ pub extern "C" fn tcrx_storage_at(
     }
 }
 
-/// The same of `tcrx_channel_new_with_limits_at`, whose copy of the limits isn't counted either. After the faults of the settings
-/// come those of the limits.
+/// Returns the number of bytes that `tcrx_channel_new_with_limits_at` requests for these settings and limits. The
+/// channel's own block and the copies of the lists and of the limits aren't counted. The call fails as
+/// `tcrx_storage_at` does. After the faults of the settings come those of the limits.
 #[unsafe(no_mangle)]
 pub extern "C" fn tcrx_storage_with_limits_at(
     given: SettingsRecord,

@@ -1,4 +1,4 @@
-//! Packets and units out of a channel that C holds, into the caller's buffer.
+//! Taking packets and units out of a channel that C holds, into the caller's buffer.
 
 ghost use Rattle.std.specs.Prelude.{◌≡◌, ◌<◌, ◌≤◌, ◌+◌, [], length, Some, None, IfSome, IfNone};
 ghost use Rattle.tc_channel.specs.declared.event.Event.TheVariants as Event;
@@ -15,8 +15,8 @@ use crate::status::Status;
 use tc_channel::Tick;
 use tc_fixed::{FixedChannel, NoUnitTaken, NothingTaken};
 
-/// [`tcrx_channel_take_at`] runs this once with the channel of its seat, and with a count that isn't kept. A step is a queue that is
-/// looked at.
+/// Does the work of [`tcrx_channel_take_at`], which runs this function once with the channel of its seat and with a
+/// counter that counts nothing. A step is a queue that is looked at.
 pub fn take_with_steps<C: Tick>(
     channel: &mut FixedChannel,
     apid: u16,
@@ -38,10 +38,11 @@ pub fn take_with_steps<C: Tick>(
     }
 }
 
-/// Takes the oldest packet of the queue with this APID into the front of a buffer.
+/// Takes the oldest packet of the queue with this APID, and copies it to the front of a buffer.
 ///
-/// Refused are a seat with no channel by NoChannel, an APID with no queue by NoQueue, an empty queue by Empty, and a buffer that
-/// is too short by NoRoom with the length that is needed; then the buffer and the channel stay as they were.
+/// The call fails with NoChannel if the seat holds no channel, with NoQueue if no queue has the APID, with Empty if the
+/// queue is empty, and with NoRoom if the buffer is too short, with the length that is needed. The buffer and the
+/// channel then stay as they were.
 #[unsafe(no_mangle)]
 pub extern "C" fn tcrx_channel_take_at(
     seat: &mut Seat,
@@ -61,8 +62,8 @@ pub extern "C" fn tcrx_channel_take_at(
     }
 }
 
-/// [`tcrx_channel_take_unit_at`] runs this once with the channel of its seat, and with a count that isn't kept. A step is a queue that is
-/// looked at.
+/// Does the work of [`tcrx_channel_take_unit_at`], which runs this function once with the channel of its seat and with
+/// a counter that counts nothing. A step is a queue that is looked at.
 pub fn take_unit_with_steps<C: Tick>(
     channel: &mut FixedChannel,
     map: u8,
@@ -84,10 +85,11 @@ pub fn take_unit_with_steps<C: Tick>(
     }
 }
 
-/// Takes the oldest unit of the queue of this chosen MAP into the front of a buffer.
+/// Takes the oldest unit of the queue of this chosen MAP, and copies it to the front of a buffer.
 ///
-/// Refused are a seat with no channel by NoChannel, a MAP that isn't chosen by NoMap, an empty queue by Empty, and a buffer that
-/// is too short by NoRoom with the length that is needed; then the buffer and the channel stay as they were.
+/// The call fails with NoChannel if the seat holds no channel, with NoMap if the MAP isn't chosen, with Empty if the
+/// queue is empty, and with NoRoom if the buffer is too short, with the length that is needed. The buffer and the
+/// channel then stay as they were.
 #[unsafe(no_mangle)]
 pub extern "C" fn tcrx_channel_take_unit_at(
     seat: &mut Seat,

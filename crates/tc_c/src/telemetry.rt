@@ -1,4 +1,4 @@
-//! Telemetry frames that carry a CLCW, into the caller's buffer and out of octets.
+//! Telemetry frames that carry a CLCW, written into the caller's buffer and read from octets.
 
 ghost use Rattle.std.specs.Prelude.{◌≡◌, ◌<◌, ◌≤◌, length, take, drop, Ok, Err, IfOk, IfErr, MatchResult};
 ghost use Rattle.tc_tm.specs.TmFrame.{primary_header as primary, before_sum, tm_frame, least_length};
@@ -11,7 +11,8 @@ use crate::status::{Status, code};
 use tc_fecf::checksum;
 use tc_tm::{ErrorControl, TmFields, TmHeader, TmReadFault, read_tm};
 
-/// Has what the primary header of a telemetry frame says of whose frame it is, and which (CCSDS 132.0-B, 4.1.2).
+/// The fields of a telemetry frame's primary header that name its spacecraft, its channel and its place among their
+/// frames (CCSDS 132.0-B, 4.1.2).
 #[repr(C)]
 #[derive(Clone, Copy)]
 pub struct TmHeaderRecord {
@@ -19,13 +20,13 @@ pub struct TmHeaderRecord {
     pub scid: u16,
     /// The virtual channel id, 0 to 7.
     pub vcid: u8,
-    /// The master channel frame count: how many frames of the spacecraft came before, modulo 256.
+    /// The master channel frame count: the number of frames of the spacecraft that came before, modulo 256.
     pub master_count: u8,
-    /// The virtual channel frame count: how many of the virtual channel.
+    /// The virtual channel frame count: the number of frames of the virtual channel that came before, modulo 256.
     pub channel_count: u8,
 }
 
-/// Has what a telemetry frame with an operational control field says.
+/// The fields of a telemetry frame with an operational control field.
 #[repr(C)]
 #[derive(Clone, Copy)]
 pub struct TmFieldsRecord {
@@ -33,16 +34,17 @@ pub struct TmFieldsRecord {
     /// The operational control field as a word, whose first bit is the most significant one: a CLCW.
     pub clcw: u32,
     pub header: TmHeaderRecord,
-    /// The first header pointer: 2,046 says that all data are idle, 2,047 that no packet begins.
+    /// The first header pointer. The value 2,046 means that all data are idle, and 2,047 means that no packet begins.
     pub pointer: u16,
 }
 
-/// Writes the telemetry frame of so many octets whose operational control field is this CLCW to the front of a buffer
+/// Writes the telemetry frame of `size` octets whose operational control field is this CLCW to the front of a buffer
 /// (CCSDS 132.0-B, 4.1). All other data are idle.
 ///
-/// It has 11 to 2,048 octets, with a frame error control field at least 13. Refused are a flag for that field that is neither 0 nor 1
-/// by BadFlag, ids over their bounds by BadField, and other lengths by BadLength, with length 0; then a buffer that is too short by
-/// NoRoom, with the length that is needed. A buffer stays as it was where the call is refused.
+/// The frame has 11 to 2,048 octets, or at least 13 with a frame error control field. The call fails with BadFlag if
+/// the flag for that field is neither 0 nor 1, with BadField for ids over their bounds, and with BadLength for other
+/// lengths, with length 0. After that it fails with NoRoom if the buffer is too short, with the length that is needed.
+/// If the call fails, the buffer stays as it was.
 #[unsafe(no_mangle)]
 pub extern "C" fn tcrx_write_tm_at(
     header: TmHeaderRecord,
@@ -63,7 +65,7 @@ pub extern "C" fn tcrx_write_tm_at(
     }
 }
 
-// With which frame error control field the frame is written.
+// Returns whether the frame is written with a frame error control field, if it can be written.
 fn allowed(header: TmHeaderRecord, fecf: u8, size: usize) -> Result<ErrorControl, Status>
     ensures error { MatchResult result (λ error. tm_to_write header fecf size ≡ Ok error) (λ fault. tm_to_write header fecf size ≡ Err fault) }
     ensures scid { IfOk result (λ error. header.scid < 1024) }
@@ -94,7 +96,7 @@ fn read_error(fecf: u8) -> Result<ErrorControl, Status>
     }
 }
 
-// Writes the frame to the front of a buffer; a shorter buffer stays as it was.
+// Writes the frame to the front of a buffer. A buffer that is too short stays as it was.
 fn put_tm(
     error: ErrorControl,
     header: TmHeaderRecord,
@@ -118,7 +120,7 @@ fn put_tm(
     written(size)
 }
 
-// Writes the frame over as many octets as it has.
+// Writes the frame over a slice of its length.
 fn write_frame(error: ErrorControl, header: TmHeaderRecord, control: [u8; 4], frame: &mut [u8])
     requires scid { header.scid < 1024 }
     requires vcid { header.vcid < 8 }
@@ -135,7 +137,7 @@ fn write_frame(error: ErrorControl, header: TmHeaderRecord, control: [u8; 4], fr
     }
 }
 
-// Writes what stands before the error control field, over as many octets as that has.
+// Writes the part of the frame before the error control field over a slice of the part's length.
 fn write_before_sum(header: TmHeaderRecord, control: [u8; 4], octets: &mut [u8])
     requires scid { header.scid < 1024 }
     requires vcid { header.vcid < 8 }
@@ -149,7 +151,7 @@ fn write_before_sum(header: TmHeaderRecord, control: [u8; 4], octets: &mut [u8])
     end.copy_from_slice(&control);
 }
 
-// The six octets of the primary header.
+// Returns the six octets of the primary header.
 fn primary_header(header: TmHeaderRecord) -> [u8; 6]
     requires scid { header.scid < 1024 }
     requires vcid { header.vcid < 8 }
@@ -159,12 +161,13 @@ fn primary_header(header: TmHeaderRecord) -> [u8; 6]
     [a, b, header.master_count, header.channel_count, 0x1f, 0xfe]
 }
 
-/// Reads octets that are one telemetry frame, whose length the physical channel has fixed (CCSDS 132.0-B, 4.1). A secondary header and
-/// packets are not looked into.
+/// Reads octets that are one telemetry frame, whose length the physical channel has fixed (CCSDS 132.0-B, 4.1). A
+/// secondary header and packets aren't looked at.
 ///
-/// Refused are a flag for the frame error control field that is neither 0 nor 1 by BadFlag, fewer than 11 octets, with that field 13,
-/// and more than 2,048 by BadLength, another version by Version, a frame without an operational control field by NoControl, and a wrong
-/// frame error control field by WrongFecf, with each other number of the answer 0.
+/// The call fails with BadFlag if the flag for the frame error control field is neither 0 nor 1. It fails with
+/// BadLength for fewer than 11 octets, or 13 with that field, and for more than 2,048. It fails with Version for
+/// another version, with NoControl for a frame without an operational control field, and with WrongFecf for a wrong
+/// frame error control field. Each other number of the record is then 0.
 #[unsafe(no_mangle)]
 pub extern "C" fn tcrx_read_tm_at(fecf: u8, octets: &[u8]) -> TmFieldsRecord
     ensures fields { IfOk (tm_to_read fecf octets.now) (λ fields. result ≡ tm_record fields) }

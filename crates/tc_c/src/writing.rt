@@ -1,4 +1,4 @@
-//! Packets, the segments of a unit, commands and frame error control fields, into the caller's buffer.
+//! Writing packets, the segments of a unit, commands and frame error control fields into the caller's buffer.
 
 ghost use Rattle.std.specs.Prelude.{◌≡◌, ◌<◌, ◌≤◌, ◌+◌, ◌-◌, ◌++◌, Some, length, take, drop, IfSome, IfNone, IfOk, IfErr, MatchResult, Err};
 ghost use Rattle.tc_link.specs.Frame.{IsWhole};
@@ -21,11 +21,12 @@ use tc_write::{
     segment_header, write_segment, write_with_field, write_without_field,
 };
 
-/// Has what the primary header of a packet says, apart from its version and its length (CCSDS 133.0-B, 4.1.3). Flags are 0 or 1.
+/// The fields of a packet's primary header, apart from its version and its length (CCSDS 133.0-B, 4.1.3). Flags are 0
+/// or 1.
 #[repr(C)]
 #[derive(Clone, Copy)]
 pub struct PacketHeaderRecord {
-    /// The application process identifier, at most 2,047, which marks idle packets.
+    /// The application process identifier, at most 2,047. The identifier 2,047 marks idle packets.
     pub apid: u16,
     /// The sequence count or the name, at most 16,383.
     pub count: u16,
@@ -37,11 +38,12 @@ pub struct PacketHeaderRecord {
     pub sequence: u8,
 }
 
-/// Writes the packet of this header and this packet data field to the front of a buffer (CCSDS 133.0-B, 4.1).
+/// Writes the packet with this header and this packet data field to the front of a buffer (CCSDS 133.0-B, 4.1).
 ///
-/// The packet data field has 1 to 65,536 octets, and the packet 6 more. Refused are a flag that is neither 0 nor 1 by BadFlag, other
-/// fields over their bounds by BadField, and packet data fields of other lengths by EmptyData and LongPacket, with length 0; then a
-/// buffer that is too short by NoRoom, with the length that is needed. A buffer stays as it was where the call is refused.
+/// The packet data field has 1 to 65,536 octets, and the packet has 6 more. The call fails with BadFlag for a flag that
+/// is neither 0 nor 1, with BadField for other fields over their bounds, and with EmptyData or LongPacket for packet
+/// data fields of other lengths, with length 0. After that it fails with NoRoom if the buffer is too short, with the
+/// length that is needed. If the call fails, the buffer stays as it was.
 #[unsafe(no_mangle)]
 pub extern "C" fn tcrx_write_packet_at(
     header: PacketHeaderRecord,
@@ -60,7 +62,7 @@ pub extern "C" fn tcrx_write_packet_at(
     }
 }
 
-// The header's octets before this packet data field.
+// Returns the octets of the header before this packet data field.
 fn front(header: PacketHeaderRecord, field: &[u8]) -> Result<[u8; 6], Status>
     ensures six { IfOk result (λ front. length front ≡ 6) }
     ensures packet { IfOk result (λ front. IfOk (packet_to_write header field.now) (λ h. IsPacketOf (front ++ field.now) h field.now)) }
@@ -91,13 +93,18 @@ fn read_packet_header(header: PacketHeaderRecord) -> Result<PacketHeader, Status
     })
 }
 
-/// Writes the frame that carries the segment at this place of a unit, from 0 on, to the front of a buffer (CCSDS 232.0-B, 4.1.3.2.2).
+/// Writes the frame that carries the segment at this place of a unit, from 0 on, to the front of a buffer (CCSDS
+/// 232.0-B, 4.1.3.2.2).
 ///
-/// Each segment carries `size` octets, 1 to 1,018, and the last one what is left. The unit has 1 to 65,542 octets. The header is that
-/// of the first frame; the N(S) of Type-AD frames counts up modulo 256 from there. Refused are a flag that is neither 0 nor 1 by
-/// BadFlag, the header of a Type-C frame, in which no segment header is, and ids over their bounds by BadField and BadMap, another size
-/// by BadSize, units of other lengths by EmptyData and LongUnit, and a place that the unit has no segment at by NoSegment, with length
-/// 0; then a buffer that is too short by NoRoom, with the length that is needed. A buffer stays as it was where the call is refused.
+/// Each segment carries `size` octets, 1 to 1,018, and the last one carries the octets that are left. The unit has 1 to
+/// 65,542 octets. The header is that of the first frame, and the N(S) of Type-AD frames counts up modulo 256 from
+/// there.
+///
+/// The call fails with BadFlag for a flag that is neither 0 nor 1, with BadField for the header of a Type-C frame,
+/// which has no segment header, with BadField or BadMap for ids over their bounds, with BadSize for another size, with
+/// EmptyData or LongUnit for units of other lengths, and with NoSegment if the unit has no segment at the place. The
+/// length is 0 in these cases. After that it fails with NoRoom if the buffer is too short, with the length that is
+/// needed. If the call fails, the buffer stays as it was.
 #[unsafe(no_mangle)]
 pub extern "C" fn tcrx_write_segment_at(
     header: HeaderRecord,
@@ -123,7 +130,7 @@ pub extern "C" fn tcrx_write_segment_at(
     }
 }
 
-// The header of the frame that carries the segment at this place.
+// Returns the header of the frame that carries the segment at this place.
 fn header_at(
     header: HeaderRecord,
     map: u8,
@@ -162,7 +169,8 @@ fn header_at(
     Ok(later_header(&header, place as usize))
 }
 
-// Writes the frame whose data field is this segment to the front of a buffer; a shorter buffer stays as it was.
+// Writes the frame whose data field is this segment to the front of a buffer. A buffer that is too short stays as it
+// was.
 fn put_segment(header: &Header, segment: Segment, piece: &[u8], octets: &mut [u8]) -> WrittenRecord
     requires scid { header.now.scid < 1024 }
     requires vcid { header.now.vcid < 64 }
@@ -184,9 +192,10 @@ fn put_segment(header: &Header, segment: Segment, piece: &[u8], octets: &mut [u8
 
 /// Writes the Type-BC frame with a control command to the front of a buffer (CCSDS 232.0-B, 4.1.3.3). Its N(S) is 0.
 ///
-/// The command is a kind that `tcrx_kind` answers, 3 Unlock or 4 Set V(R), with its number; to Unlock the number is of no matter.
-/// Refused are ids over their bounds by BadField and another kind by BadCommand, with length 0; then a buffer that is too short by
-/// NoRoom, with the length that is needed. A buffer stays as it was where the call is refused.
+/// The command is a kind as `tcrx_kind` returns it, 3 for Unlock or 4 for Set V(R), with its number. For Unlock the
+/// number has no meaning. The call fails with BadField for ids over their bounds and with BadCommand for another kind,
+/// with length 0. After that it fails with NoRoom if the buffer is too short, with the length that is needed. If the
+/// call fails, the buffer stays as it was.
 #[unsafe(no_mangle)]
 pub extern "C" fn tcrx_write_command_at(
     scid: u16,
@@ -218,12 +227,12 @@ pub extern "C" fn tcrx_write_command_at(
     }
 }
 
-/// Writes a frame with its frame error control field to the front of a buffer (CCSDS 232.0-B, 4.1.4). It has two octets more, which its
-/// length counts.
+/// Writes a frame with its frame error control field to the front of a buffer (CCSDS 232.0-B, 4.1.4). The written frame
+/// has two octets more, which its length field counts.
 ///
-/// The octets are to be one frame, of at most 1,022 octets, with nothing after it. Others are refused by Short to Truncated, Fill and
-/// LongFrame, with length 0; then a buffer that is too short by NoRoom, with the length that is needed. A buffer stays as it was where
-/// the call is refused.
+/// The octets must be one frame of at most 1,022 octets, with nothing after it. For other octets the call fails with a
+/// status from Short to Truncated, with Fill or with LongFrame, with length 0. After that it fails with NoRoom if the
+/// buffer is too short, with the length that is needed. If the call fails, the buffer stays as it was.
 #[unsafe(no_mangle)]
 pub extern "C" fn tcrx_add_fecf_at(frame: &[u8], octets: &mut [u8]) -> WrittenRecord
     ensures written { IfNone (adding_fault_of frame.now) (length frame.now + 2 ≤ length octets.old → result ≡ taken (length frame.now + 2)) }
@@ -244,12 +253,13 @@ pub extern "C" fn tcrx_add_fecf_at(frame: &[u8], octets: &mut [u8]) -> WrittenRe
     written(needed)
 }
 
-/// Checks the frame error control field with which a frame ends, and writes the frame without it to the front of a buffer
-/// (CCSDS 232.0-B, 4.1.4): the one frame of which `tcrx_add_fecf` makes these octets.
+/// Checks the frame error control field with which a frame ends, and writes the frame without the field to the front of
+/// a buffer (CCSDS 232.0-B, 4.1.4). It is the one frame from which `tcrx_add_fecf` makes these octets.
 ///
-/// The octets are to be one frame, of at least 8 octets, with nothing after it. Others are refused by Short to Truncated, Fill and
-/// NoFecf, and a wrong field by WrongFecf, with length 0; then a buffer that is too short by NoRoom, with the length that is needed. A
-/// buffer stays as it was where the call is refused.
+/// The octets must be one frame of at least 8 octets, with nothing after it. For other octets the call fails with a
+/// status from Short to Truncated, with Fill or with NoFecf, and for a wrong field with WrongFecf, with length 0. After
+/// that it fails with NoRoom if the buffer is too short, with the length that is needed. If the call fails, the buffer
+/// stays as it was.
 #[unsafe(no_mangle)]
 pub extern "C" fn tcrx_check_fecf_at(frame: &[u8], octets: &mut [u8]) -> WrittenRecord
     ensures written { IfNone (taking_fault_of frame.now) (length frame.now ≤ length octets.old + 2 → result ≡ taken (length frame.now - 2)) }

@@ -1,4 +1,4 @@
--- What the parts own is what the library's call requires, and the box owns it again.
+-- The resources that the parts own are those that the library's call requires, and the box owns them afterwards.
 use Rattle.tc_c.proofs.Walking.{◌≡◌, List, [], ◌∷◌, ◌++◌, refl, sym, subst, ap, T, Body, place, copy, assign, rv_opd, seq, return, a_type, dcons, dnil, inst_fn, Val, vptr, has_ty, WT, SProp, ent, id⊢, ftrue, fsep, flft, WpFn, Item, at_ret, ‵, raw, ◌⊛◌, some, later, ◌$◌, ◌∵◌, !, qed, move, drop, use1, join, split, split3, pick, rewrite, fsplit, fjoin, feq_i, suffices, await, done, whole, sub, stop, fld, no_more, and_then, of_opd, returns, enter, first, blocks, exec, alloc_all, pass_all, free_all, look_at, get, get_in, sets, lands_last, env, ◌⊑◌, fact, tables, no, bounded, RattleType, block_ptr, plain, heard, nothing, only, calls_at_last, triple_of, framed, says, Stays, stay_dropped, walk_of, ends_at, Goes-blank, proved_at, Bx, D, R, P, B, box_ty, word, box_typed, box_out, box_in}
 use Rattle.std.specs.contracts.boxed.Box.from_raw as g
 use Rattle.std.proofs.boxed.Box.from_raw.Met.{met}
@@ -30,7 +30,8 @@ into_box_spec 𝓤 𝓛 𝓜 𝓡 wired X Z LX LZ ghosts d dd allocator glued =
     box_out E ! v vs (λ b o hv e ws fa. fjoin ! $ let w = word E hv b o in
     let G = triple_of 𝓛 (g.signature X Z ghosts d dd) (g.spec X Z ghosts d dd 𝓛 𝓜.mem 𝓡.returns) in
     let y : G.Ghost = ((κs, qs, tt, (a, (block_ptr b o, tt)), (hv ∷ [], (vptr b o ∷ [], tt))), x) in
-    -- [the value with the right to free it; the handle; nothing; the tokens; what outlives them]
+    -- the resources at this point, in order: the value with the right to free it, the handle, nothing, the tokens, and
+    -- those that outlive them
     move ! (4 ∷ []) $ split3 ! $ move ! (2 ∷ []) $ drop ! $ move ! (1 ∷ 2 ∷ []) $ join ! $ move ! (1 ∷ 0 ∷ []) $ join ! $
     move ! (2 ∷ []) $ feq_i ! (List Val) (vptr b o ∷ []) (vptr b o ∷ []) refl $ fjoin ! $ move ! (2 ∷ 0 ∷ []) $ fjoin ! $
     move ! (2 ∷ 0 ∷ []) $ join ! $ join ! $ use1 𝓛 (raw (G.pre y)) (id⊢ 𝓤 _) $
@@ -45,7 +46,7 @@ into_box_spec 𝓤 𝓛 𝓜 𝓡 wired X Z LX LZ ghosts d dd allocator glued =
     use1 𝓛 (later (some (λ (r : D E). (tokens ⊛ ‵ ((B E).own_val r (u ∷ []))) ⊛ some (λ (_ : Unit {0} × (Unit {0} × Unit {0})).
     ‵ (fsep ftrue (fsep ftrue ftrue)) ⊛ (raw (fact 𝓤 (r.value ≡ x)) ⊛ raw (fact 𝓤 (r.alloc ≡ a))))))) (id⊢ 𝓤 _) $
     await ! tt $ pick ! (λ r. split ! $ move ! (1 ∷ []) $ pick ! (λ _. split3 ! $ drop ! $ heard ! (r.value ≡ x) (λ same. drop ! $ split ! $ move ! (1 ∷ []) $
-    -- [the box; the tokens]
+    -- the resources at this point, in order: the box, and the tokens
     box_out E ! r (u ∷ []) (λ b' o' hw at is_box fw. box_in E ! r b' o' r.value at refl $
     rewrite ! 0 (λ (us : List Val). ‵ ((B E).own_val r us)) (sym is_box) refl $
     let typed : T (has_ty (box_ty E) u) × WT u = subst (λ (s : Val). T (has_ty (box_ty E) s) × WT s) (sym (ap only is_box)) (box_typed E hw b' o' fw) in

@@ -1,4 +1,4 @@
--- The box is taken apart by the library's call, and the parts own what it ensures.
+-- The library's call takes the box apart, and the parts own the resources that the call ensures.
 use Rattle.tc_c.proofs.Walking.{◌≡◌, List, [], ◌∷◌, ◌++◌, refl, sym, subst, ap, ◌∙◌, a_type, dcons, dnil, inst_fn, Val, vstruct, of_list, SProp, ent, id⊢, never, fst∗, ftrue, fsep, flft, WpFn, Item, ‵, raw, ◌⊛◌, some, later, ◌$◌, ◌∵◌, !, qed, move, drop, use1, join, split, split3, pick, rewrite, fsplit, fjoin, fpick, feq_l, suffices, await, done, whole, sub, agg, stop, fld, no_more, and_then, of_opd, returns, enter, alloc_all, pass_all, free_all, look_at, get, get_in, sets, lands_as, ◌⊑◌, fact, tables, no, bounded, RattleType, Ptr, RawPtr, block_ptr, null_ptr, ptr_val, in_a_block, plain, heard, nothing, only, calls_at, triple_of, framed, says, Stays, stay_dropped, walk_of, ends_at, token, handle_tells, Goes-blank, proved_at, Bx, D, R, P, B, τ, word, box_typed, box_out, box_in}
 use Rattle.tc_c.proofs.Names.{raw as bare, sem}
 use denote.Struct.Tuple.{Tuple}
@@ -28,7 +28,7 @@ of_spec 𝓤 𝓛 𝓜 𝓡 wired X Z LX LZ ghosts d dd dx allocator glued glued
     box_out E ! v z.0.4.0 (λ b o hv e ws fa. box_in E ! v b o v.value e refl $ let w = word E hv b o in
     let G = triple_of 𝓛 (g.signature X Z ghosts d dd dx) (g.spec X Z ghosts d dd dx 𝓛 𝓜.mem 𝓡.returns) in
     let y : G.Ghost = ((κs, qs, tt, (v, tt), (w ∷ [], tt)), tt) in
-    -- [the box; nothing; the tokens; what outlives them]
+    -- the resources at this point, in order: the box, nothing, the tokens, and those that outlive them
     fjoin ! $ move ! (1 ∷ 0 ∷ []) $ join ! $ join ! $ use1 𝓛 (raw (G.pre y)) (id⊢ 𝓤 _) $
     suffices ! (Run (w ∷ [])) (subst (λ (us : List Val). ent 𝓤 (Run (w ∷ [])) (Run us)) (sym (λ i. ws i ++ [])) (id⊢ 𝓤 (Run (w ∷ [])))) $
     enter ! 𝓣.C 𝓣.Λ fn (w ∷ []) Post $ alloc_all ! (λ l. pass_all ! refl (box_typed E hv b o fa, tt) $
@@ -41,7 +41,7 @@ of_spec 𝓤 𝓛 𝓜 𝓡 wired X Z LX LZ ghosts d dd dx allocator glued glued
     (raw (fact 𝓤 (r.1 ≡ a)) ⊛ ‵ (box_owns (token E.al a) (R E) r.0 v.value)))))) (id⊢ 𝓤 _) $
     await ! tt $ pick ! (λ r. split ! $ move ! (1 ∷ []) $ pick ! (λ _. split3 ! $ drop ! $ heard ! (r.1 ≡ a) (λ same.
     in_a_block ! r.0 (λ p. box_owns (token E.al a) (R E) p v.value) (fst∗ 𝓤 (never 𝓤) (sem 𝓛 (token E.al a (bare (τ E)) null_ptr))) (λ b' o' at.
-    -- [the value with the right to free it; the tokens with the pair]
+    -- the resources at this point, in order: the value with the right to free it, and the tokens with the pair
     move ! (1 ∷ []) $ split ! $ move ! (1 ∷ []) $ fpick ! (λ words. fsplit ! $ feq_l ! (λ is_pair. fsplit ! $ feq_l ! (λ is_ptr. fsplit ! $
     rewrite ! 0 (λ (s : Z.Denot). ‵ (Z.own_val s words.1.0)) same refl $ handle_tells E.al ! a words.1.0 (λ hw is_handle fw.
     let w' = word E hw b' o' in let typed = box_typed E hw b' o' fw in
@@ -53,7 +53,7 @@ of_spec 𝓤 𝓛 𝓜 𝓡 wired X Z LX LZ ghosts d dd dx allocator glued glued
     sets ! (of_opd ! (get ! refl)) refl fw $
     sets ! (agg ! (and_then ! (get ! refl) (and_then ! (get ! refl) (no_more !)))) refl typed $
     returns ! (look_at ! 0 refl) $ free_all ! refl $
-    -- [the handle; nothing; the tokens; the value with the right to free it]
+    -- the resources at this point, in order: the handle, nothing, the tokens, and the value with the right to free it
     move ! (3 ∷ []) $ fsplit ! $ box_in E ! boxed b' o' v.value refl refl $ use1 𝓛 (‵ (To.own_val made (w' ∷ []))) (id⊢ 𝓤 _) $ move ! (1 ∷ []) $ drop ! $
     suffices ! _ (ends_at 𝓛 T stayed c z w' made ((tt, (tt, tt)), tt) (tt, tt)) $ says ! refl $
     nothing ! $ nothing ! $ fjoin ! $ join ! $ move ! (1 ∷ 0 ∷ []) $ join ! $ done !))))))))))))

@@ -63,7 +63,8 @@ lend_spec 𝓤 𝓛 𝓜 𝓡 wired =
     rewrite ! 0 (λ (channel : Option LimitedHistory). ‵ (Place.the_row.own_val (record { ptr = h.ptr; alloc = h.alloc; channel = channel }) vs)) is refl $
     box_out E ! v vs (λ b o hv e ws fa.
     rewrite ! 3 (λ (us : List Val). ‵ (cell_at full_share Place.the_row.mir us rb ro)) ws refl $ move ! (1 ∷ 2 ∷ []) $ fjoin ! $ move ! (1 ∷ []) $
-    -- [the channel; the token with the handle; the cell; the open borrow; obs; auth]
+    -- the resources at this point, in order: the channel, the token with the handle, the cell, the open borrow, obs,
+    -- and auth
     first ! $ blocks ! $
     sets ! (of_opd ! (load ! (through ! refl (fld ! refl (stop !))) (look_in ! 2 (sub ! 0 refl (whole !))))) refl (tt, tt) $
     sets ! (of_opd ! (get ! refl)) refl (tt, tt) $
