@@ -1,4 +1,4 @@
--- A CLCW whose number none of before can have was made after Set V(R) was obeyed.
+-- A CLCW with a number that no earlier CLCW can have was made after Set V(R) was obeyed.
 use Rattle.tc_loop.proofs.Names.{take-map, slice_get-map, option_map, Action, Arrive, Bool, Frame, Hear, Idle, IsLoop, IsObeyed, KeepOrder, List, Loop, NamesAnother, Other, Send, Some, Start, [], accepted, action_before, ap, arith, begun, begun_from, clcw_within, cond, drop, era_before, events, false, fields_of, inl, inr, journal, known, length, length-map, length-take-le, map, max, nat_lt, nat_tests, refl, reported, session_before, slice_get, slice_get_within, suc, sym, take, take-append-drop, take-append-le, take-take, true, zero, ℕ, ◌%◌, ◌++◌, ◌+◌, ◌<◌, ◌∙◌, ◌∷◌, ◌≡◌, ◌≤◌, cases_lt}
 use Rattle.tc_loop.proofs.Actions.{begun-append}
 use Rattle.tc_loop.proofs.Counted.{counts, known-so, reported-so}
@@ -61,7 +61,7 @@ module _ (s : Start) (first window : ℕ) (frames : ℕ → List ℕ) (own : (i 
     long : length (session_before s) ≡ s.obeyed
     long = length-map (take s.obeyed s.session) (action_before s) ∙ length-take-le s.obeyed s.session (omega (arith, slice_get_within s.session s.obeyed (Arrive s.directive obeyed.0) obeyed.1))
 
-    -- what it hears shows no less than it knew when it asked
+    -- a CLCW that the sender hears shows no fewer frames than the sender knew when it sent Set V(R)
     early : asked ≤ s.believed → s.believed < s.obeyed → known o (session_before s) asked ≤ accepted o (take made (session_before s))
     early since low =
         let at : slice_get (session_before s) s.believed ≡ Some (Hear made) = slice_get-map (action_before s) (take s.obeyed s.session) s.believed ∙ ap (option_map (action_before s)) (get-within s.session s.obeyed s.believed (Hear made) here low) in

@@ -1,4 +1,4 @@
--- The lemmas that close laws without an answer.
+-- Lemmas that close laws without an answer.
 use Rattle.tc_loop.proofs.Counted.{in-order, passed-on}
 use Rattle.tc_loop.proofs.Open.{place-inside, stays-open}
 use Rattle.tc_loop.proofs.Onward.{by-rounds, goes-on}

@@ -1,4 +1,4 @@
--- A session that is longer by one action.
+-- A session with one more action.
 use Rattle.tc_loop.proofs.Names.{take_at, Action, Arrive, Event, HasStep, Hear, Idle, IsLawfulWithin, IsLoop, IsOther, IsSession, KeepOrder, List, Loop, None, NoneSetsWithin, Other, Send, Settings, Some, [], ap, append-nil, arith, clcw_within, drop, events, fields_of, heard, inl, inr, journal, known, known_from, lawful-push, length, receiver, refl, reported, run_within, set_by, slice_get, slice_get_within, subst, suc, sym, take, take-append-drop, take-append-le, zero, ℕ, ◌++◌, ◌+◌, ◌<◌, ◌∙◌, ◌∷◌, ◌≡◌, ◌≤◌, ◌⊎◌}
 use Rattle.tc_loop.proofs.Actions.{events-append}
 use Rattle.tc_loop.proofs.Counted.{journal-append, get-append, take-append}
@@ -36,7 +36,7 @@ known-same l session more a (Hear m ∷ rest) each =
     ∙ known-same l session more (heard l.first l.window a (reported l session m)) rest (λ t n e. each (suc t) n e)
 known-same l session more a (x ∷ rest) each = known-same l session more a rest (λ t m e. each (suc t) m e)
 
--- what the sender knew it knows in a longer session, too
+-- the sender knows the same frames at a moment of a longer session
 pub known-at : (l : Loop) (session more : List Action) (t : ℕ) → IsSession l session → t ≤ length session → known l (session ++ more) t ≡ known l session t
 known-at l session more t k low =
     ap (known_from l (session ++ more) 0) (take-append-le t session more low)
@@ -108,7 +108,7 @@ longer l session action k n lawful none = record {
   possible = possible-next l session action k.possible n;
 }
 
--- a loop goes on by what can come next: an action that is no event, or one that is
+-- a loop with an action that can come next still is a loop, whether the action is an event or not
 pub longer-quiet : (l : Loop) (session : List Action) (action : Action) → IsLoop l session → IsNext l session action → events l (action ∷ []) ≡ [] → IsLoop l (session ++ action ∷ [])
 longer-quiet l session action k n none =
     let same = sym (events-append l session (action ∷ []) ∙ ap (λ es. events l session ++ es) none ∙ append-nil (events l session)) in

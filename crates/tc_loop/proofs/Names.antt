@@ -1,4 +1,4 @@
--- The types, definitions and lemmas that most proofs speak of, imported from one file.
+-- Types, definitions and lemmas that most proofs use, imported from one file.
 pub use Rattle.std.proofs.Common.{◌/◌}
 pub use Rattle.std.proofs.Math.Seq.{drop-append_seam, take-append_seam}
 pub use Rattle.std.proofs.lemmas.Grind.{flat_map-append}

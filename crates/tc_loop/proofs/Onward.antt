@@ -27,7 +27,7 @@ release-accepted : (b : ChannelState) → (after_release b).accepted ≡ b.accep
 unfolding passed_on
 release-accepted b = refl
 
--- all that waits is released
+-- all data fields that wait are released
 abbrev IsEmptied : Loop → List Action → ℕ → List Action → Type 0
 IsEmptied l session n later = IsLoop l later × (length (buffer (receiver l later)) ≡ 0) × (accepted l later ≡ accepted l session) × (length later ≡ length session + n)
 
@@ -75,7 +75,7 @@ learnt l session k =
 sent-next : (l : Loop) (session : List Action) → 1 ≤ l.window → known l session (length session) ≡ accepted l session → IsNext l session (Send (accepted l session))
 sent-next l session some is = (omega arith, omega arith)
 
--- it arrives
+-- the frame arrives
 
 expected-row : (width vr ns : ℕ) (bypass control room : Bool) (field : List ℕ) → bypass ≡ false → control ≡ false → room ≡ true → ns ≡ vr → frame_row width vr (kind_by bypass control ns field) room ≡ E1
 expected-row width vr ns false false true field b c r e = rw (eq-eqb ns vr e) refl

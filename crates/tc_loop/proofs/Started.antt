@@ -3,7 +3,8 @@ use Rattle.tc_loop.proofs.Names.{Action, Arrive, Bc, Bool, ChannelState, E1, E10
 use Rattle.tc_loop.proofs.Actions.{known-append, take-some, take-none}
 use Rattle.tc_loop.proofs.Counted.{journal-append, known-step, one-at, clcw-shows}
 
--- what an action was that is this one in the era's loop: of other events, such an event or a frame of before
+-- The action of the session that became this action of the era's loop. Another event of the era was the same event, or
+-- was an earlier frame.
 abbrev WasSuch : Start → ℕ → Action → Action → Type 0
 WasSuch s t a (Send i) = a ≡ Send (s.directive + 1 + i)
 WasSuch s t a (Arrive i r) = (s.again < t) × (a ≡ Arrive (s.directive + 1 + i) r)
@@ -41,7 +42,7 @@ take-seen s xs n zero = refl
 take-seen s [] n (suc t) = refl
 take-seen s (x ∷ xs) n (suc t) = ap (λ ys. era_action s n x ∷ ys) (take-seen s xs (suc n) t)
 
--- the events of the era are those that come behind the last time that Set V(R) is obeyed
+-- the events of the era are those that come after the last time that Set V(R) is obeyed
 
 late-event : (s : Start) (t : ℕ) (x : Action) → s.again < t → events_at (era s).frames (era_action s t x) ≡ events_at s.loop.frames x
 late-event s t (Arrive j r) later = grind (arith, nat_tests)
@@ -57,7 +58,7 @@ late-events : (s : Start) (xs : List Action) (n : ℕ) → s.again < n → event
 late-events s [] n later = refl
 late-events s (x ∷ xs) n later = rw (late-event s n x later, late-events s xs (suc n) (omega arith)) refl
 
--- d actions more are of before
+-- if the first d actions come before the era, the events of the era are those of the actions after them
 early-events : (s : Start) (d : ℕ) (xs : List Action) (n : ℕ) → n + d ≡ suc s.again → events (era s) (era_actions s n xs) ≡ events s.loop (drop d xs)
 early-events s zero xs n e = late-events s xs n (omega arith)
 early-events s (suc d) [] n e = refl
@@ -66,7 +67,7 @@ early-events s (suc d) (x ∷ xs) n e = rw (early-event s n x (omega arith)) (ea
 era-events : (s : Start) (xs : List Action) → events (era s) (era_actions s 0 xs) ≡ events s.loop (drop (suc s.again) xs)
 era-events s xs = early-events s (suc s.again) xs 0 (omega arith)
 
--- so its journal is the session's, as far as that goes
+-- the era's journal is the session's, from the start of the era on
 journal-late : (s : Start) (t : ℕ) → s.again < t → journal (era s) (take t (era_session s)) ≡ journal s.loop (take t s.session)
 journal-late s t later =
     let n = suc s.again in
@@ -119,7 +120,7 @@ directive-other : (octets : List ℕ) (x : ℕ) → kind_of (header_of octets) (
 directive-other octets x e = λ bypass control. let q = rw (bypass, control) at e in cc
 
 module _ (s : Start) (k : IsStart s) where
-  -- no frame of before arrives once Set V(R) was obeyed
+  -- no earlier frame arrives once Set V(R) was obeyed
   none-of-before : (t j r : ℕ) → s.obeyed < t → slice_get s.session t ≡ Some (Arrive j r) → s.directive ≤ j
   none-of-before t j r later here = elim (cases_lt j s.directive) [
     | inr own ↦ own
@@ -128,7 +129,7 @@ module _ (s : Start) (k : IsStart s) where
         omega (arith, k.links.frames_in_order s.obeyed t s.directive j first.0 r later first.1 here, k.stops r first.0 j (k.links.arrives t j r here).1 old (k.links.arrives s.obeyed s.directive first.0 first.1).1))
   ]
 
-  -- and none of the era before Set V(R) is obeyed for the last time
+  -- no frame of the era arrives before Set V(R) is obeyed for the last time
   none-of-era : (t j r : ℕ) → t < s.again → slice_get s.session t ≡ Some (Arrive j r) → j ≤ s.directive
   none-of-era t j r earlier here = elim (cases_lt s.directive j) [
     | inr old ↦ old
@@ -171,7 +172,7 @@ module _ (s : Start) (k : IsStart s) where
   lawful-at t = lawful-before s.loop.limits s.loop.settings (journal s.loop (take t s.session)) (events s.loop (drop t s.session))
       (subst (IsLawfulWithin s.loop.limits s.loop.settings) (ap (journal s.loop) (sym (take-append-drop t s.session)) ∙ journal-append s.loop (take t s.session) (drop t s.session)) k.lawful)
 
-  -- what the sender hears, since it believes, was made after Set V(R) was obeyed
+  -- each CLCW that the sender hears since it believes was made after Set V(R) was obeyed
   made-later : (t m : ℕ) → s.believed ≤ t → slice_get s.session t ≡ Some (Hear m) → s.obeyed < m
   made-later t m since here =
       let made = k.believes in
@@ -183,7 +184,7 @@ module _ (s : Start) (k : IsStart s) where
         | inr other ↦ let behind = k.links.reports_in_order s.believed t made.0 m (omega arith) made.1 here in omega arith
       ]
 
-  -- and it is the same in the era's loop
+  -- the report value of such a CLCW is the same in the era's loop
   same-report : (t m : ℕ) → s.believed ≤ t → slice_get s.session t ≡ Some (Hear m) → reported (era s) (era_session s) m ≡ reported s.loop s.session m
   same-report t m since here = elim (cases_lt s.again m) [
     | inl late ↦ ap (λ es. (fields_of (clcw_within s.loop.limits s.loop.settings es (s.loop.links m))).vr) (journal-late s m late)
@@ -196,14 +197,15 @@ module _ (s : Start) (k : IsStart s) where
         ∙ sym (clcw-shows s.loop (take m s.session) (s.loop.links m) (subst (λ n. n < 256) (sym here) small) ∙ here)
   ]
 
-  -- other actions teach it nothing
+  -- other actions don't change the frames that the sender knows to be accepted
   untaught : (x : Action) (n a : ℕ) → ((m : ℕ) → x ≡ Hear m → n < s.believed) → known_from (era s) (era_session s) a (era_action s n x ∷ []) ≡ a
   untaught (Hear m) n a early = let low = early m refl in grind (arith, nat_tests)
   untaught (Send j) n a early = grind (arith, nat_tests)
   untaught (Arrive j r) n a early = grind (arith, nat_tests)
   untaught _ n a early = grind (arith, nat_tests)
 
-  -- from the moment on at which it believes, the sender learns what it would in the era's loop, and before nothing
+  -- from the moment at which it believes, the sender knows the frames that it knows in the era's loop, and before that
+  -- it knows none
   pub known-in-era : (t : ℕ) → known (era s) (era_session s) t ≡ known_since s t
   known-in-era zero = ap (known_from s.loop s.session 0) (sym (drop_all {X = Action} s.believed [] (omega arith)))
   known-in-era (suc t) = by (slice_get s.session t) refl (known-in-era t) where
@@ -269,7 +271,7 @@ module _ (s : Start) (k : IsStart s) where
         let kind = subst (λ n. kind_of (header_of (s.loop.frames n)) (field_of (s.loop.frames n)) ≡ Bc (SetVr s.loop.first)) (sym same) k.directive in
         subst IsOther (sym old.4) (directive-other (s.loop.frames j) s.loop.first kind)
 
-  -- the whole journal
+  -- the whole journal of the era is the session's
   pub journal-whole : journal (era s) (era_session s) ≡ journal s.loop s.session
   journal-whole =
       let n = length s.session in

@@ -1,4 +1,4 @@
--- The starts that were worked out by hand: one meets each premise.
+-- The starts that were worked out by hand, one of which meets each premise.
 use Rattle.tc_loop.proofs.Names.{Action, All, Arrive, Bool, ChannelState, Frame, Hear, Idle, IsAllowed, IsLawfulWithin, IsLoop, IsNumbered, IsOctets, IsOther, IsStart, IsWhole, KeepOrder, List, NamesAnother, None, NoneSetsWithin, Other, QueueSetting, Release, Send, Some, Take, [], arith, around, begun, clcw_within, drop, era, era_before, events, false, header_of, inl, inr, journal, known, known_since, learnt_by_9, nat_lt, nat_tests, no_limits, octets-append, octets-cons, passed_on, receiver, refl, run_within, session_before, set_by, slice_get, smallest, some_of_first, subst, suc, take, trap, true, zero, ℕ, ◌%◌, ◌&&◌, ◌+◌, ◌<◌, ◌∷◌, ◌≡◌, ◌≤◌, ◌⊎◌, All-cons, All-nil}
 use Rattle.tc_channel.specs.Examples as example
 use Rattle.tc_loop.proofs.Begun.{smallest-whole}
@@ -62,7 +62,7 @@ allowed-2 = record {
   by_headers = λ plain. absurd cc;
 }
 
--- what happens at each moment
+-- the action at each moment
 abbrev IsAt : ℕ → Action → Type 0
 IsAt t (Send j) = ((t ≡ 0) × (j ≡ 0)) ⊎ (((t ≡ 2) × (j ≡ 1)) ⊎ ((t ≡ 7) × (j ≡ 2)))
 IsAt t (Arrive j s) = ((t ≡ 1) × (j ≡ 0) × (s ≡ 0)) ⊎ (((t ≡ 4) × (j ≡ 1) × (s ≡ 2)) ⊎ (((t ≡ 8) × (j ≡ 1) × (s ≡ 2)) ⊎ ((t ≡ 9) × (j ≡ 2) × (s ≡ 7))))
@@ -121,7 +121,7 @@ each-premise = record {
   others = λ t e h. let p = at t (Other e) h in (p.0, p.1 (receiver learnt_by_9.loop (take t learnt_by_9.session)));
 }
 
--- the time before was a loop, of which no CLCW can say 9
+-- the earlier session was a loop, and none of its CLCWs can have the number 9
 
 abbrev IsBefore : ℕ → Action → Type 0
 IsBefore t (Send i) = (t ≡ 0) × (i ≡ 0)

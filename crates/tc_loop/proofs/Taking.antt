@@ -1,4 +1,4 @@
--- What one event adds to the accepted frames.
+-- The accepted frames after one event.
 use Rattle.tc_loop.proofs.Names.{ChannelState, E1, Event, Frame, List, Row, S1, Settings, State, [], accepted-kept, accepts, after_frame, drop, false, flags-at_E1, has_room, header_of, inl, inr, number-at_E1, only_S1, passed_on, refl, row_of, step, ℕ, ◌++◌, ◌∷◌, ◌≡◌, ◌⊎◌}
 
 -- the frame is of Type-AD, has the number V(R), and is accepted

@@ -1,7 +1,7 @@
--- Two halves of a window of 2 K show a sender with a window of K.
+-- The two halves of a window of 2 K track a sender with a window of K.
 use Rattle.tc_loop.proofs.Names.{Ahead, Behind, Bool, Expected, IsTrue, Outside, above, ahead, ap, arith, behind, cond, eq-eqb, event_at, false, heard, inl, inr, is_here_or_ahead, is_here_or_behind, nat_tests, outside, place_of, refl, row_at, true, ℕ, ◌%◌, ◌*◌, ◌+◌, ◌-◌, ◌<◌, ◌↔◌, ◌≡◌, ◌≤◌, cases_lt, zero, suc}
 
--- of a frame that is expected both are said
+-- a frame that is expected passes both tests
 here-ahead : (room : Bool) → is_here_or_ahead (row_at Expected room) ≡ true
 here-ahead true = refl
 here-ahead false = refl
@@ -10,7 +10,7 @@ here-behind : (room : Bool) → is_here_or_behind (row_at Expected room) ≡ tru
 here-behind true = refl
 here-behind false = refl
 
--- where a number lies that is d above V(R)
+-- the place of a number that is d above V(R)
 data Found (window vr ns d : ℕ) : Type 0 where
   at : d ≡ 0 → place_of (2 * window) vr ns ≡ Expected → Found window vr ns d
   over : 0 < d → d < window → place_of (2 * window) vr ns ≡ Ahead → Found window vr ns d
@@ -49,7 +49,7 @@ hears-so window first known report room least most fits =
       by (under from to is) = rw is (λ yes. omega arith, λ within. refl)
       by (off from to is) = rw is (λ yes. absurd cc, λ within. absurd (omega arith))
 
--- what is heard is what N(R) says, or nothing
+-- the sender learns the frames before N(R), or none
 heard-learnt : (window first known report : ℕ) → report < 256 → above first known report ≤ window → (first + heard first window known report) % 256 ≡ report
 heard-learnt window first known report fits within = grind (arith, nat_tests)
 

@@ -10,8 +10,8 @@ use Rattle.tc_loop.specs.Start.{Start}
 abbrev pub five : Loop
 five = new_loop no_limits (record (example.buffer_of 2) { first = 255 }) (λ m. example.link_up) 5
 
--- frame 0 is lost, and frame 1 arrives; the sender hears that none is accepted, and sends frame 0 again, which comes twice; then it hears that
--- one is accepted
+-- Frame 0 is lost, and frame 1 arrives. The sender hears that none is accepted, and sends frame 0 again, which comes
+-- twice. Then the sender hears that one is accepted.
 abbrev pub one_lost : List Action
 one_lost = Send 0 ∷ Send 1 ∷ Arrive 1 1 ∷ Hear 3 ∷ Send 0 ∷ Arrive 0 4 ∷ Arrive 0 4 ∷ Hear 6 ∷ []
 
@@ -19,24 +19,26 @@ one_lost = Send 0 ∷ Send 1 ∷ Arrive 1 1 ∷ Hear 3 ∷ Send 0 ∷ Arrive 0 4
 abbrev pub with_window : ℕ → Loop
 with_window window = new_loop no_limits (example.buffer_of 300) (λ m. example.link_up) window
 
--- from moment t on so many frames, from frame i on: each is sent, and arrives before the next is
+-- this number of frames, from frame i on and from moment t on: each is sent, and arrives before the next one is sent
 abbrev pub one_by_one : ℕ → ℕ → ℕ → List Action
 one_by_one t i zero = []
 one_by_one t i (suc n) = Send i ∷ Arrive i t ∷ one_by_one (t + 2) (i + 1) n
 
--- 256 frames are accepted, and no CLCW is heard; frame 0 is sent again. A window of 256 allows it
+-- 256 frames are accepted, and no CLCW is heard. Then frame 0 is sent again, which a window of 256 allows.
 abbrev pub sent_again : List Action
 sent_again = one_by_one 0 0 256 ++ Send 0 ∷ Arrive 0 512 ∷ []
 
--- 255 frames are accepted, of which the sender hears, and then frame 255; then frame 0 comes once more, which was sent at moment 0
+-- 255 frames are accepted, and the sender hears of them. Then frame 255 is accepted. Then frame 0 comes once more,
+-- which was sent at moment 0.
 abbrev pub overtaken : List Action
 overtaken = one_by_one 0 0 255 ++ Hear 510 ∷ Send 255 ∷ Arrive 255 511 ∷ Arrive 0 0 ∷ []
 
--- frame 0 is accepted, of which the sender hears; then it hears the CLCW that was made at first
+-- Frame 0 is accepted, and the sender hears of it. Then it hears the CLCW that was made at first.
 abbrev pub old_report : List Action
 old_report = Send 0 ∷ Arrive 0 0 ∷ Hear 2 ∷ Hear 0 ∷ []
 
--- frame 0 is of before; then comes a Set V(R) to x, and then frames that are numbered from x on, each with a packet of application 5
+-- Frame 0 is an earlier one. Then come a Set V(R) to x, and frames that are numbered from x on, each with a packet of
+-- application 5.
 abbrev pub around : ℕ → ℕ → List ℕ
 around x zero = smallest 0 0
 around x (suc zero) = 0x30 ∷ 0x2a ∷ 0x04 ∷ 0x07 ∷ 0x00 ∷ 0x82 ∷ 0x00 ∷ x ∷ []
@@ -45,8 +47,9 @@ around x (suc (suc i)) = example.packet_octets ((x + i) % 256)
 abbrev pub around_set_to : ℕ → Loop
 around_set_to x = record (new_loop no_limits (example.buffer_of 2) (λ m. example.link_up) 5) { first = x; frames = around x }
 
--- V(R) was 0, and then 1. A Set V(R) to 0 is obeyed. Then the two CLCWs of before come, and the sender believes the first one, since it says 0;
--- its frame 0 is lost, and it reads in the second one that it is accepted
+-- V(R) was 0, and then 1. A Set V(R) to 0 is obeyed. Then the two earlier CLCWs come, and the sender believes the first
+-- one, because it has the number 0. The sender's frame 0 is lost, but the second CLCW makes the sender take it for
+-- accepted.
 abbrev pub trap : Start
 trap = record {
   loop = around_set_to 0;
@@ -57,8 +60,9 @@ trap = record {
   believed = 4;
 }
 
--- the same with a Set V(R) to 9: no CLCW of before says 9. It is obeyed twice, the second time when the sender believes so already; then frame 0
--- of the era is accepted, the sender hears of it, the data fields of frame 0 of before and of this one are released, and the packet is taken
+-- A start with a Set V(R) to 9, a number that no earlier CLCW has. Set V(R) is obeyed twice, the second time when the
+-- sender already believes that it was obeyed. Then frame 0 of the era is accepted, and the sender hears of it. The data
+-- fields of the earlier frame 0 and of this one are released, and the packet is taken.
 abbrev pub learnt_by_9 : Start
 learnt_by_9 = record {
   loop = around_set_to 9;

@@ -1,5 +1,6 @@
--- The start of an era: a sender sends Set V(R) itself, while frames and CLCWs of before are still on their way, and numbers anew once it
--- believes that this was obeyed (CCSDS 232.1-B, FOP-1: initiation of the AD service with Set V(R)).
+-- The start of an era. A sender sends Set V(R) itself, while earlier frames and CLCWs are still on their way. It
+-- numbers its frames anew once it believes that Set V(R) was obeyed (CCSDS 232.1-B, FOP-1: initiation of the AD service
+-- with Set V(R)).
 use Rattle.std.specs.Prelude.{◌≡◌, ℕ, suc, ◌+◌, ◌-◌, ◌%◌, ◌≢◌, ◌<◌, ◌≤◌, List, [], ◌∷◌, drop, take, map, slice_get, Some, None, nat_le, nat_lt, if◌then◌else◌}
 use Rattle.tc_link.specs.Frame.{header_of}
 use Rattle.tc_link.specs.Command.{kind_of}
@@ -12,31 +13,33 @@ use Rattle.tc_channel.specs.Run.{field_of, IsLawfulWithin}
 use Rattle.tc_channel.specs.Era.{NoneSetsWithin, set_by}
 use Rattle.tc_loop.specs.Loop.{Loop, Action, Send, Arrive, Hear, Other, Idle, events, journal, receiver, known, known_from, begun, IsNumbered, IsOther, KeepOrder}
 
--- a session around a start. Of the frames of `loop` those below `directive` are of before, this one is the directive Set V(R), and those
--- above it are the era's, which are numbered from `first` on
+-- A session around a start. The frames of `loop` below `directive` are earlier ones. Frame `directive` is the directive
+-- Set V(R). The frames above it are the era's, which are numbered from `first` on.
 pub record Start : Type 0 where
   pub loop : Loop
   pub directive : ℕ
   pub session : List Action
-  -- a moment at which Set V(R) was obeyed, the last such moment, and the moment at which the sender hears the CLCW by which it believes so
+  -- A moment at which Set V(R) was obeyed, the last such moment, and the moment at which the sender hears the CLCW by
+  -- which it believes that Set V(R) was obeyed.
   pub obeyed : ℕ
   pub again : ℕ
   pub believed : ℕ
 
--- what arrives at this moment is Set V(R), and it is obeyed
+-- the frame that arrives at this moment is Set V(R), and it is obeyed
 abbrev pub IsObeyed : Start → ℕ → Type 0
 IsObeyed s t = (sent : ℕ) × (slice_get s.session t ≡ Some (Arrive s.directive sent))
     × (set_by s.loop.settings (receiver s.loop (take t s.session)) (Frame (s.loop.frames s.directive)) ≡ Some s.loop.first)
 
--- how many frames of the era the sender knows to be accepted at a moment: what it heard before it believed counts for nothing
+-- the number of frames of the era that the sender knows to be accepted at a moment (CLCWs that it heard before it
+-- believed don't count)
 abbrev pub known_since : Start → ℕ → ℕ
 known_since s t = known_from s.loop s.session 0 (drop s.believed (take t s.session))
 
--- the era as a loop: it begins where Set V(R) was obeyed for the last time
+-- the era as a loop, which begins when Set V(R) was obeyed for the last time
 abbrev pub era : Start → Loop
 era s = record s.loop { before = journal s.loop (take (suc s.again) s.session); frames = λ i. s.loop.frames (s.directive + 1 + i) }
 
--- what an action of the session is in this loop
+-- the action of this loop that an action of the session is
 abbrev pub era_action : Start → ℕ → Action → Action
 era_action s t (Send j) = if nat_lt s.directive j then Send (j - (s.directive + 1)) else Idle
 era_action s t (Arrive j r) = if nat_le t s.again then Idle else if nat_lt s.directive j then Arrive (j - (s.directive + 1)) r else Other (Frame (s.loop.frames j))
@@ -51,7 +54,7 @@ era_actions s t (action ∷ rest) = era_action s t action ∷ era_actions s (suc
 abbrev pub era_session : Start → List Action
 era_session s = era_actions s 0 s.session
 
--- a start by FOP-1's rules, in which the sender believes rightly
+-- a start by FOP-1's rules, in which the sender believes Set V(R) to be obeyed when it was
 pub record IsStart (s : Start) : Type 0 where
   pub window : s.loop.window < 256
   pub directive : kind_of (header_of (s.loop.frames s.directive)) (field_of (s.loop.frames s.directive)) ≡ Bc (SetVr s.loop.first)
@@ -61,21 +64,23 @@ pub record IsStart (s : Start) : Type 0 where
   pub obeyed : IsObeyed s s.obeyed
   pub again : (s.obeyed ≤ s.again) × IsObeyed s s.again
   pub last : NoneSetsWithin s.loop.limits s.loop.settings (journal s.loop (take (suc s.again) s.session)) (events s.loop (drop (suc s.again) s.session))
-  -- the CLCW by which the sender believes was made after Set V(R) was obeyed
+  -- The CLCW by which the sender believes was made after Set V(R) was obeyed.
   pub believes : (made : ℕ) × (slice_get s.session s.believed ≡ Some (Hear made)) × (s.obeyed < made)
-  -- from the directive on the sender sends no frame of before; once it believes it sends the directive no more, and the era's frames by its window
+  -- From the directive on, the sender sends no earlier frame. Once it believes, it no longer sends the directive, and
+  -- it sends the era's frames by its window.
   pub stops : (t u j : ℕ) → slice_get s.session t ≡ Some (Send j) → j < s.directive → slice_get s.session u ≡ Some (Send s.directive) → t < u
   pub asks : (t : ℕ) → slice_get s.session t ≡ Some (Send s.directive) → t < s.believed
   pub sends : (t i : ℕ) → slice_get s.session t ≡ Some (Send (s.directive + 1 + i)) → (s.believed < t) × (known_since s t ≤ i) × (i < known_since s t + s.loop.window)
   pub links : KeepOrder s.session
-  -- no other event sets V(R)
+  -- No other event sets V(R).
   pub others : (t : ℕ) (e : Event) → slice_get s.session t ≡ Some (Other e) → IsOther e × (set_by s.loop.settings (receiver s.loop (take t s.session)) e ≡ None)
 
--- the era of before as a loop: its first number, its window and its frames, those of the session and any that were not sent
+-- the earlier era as a loop, with its first number, its window and its frames, which are those of the session and any
+-- that were not sent
 abbrev pub era_before : Start → ℕ → ℕ → (ℕ → List ℕ) → Loop
 era_before s first window frames = record s.loop { first = first; window = window; frames = frames }
 
--- what an action of the session is in that loop: Set V(R) is a frame of another kind
+-- the action of the earlier loop that an action of the session is (Set V(R) is a frame of another kind)
 abbrev pub action_before : Start → Action → Action
 action_before s (Send j) = if nat_lt j s.directive then Send j else Idle
 action_before s (Arrive j r) = if nat_lt j s.directive then Arrive j r else Other (Frame (s.loop.frames j))
@@ -83,12 +88,12 @@ action_before s (Hear m) = Hear m
 action_before s (Other e) = Other e
 action_before s Idle = Idle
 
--- the session until Set V(R) was obeyed
+-- the session up to the moment at which Set V(R) was obeyed
 abbrev pub session_before : Start → List Action
 session_before s = map (action_before s) (take s.obeyed s.session)
 
--- Set V(R), which is first sent at moment `asked`, names none of the numbers from that of the first frame which the sender doesn't know to be
--- accepted up to the one after the last that it sent
+-- Set V(R) is first sent at moment `asked`. It names none of the numbers from that of the first frame that the sender
+-- doesn't know to be accepted then to the number after that of the last frame that it sent.
 abbrev pub NamesAnother : Start → ℕ → ℕ → (ℕ → List ℕ) → ℕ → Type 0
 NamesAnother s first window frames asked =
     (a : ℕ) → known (era_before s first window frames) (session_before s) asked ≤ a → a ≤ begun (session_before s) s.obeyed → (first + a) % 256 ≢ s.loop.first

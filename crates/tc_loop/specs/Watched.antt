@@ -1,9 +1,9 @@
--- What FARM-1 is asked about a sender that keeps a window of K frames: a channel is asked whose own window is twice as wide.
+-- Tracking a sender that keeps a window of K frames, by FARM-1 in a channel whose own window is twice as wide.
 use Rattle.std.specs.Prelude.{ℕ, ◌*◌, Bool, true, false}
 use Rattle.tc_link.specs.declared.Kind.TheVariants.{Ad}
 use Rattle.tc_link.specs.Farm.{Row, E1, E2, E3, E4, frame_row}
 
--- by which event FARM-1 meets a Type-AD frame with the number ns where V(R) is vr, with room for it or without
+-- the event by which FARM-1 meets a Type-AD frame with the number ns when V(R) is vr, with room for it or without
 abbrev pub event_at : ℕ → ℕ → ℕ → Bool → Row
 event_at window vr ns room = frame_row (2 * window) vr (Ad ns) room
 

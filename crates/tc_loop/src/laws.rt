@@ -1,4 +1,5 @@
-//! Laws of a loop of a sender and a receiver, over links that lose, repeat and delay what they carry, but keep its order.
+//! Laws of a loop of a sender and a receiver. Its links may lose, repeat and delay frames and CLCWs, but keep their
+//! order.
 #![tactic(auto, using(crate::proofs::Closing::laws))]
 
 ghost use Rattle.std.specs.Prelude.{List, ℕ, Bool, [], ◌++◌, ◌≡◌, ◌≢◌, ◌≤◌, ◌<◌, ◌+◌, ◌/◌, ◌%◌, ◌↔◌, IsTrue, Some, length, slice_get, take, if◌then◌else◌};
@@ -17,31 +18,32 @@ ghost use Rattle.tc_loop.specs.Start.{Start, IsObeyed, IsStart, NamesAnother, er
 ghost use Rattle.tc_loop.specs.Watched.{event_at, is_here_or_ahead, is_here_or_behind};
 ghost use Rattle.tc_loop.specs.Examples as example;
 
-/// In a loop no frame comes 256 numbers early or late: links that keep order and a sender that keeps its window see to it.
+/// In a loop no frame comes 256 numbers early or late, because links keep order and the sender keeps its window.
 pub fn frames_of_a_loop_come_in_their_time()
     ensures { (l : Loop) (session : List Action) → IsLoop l session → ComesFromWithin l.limits l.settings l.before (events l session) l.first (sent l) }
 {}
 
-/// So what a loop accepts is what was sent: each once, in order, and none left out.
+/// A loop accepts the data fields that were sent: each once, in order, and none left out.
 pub fn a_loop_accepts_what_was_sent_once_and_in_order()
     ensures { (l : Loop) (session : List Action) → IsLoop l session
         → (i : ℕ) (a : Accepted) → slice_get (accepted_since_within l.limits l.settings l.before (journal l session)) i ≡ Some a → a.field ≡ sent l i }
 {}
 
-/// From the sender of a loop to reassembly: the data fields that were passed on are the first that were sent, as many as were released. What
-/// takes then give is said of every journal (`what_was_sent_is_given_in_order` of tc_channel).
+/// The data fields that a loop passes on to reassembly are the first that were sent, and their number is the number of
+/// released fields. For every journal, `what_was_sent_is_given_in_order` of tc_channel tells which items takes then
+/// give.
 pub fn a_loop_passes_on_what_was_sent_in_order()
     ensures { (l : Loop) (session : List Action) → IsLoop l session
         → passed_since l.limits l.settings l.before (receiver l session).passed ≡ sent_from (sent l) 0 (released_since l.limits l.settings l.before (journal l session)) }
 {}
 
-/// What the sender of a loop takes for accepted is accepted, at each moment.
+/// At each moment, each frame that the sender of a loop takes for accepted is accepted.
 pub fn a_sender_knows_what_is_accepted()
     ensures { (l : Loop) (session : List Action) (t : ℕ) → IsLoop l session → IsKnownSo l session t }
 {}
 
-/// Where the sender's window is no wider than half the receiver's, no frame of a loop lies outside the receiver's window, and a receiver
-/// that is not locked out at first never is.
+/// If the sender's window is no wider than half the receiver's, no frame of a loop lies outside the receiver's window.
+/// A receiver that isn't locked out at first is never locked out.
 pub fn a_loop_is_never_locked_out()
     ensures place { (l : Loop) (session : List Action) (t i s : ℕ) → IsLoop l session → l.window ≤ l.settings.width / 2
         → slice_get session t ≡ Some (Arrive i s) → place_of l.settings.width (receiver l (take t session)).report.vr (header_of (l.frames i)).ns ≢ Outside }
@@ -49,13 +51,15 @@ pub fn a_loop_is_never_locked_out()
         → (receiver l []).report.state ≢ S3 → (receiver l (take t session)).report.state ≢ S3 }
 {}
 
-/// No wider window will do: where it is wider by one, a receiver that starts is locked out by one frame, those before it being lost.
+/// The bound on the sender's window is sharp. If the window is wider by one, a single frame locks out a receiver that
+/// starts, when the frames before it are lost.
 pub fn a_wider_window_can_lock_out()
     ensures { (limits : ℕ → ℕ) (s : Settings) (links : ℕ → Link) → IsAllowed s → LocksOut (new_loop limits s links (s.width / 2 + 1)) (last_of (s.width / 2)) }
 {}
 
-/// Where the window is no wider than half the receiver's, a loop is never stuck. Whatever was lost and whatever waits: after one round in
-/// which nothing is lost, with no command, one frame more is accepted, and the sender knows it.
+/// If the sender's window is no wider than half the receiver's, a loop is never stuck. Whatever was lost and whatever
+/// waits, after one round in which nothing is lost, and without a command, one more frame is accepted, and the sender
+/// knows it.
 pub fn a_loop_can_always_go_on()
     ensures round { (l : Loop) (session : List Action) → IsLoop l session → 1 ≤ l.window → l.window ≤ l.settings.width / 2
         → (receiver l []).report.state ≢ S3 → GoesOn l session (session ++ round l session) }
@@ -63,32 +67,35 @@ pub fn a_loop_can_always_go_on()
         → (receiver l []).report.state ≢ S3 → GoesOnBy l n session }
 {}
 
-/// Each allowed receiver can be in a loop from its start, with each window below 256.
+/// From its start, each allowed receiver can be in a loop, with each window below 256.
 pub fn each_receiver_can_be_in_a_loop()
     ensures begins { (limits : ℕ → ℕ) (s : Settings) (links : ℕ → Link) (window : ℕ) → IsAllowed s → window < 256 → IsLoop (new_loop limits s links window) [] }
     ensures state { (limits : ℕ → ℕ) (s : Settings) (links : ℕ → Link) (window : ℕ) → (receiver (new_loop limits s links window) []).report.state ≢ S3 }
 {}
 
-/// The era that a sender's own Set V(R) starts is a loop again, whatever frames and CLCWs of before are still on their way, where the CLCW by
-/// which it believes that Set V(R) was obeyed was made after that. It is the same receiver with the same journal, and the sender knows in this loop
-/// what it heard since it believes.
+/// The era that a sender's own Set V(R) starts is a loop, too, whatever earlier frames and CLCWs are still on their
+/// way. The condition is that the CLCW by which the sender believes that Set V(R) was obeyed was made after that. The
+/// loop has the receiver and the journal of the session, and the sender knows in it the frames of which it heard since
+/// it believes.
 pub fn an_era_that_set_v_r_starts_is_a_loop()
     ensures loop_again { (s : Start) → IsStart s → IsLoop (era s) (era_session s) }
     ensures journal { (s : Start) → IsStart s → journal (era s) (era_session s) ≡ journal s.loop s.session }
     ensures known { (s : Start) (t : ℕ) → IsStart s → known (era s) (era_session s) t ≡ known_since s t }
 {}
 
-/// The sender can see to it: where its Set V(R) names none of the numbers from that of its first frame which it doesn't know to be accepted up to
-/// the one after the last that it sent, any CLCW with this number that it hears then was made after Set V(R) was obeyed.
+/// The sender can make sure that a CLCW was made after its Set V(R) was obeyed. Consider the numbers from that of the
+/// first frame that it doesn't know to be accepted to the one after the last frame that it sent. If Set V(R) names none
+/// of these, any CLCW with Set V(R)'s number that the sender hears from then on was made after Set V(R) was obeyed.
 pub fn a_number_of_its_own_shows_that_set_v_r_was_obeyed()
     ensures { (s : Start) (first window : ℕ) (frames : ℕ → List ℕ) (asked made : ℕ) → ((i : ℕ) → i < s.directive → frames i ≡ s.loop.frames i)
         → IsLoop (era_before s first window frames) (session_before s) → KeepOrder s.session → IsObeyed s s.obeyed → asked ≤ s.obeyed → asked ≤ s.believed
         → NamesAnother s first window frames asked → slice_get s.session s.believed ≡ Some (Hear made) → reported s.loop s.session made ≡ s.loop.first → s.obeyed < made }
 {}
 
-/// Two starts worked out by hand. FOP-1's rule alone, to believe a CLCW that says the number which Set V(R) names, isn't enough (`trap`): a CLCW of
-/// before says 0, too, and the sender takes its lost frame for accepted. A Set V(R) to 9 meets each premise of both laws (`met`, `before_met`,
-/// `another_met`), though it is obeyed twice.
+/// These two starts come to the results that were worked out by hand. FOP-1's rule alone, by which a sender believes a
+/// CLCW with the number that Set V(R) names, isn't enough (`trap`): an earlier CLCW has the number 0, too, and the
+/// sender takes its lost frame for accepted. A Set V(R) to 9 meets each premise of both laws (`met`, `before_met`,
+/// `another_met`), although it is obeyed twice.
 pub fn starts_come_to_this()
     ensures trap_says { reported example.trap.loop example.trap.session 0 ≡ example.trap.loop.first }
     ensures trap_known { known_since example.trap 7 ≡ 1 }
@@ -101,7 +108,8 @@ pub fn starts_come_to_this()
     ensures met_accepted { accepted (era example.learnt_by_9) (era_session example.learnt_by_9) ≡ 1 }
 {}
 
-/// A session worked out by hand: V(R) is 255 at first, frame 0 is lost once and comes twice then, and frame 1 comes too early.
+/// This session comes to the results that were worked out by hand. V(R) is 255 at first. Frame 0 is lost once and then
+/// comes twice, and frame 1 comes too early.
 pub fn a_session_comes_to_this()
     ensures none_accepted { accepted example.five (take 5 example.one_lost) ≡ 0 }
     ensures one_accepted { accepted example.five example.one_lost ≡ 1 }
@@ -111,7 +119,8 @@ pub fn a_session_comes_to_this()
     ensures two_begun { begun example.one_lost 8 ≡ 2 }
 {}
 
-/// What a sender reads in a report value, worked out by hand: its window is 10 or 255, and its first frame has the number 250 or 0.
+/// A sender reads these report values as was worked out by hand, with a window of 10 or 255, and a first frame with the
+/// number 250 or 0.
 pub fn report_values_are_read_so()
     ensures none { heard 250 10 0 250 ≡ 0 }
     ensures modulo_256 { heard 250 10 0 3 ≡ 9 }
@@ -121,9 +130,11 @@ pub fn report_values_are_read_so()
     ensures widest { heard 0 255 255 254 ≡ 510 }
 {}
 
-/// FARM-1 reports of a sender with a window of K frames, if it is asked in a channel whose own window is 2 K: whether the sender may send a frame
-/// (`may_send`), by the half ahead of the number of the first that it doesn't know to be accepted; and what it knows after it read an N(R)
-/// (`known_after`), by the half behind.
+/// FARM-1 in a channel with a window of 2 K can track a sender with a window of K frames. Take the sender's first frame
+/// that it doesn't know to be accepted. If V(R) is the number of this frame, another frame is expected or in the half
+/// ahead exactly when the sender may send it (`may_send`). If V(R) is an N(R) that the sender reads, this frame is
+/// expected or in the half behind exactly when the sender then knows the frames before N(R) to be accepted
+/// (`known_after`).
 pub fn a_window_twice_as_wide_shows_a_sender()
     ensures sends { (window first known index : ℕ) (room : Bool) → 1 ≤ window → window ≤ 127 → known ≤ index → index < known + 256
         → IsTrue (is_here_or_ahead (event_at window ((first + known) % 256) ((first + index) % 256) room)) ↔ (index < known + window) }
@@ -133,9 +144,10 @@ pub fn a_window_twice_as_wide_shows_a_sender()
         → (first + heard first window known report) % 256 ≡ (if is_here_or_behind (event_at window report ((first + known) % 256) room) then report else (first + known) % 256) }
 {}
 
-/// Each premise on window and links is needed. Where the window is 256, the sender's first 256 frames may be accepted and none be known to be, so
-/// that it sends frame 0 again: 257 are accepted, but 256 were sent. Where a frame arrives after one that was sent later, the same comes of a
-/// window of 255. Where a CLCW is heard after one that was made later, the sender takes 256 frames for accepted, but one is.
+/// Each premise on the window and on links is needed. If the window is 256, the sender's first 256 frames may be
+/// accepted without the sender knowing of any, so that it sends frame 0 again: 257 frames are accepted, but 256 were
+/// sent. If a frame arrives after one that was sent later, this can also happen with a window of 255. If a CLCW is
+/// heard after one that was made later, the sender takes 256 frames for accepted when one is.
 pub fn each_premise_is_needed()
     ensures window_accepted { accepted (example.with_window 256) example.sent_again ≡ 257 }
     ensures window_begun { begun example.sent_again (length example.sent_again) ≡ 256 }
