@@ -1,15 +1,16 @@
--- A CLTU with few wrong bits is the arrival of its frame, and what comes in CLTUs is to a receiver what the session is.
+-- A CLTU with few wrong bits is the arrival of its frame, and octets in CLTUs are to a receiver the events of the
+-- session.
 use Rattle.tc_ends.proofs.Names.{Action, AltersNothing, AreBrought, AreCarried, AreEventsAt, AreEventsOf, AreNearBlocks, Asks, Bool, Brings, CarryWell, Coming, Decoding, Event, Frame, IsCarried, IsNearCltu, IsWhole, List, Loop, Mode, None, Octets, Option, Reception, Searching, Step, [], after-fits, after_block, ap, append-nil, append_assoc, arith, cltu_fault_of, decoded, enclosed, events, events_at, false, fill, filled, filled-fits, filled-front, frame_with_field-alike, frames_of, inl, inr, is_fill, is_start, length, length-append, map, most_octets, nat_tests, one-frame, reception_step, refl, some-octets, state_after, state_behind, subst, suc, sym, take, taken, true, ℕ, ◌++◌, ◌+◌, ◌<◌, ◌∙◌, ◌∷◌, ◌≡◌, ◌≤◌}
 
 -- the state after octets, and the candidate frames that they end
 abbrev Both : Mode → ℕ → Reception → List ℕ → Step
 Both mode room state octets = (state_after mode room state octets, frames_of mode room state octets)
 
--- the same where a step was made before
+-- the state after octets, and the candidate frames that they end together with those of an earlier step
 abbrev behind : Mode → ℕ → Step → List ℕ → Step
 behind mode room step octets = (state_after mode room step.0 octets, step.1 ++ frames_of mode room step.0 octets)
 
--- eight octets
+-- eight octets are taken as a block
 block : (mode : Mode) (room : ℕ) (frame own : List ℕ) (last : ℕ) (rest : List ℕ) → length own ≡ 7
     → Both mode room (Decoding frame []) ((own ++ last ∷ []) ++ rest) ≡ behind mode room (after_block room frame (decoded mode (own ++ last ∷ []))) rest
 block mode room frame (a ∷ b ∷ c ∷ d ∷ e ∷ f ∷ g ∷ []) last rest seven = refl
@@ -80,7 +81,7 @@ enclosed-alike false one other w v same = same
 its-own : (field : Bool) (frame : List ℕ) → IsWhole frame → IsWhole (enclosed field frame) → Brings field (filled (enclosed field frame)) frame
 its-own field frame whole own = let f = filled-front (enclosed field frame) in (take f.0 fill, whole, record { whole = own; parts = f.2 }, fills f.0 f.1)
 
--- what the CLTU of a frame carries brings this frame, and no other
+-- the octets that the CLTU of a frame carries bring this frame and no other
 just-its-own : (field : Bool) (frame : List ℕ) (frames : List (List ℕ)) → IsWhole frame → IsWhole (enclosed field frame)
     → AreBrought field (filled (enclosed field frame) ∷ []) frames → frames ≡ frame ∷ []
 just-its-own field frame frames whole own (inl b) =
@@ -113,7 +114,7 @@ near-alone mode field last frame octets whole own near now are =
     let is = ap (λ (s : Step). s.1) (near-now mode last (enclosed field frame) octets own near) in
     are.2 ∙ ap (map Frame) (just-its-own field frame are.0 whole own (subst (λ candidates. AreBrought field candidates are.0) is are.1))
 
--- where detection lets nothing through that was altered, the events of the receiver are those of the session
+-- if detection lets nothing through that was altered, the events of the receiver are those of the session
 pub events-came : (mode : Mode) (field : Bool) (l : Loop) (state : Reception) (session : List Action) (coming : List Coming) (came : List Event)
     → AltersNothing mode field l.frames state session coming → AreEventsOf mode field state coming came → came ≡ events l session
 events-came mode field l state [] [] came so are = are
@@ -122,7 +123,7 @@ events-came mode field l state (action ∷ session) (c ∷ coming) came so are =
     ∙ ap (λ (x : List Event). events_at l.frames action ++ x) (events-came mode field l (state_behind mode state c) session coming are.1 so.1 are.4)
 events-came mode field l state _ _ came so are = absurd so
 
--- what carries events well alters none, and loses none
+-- an input that carries events well alters none and loses none
 record IsWell (mode : Mode) (field : Bool) (events : List Event) (c : Coming) : Type 0 where
   searches : state_behind mode (Searching 0) c ≡ Searching 0
   come : AreEventsAt mode field (Searching 0) c events

@@ -83,7 +83,7 @@ no-units false m fields none = none
 abbrev by_service : Service → List (List ℕ) → List Passed
 by_service service fields = map {B = Passed} (λ field. record { service = service; field = field }) fields
 
--- the stream of fields that are all of one: themselves, or none
+-- if all fields are of one stream, each stream of them has all of them, or none
 stream-own : (b : Bool) (service other : Service) (m id : ℕ) (fields : List (List ℕ)) → AreOn b m fields → is_same_stream other id service m ≡ true → stream_in b other id (by_service service fields) ≡ fields
 stream-own b service other m id [] on same = refl
 stream-own b service other m id (f ∷ fs) on same = rw (on.0, same) (ap (λ (x : List (List ℕ)). f ∷ x) (stream-own b service other m id fs on.1 same))
@@ -95,7 +95,7 @@ stream-none b service other m id (f ∷ fs) on apart = rw (on.0, apart) (stream-
 swapped : (m id : ℕ) → eqb id m ≡ eqb m id
 swapped m id = elim (eqb_tells id m) [ inl e ↦ e.0 ∙ sym (eq-eqb m id (sym e.1)) | inr e ↦ grind (arith, nat_tests) ]
 
--- to be the same stream goes both ways
+-- being the same stream is symmetric
 turned : (service other : Service) (m id : ℕ) → is_same_stream service m other id ≡ is_same_stream other id service m
 turned Ad Bd m id = refl
 turned Bd Ad m id = refl
@@ -126,7 +126,7 @@ can-carry limits b service m size units small one some can = (
     sendable other id true h = rw (h, same_map service other id m h) can
     sendable other id false h = rw h tt
 
--- the stream of Type-AD of a MAP
+-- the stream of a MAP by Type-AD has the Type-AD fields of this MAP
 pub stream-of-ad : (b : Bool) (m : ℕ) (ps : List Passed) → stream_in b Ad m ps ≡ on_map b m (fields_passed Ad ps)
 stream-of-ad b m [] = refl
 stream-of-ad b m (p ∷ ps) = by p.service refl (eqb (map_in b p.field) m) refl (stream-of-ad b m ps) where

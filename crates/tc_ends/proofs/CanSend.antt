@@ -1,4 +1,4 @@
--- Any units of packets can be what a sender's numbered data fields carry.
+-- Any units of packets can be carried by a sender's numbered data fields.
 use Rattle.tc_ends.proofs.Names.{AllByRecursion, AreAllPackets, Bool, CarryUnits, IsSendable, List, SendsPackets, [], all_joined, ap, eqb, eqb_tells, false, get_or, inl, inr, length, on_map, only_on, refl, sent_from, suc, sym, true, zero, ℕ, ◌<◌, ◌∙◌, ◌∷◌, ◌≡◌, ◌≤◌, fields_passed, Passed, CarrySent, sent_on, Ad, stream_in, subst}
 use Rattle.tc_ends.proofs.Can.{AreOn, can-carry, stream-of-ad}
 

@@ -1,4 +1,4 @@
--- The lemmas that close laws without an answer.
+-- Lemmas that close laws without an answer.
 use Rattle.tc_ends.proofs.Arrived.{carried-unaltered, carried-whole, near-arrives}
 use Rattle.tc_ends.proofs.Cut.{cut-of-joined}
 use Rattle.tc_ends.proofs.Numbered.{numbered-on, numbered-sends}

@@ -1,4 +1,4 @@
--- What data fields make for an application, and of the units of a chosen MAP.
+-- The packets that data fields make for an application, and the units that they make of a chosen MAP.
 use Rattle.tc_ends.proofs.Names.{Ad, AreAllPackets, AreMerged, Bd, Bool, CarrySent, HasMapsByHeaders, List, None, OnStream, Option, PacketsSent, Passed, Service, Settings, Some, [], all_joined, all_made, ap, append-nil, append_assoc, arith, as_list, cond, eqb, false, filter, filter-append, flat_map, flat_map-append, is_chosen_by, is_chosen_map, is_for, is_from, is_in, is_same_stream, joined_on, map, map-append, map_in, packet_on, packets_ended, packets_for, packets_made, packets_of, packets_offered, packets_sent_on, packets_to, refl, same_map, same_service, stream_unit, subst, sym, true, unit_made, unless_chosen, ℕ, ◌&&◌, ◌++◌, ◌∙◌, ◌∷◌, ◌≡◌, cases_Bool, inl, inr}
 use Rattle.tc_ends.proofs.Segmented.{Makes}
 use Rattle.tc_ends.proofs.Cut.{cut-of-joined}
@@ -47,7 +47,7 @@ tag-dropped : (service : Service) (map_id : ℕ) (own : Service) (id : ℕ) (pac
 tag-dropped service map_id own id [] apart = refl
 tag-dropped service map_id own id (x ∷ xs) apart = rw apart (tag-dropped service map_id own id xs apart)
 
--- what data fields make for an application, with the streams that it came on
+-- the packets that data fields make for an application, with the streams on which they came
 abbrev came : (ℕ → ℕ) → Settings → ℕ → List Passed → List Passed → List OnStream
 came limits s apid before [] = []
 came limits s apid before (p ∷ ps) = tagged p.service (map_in s.segmented p.field) (packets_ended limits s apid before p) ++ came limits s apid (before ++ p ∷ []) ps
@@ -61,7 +61,7 @@ came-all limits s apid before (p ∷ ps) =
     ∙ ap (λ (x : List (List ℕ)). x ++ map packet_on later) (tag-off p.service (map_in s.segmented p.field) now)
     ∙ ap (λ (x : List (List ℕ)). now ++ x) (came-all limits s apid (before ++ p ∷ []) ps)
 
--- the MAP of a data field is chosen where that of its stream is
+-- the MAP of a data field is chosen exactly when that of its stream is
 chosen-by : (s : Settings) (field : List ℕ) (map_id : ℕ) (c : Bool) → HasMapsByHeaders s → map_in s.segmented field ≡ map_id → is_chosen_map s map_id ≡ c → is_chosen_by s field ≡ c
 chosen-by s field map_id c free is h = by s.segmented refl is where
   by : (t : Bool) → s.segmented ≡ t → map_in t field ≡ map_id → is_chosen_by s field ≡ c
@@ -101,7 +101,7 @@ came-each limits s apid service map_id chosen free is before (p ∷ ps) =
           ap (λ (x : List OnStream). map packet_on x ++ later) (tag-dropped service map_id p.service id now apart) ∙ rest ∙ ap (λ (x : List (List ℕ)). cond chosen [] (packets_for apid (x ++ units))) (sym unit_is)
     ]
 
--- what data fields make for an application came on streams
+-- the packets that data fields make for an application are a merge of those of each stream
 pub made-merged : (limits : ℕ → ℕ) (s : Settings) (apid : ℕ) (before ps : List Passed) (on : Service → ℕ → List (List ℕ)) → HasMapsByHeaders s
     → ((service : Service) (map_id : ℕ) → unless_chosen s map_id (packets_for apid (all_made (stream_unit limits s service map_id) before ps)) ≡ on service map_id)
     → AreMerged (all_made (packets_ended limits s apid) before ps) on
@@ -111,7 +111,7 @@ made-merged limits s apid before ps on free is = record {
   each = λ service map_id. came-each limits s apid service map_id (is_chosen_map s map_id) free refl before ps ∙ is service map_id;
 }
 
--- where no packet came on another stream, all came on one
+-- if no packet came on another stream, all packets came on one
 abbrev of_test : (t : OnStream) (kept : List OnStream) → Bool → List (List ℕ)
 of_test t kept b = map packet_on (cond b (t ∷ kept) kept)
 
@@ -134,7 +134,7 @@ pub merged-alone : (packets : List (List ℕ)) (on : Service → ℕ → List (L
 merged-alone packets on service map_id m none =
     sym m.all ∙ ap (map packet_on) (sym (all-kept service map_id m.came (λ other id apart. m.each other id ∙ none other id apart))) ∙ m.each service map_id
 
--- units of packets are cut into these
+-- units of packets are cut into their packets
 pub cut-all : (apid : ℕ) (units : List (List (List ℕ))) → AreAllPackets units → packets_for apid (all_joined units) ≡ packets_to apid units
 cut-all apid units each = ap (filter (is_for apid)) (flat units each) where
   flat : (units : List (List (List ℕ))) → AreAllPackets units → flat_map packets_of (all_joined units) ≡ flat_map (λ packets. packets) units

@@ -6,7 +6,7 @@ use Rattle.tc_ends.proofs.Can.{AreOn}
 use Rattle.tc_ends.proofs.CanSend.{map-own, map-none}
 use Rattle.tc_ends.proofs.Written.{written-segments}
 
--- the data fields of a unit's frames, on its MAP, carry it
+-- the data fields of a unit's frames are on its MAP and carry it
 own-fields : (limits : ℕ → ℕ) (b : Bool) (header : Header) (u : UnitSent) (frames : List (List ℕ)) → CanBeSent limits b u → AreFramesOf b header u frames
     → AreOn b u.map_id (map field_of frames) × ((units : List (List ℕ)) (fields : List (List ℕ)) → CarryUnits b u.map_id units fields → CarryUnits b u.map_id (joined u.packets ∷ units) (map field_of frames ++ fields))
 own-fields limits true header u frames can are =
@@ -55,14 +55,14 @@ numbered-sends limits b header units frames sent can numbered is = record {
   packets = λ id. (sendable limits b units can id).1;
 }
 
--- their N(S) counts on
+-- the N(S) of the frames counts on
 ns-on : (n a b : ℕ) → ((n + a) % 256 + b) % 256 ≡ (n + (a + b)) % 256
 ns-on n a b = omega arith
 
 later-ns : (header : Header) (n : ℕ) → header.bypass ≡ false → (header_later header n).ns ≡ (header.ns + n) % 256
 later-ns header n ad = rw ad refl
 
--- the frame at each place of a unit's has the header of its place
+-- the frame at each place of a unit's frames has the header of this place
 header-of : (b : Bool) (header : Header) (u : UnitSent) (frames : List (List ℕ)) → AreFramesOf b header u frames → (k : ℕ) → k < length frames → link.header_of (get_or frames k []) ≡ header_later header k
 header-of true header u frames are k low = sym (are.each k low).0.header_bits
 header-of false header u frames are zero low = ap (λ (fs : List (List ℕ)). link.header_of (get_or fs 0 [])) are.1 ∙ sym are.2.0.header_bits

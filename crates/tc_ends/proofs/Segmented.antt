@@ -1,4 +1,4 @@
--- The segments of a unit end it once, behind whatever came before.
+-- The segments of a unit end it once, whatever came before.
 use Rattle.tc_ends.proofs.Names.{AllByRecursion, AreSegments, Continuing, EndAtLast, First, IsPart, List, MakeUnit, Segment, Unsegmented, [], ap, append_assoc, arith, common_steps, get_or, inl, inr, length, length-append, nat_tests, part_at, refl, segments_needed, sym, units_ended_by, ℕ, ◌++◌, ◌∙◌, ◌∷◌, ◌≡◌, ◌≤◌, get_or_at, nil_from_length}
 use Rattle.tc_packet.specs.Segment.{header_of}
 
@@ -10,7 +10,7 @@ none-ended before (f ∷ fs) goes_on = rw (goes_on.0, none-ended (before ++ f �
 none-first : (before after : List (List ℕ)) (first : List ℕ) → IsPart First first → AllByRecursion (IsPart Continuing) after → units_ended_by before (first ∷ after) ≡ []
 none-first before after first opens goes_on = rw (opens, none-ended (before ++ first ∷ []) after goes_on) refl
 
--- which places the first and the only segment have
+-- the first segment, and the only one, are at place 0, and the only and the last ones at the end
 part-first : (place count : ℕ) → part_at place count ≡ First → place ≡ 0
 part-first place count is = grind (arith, nat_tests, common_steps)
 
@@ -24,7 +24,7 @@ part-there map size unit fields xs ys y s parts =
     let there : get_or fields (length xs) [] ≡ y = ap (λ (z : List (List ℕ)). get_or z (length xs) []) parts ∙ get_or_at xs y ys [] (length xs) refl in
     ap (λ (z : List ℕ). (header_of z).part) (sym there) ∙ ap (λ (h : Segment). h.part) (s.each (length xs) (omega (arith, ap length parts ∙ length-append xs (y ∷ ys)))).0
 
--- what tc_write's law says
+-- the statement of tc_write's law
 abbrev pub Makes : Type 0
 Makes = (map size : ℕ) (unit : List ℕ) (fields : List (List ℕ)) → 1 ≤ size → 1 ≤ length unit → length unit ≤ 65542 → AreSegments map size unit fields → MakeUnit fields unit
 

@@ -1,4 +1,4 @@
--- From a sender's packets, over the start of an era, to what takes give.
+-- The way from a sender's packets to the packets that takes give, over the start of an era.
 use Rattle.tc_ends.proofs.Names.{Action, AllByRecursion, AltersNothing, AreEventsOf, AreFrom, AreGivenOf, AreNumbered, Bool, CanBeSent, Coming, Event, Header, IsLoop, IsStart, List, Loop, Mode, Queue, Reception, SendsOnly, Some, Start, UnitSent, [], accepted, ap, arith, begins, begun, comes, era, era_session, field_of, inl, inr, is-loop, journal, journal-whole, known-so, length, length-drop, map, queue_of, receiver, refl, released-within, released_since, run_within, sent, sent_from, subst, suc, sym, units_on, whole, zero, ℕ, ◌++◌, ◌∙◌, ◌∷◌, ◌≡◌, ◌≤◌}
 use Rattle.tc_ends.proofs.Arrived.{events-came}
 use Rattle.tc_ends.proofs.CanSend.{shift}
@@ -12,7 +12,7 @@ fields-of frames [] are = refl
 fields-of frames (f ∷ fs) are =
     rw (are 0 f refl) (ap (λ (x : List (List ℕ)). field_of f ∷ x) (shift (λ i. field_of (frames i)) 0 (length fs) ∙ fields-of (λ i. frames (suc i)) fs (λ i frame e. are (suc i) frame e)))
 
--- no more is begun than there are
+-- no more frames are begun than there are
 begun-within : (session : List Action) (n : ℕ) → SendsOnly n session → (t : ℕ) → begun session t ≤ n
 begun-within session n only zero = omega arith
 begun-within session n only (suc t) = let before = begun-within session n only t in elim (begins session t) [
@@ -20,7 +20,7 @@ begun-within session n only (suc t) = let before = begun-within session n only t
   | inr one ↦ let low = only t one.0 one.1 in let e = one.2 in omega arith
 ]
 
--- so no more is released
+-- no more data fields are released than there are frames
 released-few : (l : Loop) (session : List Action) (n : ℕ) → IsLoop l session → SendsOnly n session → released_since l.limits l.settings l.before (journal l session) ≤ n
 released-few l session n k only =
     let so = subst (λ xs. accepted l xs ≤ begun session (length session)) (whole session) (known-so l session (length session) k).among in
@@ -47,7 +47,7 @@ packets-of-start make s header units frames apid q k can numbered are only has =
     (packets-of-loop make (era s) (era_session s) header units frames apid q (is-loop s k) can numbered are only
     (subst (λ es. queue_of apid (run_within s.loop.limits s.loop.settings es).queues ≡ Some q) (sym same) has))
 
--- the same over CLTUs: the receiver's journal is that of the session
+-- over CLTUs, too, the sent packets are given, because the receiver's journal is that of the session
 pub packets-in-cltus : Makes → (s : Start) (header : Header) (units : List UnitSent) (frames : List (List ℕ)) (apid : ℕ) (q : Queue) (mode : Mode) (field : Bool) (state : Reception) (coming : List Coming) (came : List Event)
     → IsStart s → AllByRecursion (CanBeSent s.loop.limits s.loop.settings.segmented) units → AreNumbered s.loop.settings.segmented header units frames → AreFrom (era s).frames frames → SendsOnly (length frames) (era_session s)
     → AltersNothing mode field s.loop.frames state s.session coming → AreEventsOf mode field state coming came

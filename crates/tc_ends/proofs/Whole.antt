@@ -1,4 +1,4 @@
--- From the packets of a sender to what takes give.
+-- The way from the packets of a sender to the packets that takes give.
 use Rattle.tc_ends.proofs.Names.{Ad, AllByRecursion, AreGivenOf, Bd, Bool, CarryUnits, ComesFromWithin, Event, HasMapsByHeaders, IsEraWithin, IsLawfulWithin, IsPartOf, IsSendable, List, Passed, Queue, SendsPackets, Service, Settings, Some, [], all_joined, all_made, ap, append-nil, append_assoc, arith, behind_ad, cond, drop, eqb, false, fields_passed, filter, filter-append, first_state_within, inl, inr, is_chosen_map, is_in, length, map, map-append, map_in, on_map, packets-given-of-made, packets_ended, packets_for, packets_given, packets_in_era, packets_made, passed-as-sent, passed_before, passed_in, queue_of, refl, released_since, run_within, same_service, sent_from, stream, stream_in, stream_unit, subst, suc, sym, true, unit_on, units-given-of-made, units_ended, units_given, units_made, unless_chosen, until_ad, zero, ℕ, ◌++◌, ◌+◌, ◌-◌, ◌∙◌, ◌∷◌, ◌≡◌, ◌≤◌}
 use Rattle.tc_ends.proofs.Can.{stream-of-ad}
 use Rattle.tc_ends.proofs.Segmented.{Makes}
@@ -19,7 +19,7 @@ sent-more sent j (suc a) b =
     let f : suc a + b ≡ suc (a + b) = omega arith in
     rw (e, f) (ap (λ (x : List (List ℕ)). sent j ∷ x) (sent-more sent (suc j) a b))
 
--- data fields as those of Type-AD
+-- these data fields, passed on by Type-AD
 abbrev by_ad : List (List ℕ) → List Passed
 by_ad fields = map {B = Passed} (λ field. record { service = Ad; field = field }) fields
 
@@ -35,7 +35,7 @@ none-by-bd : (b : Bool) (limits : ℕ → ℕ) (s : Settings) (m : ℕ) (fields 
 none-by-bd b limits s m [] before = refl
 none-by-bd b limits s m (f ∷ fs) before = none-by-bd b limits s m fs (before ++ record { service = Ad; field = f } ∷ [])
 
--- what was passed on is what was before the era and what is since
+-- the fields that were passed on are those up to a field and those behind it
 until-behind : (n : ℕ) (ps : List Passed) → until_ad n ps ++ behind_ad n ps ≡ ps
 until-behind zero ps = refl
 until-behind (suc n) [] = refl
@@ -58,7 +58,7 @@ pub ad-fields : (limits : ℕ → ℕ) (s : Settings) (journal before later : Li
 ad-fields limits s journal before later x sent lawful era comes =
     behind-fields (length (run_within limits s before).accepted) (run_within limits s journal).passed ∙ passed-as-sent limits s journal before later x sent lawful era comes
 
--- the stream of what was passed on and of what is still to come
+-- the stream of the fields that were passed on and of those that are still to come is that of the fields that were sent
 stream-sent : (b : Bool) (sent : ℕ → List ℕ) (r n : ℕ) (passed : List Passed) → fields_passed Ad passed ≡ sent_from sent 0 r → r ≤ n → (id : ℕ)
     → stream_in b Ad id (passed ++ by_ad (sent_from sent r (n - r))) ≡ on_map b id (sent_from sent 0 n)
 stream-sent b sent r n passed fields less id =
@@ -72,7 +72,7 @@ stream-sent b sent r n passed fields less id =
     ∙ sym (filter-append (λ (field : List ℕ). eqb (map_in b field) id) (sent_from sent 0 r) (sent_from sent r (n - r)))
     ∙ ap (on_map b id) (more ∙ ap (sent_from sent 0) sum)
 
--- what is made is what was made before the era and what its fields make
+-- the items made are those made before the era, and those that the fields of the era make
 made-parts : (ended : List Passed → Passed → List (List ℕ)) (limits : ℕ → ℕ) (s : Settings) (before journal : List Event)
     → all_made ended [] (run_within limits s journal).passed ≡ all_made ended [] (passed_before limits s before journal) ++ all_made ended (passed_before limits s before journal) (passed_in limits s before journal)
 made-parts ended limits s before journal =
@@ -86,7 +86,7 @@ module _ (limits : ℕ → ℕ) (s : Settings) (journal before : List Event) (se
   abbrev new : List Passed
   new = passed_in limits s before journal
 
-  -- those that are still to come
+  -- the data fields that are still to come
   abbrev rest : List Passed
   rest = by_ad (sent_from sent (released_since limits s before journal) (n - released_since limits s before journal))
 
@@ -122,7 +122,7 @@ module _ (limits : ℕ → ℕ) (s : Settings) (journal before : List Event) (se
           ap (λ (x : List (List ℕ)). unless_chosen s id (packets_for apid x))
           (made-append (stream_unit limits s Bd id) old new rest ∙ ap (λ (x : List (List ℕ)). bd ++ x) (none-by-bd s.segmented limits s id (sent_from sent (released_since limits s before journal) (n - released_since limits s before journal)) (old ++ new)) ∙ append-nil bd)
 
-  -- the same of the units of a chosen MAP
+  -- the units of a chosen MAP that takes gave are units that were sent on it
   pub units-of-sent : Makes → (later : List Event) (x : ℕ) (units : List (List ℕ)) (map_id : ℕ) (q : Queue)
       → IsLawfulWithin limits s journal → IsEraWithin limits s journal before later x → ComesFromWithin limits s before later x sent
       → s.segmented ≡ true → is_chosen_map s map_id ≡ true → CarryUnits true map_id units (on_map true map_id (sent_from sent 0 n)) → AllByRecursion (IsSendable limits true map_id) units

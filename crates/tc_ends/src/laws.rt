@@ -1,4 +1,4 @@
-//! Laws from a sender's packets to a receiver's.
+//! Laws that lead from a sender's packets to a receiver's.
 #![tactic(auto, using(crate::proofs::Closing::laws))]
 
 ghost use Rattle.std.specs.Prelude.{Bool, List, ℕ, [], ◌∷◌, ◌++◌, ◌≡◌, ◌≤◌, ◌<◌, ◌+◌, ◌%◌, length, map, slice_index_or, true, false, Some};
@@ -31,7 +31,7 @@ ghost use Rattle.tc_ends.specs.Examples as example;
 
 use tc_write::the_segments_of_a_unit_make_the_unit;
 
-/// The segments of a unit, behind any fields of their stream, end this unit at the last field, and none before.
+/// The segments of a unit, after any fields of their stream, end this unit at the last field, and none before.
 pub fn the_segments_of_a_unit_end_it_once()
     ensures { (map size : ℕ) (unit : List ℕ) (before fields : List (List ℕ)) → 1 ≤ size → 1 ≤ length unit → length unit ≤ 65542
         → AreSegments map size unit fields → EndAtLast before fields unit }
@@ -39,14 +39,14 @@ pub fn the_segments_of_a_unit_end_it_once()
     the_segments_of_a_unit_make_the_unit();
 }
 
-/// Packets that are joined are cut into just these packets, with no rest.
+/// Packets that are joined are cut into exactly these packets, with no rest.
 pub fn joined_packets_are_cut_into_them()
     ensures { (packets : List (List ℕ)) → AllByRecursion IsPacket packets → (packets_of (joined packets) ≡ packets) × (rest_of (joined packets) ≡ []) }
 {}
 
-/// The packets for an application that a sender sends, in units, each of them in segments, or whole on a channel without segment headers, are just
-/// the packets that the data fields make for it:
-/// those of each stream in their order, whatever data fields came before, and however the streams are merged.
+/// A sender sends packets for an application in units, which are cut into segments, or are whole on a channel without
+/// segment headers. The packets that the data fields make for the application are exactly these packets. Those of each
+/// stream are in their order, whatever data fields came before, and however the streams are merged.
 pub fn packets_that_are_sent_are_made()
     ensures { (limits : ℕ → ℕ) (s : Settings) (apid : ℕ) (sent : PacketsSent) (before passed : List Passed) → HasMapsByHeaders s
         → ((service : Service) (map_id : ℕ) → AreAllPackets (sent service map_id)) → CarrySent limits s.segmented (joined_on sent) passed
@@ -55,13 +55,14 @@ pub fn packets_that_are_sent_are_made()
     the_segments_of_a_unit_make_the_unit();
 }
 
-/// Where only one stream has packets, a merge is just these, in their order.
+/// If only one stream has packets, a merge consists of exactly these packets, in their order.
 pub fn packets_of_one_stream_are_its_own()
     ensures { (packets : List (List ℕ)) (on : Service → ℕ → List (List ℕ)) (service : Service) (map_id : ℕ) → AreMerged packets on
         → ((other : Service) (id : ℕ) → is_same_stream service map_id other id ≡ false → on other id ≡ []) → packets ≡ on service map_id }
 {}
 
-/// The units that a sender sends on a chosen MAP are just the units that the data fields make of it, in their order.
+/// The units that the data fields make of a chosen MAP are exactly the units that a sender sends on the MAP, in their
+/// order.
 pub fn units_that_are_sent_are_made()
     ensures { (limits : ℕ → ℕ) (s : Settings) (service : Service) (map_id : ℕ) (sent : Sent) (before passed : List Passed)
         → s.segmented ≡ true → is_chosen_map s map_id ≡ true → CarrySent limits true sent passed
@@ -71,7 +72,8 @@ pub fn units_that_are_sent_are_made()
     the_segments_of_a_unit_make_the_unit();
 }
 
-/// Without segment headers, where each data field is packets joined, the packets for an application that these make are just these.
+/// On a channel without segment headers, if each data field consists of joined packets, the data fields make exactly
+/// those of these packets that are for the application.
 pub fn packets_that_are_sent_plainly_are_made()
     ensures { (limits : ℕ → ℕ) (s : Settings) (apid : ℕ) (units : List (List (List ℕ))) (before passed : List Passed)
         → s.segmented ≡ false → s.maps ≡ [] → AreAllPackets units → fields_in_order passed ≡ all_joined units
@@ -85,11 +87,12 @@ pub fn written_frames_carry_the_segments()
         → AreSegments map_id size unit (map field_of frames) }
 {}
 
-/// From a sender's packets to what takes give. The first n data fields of a sender carry units of packets, MAP by MAP, in segments; on a channel without
-/// segment headers each of them is a unit, and all are one stream, that of MAP 0. Then all packets
-/// of an application that takes ever gave are, in their order, those of the data fields from before the era, which are none where the era is the
-/// whole journal (`start`), and then a merge of those that were sent on each MAP and that Type-BD brought; of all of these some may be left out, as
-/// where a queue was full (`given`).
+/// This law leads from a sender's packets to the packets that takes give. Suppose that the first n data fields of a
+/// sender carry units of packets in segments, for each MAP in order. On a channel without segment headers, each field
+/// is a unit, and all units are one stream, that of MAP 0. Then all packets that takes of an application ever gave
+/// come, in order, first from the data fields before the era, and then from a merge of the packets that were sent on
+/// each MAP and those that Type-BD brought. If the era is the whole journal, there are none before it (`start`). Some
+/// packets may be left out, such as those dropped at a full queue (`given`).
 pub fn packets_that_are_sent_are_given()
     ensures start { (limits : ℕ → ℕ) (s : Settings) (journal : List Event) → passed_before limits s [] journal ≡ [] }
     ensures given { (limits : ℕ → ℕ) (s : Settings) (journal before later : List Event) (x : ℕ) (sent : ℕ → List ℕ) (apid n : ℕ) (units : ℕ → List (List (List ℕ))) (q : Queue)
@@ -99,14 +102,15 @@ pub fn packets_that_are_sent_are_given()
     the_segments_of_a_unit_make_the_unit();
 }
 
-/// The premises can be met: all units that can be sent can be carried on any stream, in segments of any size, or whole on MAP 0.
+/// The premises can be met. All units that can be sent can be carried on any stream, in segments of any size, or whole
+/// on MAP 0.
 pub fn all_units_can_be_carried()
     ensures { (limits : ℕ → ℕ) (segmented : Bool) (service : Service) (map_id size : ℕ) (units : List (List ℕ)) → map_id < 64 → (segmented ≡ false → map_id ≡ 0) → 1 ≤ size
         → AllByRecursion (IsSendable limits segmented map_id) units → (passed : List Passed) × CarrySent limits segmented (sent_on service map_id units) passed }
 {}
 
-/// The same with a loop: links that lose, repeat and delay, and a sender that keeps its window and reads CLCWs. Nothing is presumed of when frames
-/// come.
+/// In a loop, takes give what [`packets_that_are_sent_are_given`] promises. The links may lose, repeat and delay
+/// frames, and the sender keeps its window and reads CLCWs. Nothing is assumed about the moments at which frames come.
 pub fn packets_of_a_loop_are_given()
     ensures { (l : Loop) (session : List Action) (apid n : ℕ) (units : ℕ → List (List (List ℕ))) (q : Queue) → IsLoop l session → SendsPackets l.limits l.settings.segmented (sent l) n units
         → released_since l.limits l.settings l.before (journal l session) ≤ n → queue_of apid (receiver l session).queues ≡ Some q
@@ -115,13 +119,13 @@ pub fn packets_of_a_loop_are_given()
     the_segments_of_a_unit_make_the_unit();
 }
 
-/// And a sender can number data fields that carry any units of packets on a MAP.
+/// A sender can number data fields that carry any units of packets on a MAP.
 pub fn all_packets_can_be_sent()
     ensures { (limits : ℕ → ℕ) (segmented : Bool) (map_id size : ℕ) (units : List (List (List ℕ))) → map_id < 64 → (segmented ≡ false → map_id ≡ 0) → 1 ≤ size → AreAllPackets units
         → AllByRecursion (IsSendable limits segmented map_id) (all_joined units) → (sent : ℕ → List ℕ) × (n : ℕ) × SendsPackets limits segmented sent n (only_on map_id units) }
 {}
 
-/// The units of a chosen MAP that takes gave are units that were sent on it, in their order, of which some may be left out.
+/// The units of a chosen MAP that takes gave are, in order, units that were sent on the MAP. Some may be left out.
 pub fn units_that_are_sent_are_given()
     ensures { (limits : ℕ → ℕ) (s : Settings) (journal before later : List Event) (x : ℕ) (sent : ℕ → List ℕ) (n : ℕ) (units : List (List ℕ)) (map_id : ℕ) (q : Queue)
         → IsLawfulWithin limits s journal → IsEraWithin limits s journal before later x → ComesFromWithin limits s before later x sent
@@ -133,8 +137,9 @@ pub fn units_that_are_sent_are_given()
     the_segments_of_a_unit_make_the_unit();
 }
 
-/// A sender that writes its units one after the other, on whatever MAPs, and counts N(S) on over all of them, sends its packets MAP by MAP
-/// (`sends`); and the frame at each place has the N(S) of its place, which a loop asks for (`numbers`).
+/// Suppose that a sender writes its units one after the other, on any MAPs, and that N(S) counts on over all of them.
+/// Then it sends the packets of each MAP in order (`sends`), and the frame at each place has the N(S) of its place, as
+/// a loop requires (`numbers`).
 pub fn numbered_frames_send_packets()
     ensures sends { (limits : ℕ → ℕ) (segmented : Bool) (header : Header) (units : List UnitSent) (frames : List (List ℕ)) (sent : ℕ → List ℕ) → AllByRecursion (CanBeSent limits segmented) units → AreNumbered segmented header units frames
         → sent_from sent 0 (length frames) ≡ map field_of frames → SendsPackets limits segmented sent (length frames) (units_on units) }
@@ -142,9 +147,10 @@ pub fn numbered_frames_send_packets()
         → (k : ℕ) → k < length frames → (header_of (slice_index_or frames k [])).ns ≡ (header.ns + k) % 256 }
 {}
 
-/// From a ground system's packets to what takes give, over the start of an era and links that lose, repeat and delay, but keep order. The sender
-/// sends Set V(R) and then its packets, in units on any MAPs, in frames that it numbers and sends by its window, and no others; it believes rightly
-/// that Set V(R) was obeyed. Then takes gave what [`packets_that_are_sent_are_given`] says.
+/// This law leads from a ground system's packets to the packets that takes give, over the start of an era and over
+/// links that lose, repeat and delay frames, but keep their order. The sender sends Set V(R) and then its packets, in
+/// units on any MAPs. It numbers the frames, sends them by its window, and sends no others. When it believes that Set
+/// V(R) was obeyed, it was. Then takes gave what [`packets_that_are_sent_are_given`] promises.
 pub fn packets_from_a_start_are_given()
     ensures { (s : Start) (header : Header) (units : List UnitSent) (frames : List (List ℕ)) (apid : ℕ) (q : Queue) → IsStart s
         → AllByRecursion (CanBeSent s.loop.limits s.loop.settings.segmented) units → AreNumbered s.loop.settings.segmented header units frames → AreFrom (era s).frames frames → SendsOnly (length frames) (era_session s)
@@ -154,8 +160,9 @@ pub fn packets_from_a_start_are_given()
     the_segments_of_a_unit_make_the_unit();
 }
 
-/// A CLTU with at most as many wrong bits a code block as the mode takes, whose tail no code block is near to, is the arrival of its frame
-/// (`arrives`) and of no other (`alone`), with a frame error control field where frames have one; and a receiver searches again then (`searches`).
+/// Suppose that a CLTU has no more wrong bits in each code block than the mode takes, and that no code block is near to
+/// its tail. Then it is the arrival of its frame (`arrives`) and of no other (`alone`), with a frame error control
+/// field if frames have one, and the receiver searches for a start sequence again after it (`searches`).
 pub fn a_cltu_with_few_wrong_bits_brings_its_frame()
     ensures arrives { (mode : Mode) (field : Bool) (last : ℕ) (frame octets : List ℕ) → IsWhole frame → IsWhole (enclosed field frame) → IsNearCltu mode last (enclosed field frame) octets
         → AreEventsAt mode field (Searching last) (Octets octets) (Frame frame ∷ []) }
@@ -165,10 +172,12 @@ pub fn a_cltu_with_few_wrong_bits_brings_its_frame()
         → state_behind mode (Searching last) (Octets octets) ≡ Searching 0 }
 {}
 
-/// Over both edges: from a ground system's packets to what takes give. The sender is that of [`packets_from_a_start_are_given`], and its frames
-/// come in CLTUs, as octets in which any bits may be turned, over links that keep order. Of what comes detection lets nothing through that was altered:
-/// the code blocks, the length and, where frames have one, the frame error control field. What is refused is lost, and a CLTU with few wrong bits
-/// arrives ([`a_cltu_with_few_wrong_bits_brings_its_frame`]). Then takes gave what [`packets_that_are_sent_are_given`] says.
+/// This law covers both edges, from a ground system's packets to the packets that takes give. The sender is that of
+/// [`packets_from_a_start_are_given`]. Its frames come in CLTUs, as octets in which any bits may be turned, over links
+/// that keep order. Detection lets nothing through that was altered. It consists of the code blocks, the length and, if
+/// frames have one, the frame error control field. A frame that is refused is lost, and a CLTU with few wrong bits
+/// arrives ([`a_cltu_with_few_wrong_bits_brings_its_frame`]). Then takes gave what [`packets_that_are_sent_are_given`]
+/// promises.
 pub fn packets_in_cltus_are_given()
     ensures { (s : Start) (header : Header) (units : List UnitSent) (frames : List (List ℕ)) (apid : ℕ) (q : Queue) (mode : Mode) (field : Bool) (state : Reception) (coming : List Coming) (came : List Event)
         → IsStart s → AllByRecursion (CanBeSent s.loop.limits s.loop.settings.segmented) units → AreNumbered s.loop.settings.segmented header units frames → AreFrom (era s).frames frames → SendsOnly (length frames) (era_session s)
@@ -179,8 +188,8 @@ pub fn packets_in_cltus_are_given()
     the_segments_of_a_unit_make_the_unit();
 }
 
-/// Where each frame of a session comes in a CLTU with few wrong bits, and nothing else comes, nothing is altered (`unaltered`), and nothing is lost
-/// on the way to the receiver (`whole`).
+/// If each frame of a session comes in a CLTU with few wrong bits, and nothing else comes, then nothing is altered
+/// (`unaltered`), and nothing is lost on the way to the receiver (`whole`).
 pub fn cltus_with_few_wrong_bits_bring_a_session()
     ensures unaltered { (mode : Mode) (field : Bool) (frames : ℕ → List ℕ) (session : List Action) (coming : List Coming) → AreCarried mode field frames session coming
         → AltersNothing mode field frames (Searching 0) session coming }
@@ -188,8 +197,9 @@ pub fn cltus_with_few_wrong_bits_bring_a_session()
         → AreEventsOf mode field (Searching 0) coming (events l session) }
 {}
 
-/// One session, worked out by hand, meets each premise of [`packets_in_cltus_are_given`], and so of [`packets_from_a_start_are_given`]: that of
-/// `learnt_by_9` of tc_loop, in CLTUs with wrong bits in three code blocks. What takes gave is the packet that was sent.
+/// One session that was worked out by hand meets each premise of [`packets_in_cltus_are_given`], and so of
+/// [`packets_from_a_start_are_given`]. It is that of `learnt_by_9` of tc_loop, in CLTUs with wrong bits in three code
+/// blocks. The take gave the packet that was sent.
 pub fn all_premises_are_met_at_once()
     ensures begins { IsStart start.learnt_by_9 }
     ensures can_be_sent { AllByRecursion (CanBeSent start.learnt_by_9.loop.limits true) example.one_unit }

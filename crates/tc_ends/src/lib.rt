@@ -1,7 +1,7 @@
-//! Packet to packet: from the packets that a sender sends to the packets and units that takes give at the receiver, over the conditions of
-//! `what_was_sent_is_accepted_once_and_in_order` of tc_channel, or over a loop of tc_loop.
+//! The whole way of packets: from those that a sender sends to the packets and units that takes give at the receiver,
+//! under the conditions of `what_was_sent_is_accepted_once_and_in_order` of tc_channel, or in a loop of tc_loop.
 //!
-//! All are laws, functions that do nothing.
+//! All functions are laws, which do nothing.
 #![tactic(auto)]
 
 mod laws;
