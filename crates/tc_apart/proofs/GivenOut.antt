@@ -1,4 +1,5 @@
--- A channel that a station gives out has the settings of its place, and is a merge of what its operators made.
+-- A channel that a station gives out has the settings of its place, and its journal is a merge of the events that its
+-- operators made.
 use Rattle.tc_apart.proofs.Names.{AreClosedTogether, AtLock, AtStation, Event, History, Identity, IsMergeOf, List, Roster, Settings, Some, [], accounts_of, ap, arith, column, heads_of, map, no_limits, operator_lists_of, owned_desk-there, refl, settings_in, slice_get, slice_get_within, subst, suc, sym, zero, ℕ, ◌∙◌, ◌∷◌, ◌≡◌}
 
 setting-there : (owned_desks : List AtLock) (n : ℕ) (owned_desk : AtLock) → slice_get owned_desks n ≡ Some owned_desk → slice_get (map (λ (h : Identity). h.settings) (heads_of owned_desks)) n ≡ Some owned_desk.own.seen.head.settings
@@ -23,7 +24,7 @@ settings-given station operators closed place channel settings together out here
     let same : Some settings ≡ Some channel.settings = sym here ∙ (given-out station operators closed place channel together out).0 in
     cc
 
--- what holds of limits, settings and a journal holds of those of the channel
+-- a statement about limits, settings and a journal also holds for those of the channel
 pub of-channel : (P : (ℕ → ℕ) → Settings → List Event → Type 0) (limits : ℕ → ℕ) (settings : Settings) (events : List Event) (channel : History)
     → limits ≡ no_limits → settings ≡ channel.settings → channel.journal ≡ events → P limits settings events → P no_limits channel.settings channel.journal
 of-channel P limits settings events channel free same is h =

@@ -1,11 +1,11 @@
--- A journal is determined by what each has made of it, with its places.
+-- A journal is determined by the events that each owner has made of it, with their places.
 use Rattle.tc_apart.proofs.Names.{AreClosedTogether, AtStation, Bool, Event, History, IsMergeOf, List, Own, Roster, Some, [], accounts_of, ap, arith, column, false, if◌then◌else◌, length, made_by, operator_lists_of, owned, refl, settings_in, slice_get, subst, suc, sym, true, zero, ℕ, ◌+◌, ◌==◌, ◌∙◌, ◌∷◌, ◌≡◌}
 use Rattle.tc_apart.proofs.GivenOut.{given-out}
 
 same-self : (k : ℕ) → (k == k) ≡ true
 same-self k = grind arith
 
--- each event of the journal is its owner's, with its place
+-- each event of the journal is among its owner's events, with its place
 abbrev IsIn : ℕ → Event → List (ℕ × Event) → Type 0
 IsIn n e ps = (i : ℕ) × (slice_get ps i ≡ Some (n, e))
 
@@ -26,7 +26,7 @@ its-owner at (suc n) (o ∷ os) (f ∷ es) e long is =
     by k true own h = (suc h.0, rw own h.1)
     by k false other h = (h.0, rw other h.1)
 
--- and what is an owner's is at its place
+-- each event of an owner is in the journal, at its place
 at-place : (k at n : ℕ) (owners : List ℕ) (es : List Event) (e : Event) → IsIn n e (owned k at owners es) → (i : ℕ) × (n ≡ at + i) × (slice_get es i ≡ Some e)
 at-place k at n [] es e h = let is = h.1 in absurd cc
 at-place k at n (o ∷ os) [] e h = let is = h.1 in absurd cc
@@ -48,7 +48,7 @@ at-place k at n (o ∷ os) (f ∷ es) e h = by (o == k) refl h (at-place k (suc 
   by true own h rest = let is : IsIn n e ((at, f) ∷ owned k (suc at) os es) = subst (λ (t : Bool). IsIn n e (if t then (at, f) ∷ owned k (suc at) os es else owned k (suc at) os es)) own h in first is.0 is.1 rest
   by false other h rest = more (rest (subst (λ (t : Bool). IsIn n e (if t then (at, f) ∷ owned k (suc at) os es else owned k (suc at) os es)) other h))
 
--- so a journal has at each place what another has there that the same have made
+-- if the owners made the same events of two journals, the second one has the events of the first one at the same places
 carried-over : (one two : List Event) (makers others : List Own) → IsMergeOf one makers → IsMergeOf two others → ((k : ℕ) → made_by makers k ≡ made_by others k)
     → (n : ℕ) (e : Event) → slice_get one n ≡ Some e → slice_get two n ≡ Some e
 carried-over one two makers others m r same n e is =
@@ -67,7 +67,7 @@ all-alike (e ∷ es) (f ∷ fs) go back =
     let same : f ≡ e = cc in
     rw same (ap (λ (xs : List Event). e ∷ xs) (all-alike es fs (λ n g h. go (suc n) g h) (λ n g h. back (suc n) g h)))
 
--- the channels that two closes give out
+-- the channels that two closed stations give out are the same
 pub same-channel : (station other : Roster) (operators others : List AtStation) (closed shut : List History) (place at : ℕ) (one two : History)
     → AreClosedTogether station operators closed → AreClosedTogether other others shut → slice_get closed place ≡ Some one → slice_get shut at ≡ Some two
     → slice_get (settings_in station) place ≡ slice_get (settings_in other) at

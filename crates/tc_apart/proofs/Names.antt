@@ -1,4 +1,4 @@
--- The types, definitions and lemmas that most proofs speak of, imported from one file.
+-- Types, definitions and lemmas that most proofs use, imported from one file.
 pub use Rattle.logged_lock.specs.Log.{owned}
 pub use Rattle.std.proofs.lemmas.Bool.{eqb-false, cases_order}
 pub use Rattle.std.specs.Prelude.{if◌then◌else◌, slice_set, ◌==◌, codes}

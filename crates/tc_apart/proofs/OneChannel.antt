@@ -15,7 +15,7 @@ ids-apart channels apart p q vcid at to =
       | inr (inr above) ↦ absurd (apart q p c above (slice_get_within channels p c here) (other ∙ sym one))
     ]
 
--- what an operation on the channel is answered by it, and makes of it
+-- the channel's answer to an operation on it, and the channel after that
 abbrev IsAnsweredOn : Operation → Linked → Answer → Linked → Type 0
 IsAnsweredOn (Frame octets) old answer new = (frame : List ℕ) × BeginsWith octets frame × IsFrameAnswered frame old answer new
 IsAnsweredOn (Release vcid) old answer new = IsReleaseAnswered old answer new
@@ -23,17 +23,17 @@ IsAnsweredOn (Take vcid apid) old answer new = IsTakeAnswered apid old answer ne
 IsAnsweredOn (TakeUnit vcid map_id) old answer new = IsUnitAnswered map_id old answer new
 IsAnsweredOn (Clcw vcid) old answer new = (answer ≡ reported_word old) × (new ≡ old)
 
--- what an operation makes of a channel: what it says, where it is on it, and else the same
+-- the channel after an operation: as the operation leaves it if it was on this channel, otherwise unchanged
 abbrev IsLeft : Bool → Operation → Linked → Answer → Linked → Type 0
 IsLeft true operation old answer new = IsAnsweredOn operation old answer new
 IsLeft false operation old answer new = new ≡ old
 
--- and so it has its place
+-- the channel after an operation is at its place
 abbrev IsStep : Operation → Answer → Racked → ℕ → ℕ → Linked → Type 0
 IsStep operation answer new vcid p c = (later : Linked) × IsChannelAt new.channels vcid p later × IsLeft (is_on vcid operation answer) operation c answer later
 
 module _ (operation : Operation) (answer : Answer) (old new : Racked) (vcid p : ℕ) (c : Linked) (apart : AreApart (map vcid_of old.channels)) (here : IsChannelAt old.channels vcid p c) where
-  -- nothing has changed
+  -- the step if no channel has changed
   stays : new ≡ old → (is_on vcid operation answer ≡ true → IsAnsweredOn operation c answer c) → IsStep operation answer new vcid p c
   stays same own = (c, subst (λ (r : Racked). IsChannelAt r.channels vcid p c) (sym same) here, by (is_on vcid operation answer) own) where
     by : (b : Bool) → (b ≡ true → IsAnsweredOn operation c answer c) → IsLeft b operation c answer c
@@ -85,12 +85,12 @@ step (Clcw own) answer old new vcid p c apart here is = stays (Clcw own) answer 
   word same (inl (q, d, at, reported)) = (reported ∙ ap reported_word (same-at vcid_of old.channels apart vcid q p d c at.0 (at.1 ∙ same) here.0 here.1).1, refl)
   word same (inr unknown) = absurd (not-unknown (Clcw own) answer old new vcid p c apart here own same unknown.0)
 
--- operations on one channel, one after the other
+-- operations on one channel were answered, one after the other
 abbrev pub AreAnsweredOn : List Answered → Linked → Linked → Type 0
 AreAnsweredOn [] old new = new ≡ old
 AreAnsweredOn (d ∷ done) old new = (mid : Linked) × IsAnsweredOn d.operation old d.answer mid × AreAnsweredOn done mid new
 
--- what all operations make of a channel is what its own make
+-- all operations leave a channel as its own operations do
 abbrev pub IsSeen : List Answered → Racked → ℕ → ℕ → Linked → Type 0
 IsSeen done new vcid p c = (last : Linked) × IsChannelAt new.channels vcid p last × AreAnsweredOn (filter (is_own vcid) done) c last
 
@@ -122,7 +122,7 @@ determined-all alone (d ∷ one) (f ∷ other) old x y p q e =
     let rest = determined-all alone one other q.0 x y (subst (λ (m : Linked). AreAnsweredOn one m x) s.1 p.2) q.2 more in
     ((λ i. record { operation = operation i; answer = s.0 i } ∷ rest.0 i), rest.1)
 
--- of two lists of operations
+-- two lists of operations with the same ones on a channel give the same answers and the same channel
 pub both-seen : IsOneAtMost → (vcid : ℕ) (one other : List Answered) (a after b behind : Racked) (channel : Linked) → AreChannelsApart a.channels → AreChannelsApart b.channels
     → IsOf a vcid (λ c. c ≡ channel) → IsOf b vcid (λ c. c ≡ channel) → ArePerformed one a after → ArePerformed other b behind
     → map operation_of (filter (is_own vcid) one) ≡ map operation_of (filter (is_own vcid) other)

@@ -1,4 +1,4 @@
--- What the lines of a script do to one of its channels.
+-- The effect of a script's lines on one of its channels.
 use Rattle.tc_apart.proofs.Names.{Answer, Answered, AreAnswers, AreApart, ArePerformed, Does, HasPerformed, IsAnswerOf, IsDoneSo, IsInstructionAnswered, IsOf, IsOneAtMost, IsPerformed, LeadsTo, Line, Linked, List, Operating, Operation, Option, Progress, Racked, SettingUp, Settings, Some, [], all-apart, ap, append-nil, at_first, filter, instruction_of, is_own, map, mapped-at, new_linked, new_rack, one_more, operation-ids, operation_in, operation_of, operations_of, performed-at, phase_of, rack-ids, rack_for, refl, same_Some, set-up, slice_get, subst, sym, unmapped, vcid_of, with_answer, ℕ, ◌++◌, ◌∙◌, ◌∷◌, ◌≡◌}
 use Rattle.tc_apart.proofs.OneChannel.{AreAnsweredOn, all-kept, determined-all, seen-from}
 use Rattle.tc_rack.specs.declared.operation.Operation.TheVariants as operations
@@ -13,7 +13,7 @@ performed-ids [] old new is = ap (λ (r : Racked). map vcid_of r.channels) is
 performed-ids (d ∷ done) old new (next, first, rest) = performed-ids done next new rest ∙ operation-ids d.operation old next d.answer first
 
 module _ (scid : ℕ) (script : List ℕ) where
-  -- what a script has performed so far
+  -- the operations that a script has performed so far
   abbrev IsSoFar : List Answered → Progress → Type 0
   IsSoFar done (SettingUp list) = done ≡ []
   IsSoFar done (Operating rack) = (list : List Settings) × LeadsTo scid script (SettingUp list) × ArePerformed done (new_rack scid list) rack
@@ -23,7 +23,7 @@ module _ (scid : ℕ) (script : List ℕ) where
   on-new done (SettingUp list) way none = (list, way, subst (λ (ds : List Answered). ArePerformed ds (new_rack scid list) (new_rack scid list)) (sym none) refl)
   on-new done (Operating rack) way so = so
 
-  -- lines that set channels up
+  -- lines that set channels up perform no operation
   set : (done : List Answered) (old new : Progress) (list longer : List Settings) → old ≡ SettingUp list → new ≡ SettingUp longer → IsSoFar done old → IsSoFar (done ++ []) new
   set done old new list longer was is so = subst (IsSoFar (done ++ [])) (sym is) (append-nil done ∙ subst (IsSoFar done) was so)
 
@@ -53,7 +53,7 @@ module _ (scid : ℕ) (script : List ℕ) where
   so-far answers progress rest (one_more {answers = before} {stage = old} {rest = from} {answer = answer} lines next (said, is, does, a)) =
       line-performed (operations_of lines) said old progress answer (before, from, lines) does a (so-far before old from lines)
 
-  -- a channel is what its own operations make of a new one
+  -- a channel is the one to which its own operations lead from a new one
   from-new : (all : List Answered) (list : List Settings) (rack : Racked) (vcid : ℕ) (channel : Linked) → ArePerformed all (new_rack scid list) rack → AreApart (map vcid_of rack.channels) → IsOf rack vcid (λ c. c ≡ channel)
       → AreAnsweredOn (filter (is_own vcid) all) (new_linked channel.history.settings) channel
   from-new all list rack vcid channel performed apart (p, last, at, is) =

@@ -1,4 +1,4 @@
--- What tcmake writes where lines ask for a sender's units.
+-- The text that tcmake writes when lines order a sender's units.
 use Rattle.tc_apart.proofs.Names.{List, Bool, true, false, [], ap, append-nil, append_assoc, arith, get_or, inl, inr, length, map, refl, subst, suc, sym, zero, ℕ, ◌++◌, ◌+◌, ◌<◌, ◌∙◌, ◌∷◌, ◌≡◌, ◌⊎◌, Option, Some, None, flat_map-append, map-append, codes, length-map}
 use Rattle.std.specs.Prelude.{◌%◌, Result, Ok}
 use Rattle.tc_packet.specs.SpacePacket.{joined}
@@ -22,7 +22,7 @@ use Rattle.tc_write.specs.Frames.{IsMadeFrame}
 use Rattle.tc_ends.specs.Ends.{AreFramesOf, AreNumbered, UnitSent}
 use Rattle.tc_apart.specs.Making.{AreSpelled, AskFor, HasBadLine, frames_needed, order_for}
 
--- a text that is a line `bad`, and one that has such a line behind frames
+-- a text that is a line `bad` has a bad line, and so has one with frames before it
 only-bad : (text : List ℕ) (frames : List (List ℕ)) (reason : Reason) → text ≡ frames_text frames ++ bad_text reason → HasBadLine text
 only-bad text frames reason is = record { frames = frames; bad = bad_text reason; rest = []; parts = is ∙ ap (λ (x : List ℕ). frames_text frames ++ x) (sym (append-nil (bad_text reason))); reason = inl (reason, refl) }
 
@@ -47,7 +47,7 @@ bad-behind frames text b = record {
   reason = b.reason;
 }
 
--- the frames of a unit before they end so
+-- the frames of a unit without their frame error control fields
 abbrev AreFramesAt : Parting → ℕ → List (List ℕ) → Type 0
 AreFramesAt p place frames = (k : ℕ) → k < length frames → IsFrameAt p (place + k) (get_or frames k [])
 
@@ -61,7 +61,7 @@ plain ending p place (f ∷ fs) ((frame, is, fits, end), later) =
     let (frames, all, each) = plain ending p (suc place) fs later in
     (frame ∷ frames, (λ i. end i ∷ all i), one-before p place frame frames is each)
 
--- what is written for one unit
+-- the text that is written for one unit
 abbrev IsSpelled : Ending → Bool → Stream → UnitSent → List ℕ → Type 0
 IsSpelled ending b stream u text = ((frames : List (List ℕ)) × AreFramesOf b (ad_header stream) u frames × (text ≡ frames_text (map (ended ending) frames))) ⊎ HasBadLine text
 

@@ -1,4 +1,5 @@
--- Operations on the channels of a spacecraft, one after the other, and those on one of the channels among them, also of a script.
+-- Operations on the channels of a spacecraft, one after the other, and those on one of the channels among them, also
+-- those of a script.
 use Rattle.std.specs.Prelude.{◌≡◌, ◌==◌, ℕ, Bool, false, List, [], ◌∷◌, ◌++◌, filter, Option, Some, None}
 use Rattle.tc_text.specs.declared.line.Line.{Line}
 use Rattle.tc_text.specs.declared.line.Line.TheVariants as asks
@@ -25,7 +26,8 @@ abbrev pub answers_frame : ℕ → Answer → Bool
 answers_frame vcid (answers.Frame own reply) = own == vcid
 answers_frame vcid _ = false
 
--- the operation was brought to the channel with this id: the one that it names, or for a frame the one that answered
+-- the operation was brought to the channel with this id: the channel that it names, or for a frame the one that
+-- answered
 abbrev pub is_on : ℕ → Operation → Answer → Bool
 is_on vcid (Frame octets) answer = answers_frame vcid answer
 is_on vcid (Release own) answer = own == vcid
@@ -46,7 +48,7 @@ abbrev pub with_answer : Operation → Option Answer → List Answered
 with_answer operation None = []
 with_answer operation (Some answer) = record { operation = operation; answer = answer } ∷ []
 
--- the operation that a line asks for, with what the line is answered; lines that set channels up, and blank ones, ask for none
+-- the operation of a line, with the line's answer (none for a blank line or one that sets a channel up)
 abbrev pub operation_in : Line → Option Answer → List Answered
 operation_in (asks.Frame octets) answer = with_answer (Frame octets) answer
 operation_in (asks.Release vcid) answer = with_answer (Release vcid) answer
@@ -55,16 +57,17 @@ operation_in (asks.Unit vcid map_id) answer = with_answer (TakeUnit vcid map_id)
 operation_in (asks.Clcw vcid) answer = with_answer (Clcw vcid) answer
 operation_in said answer = []
 
--- the operations that the first lines of a script ask for, each with what its line is answered
+-- the operations of the first lines of a script, each with its line's answer
 abbrev pub operations_of : {scid : ℕ} {script rest : List ℕ} {answers : List (Option Answer)} {progress : Progress} → AreAnswers (IsPerformed scid) script answers progress rest → List Answered
 operations_of at_first = []
 operations_of (one_more {answer = answer} lines next (said, is, does, answered)) = operations_of lines ++ operation_in said answer
 
--- some first lines of a script are good, and lead to this
+-- some first lines of a script are good, and lead to this progress
 abbrev pub LeadsTo : ℕ → List ℕ → Progress → Type 0
 LeadsTo scid script progress = (answers : List (Option Answer)) × (rest : List ℕ) × AreAnswers (IsPerformed scid) script answers progress rest
 
--- the first lines of a script are good; these are their operations on the channel with this id, and this is the channel then
+-- The first lines of a script are good. These are their operations on the channel with this id, and this is the channel
+-- after them.
 abbrev pub HasPerformed : ℕ → List ℕ → ℕ → List Answered → Linked → Type 0
 HasPerformed scid script vcid done channel =
     (answers : List (Option Answer)) × (progress : Progress) × (rest : List ℕ) × (lines : AreAnswers (IsPerformed scid) script answers progress rest)

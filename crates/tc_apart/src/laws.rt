@@ -19,9 +19,9 @@ ghost use Rattle.tc_apart.specs.Apart.{Answered, ArePerformed, HasPerformed, Lea
 
 use tc_link::each_input_begins_with_one_frame_at_most;
 
-/// Two lists of operations are performed, each on channels of its own. Where a channel of this id is the same in both at first, and the same
-/// operations are brought to it in the same order, whatever is done on other channels in between, these have the same answers, and the channel is the
-/// same in the end.
+/// Two lists of operations are performed, each on channels of its own. Suppose that a channel of this id is the same in
+/// both at first, and that the same operations are brought to it in the same order. Then these operations have the same
+/// answers, and the channel is the same in the end, whatever is done on other channels in between.
 pub fn channels_do_not_touch_each_other()
     ensures answers { (vcid : ℕ) (one other : List Answered) (a after b behind : Racked) (channel : Linked) → AreChannelsApart a.channels → AreChannelsApart b.channels
         → IsOf a vcid (λ c. c ≡ channel) → IsOf b vcid (λ c. c ≡ channel) → ArePerformed one a after → ArePerformed other b behind
@@ -34,10 +34,11 @@ pub fn channels_do_not_touch_each_other()
     each_input_begins_with_one_frame_at_most();
 }
 
-/// The same of two scripts, whose first lines are good, and answered as `what_a_script_does_follows_from_its_lines` (tc_cli) has it. Where a channel of
-/// this id is set up with the same settings in both, and the same operations are brought to it in the same order, whatever other lines there are for
-/// other channels, these have the same answers, and the channel is the same in the end. All operations of the lines are performed on what lines set up
-/// before them (`performed`).
+/// Channels of two scripts don't touch each other, either. The first lines of both scripts are good, and are answered
+/// as `what_a_script_does_follows_from_its_lines` (tc_cli) states. Suppose that a channel of this id is set up with the
+/// same settings in both, and that the same operations are brought to it in the same order. Then these operations have
+/// the same answers, and the channel is the same in the end, whatever other lines there are for other channels. All
+/// operations of the lines are performed on the channels that lines set up before them (`performed`).
 pub fn channels_of_a_script_do_not_touch_each_other()
     ensures performed { (scid : ℕ) (script rest : List ℕ) (answers : List (Option Answer)) (progress : Progress) (lines : AreAnswers (IsPerformed scid) script answers progress rest)
         → (list : List Settings) × LeadsTo scid script (SettingUp list) × ArePerformed (operations_of lines) (new_rack scid list) (rack_for scid progress) }
@@ -49,9 +50,11 @@ pub fn channels_of_a_script_do_not_touch_each_other()
     each_input_begins_with_one_frame_at_most();
 }
 
-/// Two stations are closed, each together with its operators. Where a channel of the one has the settings of a channel of the other, and the operators
-/// made the same events at it, each at the same place of its journal, the two channels that are given out are the same, whatever was done at other
-/// channels. So each call on it had the same answer, too: that is the model's at the journal before it (`from_a_sender_to_packets` of tc_station).
+/// Two stations are closed, each together with its operators. Suppose that a channel of one has the settings of a
+/// channel of the other, and that the operators made the same events at it, each at the same place of its journal. Then
+/// the two channels that are given out are the same, whatever was done at other channels. So each call on the channel
+/// had the same answer, too, which is that of the model after the journal before the call (`from_a_sender_to_packets`
+/// of tc_station).
 pub fn channels_of_a_station_do_not_touch_each_other()
     ensures { (station other : Roster) (operators others : List AtStation) (closed shut : List History) (place at : ℕ) (one two : History)
         → AreClosedTogether station operators closed → AreClosedTogether other others shut → slice_get closed place ≡ Some one → slice_get shut at ≡ Some two

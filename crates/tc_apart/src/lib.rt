@@ -1,8 +1,10 @@
-//! Channels don't touch each other: laws over lists of operations on the channels of a spacecraft, [`channels_do_not_touch_each_other`], over those of
-//! scripts, [`channels_of_a_script_do_not_touch_each_other`], and over the channels that a station gives out,
-//! [`channels_of_a_station_do_not_touch_each_other`].
+//! Laws by which channels don't touch each other. They are about lists of operations on the channels of a spacecraft
+//! ([`channels_do_not_touch_each_other`]), about the operations of scripts
+//! ([`channels_of_a_script_do_not_touch_each_other`]), and about the channels that a station gives out
+//! ([`channels_of_a_station_do_not_touch_each_other`]).
 //!
-//! And the way from a sender's packets to takes over any threads: [`a_station_gives_out_what_a_loop_sent`].
+//! Another law leads from a sender's packets to the packets that takes give, over any threads:
+//! [`a_station_gives_out_what_a_loop_sent`].
 #![tactic(auto)]
 
 mod laws;

@@ -1,4 +1,4 @@
-//! From a sender's packets to what takes give, over any threads.
+//! A law that leads from a sender's packets to the packets that takes give, over any threads.
 
 ghost use Rattle.std.specs.Prelude.{Bool, List, ℕ, ◌++◌, ◌≡◌, length, slice_get, Some};
 ghost use Rattle.std.specs.List.{AllByRecursion};
@@ -20,15 +20,17 @@ ghost use Rattle.tc_ends.specs.Ends.{AreFrom, AreGivenOf, AreNumbered, CanBeSent
 
 use tc_write::the_segments_of_a_unit_make_the_unit;
 
-/// Threads work at the channels of a station, each with an operator of its own, in any order, and the station is closed together with these
-/// operators. `from_a_sender_to_packets` (tc_station) ties the journal of each channel that it gives out to their calls. Here the premises on this
-/// journal are those of a loop, in place of those of its clause `sent`; so threads are part of the link, which keeps order.
+/// Threads work at the channels of a station, each with an operator of its own, in any order, and the station is closed
+/// together with these operators. `from_a_sender_to_packets` (tc_station) ties the journal of each channel that the
+/// station gives out to their calls. Here the premises on this journal are those of a loop, in place of those of its
+/// clause `sent`. So threads are part of the link, which keeps order.
 ///
-/// - `passed`: where the journal is that of a session of a loop, the Type-AD data fields of the era that were released are what was sent, each once,
-///   in order.
-/// - `given`: takes gave what `packets_that_are_sent_are_given` (tc_ends) says of the packets that the sender sent.
-/// - `in_cltus`: the same over both edges, from a ground system's packets, over the start of an era and in CLTUs with wrong bits, to what takes gave.
-///   The premises are those of `packets_in_cltus_are_given` (tc_ends).
+/// - `passed`: If the journal is that of a session of a loop, the Type-AD data fields of the era that were released are
+///   those that were sent, each once and in order.
+/// - `given`: Takes gave the packets that `packets_that_are_sent_are_given` (tc_ends) promises for the packets that the
+///   sender sent.
+/// - `in_cltus`: This also holds over both edges, from a ground system's packets, over the start of an era and in CLTUs
+///   with wrong bits, to the packets that takes gave. The premises are those of `packets_in_cltus_are_given` (tc_ends).
 pub fn a_station_gives_out_what_a_loop_sent()
     ensures passed { (station : Roster) (operators : List AtStation) (closed : List History) (place : ℕ) (channel : History) (l : Loop) (session : List Action)
         → AreClosedTogether station operators closed → slice_get closed place ≡ Some channel → slice_get (settings_in station) place ≡ Some l.settings → l.limits ≡ no_limits
