@@ -21,7 +21,7 @@ there seats i d here =
     let inside : i < length (channels_in seats) = omega (arith, here, length-map seats channel_of) in
     slice_get-get_or (channels_in seats) i d.place.channel inside ∙ ap Some (get_or-map channel_of seats i d d.place.channel here)
 
--- the channel that a seat holds, by that of its place
+-- a seat holds the channel that the list of channels has at its place
 pub held : (seats : List Seat) (i : ℕ) (d : Seat) (old : List (Option LimitedHistory)) (h : LimitedHistory) → i < length seats
     → channels_in seats ≡ old → slice_get old i ≡ Some (Some h) → (get_or seats i d).place.channel ≡ Some h
 held seats i d old h here same is =

@@ -1,4 +1,4 @@
--- The table of the places of all keys that an APID can be.
+-- The table that shows the places of all keys that an APID can be.
 use Rattle.tc_channel.proofs.Names.{◌≡◌, ◌≢◌, ℕ, zero, suc, ◌+◌, ◌<◌, ◌≤◌, List, [], ◌∷◌, ◌++◌, length, take, replicate, get_or, ◌⊎◌, inl, inr, refl, sym, ap, ◌∙◌, arith, AllByRecursion, cases_eq, set, get_or-set_same, get_or-set_other, get_or-replicate, length-replicate, length-set, length-take, length-map, take_more, map_push, keys_of, StoredQueue, Keyed, ring_in, rings_in, IsFirst, AreFirst}
 use Rattle.tc_channel.specs.Places.{ShowsFirst}
 use Rattle.tc_channel.proofs.Lists.{all-append}

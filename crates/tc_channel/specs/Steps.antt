@@ -1,4 +1,4 @@
--- Steps: one for each queue that is looked at, and one for each packet that is cut from a unit.
+-- The steps that are counted: one for each queue that is looked at, and one for each packet that is cut from a unit.
 use Rattle.std.specs.Prelude.{ℕ, ◌+◌, ◌*◌, List, [], ◌∷◌, length, nat_lt, Option, Some, None, if◌then◌else◌}
 use Rattle.tc_link.specs.Farm.{Row, E6}
 use Rattle.tc_packet.specs.declared.Service.TheVariants.{Ad, Bd}

@@ -11,7 +11,7 @@ use Rattle.tc_channel.proofs.Given.{found-key}
 use Rattle.tc_channel.proofs.Runs.{run-push}
 use Rattle.tc_channel.proofs.StateQueues.{taken-key}
 
--- the queue with a key, after a take
+-- the queue with a key after a take is the earlier queue after this take
 queue-taken : (key other : ℕ) (qs : List Queue) → queue_of key (map (taken_from other) qs) ≡ option_map (taken_from other) (queue_of key qs)
 queue-taken key other [] = refl
 queue-taken key other (p ∷ qs) =

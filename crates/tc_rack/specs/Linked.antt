@@ -14,14 +14,14 @@ pub record Linked : Type 0 where
   pub history : History
   pub link : Link
 
--- neither flag of the link is set
+-- a link with neither flag set
 abbrev pub no_flag : Link
 no_flag = record { no_rf = false; no_bit_lock = false }
 
 abbrev pub vcid_of : Linked → ℕ
 vcid_of channel = channel.history.settings.vcid
 
--- a channel that starts, with no flag of its link
+-- a channel that starts, with no flag of its link set
 abbrev pub new_linked : Settings → Linked
 new_linked s = record {
   history = record { settings = s; journal = [] };
