@@ -14,6 +14,9 @@ from typing import Any, Callable, Dict, Iterator, List, Mapping, NamedTuple, Opt
 sys.dont_write_bytecode = True
 TOP = Path(__file__).resolve().parent.parent
 DATA = TOP / "crates/conformance/data"
+# What cases and their answers are stored in.
+STORED = ("crates/conformance/data/*", "crates/*/stdin", "crates/*/stdout", "crates/*/args", "crates/*/status", "examples/*.tcs", "examples/*.out",
+          "c/examples/*.stdout", "clients/rust/tcrx/examples/*.stdout")
 NAME = Path(sys.argv[0]).stem
 # No check builds.
 os.environ["TCRX_BUILD"] = "no"
@@ -56,6 +59,11 @@ def cases() -> List[Case]:
 def good_cases() -> List[Case]:
     """Those that run to their end."""
     return [case for case in cases() if not case.fault]
+
+
+def stored_files() -> List[Path]:
+    """The files with stored cases and answers."""
+    return sorted(path for pattern in STORED for path in TOP.glob(pattern) if path.is_file())
 
 
 def rows(page: str) -> Iterator[List[str]]:
