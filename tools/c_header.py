@@ -1,8 +1,8 @@
-"""What c/tcrx.h declares, for those that make something of it: its parts with their constants, records and calls, and the words that
-its comments say of them.
+"""Reads what c/tcrx.h declares, for the tools that derive something from it: its parts with their constants, records and calls, and what
+the comments say about them.
 
-The comments are read as doxygen reads them: @file, @brief, @par, @defgroup with @{ and @}, @param, @return, @copydoc, and what is
-between @cond and @endcond is left out. A comment behind a field or a constant is about that one.
+The comments are read as doxygen reads them. These commands are known: @file, @brief, @par, @defgroup with @{ and @}, @param, @return and
+@copydoc. What is between @cond and @endcond is left out. A comment after a field or a constant is about that field or constant.
 """
 from __future__ import annotations
 
