@@ -1,4 +1,4 @@
--- Whole frames that a CLTU carries, and its fill behind them.
+-- Whole frames that a CLTU carries, followed by its fill.
 use Rattle.std.proofs.Common.{◌≡◌, ℕ, zero, suc, ◌<◌, ◌≤◌, true, List, [], ◌∷◌, ◌++◌, None, length, length-append, take, refl, ap, ◌∙◌, inr, arith}
 use Rattle.std.specs.Prelude.{IsSome}
 use Rattle.std.specs.List.{concat, AllByRecursion}

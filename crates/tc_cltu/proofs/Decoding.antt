@@ -1,4 +1,4 @@
--- What the receiving end gives.
+-- The candidate frames that the receiving end yields.
 use Rattle.std.proofs.Common.{◌≡◌, ℕ, zero, suc, ◌+◌, ◌-◌, ◌*◌, ◌/◌, ◌<◌, ◌≤◌, Bool, true, false, List, [], ◌∷◌, ◌++◌, Option, Some, None, bit_xor, length, length-append, append_assoc, add_assoc, take, set, drop, nat_lt, if◌then◌else◌, subst, refl, ap, sym, ◌∙◌, arith, inl, inr}
 use Rattle.tc_cltu.proofs.Names.{Correct, Detect, IsInformation, IsOctets, Mode, block_times_x, cases_lt, code_block, decoded, flipped, le-ltb, lt-ltb, nat_tests, octet_bits, parity_of, xor_self}
 use Rattle.std.proofs.lemmas.List.{append-nil, drop-drop, drop-take, length-drop, length-take-le, take-append-drop, take-take}
@@ -31,13 +31,13 @@ counted-append count mode room (x ∷ xs) ys s =
     ap (λ (n : ℕ). count (fate_of mode room s x) + n) (counted-append count mode room xs ys (reception_step mode room s x).0)
     ∙ sym (add_assoc (count (fate_of mode room s x)) (counted_in count mode room (reception_step mode room s x).0 xs) (counted_in count mode room (state_after mode room (reception_step mode room s x).0 xs) ys))
 
--- a code block is counted where it ends
+-- a code block is counted when its last octet comes
 pub block-counted : (count : Option Fate → ℕ) (mode : Mode) (room : ℕ) (frame block : List ℕ) → count None ≡ 0 → length block ≡ 8
     → count (Some (fate_after mode room frame block)) ≡ counted_in count mode room (Decoding frame []) block
 block-counted count mode room frame (a ∷ b ∷ c ∷ d ∷ e ∷ f ∷ g ∷ h ∷ []) none eight = omega (arith, none)
 block-counted count mode room frame _ none eight = absurd (omega arith)
 
--- eight octets
+-- the state after the eight octets of a block
 pub block-state : (mode : Mode) (room : ℕ) (frame block : List ℕ) → length block ≡ 8 → state_after mode room (Decoding frame []) block ≡ (after_block room frame (decoded mode block)).0
 block-state mode room frame (a ∷ b ∷ c ∷ d ∷ e ∷ f ∷ g ∷ h ∷ []) eight = refl
 block-state mode room frame _ eight = absurd (omega arith)
@@ -52,7 +52,7 @@ frames-block : (mode : Mode) (room : ℕ) (frame : List ℕ) (a b c d e f g h : 
     ++ frames_of mode room (after_block room frame (decoded mode (a ∷ b ∷ c ∷ d ∷ e ∷ f ∷ g ∷ h ∷ []))).0 rest
 frames-block mode room frame a b c d e f g h rest = refl
 
--- a syndrome of a code block itself
+-- the syndrome of a code block without errors is 0
 own-syndrome : (information : List ℕ) → syndrome information (parity_of information * 2) ≡ 0
 unfolding syndrome
 own-syndrome information =
@@ -64,7 +64,7 @@ own-decoded mode information is =
     let fits = parity-fits information in
     none-wrong mode information (parity_of information * 2) is (omega arith) (own-syndrome information)
 
--- ---- sevens
+-- ---- lists whose length is a multiple of seven
 abbrev pub AreSevens : List ℕ → Type 0
 AreSevens [] = Unit {0}
 AreSevens (a ∷ b ∷ c ∷ d ∷ e ∷ f ∷ g ∷ rest) = AreSevens rest
@@ -74,7 +74,7 @@ filled-sevens : (fs : List ℕ) → AreSevens (filled fs)
 filled-sevens (a ∷ b ∷ c ∷ d ∷ e ∷ f ∷ g ∷ rest) = filled-sevens rest
 filled-sevens _ = tt
 
--- the frame stands in front, and at most six octets of fill after it
+-- filled octets begin with the octets themselves, followed by at most six octets of fill
 pub filled-front : (fs : List ℕ) → (k : ℕ) × (k < 7) × (filled fs ≡ fs ++ take k fill)
 filled-front [] = (0, omega arith, refl)
 filled-front (a ∷ []) = (6, omega arith, refl)
@@ -99,7 +99,7 @@ filled-octets fs each =
     let fills : IsOctets fill = octets-take 6 (alike 0x55) (alike-octets 0x55 (omega arith)) in
     subst IsOctets (sym f.2) (octets-append fs (take f.0 fill) each (octets-take f.0 fill fills))
 
--- what has no fault is within what a CLTU carries, with its fill
+-- octets without a fault, together with their fill, are no more than a CLTU carries
 pub some-octets : (fs : List ℕ) → cltu_fault_of fs ≡ None → 0 < length fs
 some-octets fs none = grind (arith, nat_tests)
 
@@ -130,7 +130,7 @@ pub after-over : (room : ℕ) (frame information : List ℕ) → room < length f
 after-over room frame information over =
     ap (λ (t : Bool). if t then (Searching 0, []) else (Decoding (frame ++ information) [], [])) (lt-ltb room (length frame + 7) over)
 
--- each block is taken, while there is room
+-- each block is accepted while there is room
 blocks-taken : (mode : Mode) (room : ℕ) (fs frame rest : List ℕ) → IsOctets fs → AreSevens fs → length frame + length fs ≤ room
     → frames_of mode room (Decoding frame []) (code_blocks fs ++ rest) ≡ frames_of mode room (Decoding (frame ++ fs) []) rest
 blocks-taken mode room [] frame rest p q fits = ap (λ (x : List ℕ). frames_of mode room (Decoding x []) rest) (sym (append-nil frame))
@@ -146,14 +146,14 @@ blocks-taken mode room (a ∷ b ∷ c ∷ d ∷ e ∷ f ∷ g ∷ fs) frame rest
     ∙ ap (λ (x : List ℕ). frames_of mode room (Decoding x []) rest) (append_assoc frame information fs)
 blocks-taken mode room _ frame rest p q fits = absurd q
 
--- seven octets that are alike, where nothing near them is a code block
+-- seven equal octets are rejected if no code block is near them
 alike-rejected : (mode : Mode) (o last s : ℕ) → o < 256 → last < 256 → syndrome (alike o) last ≡ s → 0 < s → placed s ≡ 63 → decoded mode (alike o ++ last ∷ []) ≡ None
 alike-rejected Detect o last s fits small is some place = some-wrong (alike o) last (record { each = alike-octets o fits; seven = refl }) small (λ z. omega arith)
 alike-rejected Correct o last s fits small is some place =
     let p : placed (syndrome (alike o) last) ≡ 63 = ap placed is ∙ place in
     more-wrong (alike o) last (record { each = alike-octets o fits; seven = refl }) small (λ z. omega arith) (omega arith)
 
--- the tail sequence is no code block
+-- the tail sequence isn't a code block
 tail-syndrome : syndrome (alike 0xC5) 0x79 ≡ 67
 unfolding syndrome octet_bits block_times_x
 tail-syndrome = refl
@@ -167,14 +167,14 @@ tail-ends mode room f fs rest =
     frames-block mode room (f ∷ fs) 0xC5 0xC5 0xC5 0xC5 0xC5 0xC5 0xC5 0x79 rest
     ∙ ap (λ (o : Option (List ℕ)). (after_block room (f ∷ fs) o).1 ++ frames_of mode room (after_block room (f ∷ fs) o).0 rest) (tail-rejected mode)
 
--- the start sequence is found, whatever came last
+-- the start sequence is found, whatever octet came last
 quiet-step : (mode : Mode) (room last o : ℕ) → is_start mode last o ≡ false → reception_step mode room (Searching last) o ≡ (Searching o, [])
 quiet-step mode room last o h = ap (λ (t : Bool). if t then (Decoding [] [], []) else (Searching o, [])) h
 
 found-step : (mode : Mode) (room last o : ℕ) → is_start mode last o ≡ true → reception_step mode room (Searching last) o ≡ (Decoding [] [], [])
 found-step mode room last o h = ap (λ (t : Bool). if t then (Decoding [] [], []) else (Searching o, [])) h
 
--- two octets that count as it, where the first of them doesn't end what does
+-- two octets that count as the start sequence are found, if the first of them doesn't end one
 pair-found : (mode : Mode) (room last a b : ℕ) (rest : List ℕ) → is_start mode last a ≡ false → is_start mode a b ≡ true
     → frames_of mode room (Searching last) (a ∷ b ∷ rest) ≡ frames_of mode room (Decoding [] []) rest
 pair-found mode room last a b rest first second =
@@ -195,7 +195,7 @@ filled-some frame some =
     let e : length (filled frame) ≡ length frame + length (take f.0 fill) = ap length f.2 ∙ length-append frame (take f.0 fill) in
     omega arith
 
--- what follows a start sequence gives what it carries, and the search goes on behind it
+-- the octets after a start sequence yield the frame that they carry, and the search continues after them
 body-given : (mode : Mode) (room : ℕ) (frame rest : List ℕ) → IsOctets frame → 0 < length frame → length (filled frame) ≤ room
     → frames_of mode room (Decoding [] []) ((code_blocks (filled frame) ++ tail_sequence) ++ rest) ≡ filled frame ∷ frames_of mode room (Searching 0) rest
 body-given mode room frame rest each some fits =
@@ -203,13 +203,13 @@ body-given mode room frame rest each some fits =
     ∙ blocks-taken mode room (filled frame) [] (tail_sequence ++ rest) (filled-octets frame each) (filled-sevens frame) (omega arith)
     ∙ tail-ends-some mode room (filled frame) rest (filled-some frame some)
 
--- so a CLTU does, whatever came last before it
+-- a CLTU yields its frame, whatever octet came last before it
 pub cltu-given : (mode : Mode) (room last : ℕ) (frame rest : List ℕ) → IsOctets frame → 0 < length frame → length (filled frame) ≤ room
     → frames_of mode room (Searching last) (cltu frame ++ rest) ≡ filled frame ∷ frames_of mode room (Searching 0) rest
 cltu-given mode room last frame rest each some fits =
     start-found mode room last ((code_blocks (filled frame) ++ tail_sequence) ++ rest) ∙ body-given mode room frame rest each some fits
 
--- and with correction also one with a wrong bit in its start sequence
+-- with correction, a CLTU with a wrong bit in its start sequence also yields its frame
 pub cltu-begun : (room last k : ℕ) (frame rest : List ℕ) → k < 16 → IsOctets frame → 0 < length frame → length (filled frame) ≤ room
     → frames_of Correct room (Searching last) (flipped (cltu frame) k ++ rest) ≡ filled frame ∷ frames_of Correct room (Searching 0) rest
 cltu-begun room last k frame rest less each some fits =
@@ -219,7 +219,7 @@ cltu-begun room last k frame rest less each some fits =
     ∙ pair-found Correct room last s.0 s.1 (body ++ rest) (start-far Correct last s.0 s.3) s.4
     ∙ body-given Correct room frame rest each some fits
 
--- ---- what has no start sequence gives nothing
+-- ---- octets without a start sequence yield nothing
 quiet : (mode : Mode) (room last : ℕ) (os rest : List ℕ) → HasNoStart mode last os
     → (l : ℕ) × (frames_of mode room (Searching last) (os ++ rest) ≡ frames_of mode room (Searching l) rest)
 quiet mode room last [] rest h = (last, refl)
@@ -227,14 +227,14 @@ quiet mode room last (o ∷ os) rest h =
     let more = quiet mode room o os rest h.1 in
     (more.0, ap (λ (s : Step). s.1 ++ frames_of mode room s.0 (os ++ rest)) (quiet-step mode room last o h.0) ∙ more.1)
 
--- octets before a CLTU: all that is asked of them is that no start sequence stands in them
+-- octets before a CLTU don't hide it, if no start sequence occurs in them
 pub found-after : (mode : Mode) (room last : ℕ) (before frame rest : List ℕ) → HasNoStart mode last before → IsOctets frame → 0 < length frame → length (filled frame) ≤ room
     → frames_of mode room (Searching last) (before ++ (cltu frame ++ rest)) ≡ filled frame ∷ frames_of mode room (Searching 0) rest
 found-after mode room last before frame rest quietly each some fits =
     let q = quiet mode room last before (cltu frame ++ rest) quietly in
     q.1 ∙ cltu-given mode room q.0 frame rest each some fits
 
--- ---- the idle sequence leads back to the search, from any state
+-- ---- the idle sequence leads back to the search from any state
 idle-syndrome : syndrome (alike 0x55) 0x55 ≡ 65
 unfolding syndrome octet_bits block_times_x
 idle-syndrome = refl
@@ -252,7 +252,7 @@ pub ended : (room : ℕ) (frame : List ℕ) → (after_block room frame None).0 
 ended room [] = refl
 ended room (f ∷ fs) = refl
 
--- eight octets of it end a CLTU
+-- eight octets of the idle sequence end a CLTU
 idle-block : (mode : Mode) (room : ℕ) (frame more : List ℕ)
     → state_after mode room (Decoding frame []) (0x55 ∷ 0x55 ∷ 0x55 ∷ 0x55 ∷ 0x55 ∷ 0x55 ∷ 0x55 ∷ 0x55 ∷ more) ≡ state_after mode room (Searching 0) more
 idle-block mode room frame more =
@@ -286,7 +286,7 @@ idle-ends mode room (Decoding frame (a ∷ b ∷ c ∷ d ∷ e ∷ f ∷ [])) sh
 idle-ends mode room (Decoding frame (a ∷ b ∷ c ∷ d ∷ e ∷ f ∷ g ∷ [])) short = idle-after mode room 6 frame (decoded mode (a ∷ b ∷ c ∷ d ∷ e ∷ f ∷ g ∷ idle 1))
 idle-ends mode room (Decoding frame (a ∷ b ∷ c ∷ d ∷ e ∷ f ∷ g ∷ h ∷ more)) short = absurd (omega arith)
 
--- ---- every state is one that the receiving end can be in
+-- ---- every state that octets lead to is one that the receiving end can be in
 whole-step : (mode : Mode) (room octet : ℕ) (frame block : List ℕ) → 7 ≤ length block → reception_step mode room (Decoding frame block) octet ≡ after_block room frame (decoded mode (block ++ octet ∷ []))
 whole-step mode room octet frame block long =
     ap (λ (t : Bool). if t then (Decoding frame (block ++ octet ∷ []), []) else after_block room frame (decoded mode (block ++ octet ∷ []))) (le-ltb (length block) 7 long)
@@ -326,7 +326,7 @@ pub state-kept : (mode : Mode) (room : ℕ) (os : List ℕ) (state : Reception) 
 state-kept mode room [] state short = short
 state-kept mode room (o ∷ os) state short = state-kept mode room os (reception_step mode room state o).0 (step-kept mode room o state short)
 
--- so the idle sequence leads to the next CLTU from any of them
+-- after the idle sequence the next CLTU is found from any of these states
 search-given : (mode : Mode) (room : ℕ) (state : Reception) (frame rest : List ℕ) → IsSearching state → IsOctets frame → 0 < length frame → length (filled frame) ≤ room
     → frames_of mode room state (cltu frame ++ rest) ≡ filled frame ∷ frames_of mode room (Searching 0) rest
 search-given mode room (Searching last) frame rest searching each some fits = cltu-given mode room last frame rest each some fits
@@ -374,7 +374,7 @@ last-fate mode room octet last count frame block decoding value f on more less l
     subst (λ (v : Receiver). Some f ≡ fate_of v.mode room v.state octet) view
     (sym (ap (λ (x : Reception). fate_of mode room x octet) state ∙ ap (λ (t : Bool). if t then None else Some (fate_after mode room frame (take 7 block ++ octet ∷ []))) whole ∙ ap Some (sym is)))
 
--- one code block is counted once at most
+-- one code block is counted at most once
 pub one-counted : (fate : Option Fate) → (corrections_of fate ≤ 1) × (rejections_of fate ≤ 1) × (overruns_of fate ≤ 1)
 one-counted None = (omega arith, omega arith, omega arith)
 one-counted (Some Right) = (omega arith, omega arith, omega arith)
@@ -383,7 +383,7 @@ one-counted (Some Tail) = (omega arith, omega arith, omega arith)
 one-counted (Some Rejected) = (omega arith, omega arith, omega arith)
 one-counted (Some Overlong) = (omega arith, omega arith, omega arith)
 
--- ---- the front of a piece: a code block, and an octet
+-- ---- the front of a piece is a code block or an octet
 pub taken_block : (room : ℕ) (before after : Receiver) (os rest block : List ℕ) (given : List (List ℕ)) → block ≡ take 8 os → rest ≡ drop 8 os → length rest + 8 ≡ length os
     → after.state ≡ state_after before.mode room before.state block → given ≡ frames_of before.mode room before.state block → IsTaken room before after os rest given
 taken_block room before after os rest block given is left long state frames = record {
@@ -407,7 +407,7 @@ taken_octet room before after os rest o given whole state frames = record {
 pub take-both : (i n : ℕ) (os : List ℕ) → take (i + n) os ≡ take i os ++ take n (drop i os)
 take-both i n os = sym (take-append-drop i (take (i + n) os)) ∙ rw (take-take i (i + n) os (omega arith), drop-take i n os) refl
 
--- the front of what is left
+-- the front of the rest is processed after the first front
 pub taken-more : (room : ℕ) (first before after : Receiver) (os left rest : List ℕ) (given more : List (List ℕ)) → before.mode ≡ first.mode
     → IsTaken room first before os left given → IsTaken room before after left rest more → IsTaken room first after os rest (given ++ more)
 taken-more room first before after os left rest given more mode t u =
@@ -429,11 +429,11 @@ taken-more room first before after os left rest given more mode t u =
           ∙ sym (ap (λ (m : Mode). frames_of m room before.state (take k left)) mode) ∙ u.frames);
     }
 
--- nothing yet
+-- nothing has been processed yet
 pub taken-none : (room : ℕ) (first : Receiver) (os : List ℕ) → IsTaken room first first os os []
 taken-none room first os = record { count = 0; within = omega arith; left = refl; state = refl; frames = refl }
 
--- all
+-- everything has been processed
 pub taken-all : (room : ℕ) (first after : Receiver) (os rest : List ℕ) (given : List (List ℕ)) → rest ≡ [] → IsTaken room first after os rest given
     → (after.state ≡ state_after first.mode room first.state os) × (frames_of first.mode room first.state os ≡ given)
 taken-all room first after os rest given none t =

@@ -1,4 +1,4 @@
--- Code blocks differ in four places at least.
+-- Code blocks differ in at least four places.
 use Rattle.std.proofs.Common.{◌≡◌, ℕ, ◌^◌, ◌/◌, ◌*◌, zero, suc, ◌+◌, ◌%◌, ◌<◌, ◌≤◌, Bool, true, eqb, List, [], ◌∷◌, ◌++◌, bit_xor, length, get_or, take, nat_lt, if◌then◌else◌, length-append, subst, refl, ap, sym, ◌∙◌, arith, inl, inr}
 use Rattle.std.proofs.lemmas.Bool.{eqb-true, agree_below_at, cases_eq, lt-ltb}
 use Rattle.tc_cltu.proofs.Names.{IsInformation, bit_at, bits-same, bits_of, block_remainder, block_times_x, block_with_bit, code_block, differences, errors, flipped, octet_bits, same, same_below, take_at, word, xor_lt, xor_self, xor_zero_r}
@@ -8,7 +8,7 @@ use Rattle.tc_cltu.proofs.Division.{times_x-fits, remainder-fits}
 use Rattle.tc_cltu.proofs.Patterns.{AreBits, xors, weight, zeros, single, xors-bits, xors-length, zeros-bits, zeros-weight, two-is, differences-weight, none-same, by-way, single-length}
 use Rattle.tc_cltu.proofs.Words.{are-bits, bits-append, fifty-six, left, left-linear, block-left, seven, seven-bits, word-is, word-parts}
 
--- ---- the number of ones is even in what leaves nothing
+-- ---- words that leave no remainder have an even number of ones
 unfoldable pub parity : ℕ → ℕ
 parity y = (bit_at y 6 + bit_at y 5 + bit_at y 4 + bit_at y 3 + bit_at y 2 + bit_at y 1 + bit_at y 0) % 2
 
@@ -51,7 +51,7 @@ left-even e bits none =
     let end : parity (block_remainder (block_remainder 0 e) (zeros 56)) ≡ 0 = ap parity none ∙ parity-none in
     omega arith
 
--- ---- each single error leaves something of its own
+-- ---- each single error leaves a remainder of its own
 abbrev pub error : ℕ → ℕ
 error s = get_or ERRORS s 0
 
@@ -60,7 +60,7 @@ first_one [] = 0
 first_one (zero ∷ bs) = suc (first_one bs)
 first_one (suc b ∷ bs) = 0
 
--- the place of the one in it, or 63
+-- the place of the one in the error, or 63 if it has none
 unfoldable pub placed : ℕ → ℕ
 placed s = first_one (word (to_le_bytes w64 (error s)))
 
@@ -68,7 +68,7 @@ pub place-of : (k : ℕ) → k < 63 → placed (left (single k 63)) ≡ k
 unfolding placed octet_bits left single block_times_x
 place-of = same_below (λ k. placed (left (single k 63))) (λ k. k) 63 refl
 
--- the test, at a number below 63 alone
+-- a test that applies only to numbers below 63
 right_place : ℕ → Bool
 right_place s = if nat_lt (placed s) 63 then eqb (left (single (placed s) 63)) s else true
 
@@ -102,7 +102,7 @@ pub word-bits : (block : List ℕ) → length block ≡ 8 → (length (word bloc
 word-bits (a ∷ b ∷ c ∷ d ∷ e ∷ f ∷ g ∷ h ∷ []) l = (word-length a b c d e f g h, word-are a b c d e f g h)
 word-bits _ l = absurd (omega arith)
 
--- two words of which the same is left, with at most three differences, are one
+-- two words that leave equal remainders, and differ in at most three places, are equal
 near-words : (v w : List ℕ) → length v ≡ 63 → length w ≡ 63 → AreBits v → AreBits w → left v ≡ left w → differences v w ≤ 3 → v ≡ w
 near-words v w lv lw pv pw alike few =
     let e = xors v w in
@@ -126,7 +126,7 @@ near-words v w lv lw pv pw alike few =
       | inr other ↦ none-same v w (lv ∙ sym lw) pv pw (omega arith)
     ]
 
--- blocks with one word carry the same
+-- blocks with equal words carry equal octets
 words-same : (one other : List ℕ) (o p : ℕ) → IsInformation one → IsInformation other → word (one ++ o ∷ []) ≡ word (other ++ p ∷ []) → one ≡ other
 words-same one other o p is is' h =
     bits-same one other is.each is'.each (is.seven ∙ sym is'.seven) (sym (take_at (bits_of one) (seven (o / 2)) 56 (fifty-six one is.seven))
@@ -141,7 +141,7 @@ far one other is is' few =
     words-same one other _ _ is is'
     (near-words (word (code_block one)) (word (code_block other)) a.0 b.0 a.1 b.1 (block-left one is.seven ∙ sym (block-left other is'.seven)) few)
 
--- with a block between them
+-- two code blocks with at most three errors in total from one block are equal
 pub between : (block one other : List ℕ) → length block ≡ 8 → IsInformation one → IsInformation other → errors block one + errors block other ≤ 3 → one ≡ other
 between block one other l is is' few =
     let a = word-bits (code_block one) (code-length one is) in let b = word-bits (code_block other) (code-length other is') in let c = word-bits block l in

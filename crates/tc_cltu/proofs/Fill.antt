@@ -1,4 +1,4 @@
--- Octets with their fill, and the code blocks of them.
+-- Octets with their fill, and their code blocks.
 use Rattle.std.proofs.Common.{◌≡◌, ℕ, ◌<◌, ◌≤◌, List, [], ◌∷◌, ◌++◌, length, drop, take, refl, arith}
 use Rattle.tc_cltu.proofs.Names.{code_block, code_blocks, filled}
 
@@ -7,7 +7,7 @@ filled-few [] some few = absurd (omega arith)
 filled-few (a ∷ b ∷ c ∷ d ∷ e ∷ f ∷ g ∷ os) some few = absurd (omega arith)
 filled-few _ some few = refl
 
--- the first of several
+-- the first of several code blocks
 pub first-block : (os : List ℕ) → 7 ≤ length os → code_blocks (filled os) ≡ code_block (take 7 os) ++ code_blocks (filled (drop 7 os))
 first-block (a ∷ b ∷ c ∷ d ∷ e ∷ f ∷ g ∷ os) some = refl
 first-block _ some = absurd (omega arith)

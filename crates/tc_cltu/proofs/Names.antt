@@ -1,4 +1,4 @@
--- The types, definitions and lemmas of elsewhere that most proofs speak of, under one name.
+-- The types, definitions and lemmas from elsewhere that most proofs use, collected in one module.
 pub use Rattle.std.proofs.lemmas.Bool.{cases_eq, cases_lt, le-ltb, lt-ltb}
 pub use Rattle.std.proofs.lemmas.Bool.Decides.{nat_tests}
 pub use Rattle.std.proofs.lemmas.List.{drop_all, take_at}

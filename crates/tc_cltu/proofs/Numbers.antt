@@ -1,4 +1,4 @@
--- A block as a number, whose lowest octet is the first, and one of its bits the other way round.
+-- A block as a number, whose lowest octet is the block's first, and the block with one of its bits inverted.
 use Rattle.std.proofs.Common.{◌≡◌, ◌≢◌, ℕ, zero, suc, ◌-◌, ◌/◌, ◌%◌, ◌^◌, ◌<◌, ◌≤◌, Bool, List, [], ◌∷◌, ◌++◌, Some, None, bit_xor, get_or, length, take, if◌then◌else◌, refl, ap, sym, ◌∙◌, arith, inl, inr}
 use Rattle.std.proofs.lemmas.Bool.{ltb-true, ltb-false}
 use Rattle.std.proofs.lemmas.Nat.{le_bytes_8, xor_mod, xor_shr}
@@ -18,7 +18,7 @@ unfolding xors
 sum a b =
     rw (xor_mod a b 8, octet-sum a b 8, octet-sum a b 16, octet-sum a b 24, octet-sum a b 32, octet-sum a b 40, octet-sum a b 48, octet-sum a b 56) refl
 
--- the sum with nothing, and with one bit, of which the front is looked at
+-- the front of the sum with zeros, and of the sum with one bit
 none-turned : (os ps : List ℕ) (n : ℕ) → length os ≤ n → take (length os) (xors (os ++ ps) (zeros n)) ≡ os
 unfolding xors
 none-turned [] ps n less = refl
@@ -46,7 +46,7 @@ zero-octets zero i = omega arith
 zero-octets (suc n) zero = omega arith
 zero-octets (suc n) (suc i) = zero-octets n i
 
--- the octets that a block carries by the number of its wrong bit
+-- the octets that a block carries if `e` is the number of its wrong bit
 abbrev pub by_number : List ℕ → ℕ → ℕ → List ℕ
 by_number own last e = take 7 (to_le_bytes w64 (bit_xor (from_le_bytes w64 (own ++ last ∷ [])) e))
 
@@ -74,7 +74,7 @@ no-number own last is fits small wrong none =
     let s = syndrome own last in
     more-wrong own last is fits wrong (ltb-false (placed s) 63 (is-placed s small ∙ le-ltb 0 (error s) (omega arith)))
 
--- as code takes the octets of a block from the number
+-- the first seven octets of a list, in the form in which the code takes them from the number
 abbrev pub seven_of : List ℕ → List ℕ
 seven_of r = get_or r 0 0 ∷ get_or r 1 0 ∷ get_or r 2 0 ∷ get_or r 3 0 ∷ get_or r 4 0 ∷ get_or r 5 0 ∷ get_or r 6 0 ∷ []
 

@@ -1,4 +1,4 @@
--- Eight bits at once, and the sequence of the randomiser.
+-- Eight bits in one step, and the sequence of the randomiser.
 use Rattle.std.proofs.Common.{◌≡◌, ℕ, ◌+◌, ◌*◌, ◌<◌, ◌≤◌, List, [], ◌∷◌, ◌++◌, length, get_or, take, set, append_assoc, drop, replicate, bit_xor, refl, ap, sym, ◌∙◌, arith, zero, suc}
 use Rattle.tc_cltu.proofs.Names.{NEXT_OCTETS, REMAINDERS, bit_at, bits_of, IsOctets, block_remainder, block_times_x, moved_on, next_bit, octet_bits, octet_on, randomised_from, same_below, twice, xor_assoc, xor_zero_r}
 use Rattle.std.specs.Int.Bits.{xor_zero_l}
@@ -8,7 +8,7 @@ use Rattle.tc_cltu.proofs.Patterns.{zeros-length, xors, zeros, zeros-xors}
 use Rattle.tc_cltu.proofs.Words.{eight, remainder-linear, zeros-twice}
 use Rattle.tc_cltu.specs.Randomiser.{random_octets, random_bits}
 
--- ---- what is left of an octet with so many behind it
+-- ---- the remainder of an octet with a number of octets after it
 abbrev on : ℕ → ℕ → ℕ
 on zero r = r
 on (suc k) r = block_remainder (on k r) (zeros 8)
@@ -63,7 +63,7 @@ all-left (o ∷ os) r =
 abbrev pub row : ℕ → ℕ → ℕ
 row k o = get_or (get_or REMAINDERS k []) o 0
 
--- seven octets are seven looks at the table
+-- seven octets take seven look-ups in the tables
 pub seven-left : (os : List ℕ) → length os ≡ 7 → IsOctets os
     → bit_xor (row 6 (get_or os 0 0)) (bit_xor (row 5 (get_or os 1 0)) (bit_xor (row 4 (get_or os 2 0)) (bit_xor (row 3 (get_or os 3 0)) (bit_xor (row 2 (get_or os 4 0)) (bit_xor (row 1 (get_or os 5 0)) (row 0 (get_or os 6 0)))))))
     ≡ block_remainder 0 (bits_of os)
@@ -82,7 +82,7 @@ bit-fits : (r : ℕ) → next_bit r < 2
 unfolding next_bit
 bit-fits r = omega arith
 
--- one octet more has the sequence
+-- one more octet receives the sequence
 pub random-step : (os target : List ℕ) (i r next : ℕ) → i < length os → next ≡ octet_on r → take i os ++ randomised_from r (drop i os) ≡ target
     → take (i + 1) (set os i (bit_xor (get_or os i 0) r)) ++ randomised_from next (drop (i + 1) (set os i (bit_xor (get_or os i 0) r))) ≡ target
 random-step os target i r next less is h =
@@ -108,8 +108,8 @@ pub random-zeros : (n r : ℕ) → randomised_from r (replicate n 0) ≡ random_
 random-zeros zero r = refl
 random-zeros (suc n) r = ap (λ (x : ℕ). x ∷ randomised_from (octet_on r) (replicate n 0)) (xor_zero_l r) ∙ ap (λ (x : List ℕ). r ∷ x) (random-zeros n (octet_on r))
 
--- ---- its sequence, bit by bit
--- after a move each bit of the register is the one below it
+-- ---- the sequence of the randomiser, bit by bit
+-- after a step, each bit of the register is the one that was below it
 abbrev IsMoved : ℕ → ℕ → Type 0
 IsMoved r k = bit_at (moved_on r) (suc k) ≡ bit_at r k
 

@@ -1,10 +1,10 @@
--- Lists of bits, their sums place by place, and how many ones they have.
+-- Lists of bits, their sums place by place, and their numbers of ones.
 use Rattle.std.proofs.Common.{◌≡◌, ℕ, zero, suc, ◌+◌, ◌<◌, ◌≤◌, ◌==◌, if◌then◌else◌, List, [], ◌∷◌, ◌++◌, bit_xor, length, take, refl, ap, sym, ◌∙◌, arith, replicate}
 use Rattle.std.proofs.lemmas.List.{length-replicate, take-replicate}
 use Rattle.tc_cltu.proofs.Names.{again, differences, same, xor_lt}
 use lib.Bits.{xor_zero_r, xor_zero_l}
 
--- every one is 0 or 1
+-- each number is 0 or 1
 abbrev pub AreBits : List ℕ → Type 0
 AreBits [] = Unit {0}
 AreBits (b ∷ bs) = (b < 2) × AreBits bs
@@ -21,7 +21,7 @@ weight (b ∷ bs) = b + weight bs
 abbrev pub zeros : ℕ → List ℕ
 zeros n = replicate n 0
 
--- n bits, of which bit k is one
+-- `n` bits, of which only bit `k` is one
 unfoldable pub single : ℕ → ℕ → List ℕ
 single k zero = []
 single zero (suc n) = 1 ∷ zeros n
@@ -62,7 +62,7 @@ single-weight k zero less = absurd (omega arith)
 single-weight zero (suc n) less = let rest = zeros-weight n in omega arith
 single-weight (suc k) (suc n) less = let rest = single-weight k n (omega arith) in omega arith
 
--- a list with no one, with one, and with two
+-- lists with no one, with one, and with two of them
 none-is : (e : List ℕ) → AreBits e → weight e ≡ 0 → e ≡ zeros (length e)
 unfolding weight
 none-is [] p h = refl
@@ -92,7 +92,7 @@ two-is (suc zero ∷ bs) p h =
     (0, suc rest.0, omega arith, omega arith, ap (λ (x : List ℕ). 1 ∷ x) tail)
 two-is _ p h = absurd (omega arith)
 
--- differences are the ones of the sum
+-- the differences of two lists are the ones of their sum
 place : (b c : ℕ) → b < 2 → c < 2 → (if b == c then 0 else 1) ≡ bit_xor b c
 place (suc (suc b)) c p q = absurd (omega arith)
 place b (suc (suc c)) p q = absurd (omega arith)
@@ -104,7 +104,7 @@ differences-weight (b ∷ bs) (c ∷ cs) p q =
     let first = place b c p.0 q.0 in let rest = differences-weight bs cs p.1 q.1 in omega arith
 differences-weight _ _ p q = refl
 
--- no difference: the same
+-- lists without a difference are equal
 pub none-same : (bs cs : List ℕ) → length bs ≡ length cs → AreBits bs → AreBits cs → differences bs cs ≡ 0 → bs ≡ cs
 none-same [] [] l p q h = refl
 none-same (b ∷ bs) (c ∷ cs) l p q h =
@@ -114,7 +114,7 @@ none-same (b ∷ bs) (c ∷ cs) l p q h =
     cc
 none-same _ _ l p q h = absurd (omega arith)
 
--- by way of a third
+-- the differences of two lists are at most their differences from a third
 triple : (b c d : ℕ) → b < 2 → c < 2 → d < 2 → (if b == d then 0 else 1) ≤ (if c == b then 0 else 1) + (if c == d then 0 else 1)
 triple (suc (suc b)) c d p q r = absurd (omega arith)
 triple b (suc (suc c)) d p q r = absurd (omega arith)
@@ -128,7 +128,7 @@ by-way (b ∷ bs) (c ∷ cs) (d ∷ ds) l m p q r =
     let first = triple b c d p.0 q.0 r.0 in let rest = by-way bs cs ds (omega arith) (omega arith) p.1 q.1 r.1 in omega arith
 by-way _ _ _ l m p q r = absurd (omega arith)
 
--- a sum with a third twice
+-- adding a list twice changes nothing
 pub xors-back : (bs cs : List ℕ) → length bs ≡ length cs → xors bs (xors bs cs) ≡ cs
 unfolding xors
 xors-back [] [] l = refl

@@ -1,4 +1,4 @@
--- What is decoded, and which errors that finds or corrects.
+-- The result of decoding, and the errors that it detects or corrects.
 use Rattle.std.proofs.Common.{◌≡◌, ◌≢◌, ◌⊎◌, ℕ, zero, suc, ◌+◌, ◌-◌, ◌*◌, ◌/◌, ◌%◌, ◌^◌, ◌<◌, ◌≤◌, Bool, List, [], ◌∷◌, ◌++◌, Option, Some, None, IfSome, bit_xor, length, length-append, get_or, set, if◌then◌else◌, subst, refl, ap, sym, ◌∙◌, arith, inl, inr}
 use Rattle.tc_cltu.proofs.Names.{Correct, Detect, IsOctets, Mode, again, bits-same, bits_of, cases_eq, cases_lt, differences, le-ltb, lt-ltb, twice, xor_assoc, xor_self}
 use Rattle.std.proofs.lemmas.Nat.{shr_le, xor_lt, xor_comm}
@@ -9,12 +9,12 @@ use Rattle.tc_cltu.proofs.Words.{are-bits, fifty-six, left, left-linear, block-l
 use Rattle.tc_cltu.proofs.Starting.{few}
 use Rattle.tc_cltu.proofs.Distance.{placed, place-of, placed-is, word-bits, code-length, between}
 
--- ---- octets with one bit the other way round
+-- ---- octets with one bit inverted
 power : (m : ℕ) → m < 8 → 2 ^ (7 - m) ≡ 128 / 2 ^ m
 power (suc (suc (suc (suc (suc (suc (suc (suc m)))))))) less = absurd (omega arith)
 power _ less = refl
 
--- at one index
+-- inverting a bit changes the octet at one index
 pub turned-set : (os : List ℕ) (k : ℕ) → flipped os k ≡ set os (k / 8) (bit_xor (get_or os (k / 8) 0) (128 / 2 ^ (k % 8)))
 turned-set [] k = refl
 turned-set (o ∷ os) k =
@@ -66,18 +66,18 @@ turned-last os last k l =
     turned-set (os ++ last ∷ []) k ∙ ap (λ (x : ℕ). set (os ++ last ∷ []) (k / 8) (bit_xor x (128 / 2 ^ (k % 8)))) (get_or_at os last [] 0 (k / 8) l)
     ∙ set_at os last [] _ (k / 8) l
 
--- past the octets, nothing is turned
+-- a bit past the octets inverts nothing
 pub turned-past : (os : List ℕ) (k : ℕ) → 8 * length os ≤ k → flipped os k ≡ os
 turned-past os k past = turned-set os k ∙ set_past os (k / 8) _ (omega arith)
 
--- ---- the first within a limit
+-- ---- the first candidate within a limit
 first-more : (limit : ℕ) (block x : List ℕ) (xs : List (List ℕ)) → limit < errors block x → first_within limit block (x ∷ xs) ≡ first_within limit block xs
 first-more limit block x xs over = ap (λ (t : Bool). if t then first_within limit block xs else Some x) (lt-ltb limit (errors block x) over)
 
 first-here : (limit : ℕ) (block x : List ℕ) (xs : List (List ℕ)) → errors block x ≤ limit → first_within limit block (x ∷ xs) ≡ Some x
 first-here limit block x xs within = ap (λ (t : Bool). if t then first_within limit block xs else Some x) (le-ltb limit (errors block x) within)
 
--- it is one of them, and within it
+-- the candidate is one that a code block can carry, and within the limit
 abbrev IsWithin : ℕ → List ℕ → List ℕ → Type 0
 IsWithin limit block y = IsInformation y × (errors block y ≤ limit)
 
@@ -97,7 +97,7 @@ first-good limit block information zero y good h = first-next limit block inform
 first-good limit block information (suc n) y good h =
     first-next limit block (flipped information n) (near information n) y (turned-good information n good) (first-good limit block information n y good) h
 
--- there is one
+-- there is such a candidate
 abbrev IsFound : ℕ → List ℕ → List (List ℕ) → Type 0
 IsFound limit block xs = (y : List ℕ) × (first_within limit block xs ≡ Some y)
 
@@ -119,7 +119,7 @@ first-turned limit block information (suc n) k less within =
     let other : k ≢ n = λ (e : k ≡ n). let w : errors block (flipped information n) ≤ limit = subst (λ (m : ℕ). errors block (flipped information m) ≤ limit) e within in omega arith in
     first-turned limit block information n k (omega arith) within)
 
--- ---- what is decoded
+-- ---- the result of decoding
 differences-append : (xs bs cs ds : List ℕ) → length xs ≡ length cs → differences (xs ++ bs) (cs ++ ds) ≡ differences xs cs + differences bs ds
 differences-append [] bs [] ds l = omega arith
 differences-append (x ∷ xs) bs (c ∷ cs) ds l = let rest = differences-append xs bs cs ds (omega arith) in omega arith
@@ -128,7 +128,7 @@ differences-append _ bs _ ds l = absurd (omega arith)
 pub block-length : (own : List ℕ) (last : ℕ) → length own ≡ 7 → length (own ++ last ∷ []) ≡ 8
 block-length own last l = length-append own (last ∷ []) ∙ omega arith
 
--- a candidate is found
+-- one of the candidates near a block is found if any information is within the limit
 some-found : (own information : List ℕ) (last limit : ℕ) → IsInformation own → IsInformation information → limit ≤ 1 → errors (own ++ last ∷ []) information ≤ limit
     → IsFound limit (own ++ last ∷ []) (near own 56)
 some-found own information last limit good is low within =
@@ -194,7 +194,7 @@ refused mode own last information good is over under =
           absurd (omega arith)
     ]
 
--- ---- by the syndrome
+-- ---- decoding by the syndrome
 unfoldable pub syndrome : List ℕ → ℕ → ℕ
 syndrome own last = bit_xor (parity_of own) (last / 2)
 
@@ -218,7 +218,7 @@ none-wrong mode own last good fits s =
     let e : errors (own ++ last ∷ []) own ≡ 0 = sym (ap (differences (word (own ++ last ∷ []))) w) ∙ differences-self (word (own ++ last ∷ [])) own_bits.1 in
     taken mode own last own good good (omega arith)
 
--- the block with bit k the other way round is a code block
+-- if the block with bit k inverted is a code block, its octets are the result
 one-turned : (own : List ℕ) (last k : ℕ) (own' : List ℕ) (last' : ℕ) → IsInformation own → last < 256 → k < 63 → left (single k 63) ≡ syndrome own last
     → IsInformation own' → last' < 256 → flipped (own ++ last ∷ []) k ≡ own' ++ last' ∷ [] → decoded Correct (own ++ last ∷ []) ≡ Some own'
 one-turned own last k own' last' good fits less s good' fits' is =
@@ -262,7 +262,7 @@ one-wrong own last good fits small less =
           parity-wrong own last good fits small high less ∙ ap (λ (x : List ℕ). Some x) (sym (turned-past own (placed (syndrome own last)) (omega arith)))
     ]
 
--- what a code block with no error leaves, and one with one
+-- the syndromes of a code block without an error and with one
 syndrome-none : (own : List ℕ) (last : ℕ) (y : List ℕ) → IsInformation own → last < 256 → IsInformation y → errors (own ++ last ∷ []) y ≡ 0 → syndrome own last ≡ 0
 syndrome-none own last y good fits is h =
     let a = word-bits (own ++ last ∷ []) (block-length own last good.seven) in let b = word-bits (code_block y) (code-length y is) in
@@ -308,14 +308,14 @@ pub syndrome-is : (own : List ℕ) (last p : ℕ) → p ≡ parity_of own → bi
 unfolding syndrome
 syndrome-is own last p h = ap (λ (x : ℕ). bit_xor x (last / 2)) h
 
--- by the parity bits p, as the code has them
+-- decoding by the parity bits p, in the form that the code has
 pub right_by : (mode : Mode) (own : List ℕ) (last p : ℕ) → IsOctets own → length own ≡ 7 → last < 256 → p ≡ parity_of own → bit_xor p (last / 2) ≡ 0 → decoded mode (own ++ last ∷ []) ≡ Some own
 right_by mode own last p each seven fits is none = none-wrong mode own last (record { each = each; seven = seven }) fits (sym (syndrome-is own last p is) ∙ none)
 
 pub wrong_by : (own : List ℕ) (last p : ℕ) → IsOctets own → length own ≡ 7 → last < 256 → p ≡ parity_of own → bit_xor p (last / 2) ≢ 0 → decoded Detect (own ++ last ∷ []) ≡ None
 wrong_by own last p each seven fits is some = some-wrong own last (record { each = each; seven = seven }) fits (λ z. some (syndrome-is own last p is ∙ z))
 
--- ---- of a block in two parts
+-- ---- decoding of a block that is given in two parts
 pub found-option : (mode : Mode) (block own : List ℕ) (last : ℕ) (o : Option (List ℕ)) → IsInformation own → block ≡ own ++ last ∷ [] → o ≡ decoded mode block
     → IfSome o (λ y. IsInformation y × (errors block y ≤ most_errors mode))
 found-option mode block own last None good is h = tt
@@ -333,7 +333,7 @@ refused-option mode block own last o good is h information i over under =
     h ∙ ap (decoded mode) is ∙ refused mode own last information good i
     (subst (λ (b : List ℕ). most_errors mode < errors b information) is over) (subst (λ (b : List ℕ). errors b information + most_errors mode ≤ 3) is under)
 
--- ---- lists of seven and eight
+-- ---- lists of seven and of eight
 pub seven-list : (xs : List ℕ) → length xs ≡ 7
     → xs ≡ get_or xs 0 0 ∷ get_or xs 1 0 ∷ get_or xs 2 0 ∷ get_or xs 3 0 ∷ get_or xs 4 0 ∷ get_or xs 5 0 ∷ get_or xs 6 0 ∷ []
 seven-list (a ∷ b ∷ c ∷ d ∷ e ∷ f ∷ g ∷ []) l = refl

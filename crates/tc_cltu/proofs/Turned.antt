@@ -1,4 +1,4 @@
--- Code blocks with some bits the other way round.
+-- Code blocks with some bits inverted.
 use Rattle.std.proofs.Common.{◌≡◌, ℕ, zero, suc, ◌<◌, ◌==◌, if◌then◌else◌, List, [], ◌∷◌, bit_xor, length, refl, ap, sym, ◌∙◌, arith}
 use Rattle.tc_cltu.proofs.Names.{IsInformation, code_block, differences, errors, flipped, word, xor_assoc}
 use Rattle.tc_cltu.proofs.Patterns.{AreBits, xors, weight, zeros, single, xors-bits, xors-length, zeros-bits, zeros-xors, single-length, single-weight}
@@ -12,7 +12,7 @@ xors-assoc (b ∷ bs) (c ∷ cs) (d ∷ ds) =
     ap (λ (x : ℕ). x ∷ xors (xors bs cs) ds) (xor_assoc b c d) ∙ ap (λ (x : List ℕ). bit_xor b (bit_xor c d) ∷ x) (xors-assoc bs cs ds)
 xors-assoc _ _ _ = refl
 
--- what is added makes as many differences as it has ones
+-- adding a list of bits makes as many differences as it has ones
 place-sum : (c e : ℕ) → c < 2 → e < 2 → (if bit_xor c e == c then 0 else 1) ≡ e
 place-sum (suc (suc c)) e p q = absurd (omega arith)
 place-sum c (suc (suc e)) p q = absurd (omega arith)
@@ -25,7 +25,7 @@ differences-sum (c ∷ cs) (e ∷ es) l p q =
     let first = place-sum c e p.0 q.0 in let rest = differences-sum cs es (omega arith) p.1 q.1 in omega arith
 differences-sum _ _ l p q = absurd (omega arith)
 
--- ---- one bit, two and three
+-- ---- one, two and three inverted bits
 single-bits : (k n : ℕ) → AreBits (single k n)
 unfolding single
 single-bits k zero = tt
@@ -53,7 +53,7 @@ three-ones zero (suc j) (suc k) (suc n) before next less =
     ap (λ (x : List ℕ). weight (xors x (single k n))) (none-added j n) ∙ two-ones j k n (omega arith) (omega arith) in omega arith
 three-ones (suc i) (suc j) (suc k) (suc n) before next less = let rest = three-ones i j k n (omega arith) (omega arith) (omega arith) in omega arith
 
--- ---- in a code block
+-- ---- inverted bits in a code block
 length-single : (i j : ℕ) → length (single i 63) ≡ length (single j 63)
 length-single i j = single-length i 63 ∙ sym (single-length j 63)
 

@@ -1,4 +1,4 @@
--- Blocks as words of 63 bits, and what is left of them by the generator.
+-- Blocks as words of 63 bits, and the remainders that they leave when divided by the generator.
 use Rattle.std.proofs.Common.{◌≡◌, ℕ, zero, suc, ◌+◌, ◌-◌, ◌*◌, ◌/◌, ◌^◌, ◌<◌, ◌≤◌, Bool, List, [], ◌∷◌, ◌++◌, bit_xor, length, take, if◌then◌else◌, length-append, refl, ap, sym, ◌∙◌, arith, inl, inr}
 use Rattle.std.proofs.lemmas.List.{replicate-append-replicate}
 use Rattle.tc_cltu.proofs.Names.{bit_at, bits_of, block_remainder, block_times_x, block_with_bit, cases_lt, code_block, flipped, le-ltb, lt-ltb, octet_bits, parity_of, same_below, word, xor_comm, xor_lt, xor_zero_r}
@@ -27,7 +27,7 @@ fifty-six os l = bits-length os ∙ ap (λ (n : ℕ). 8 * n) l
 abbrev pub seven : ℕ → List ℕ
 seven h = bit_at h 6 ∷ bit_at h 5 ∷ bit_at h 4 ∷ bit_at h 3 ∷ bit_at h 2 ∷ bit_at h 1 ∷ bit_at h 0 ∷ []
 
--- the bits of an octet but for its last one
+-- the bits of an octet without its last one
 seven-half : (o : ℕ) → bit_at o 7 ∷ bit_at o 6 ∷ bit_at o 5 ∷ bit_at o 4 ∷ bit_at o 3 ∷ bit_at o 2 ∷ bit_at o 1 ∷ [] ≡ seven (o / 2)
 seven-half o =
     let a : bit_at o 7 ≡ bit_at (o / 2) 6 = omega arith in let b : bit_at o 6 ≡ bit_at (o / 2) 5 = omega arith in
@@ -52,7 +52,7 @@ remainder-linear _ _ r s l = absurd (omega arith)
 pub zeros-twice : (n : ℕ) → xors (zeros n) (zeros n) ≡ zeros n
 zeros-twice n = ap (λ (m : ℕ). xors (zeros m) (zeros n)) (sym (zeros-length n)) ∙ zeros-xors (zeros n)
 
--- what is left of a word by the generator: the register has x ^ 7 times it, and x ^ 63 leaves 1
+-- the remainder of a word divided by the generator; the register holds x ^ 7 times it, and x ^ 63 leaves 1
 unfoldable pub left : List ℕ → ℕ
 left bs = block_remainder (block_remainder 0 bs) (zeros 56)
 
@@ -86,7 +86,7 @@ pub word-parts : (information : List ℕ) (last : ℕ) → length information �
 word-parts (a ∷ b ∷ c ∷ d ∷ e ∷ f ∷ g ∷ []) last l = word-is a b c d e f g last
 word-parts _ last l = absurd (omega arith)
 
--- what is left of a block's word
+-- the remainder of a block's word
 pub word-left : (information : List ℕ) (last : ℕ) → length information ≡ 7 → last < 256
     → left (word (information ++ last ∷ [])) ≡ bit_xor (block_remainder 0 (bits_of information)) (last / 2)
 unfolding left
@@ -96,7 +96,7 @@ word-left information last l fits =
     ∙ ap (λ (x : ℕ). block_remainder x (zeros 56)) (onward (bits_of information) (seven (last / 2)) 0 ∙ more-seven r (last / 2) (omega arith))
     ∙ around (bit_xor r (last / 2)) (xor_lt 7 r (last / 2) (remainder-fits (bits_of information) 0 (omega arith)) (omega arith))
 
--- the same seven octets, and last octets that differ in the filler bit alone
+-- blocks with equal first seven octets, and last octets that differ only in the filler bit, have equal words
 word-alike : (information : List ℕ) (o p : ℕ) → length information ≡ 7 → o / 2 ≡ p / 2 → word (information ++ o ∷ []) ≡ word (information ++ p ∷ [])
 word-alike information o p l h =
     word-parts information o l ∙ ap (λ (x : ℕ). bits_of information ++ seven x) h ∙ sym (word-parts information p l)
@@ -104,7 +104,7 @@ word-alike information o p l h =
 pub parity-fits : (information : List ℕ) → parity_of information < 2 ^ 7
 parity-fits information = xor_lt 7 127 (block_remainder 0 (bits_of information)) (omega arith) (remainder-fits (bits_of information) 0 (omega arith))
 
--- 127 is left of a code block, and of no other block with its information
+-- a code block leaves 127, and no other block with its information does
 pub block-left : (information : List ℕ) → length information ≡ 7 → left (word (code_block information)) ≡ 127
 block-left information l =
     let fits = parity-fits information in
@@ -121,7 +121,7 @@ left-block information last l fits h =
     let fits' = parity-fits information in
     word-alike information last (parity_of information * 2) l (omega arith)
 
--- ---- one bit the other way round
+-- ---- one inverted bit
 pub octet-sum : (a b : ℕ) → octet_bits (bit_xor a b) ≡ xors (octet_bits a) (octet_bits b)
 unfolding octet_bits xors
 octet-sum a b =
@@ -179,7 +179,7 @@ bits-turned (o ∷ os) k n l less =
           ∙ ap (xors (octet_bits o ++ bits_of os)) (sym (ap (single k) total ∙ single-back k 8 m high))
     ]
 
--- of a whole block
+-- inverting a bit of a whole block
 pub word-turned : (block : List ℕ) (k : ℕ) → length block ≡ 8 → k < 63 → word (flipped block k) ≡ xors (word block) (single k 63)
 word-turned block k l less =
     let n : length (bits_of block) ≡ 64 = bits-length block ∙ ap (λ (x : ℕ). 8 * x) l in

@@ -7,21 +7,21 @@ use Rattle.tc_cltu.specs.declared.writer.CltuFault.TheVariants.{Empty, TooLong}
 abbrev pub start_sequence : List ℕ
 start_sequence = 0xEB ∷ 0x90 ∷ []
 
--- a block that no mode takes
+-- a block that no mode accepts
 abbrev pub tail_sequence : List ℕ
 tail_sequence = 0xC5 ∷ 0xC5 ∷ 0xC5 ∷ 0xC5 ∷ 0xC5 ∷ 0xC5 ∷ 0xC5 ∷ 0x79 ∷ []
 
--- as many octets of fill as a code block may need
+-- the largest fill that a code block can need
 abbrev pub fill : List ℕ
 fill = 0x55 ∷ 0x55 ∷ 0x55 ∷ 0x55 ∷ 0x55 ∷ 0x55 ∷ []
 
--- octets, with fill up to a whole number of sevens
+-- the octets, with fill up to a multiple of seven
 abbrev pub filled : List ℕ → List ℕ
 filled [] = []
 filled (a ∷ b ∷ c ∷ d ∷ e ∷ f ∷ g ∷ rest) = a ∷ b ∷ c ∷ d ∷ e ∷ f ∷ g ∷ filled rest
 filled octets = take 7 (octets ++ fill)
 
--- the code blocks of each seven octets
+-- the code blocks of the octets, each of which carries seven
 abbrev pub code_blocks : List ℕ → List ℕ
 code_blocks (a ∷ b ∷ c ∷ d ∷ e ∷ f ∷ g ∷ rest) = code_block (a ∷ b ∷ c ∷ d ∷ e ∷ f ∷ g ∷ []) ++ code_blocks rest
 code_blocks _ = []
@@ -29,11 +29,11 @@ code_blocks _ = []
 abbrev pub cltu : List ℕ → List ℕ
 cltu frame = start_sequence ++ code_blocks (filled frame) ++ tail_sequence
 
--- as many octets as a CLTU carries here at most: those of 147 code blocks, which the longest frame needs
+-- the largest number of octets that a CLTU carries here: those of 147 code blocks, as many as the longest frame needs
 abbrev pub most_octets : ℕ
 most_octets = 1029
 
--- why octets get no CLTU
+-- the reason why octets can't become a CLTU
 abbrev pub cltu_fault_of : List ℕ → Option CltuFault
 cltu_fault_of frame =
     if length frame == 0 then Some Empty

@@ -1,4 +1,5 @@
--- Code blocks: the modified BCH (63, 56) code (CCSDS 231.0-B), bit by bit. Newer issues say code word for code block.
+-- Code blocks: the modified BCH (63, 56) code (CCSDS 231.0-B), bit by bit. Newer issues of the standard call them code
+-- words.
 --
 -- A polynomial over GF(2) is the number whose binary digits are its coefficients: x ^ i is 2 ^ i, and a sum is `bit_xor`.
 -- The generator G is x ^ 7 + x ^ 6 + x ^ 2 + 1.
@@ -10,15 +11,15 @@ use Rattle.tc_fecf.specs.Changes.{differences}
 use Rattle.tc_cltu.specs.declared.block.Mode.{Mode}
 use Rattle.tc_cltu.specs.declared.block.Mode.TheVariants.{Detect, Correct}
 
--- a polynomial of degree under 7, times x, modulo G: where a term in x ^ 7 comes, the rest of G takes its place
+-- a polynomial of degree under 7, times x, modulo G; if a term in x ^ 7 arises, the other terms of G replace it
 unfoldable pub block_times_x : ℕ → ℕ
 block_times_x r = bit_xor (r * 2 % 2 ^ 7) (bit_at r 6 * (2 ^ 6 + 2 ^ 2 + 1))
 
--- one bit more: (r + b x ^ 6) x modulo G, as the information is 7 places up
+-- the register after one more bit: (r + b x ^ 6) x modulo G, since the information is shifted up by 7 places
 abbrev pub block_with_bit : ℕ → ℕ → ℕ
 block_with_bit r b = block_times_x (bit_xor r (b * 2 ^ 6))
 
--- what is left from r on, bit after bit
+-- the register after all these bits, from r on
 abbrev pub block_remainder : ℕ → List ℕ → ℕ
 block_remainder r [] = r
 block_remainder r (b ∷ bs) = block_remainder (block_with_bit r b) bs
@@ -27,7 +28,7 @@ block_remainder r (b ∷ bs) = block_remainder (block_with_bit r b) bs
 abbrev pub parity_of : List ℕ → ℕ
 parity_of information = bit_xor (2 ^ 7 - 1) (block_remainder 0 (bits_of information))
 
--- seven octets, as many as a code block carries
+-- seven octets, which a code block can carry
 pub record IsInformation (information : List ℕ) : Type 0 where
   pub each : IsOctets information
   pub seven : length information ≡ 7
@@ -40,30 +41,30 @@ code_block information = information ++ parity_of information * 2 ∷ []
 abbrev pub word : List ℕ → List ℕ
 word block = take 63 (bits_of block)
 
--- at how many of these a block differs from the code block of the information
+-- the number of these bits in which a block differs from the code block of the information
 abbrev pub errors : List ℕ → List ℕ → ℕ
 errors block information = differences (word block) (word (code_block information))
 
--- how many errors a block may have and still be taken
+-- the largest number of errors that an accepted block may have
 abbrev pub most_errors : Mode → ℕ
 most_errors Detect = 0
 most_errors Correct = 1
 
--- a list of octets with bit k the other way round, counted from the most significant of the first
+-- a list of octets with bit k inverted, counted from the most significant bit of the first octet
 abbrev pub flipped : List ℕ → ℕ → List ℕ
 flipped [] k = []
 flipped (o ∷ os) k = if nat_lt k 8 then bit_xor o (2 ^ (7 - k)) ∷ os else o ∷ flipped os (k - 8)
 
--- the information with each one of its bits the other way round, from bit k - 1 down, and at last the information itself
+-- the information with one of its bits inverted, for each bit from k - 1 down to 0, and then the information itself
 abbrev pub near : List ℕ → ℕ → List (List ℕ)
 near information zero = information ∷ []
 near information (suc k) = flipped information k ∷ near information k
 
--- the first of these that the block has at most so many errors from
+-- the first of these from which the block has at most `limit` errors
 abbrev pub first_within : ℕ → List ℕ → List (List ℕ) → Option (List ℕ)
 first_within limit block [] = None
 first_within limit block (information ∷ more) = if nat_lt limit (errors block information) then first_within limit block more else Some information
 
--- what a code block carries, if it has no more errors than the mode allows
+-- the octets that a code block carries, if it has no more errors than the mode allows
 unfoldable pub decoded : Mode → List ℕ → Option (List ℕ)
 decoded mode block = first_within (most_errors mode) block (near (take 7 block) 56)

@@ -1,4 +1,5 @@
--- The receiving end (CCSDS 231.0-B): it searches for a start sequence, and then decodes code blocks until it rejects one.
+-- The receiving end (CCSDS 231.0-B), which searches for a start sequence, and then decodes code blocks until it rejects
+-- one.
 use Rattle.std.specs.Prelude.{◌≡◌, ℕ, zero, suc, ◌+◌, ◌<◌, ◌≤◌, Bool, true, false, List, [], ◌∷◌, ◌++◌, length, take, drop, Option, Some, None, is_some, nat_eq, nat_lt, if◌then◌else◌}
 use Rattle.std.specs.Cmp.Lexicographic.{pointwise}
 use Rattle.tc_fecf.specs.Checksum.{bits_of}
@@ -10,28 +11,29 @@ use Rattle.tc_cltu.specs.declared.block.Fate.TheVariants.{Right, Corrected, Tail
 use Rattle.tc_cltu.specs.declared.block.Mode.{Mode}
 use Rattle.tc_cltu.specs.declared.block.Mode.TheVariants.{Detect}
 
--- searching, with the last octet that came (0 at first); or decoding, with the octets of the blocks that were taken, and what has
--- come of the next block
+-- the state of the receiving end: it searches, with the last octet that came (0 at first), or it decodes, with the
+-- octets of the accepted blocks and the octets that have come of the next block
 pub data Reception : Type 0 where
   Searching : ℕ → Reception
   Decoding : List ℕ → List ℕ → Reception
 
--- the receiving end after an octet, and the candidate frames that this octet ends
+-- the state after an octet, and the candidate frames that this octet completes
 abbrev pub Step : Type 0
 Step = Reception × List (List ℕ)
 
--- after a whole block: what it carries is taken while there is room for it. A block that is rejected ends a candidate frame, if there
--- were blocks before it; one that finds no room ends none
+-- the step after a whole block: the octets of an accepted block are kept while there is room for them; a rejected block
+-- completes a candidate frame if there were blocks before it, and a block that finds no room completes none
 abbrev pub after_block : ℕ → List ℕ → Option (List ℕ) → Step
 after_block room frame (Some information) = if nat_lt room (length frame + 7) then (Searching 0, []) else (Decoding (frame ++ information) [], [])
 after_block room [] None = (Searching 0, [])
 after_block room (o ∷ frame) None = (Searching 0, (o ∷ frame) ∷ [])
 
--- at how many of their sixteen bits two octets differ from the start sequence
+-- the number of bits, out of sixteen, in which two octets differ from the start sequence
 unfoldable pub start_errors : ℕ → ℕ → ℕ
 start_errors last octet = differences (bits_of (last ∷ octet ∷ [])) (bits_of start_sequence)
 
--- whether two octets count as the start sequence: with as many wrong bits as the mode allows a code block
+-- whether two octets count as the start sequence, for which they may have as many wrong bits as the mode allows in a
+-- code block
 unfoldable pub is_start : Mode → ℕ → ℕ → Bool
 is_start mode last octet = if nat_lt (most_errors mode) (start_errors last octet) then false else true
 
@@ -41,7 +43,7 @@ reception_step mode room (Decoding frame block) octet =
     if nat_lt (length block) 7 then (Decoding frame (block ++ octet ∷ []), [])
     else after_block room frame (decoded mode (block ++ octet ∷ []))
 
--- after many octets: where it is, and all candidate frames
+-- the state after a list of octets, and all candidate frames that they complete
 abbrev pub state_after : Mode → ℕ → Reception → List ℕ → Reception
 state_after mode room state [] = state
 state_after mode room state (octet ∷ octets) = state_after mode room (reception_step mode room state octet).0 octets
@@ -50,7 +52,7 @@ abbrev pub frames_of : Mode → ℕ → Reception → List ℕ → List (List �
 frames_of mode room state [] = []
 frames_of mode room state (octet ∷ octets) = (reception_step mode room state octet).1 ++ frames_of mode room (reception_step mode room state octet).0 octets
 
--- what becomes of a code block: of one that isn't taken, and of any
+-- the fate of a code block that isn't accepted, and that of any code block
 abbrev pub rejected_as : List ℕ → Fate
 rejected_as block = if pointwise nat_eq block tail_sequence then Tail else Rejected
 
@@ -60,7 +62,7 @@ fate_in mode block =
     else if is_some (decoded mode block) then Corrected
     else rejected_as block
 
--- the same behind octets that the CLTU carried before: a block that would be taken may find no room
+-- the fate of a block after octets that the CLTU carried before; a block that would be accepted may find no room
 abbrev pub fate_behind : ℕ → List ℕ → Option (List ℕ) → Fate → Fate
 fate_behind room frame None fate = fate
 fate_behind room frame (Some information) fate = if nat_lt room (length frame + 7) then Overlong else fate
@@ -68,7 +70,7 @@ fate_behind room frame (Some information) fate = if nat_lt room (length frame + 
 abbrev pub fate_after : Mode → ℕ → List ℕ → List ℕ → Fate
 fate_after mode room frame block = fate_behind room frame (decoded mode block) (fate_in mode block)
 
--- what becomes of the code block that an octet ends, if it ends one
+-- the fate of the code block that an octet completes, if it completes one
 abbrev pub fate_of : Mode → ℕ → Reception → ℕ → Option Fate
 fate_of mode room (Searching last) octet = None
 fate_of mode room (Decoding frame block) octet = if nat_lt (length block) 7 then None else Some (fate_after mode room frame (block ++ octet ∷ []))
@@ -85,31 +87,31 @@ abbrev pub overruns_of : Option Fate → ℕ
 overruns_of (Some Overlong) = 1
 overruns_of _ = 0
 
--- the sum over the code blocks that end in the octets, each counted by what becomes of it
+-- the sum over the code blocks that end in the octets, where `count` maps the fate of a block to its number
 abbrev pub counted_in : (Option Fate → ℕ) → Mode → ℕ → Reception → List ℕ → ℕ
 counted_in count mode room state [] = 0
 counted_in count mode room state (octet ∷ octets) =
     count (fate_of mode room state octet) + counted_in count mode room (reception_step mode room state octet).0 octets
 
--- how many code blocks are corrected, and how many are rejected that aren't the tail sequence
+-- the number of code blocks that are corrected, and of those that are rejected but aren't the tail sequence
 abbrev pub corrected_in : Mode → ℕ → Reception → List ℕ → ℕ
 corrected_in mode room state octets = counted_in corrections_of mode room state octets
 
 abbrev pub rejected_in : Mode → ℕ → Reception → List ℕ → ℕ
 rejected_in mode room state octets = counted_in rejections_of mode room state octets
 
--- how many CLTUs carry more than there is room for
+-- the number of CLTUs that carry more than there is room for
 abbrev pub overlong_in : Mode → ℕ → Reception → List ℕ → ℕ
 overlong_in mode room state octets = counted_in overruns_of mode room state octets
 
--- what contracts see of a decoder: how it takes code blocks, where it is, and the octets of the blocks that it has taken since the last
--- start sequence
+-- the view of a decoder in contracts: its mode, its state, and the octets of the blocks that it has accepted since the
+-- last start sequence
 pub record Receiver : Type 0 where
   pub mode : Mode
   pub state : Reception
   pub carried : List ℕ
 
--- the front of these octets was taken, which gave these candidate frames; this is left
+-- the first octets were processed, which completed these candidate frames and left this rest
 pub record IsTaken (room : ℕ) (before after : Receiver) (octets rest : List ℕ) (given : List (List ℕ)) : Type 0 where
   pub count : ℕ
   pub within : count ≤ length octets
@@ -117,14 +119,15 @@ pub record IsTaken (room : ℕ) (before after : Receiver) (octets rest : List �
   pub state : after.state ≡ state_after before.mode room before.state (take count octets)
   pub frames : frames_of before.mode room before.state (take count octets) ≡ given
 
--- memory ran out at the end of a candidate frame: the octets up to there were taken, all candidates before it were given, and it is still carried
+-- memory ran out at the end of a candidate frame: the octets up to there were processed, all candidate frames before it
+-- were kept, and it is still carried
 pub record StopsShort (room : ℕ) (before after : Receiver) (octets : List ℕ) (given : List (List ℕ)) : Type 0 where
   pub count : ℕ
   pub within : count ≤ length octets
   pub state : after.state ≡ state_after before.mode room before.state (take count octets)
   pub frames : frames_of before.mode room before.state (take count octets) ≡ given ++ after.carried ∷ []
 
--- no two octets in a row count as the start sequence, nor do the first and the one before it
+-- no two consecutive octets count as the start sequence, and neither do `last` and the first octet
 abbrev pub HasNoStart : Mode → ℕ → List ℕ → Type 0
 HasNoStart mode last [] = Unit {0}
 HasNoStart mode last (o ∷ os) = (is_start mode last o ≡ false) × HasNoStart mode o os
@@ -137,12 +140,12 @@ abbrev pub IsSearching : Reception → Type 0
 IsSearching (Searching last) = Unit {0}
 IsSearching (Decoding frame block) = ⊥
 
--- a state that the receiving end can be in: less than a block waits
+-- a state that the receiving end can reach: the octets that wait are less than a block
 abbrev pub IsReception : Reception → Type 0
 IsReception (Searching last) = Unit {0}
 IsReception (Decoding frame block) = length block < 8
 
--- so many octets of the idle sequence
+-- `n` octets of the idle sequence
 abbrev pub idle : ℕ → List ℕ
 idle zero = []
 idle (suc n) = 0x55 ∷ idle n

@@ -11,39 +11,39 @@ ghost use Rattle.tc_cltu.specs.declared.block.Mode.TheVariants.{Detect};
 use crate::tables::{ERRORS, REMAINDERS};
 use crate::writer::TAIL;
 
-/// What becomes of a code block with wrong bits.
+/// The treatment of code blocks with wrong bits.
 #[derive(Clone, Copy, Debug, PartialEq, Eq)]
 pub enum Mode {
-    /// It is rejected: one to three wrong bits are always detected (triple error detection).
+    /// A block with wrong bits is rejected. One to three wrong bits are always detected (triple error detection).
     Detect,
     /// One wrong bit is corrected, and two are always detected (single error correction).
     Correct,
 }
 
-/// What becomes of a code block.
+/// The fate of a code block.
 #[derive(Clone, Copy, Debug, PartialEq, Eq)]
 pub enum Fate {
-    /// It is taken as it is.
+    /// The block is accepted as it is.
     Right,
-    /// One of its bits is corrected.
+    /// The block is accepted with one of its bits corrected.
     Corrected,
-    /// It is rejected, and is the tail sequence.
+    /// The block is rejected, and is the tail sequence.
     Tail,
-    /// It is rejected, and isn't the tail sequence.
+    /// The block is rejected, and isn't the tail sequence.
     Rejected,
-    /// It isn't kept, since with it the CLTU carries more than [`MOST_OCTETS`](crate::MOST_OCTETS).
+    /// The block isn't kept, because with it the CLTU would carry more than [`MOST_OCTETS`](crate::MOST_OCTETS).
     Overlong,
 }
 
-/// What a code block came to.
+/// The result of decoding a code block.
 #[derive(Clone, Copy, Debug, PartialEq, Eq)]
 pub struct Judged {
     pub fate: Fate,
-    /// The seven octets that it carries, where it is taken.
+    /// The seven octets that the block carries, if it is accepted.
     pub information: Option<[u8; 7]>,
 }
 
-// The seven parity bits over seven octets.
+// Returns the seven parity bits over seven octets.
 #[inline(always)]
 pub(crate) fn parity(octets: &[u8]) -> u8
     requires { length octets.now ≡ 7 }
@@ -61,7 +61,8 @@ pub(crate) fn parity(octets: &[u8]) -> u8
     left ^ 0x7f
 }
 
-/// The code block that carries seven octets: these, the seven parity bits, and a filler bit 0 (CCSDS 231.0-B).
+/// Returns the code block that carries seven octets: these octets, the seven parity bits, and a filler bit 0 (CCSDS
+/// 231.0-B).
 pub fn encode_block(information: [u8; 7]) -> [u8; 8]
     ensures { result ≡ code_block information }
 {
@@ -69,9 +70,9 @@ pub fn encode_block(information: [u8; 7]) -> [u8; 8]
     [a, b, c, d, e, f, g, parity(&information) << 1]
 }
 
-/// The seven octets that a code block carries, or none if it has more wrong bits than the mode allows.
+/// Returns the seven octets that a code block carries, or `None` if it has more wrong bits than the mode allows.
 ///
-/// Wrong bits are counted among the 63 before the filler bit, which isn't looked at.
+/// Wrong bits are counted among the 63 bits before the filler bit. The filler bit is ignored.
 pub fn decode_block(block: [u8; 8], mode: Mode) -> Option<[u8; 7]>
     ensures decoded { result ≡ decoded mode block }
     ensures found { IfSome result (λ information. IsInformation information × (errors block information ≤ most_errors mode)) }
@@ -82,7 +83,7 @@ pub fn decode_block(block: [u8; 8], mode: Mode) -> Option<[u8; 7]>
     judge(block, mode).information
 }
 
-/// What becomes of a code block, which is seven octets and one more, and the seven octets that it carries where it is taken.
+/// Returns the fate of a code block and, if it is accepted, the seven octets that it carries.
 #[inline(always)]
 #[tactic(auto, using(crate::proofs::Numbers::parts))]
 pub fn judge(block: [u8; 8], mode: Mode) -> Judged
@@ -109,7 +110,7 @@ pub fn judge(block: [u8; 8], mode: Mode) -> Judged
     }
 }
 
-// What becomes of a block that isn't taken.
+// Returns the fate of a block that isn't accepted.
 fn rejection(block: [u8; 8]) -> Fate
     ensures { result ≡ rejected_as block }
 {
@@ -120,7 +121,7 @@ fn rejection(block: [u8; 8]) -> Fate
     }
 }
 
-// A block as a number, whose lowest octet is the first: one sum turns a wrong bit of it.
+// Returns a block as a number, whose lowest octet is the block's first. One sum then inverts a wrong bit.
 fn word_of(block: [u8; 8]) -> u64
     ensures number { result ≡ from_le_bytes w64 block }
     ensures octets { to_le_bytes w64 result ≡ block }
@@ -128,7 +129,7 @@ fn word_of(block: [u8; 8]) -> u64
     u64::from_le_bytes(block)
 }
 
-// The first seven octets of a number.
+// Returns the first seven octets of a number.
 fn first_seven(word: u64) -> [u8; 7]
     ensures { result ≡ take 7 (to_le_bytes w64 word) }
 {
@@ -136,7 +137,8 @@ fn first_seven(word: u64) -> [u8; 7]
     [a, b, c, d, e, f, g]
 }
 
-// The wrong bit of a block, which is seven octets and the last one, as a number with this bit, or 0 where no bit is wrong.
+// Returns the wrong bit of a block, which is seven octets and the last one. The result is the number with only this bit
+// set, or 0 if no bit is wrong. It is `None` if the mode rejects the block.
 #[inline(always)]
 #[tactic(auto, using(crate::proofs::Taking::wrong_by))]
 fn error_of(own: &[u8], last: u8, mode: Mode) -> Option<u64>
@@ -160,7 +162,8 @@ fn error_of(own: &[u8], last: u8, mode: Mode) -> Option<u64>
     }
 }
 
-/// How many code blocks were corrected, how many rejected that aren't the tail sequence, and how many CLTUs carried too much.
+/// The numbers of code blocks that were corrected, of those rejected other than tail sequences, and of CLTUs that
+/// carried too much.
 #[derive(Clone, Copy, Debug, PartialEq, Eq)]
 pub struct Blocks {
     pub corrected: u64,
@@ -169,7 +172,7 @@ pub struct Blocks {
 }
 
 impl Blocks {
-    /// Counts the code block that an octet ended, if it ended one.
+    /// Counts the code block that an octet completed, if it completed one.
     pub fn count(&mut self, fate: Option<Fate>)
         requires corrected { self.old.corrected + 1 < 2 ^ 64 }
         requires rejected { self.old.rejected + 1 < 2 ^ 64 }

@@ -1,4 +1,4 @@
-//! The receiving end.
+//! The receiving end of CLTUs.
 
 ghost use Rattle.std.specs.Prelude.{◌≡◌, ◌≢◌, ◌++◌, ◌∷◌, [], List, ℕ, true, map, length, Option, Some, None, ◌+◌, ◌<◌, IfSome, IfNone, IfOk, OnOk, OnErr, if◌then◌else◌};
 ghost use Rattle.tc_cltu.specs.Cltu.{most_octets};
@@ -12,12 +12,12 @@ use std::alloc::{AllocError, Global};
 use std::marker::Model;
 use std::mem::replace;
 
-/// What an octet of a stream came to.
+/// The effect of an octet of a stream.
 #[derive(Clone, Copy, Debug, PartialEq, Eq)]
 pub struct Fed {
-    /// What became of the code block that it ended.
+    /// The fate of the code block that the octet completed, if it completed one.
     pub fate: Option<Fate>,
-    /// Whether it ended a candidate frame, which [`carried`](Decoder::carried) lends then.
+    /// Whether the octet completed a candidate frame, which [`carried`](Decoder::carried) then lends.
     pub ended: bool,
 }
 
@@ -26,16 +26,17 @@ const NOTHING: Fed = Fed {
     ended: false,
 };
 
-/// Finds CLTUs in a stream of octets, and gives what each carries: a candidate frame, with fill behind it.
+/// A decoder that finds CLTUs in a stream of octets, and yields what each carries: a candidate frame, followed by fill.
 ///
-/// It looks for the start sequence in each two octets in a row, of whose sixteen bits one may be wrong in [`Mode::Correct`], and none
-/// in [`Mode::Detect`]. What follows is decoded until a code block is rejected, which the tail sequence is in each mode. A CLTU that
-/// carries more than [`MOST_OCTETS`] gives nothing but [`Fate::Overlong`].
+/// The decoder searches each two consecutive octets for the start sequence. One of their sixteen bits may be wrong in
+/// [`Mode::Correct`], and none in [`Mode::Detect`]. The octets after it are decoded until a code block is rejected. The
+/// tail sequence is rejected in each mode. A CLTU that carries more than [`MOST_OCTETS`] yields only
+/// [`Fate::Overlong`].
 #[derive(Drop)]
 pub struct Decoder {
     mode: Mode,
     decoding: bool,
-    // the octet before, while a start sequence is looked for
+    // the octet before, while the decoder searches for a start sequence
     last: u8,
     frame: Vec<u8>,
     block: [u8; 8],
@@ -59,7 +60,7 @@ impl Model for Decoder {
 }
 
 impl Decoder {
-    /// A decoder that searches. This asks for memory, for what a CLTU carries.
+    /// Creates a decoder that searches. This allocates memory for the octets that a CLTU carries.
     pub fn new(alloc: Global, mode: Mode) -> Result<Decoder, AllocError>
         ensures { IfOk result (λ decoder. decoder ≡ record { mode = mode; state = Searching 0; carried = [] }) }
     {
@@ -74,7 +75,7 @@ impl Decoder {
         })
     }
 
-    /// Takes the next octet of the stream. It asks for no memory.
+    /// Processes the next octet of the stream. No memory is requested.
     pub fn feed_octet(&mut self, octet: u8) -> Fed
         ensures mode { self.new.mode ≡ self.old.mode }
         ensures state { self.new.state ≡ (reception_step self.old.mode most_octets self.old.state octet).0 }
@@ -101,7 +102,8 @@ impl Decoder {
         self.end_block(block)
     }
 
-    /// Takes the next eight octets of the stream at once, where a code block begins with them, and else none. It asks for no memory.
+    /// Processes the next eight octets of the stream at once, if a code block begins with them. Otherwise it processes
+    /// none, and returns `None`. No memory is requested.
     #[inline(always)]
     pub fn feed_block(&mut self, block: [u8; 8]) -> Option<Fed>
         ensures mode { self.new.mode ≡ self.old.mode }
@@ -117,8 +119,9 @@ impl Decoder {
         Some(self.end_block(block))
     }
 
-    /// Takes the first octets of a piece of the stream: a whole code block, where one begins with them, and else one octet. It gives
-    /// what these came to, and the rest of the piece; none where the piece is empty. It asks for no memory.
+    /// Processes the first octets of a piece of the stream: a whole code block, if one begins with them, and otherwise
+    /// one octet. Returns their effect and the rest of the piece, or `None` if the piece is empty. No memory is
+    /// requested.
     #[inline(always)]
     #[tactic(auto, using(crate::proofs::Decoding::taken_block, crate::proofs::Decoding::taken_octet))]
     pub fn feed_front<'a>(&mut self, piece: &'a [u8]) -> Option<(Fed, &'a [u8])>
@@ -141,7 +144,7 @@ impl Decoder {
         Some((self.feed_octet(*octet), rest))
     }
 
-    // After the last octet of a code block.
+    // Processes a code block after its last octet.
     #[inline(always)]
     fn end_block(&mut self, block: [u8; 8]) -> Fed
         requires { self.old.state ≡ Decoding self.old.carried [] }
@@ -178,8 +181,9 @@ impl Decoder {
         }
     }
 
-    /// Looks for a start sequence anew, as after a loss of bit lock (CCSDS 231.0-B), and says whether that cuts a CLTU short: code
-    /// blocks that were taken since its start sequence end no candidate frame.
+    /// Restarts the search for a start sequence, as after a loss of bit lock (CCSDS 231.0-B). Returns whether that cuts
+    /// a CLTU short, in which case the code blocks that were accepted since its start sequence yield no candidate
+    /// frame.
     pub fn search_anew(&mut self) -> bool
         ensures mode { self.new.mode ≡ self.old.mode }
         ensures state { self.new.state ≡ Searching 0 }
@@ -189,17 +193,18 @@ impl Decoder {
         replace(&mut self.decoding, false)
     }
 
-    /// What the code blocks carried that were taken since the last start sequence: a candidate frame, if the last octet ended one.
+    /// Lends the octets of the code blocks that were accepted since the last start sequence. They are a candidate frame
+    /// if the last octet completed one.
     pub fn carried(&self) -> &[u8]
         ensures { result.now ≡ self.now.carried }
     {
         &self.frame
     }
 
-    /// Takes the next piece of the stream, of any length, and adds a copy of each candidate frame that ends in it.
+    /// Processes the next piece of the stream, of any length, and adds a copy of each candidate frame that ends in it.
     ///
-    /// At `Err` the octets up to the end of a candidate frame were taken. All before it were added, and [`carried`](Decoder::carried) lends
-    /// it.
+    /// After `Err` the octets up to the end of a candidate frame have been processed. All candidate frames before it
+    /// were added, and [`carried`](Decoder::carried) lends this one.
     pub fn feed(
         &mut self,
         alloc: Global,
@@ -221,7 +226,7 @@ impl Decoder {
         Ok(())
     }
 
-    // Adds a copy of the candidate frame that the last octets ended, if they ended one.
+    // Adds a copy of the candidate frame that the last octets completed, if they completed one.
     fn keep(&self, alloc: Global, frames: &mut Vec<Vec<u8>>, ended: bool) -> Result<(), AllocError>
         ensures unchanged { OnErr result (map (λ frame. frame.items) frames.new.items ≡ map (λ frame. frame.items) frames.old.items) }
         ensures ended { OnErr result (ended ≡ true) }
@@ -237,7 +242,8 @@ impl Decoder {
     }
 }
 
-/// Whether two octets count as the start sequence: with as many wrong bits as the mode allows a code block.
+/// Returns whether two octets count as the start sequence. They may have as many wrong bits as the mode allows in a
+/// code block.
 pub fn begins(mode: Mode, last: u8, octet: u8) -> bool
     ensures { result ≡ is_start mode last octet }
 {
@@ -248,7 +254,7 @@ pub fn begins(mode: Mode, last: u8, octet: u8) -> bool
     }
 }
 
-// At how many of their bits two octets differ from the start sequence.
+// Returns the number of bits in which two octets differ from the start sequence.
 fn wrong_bits(last: u8, octet: u8) -> u32
     ensures { result ≡ start_errors last octet }
 {

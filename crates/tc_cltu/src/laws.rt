@@ -1,4 +1,4 @@
-//! What holds of the definitions.
+//! Laws over the definitions of this crate.
 
 ghost use Rattle.std.specs.Prelude.{◌≡◌, ◌*◌, ◌<◌, ◌≤◌, ◌++◌, ◌∷◌, [], ℕ, List, Some, None, true, replicate, take, length};
 ghost use Rattle.std.specs.List.{concat, AllByRecursion};
@@ -22,16 +22,17 @@ pub fn the_parity_is_the_remainder()
     ensures only { (r s : ℕ) (bits : List ℕ) → IsBlockRemainder r bits → IsBlockRemainder s bits → r ≡ s }
 {}
 
-/// Code blocks, worked out by hand or by a long division in another language: seven octets, the parity bits, and a filler bit 0, which
-/// isn't looked at. No mode takes the tail sequence, or the idle sequence.
+/// States examples of code blocks, worked out by hand or by a long division in another language: seven octets, the
+/// parity bits, and a filler bit 0, which is ignored. Neither the tail sequence nor the idle sequence is accepted in
+/// any mode.
 ///
-/// G is x^7 + x^6 + x^2 + 1, and the octets are a polynomial M, which is divided:
+/// G is x^7 + x^6 + x^2 + 1, and the octets are a polynomial M, which is multiplied by x^7 and divided by G:
 ///
-/// - Of 0 nothing is left, 0000000; so the parity bits are 1111111, and the octet with the filler bit 0 is fe.
-/// - Of x^7, for M = 1, x^7 - G = x^6 + x^2 + 1 is left, 1000101; its complement is 0111010.
-/// - Of x^8 + x^7, for M = x + 1, x^8 + x^7 - x G = x^3 + x is left, 0001010; its complement is 1110101.
-/// - Of x^9, for M = x^2, x^9 - x^2 G = x^8 + x^4 + x^2, less x G = x^7 + x^4 + x^3 + x^2 + x, less G = x^6 + x^4 + x^3 + x + 1 is left,
-///   1011011; its complement is 0100100.
+/// - 0 leaves 0, that is 0000000. So the parity bits are 1111111, and the octet with the filler bit 0 is fe.
+/// - x^7, for M = 1, leaves x^7 - G = x^6 + x^2 + 1, that is 1000101. Its complement is 0111010.
+/// - x^8 + x^7, for M = x + 1, leaves x^8 + x^7 - x G = x^3 + x, that is 0001010. Its complement is 1110101.
+/// - x^9, for M = x^2, leaves x^9 - x^2 G = x^8 + x^4 + x^2. Subtracting x G leaves x^7 + x^4 + x^3 + x^2 + x, and
+///   subtracting G leaves x^6 + x^4 + x^3 + x + 1, that is 1011011. Its complement is 0100100.
 #[tactic(auto, unfolding(crate::specs::CodeBlock::block_times_x, crate::specs::CodeBlock::decoded, tc_fecf::specs::Checksum::octet_bits))]
 pub fn code_blocks_are_so()
     ensures zero { code_block (0x00 ∷ 0x00 ∷ 0x00 ∷ 0x00 ∷ 0x00 ∷ 0x00 ∷ 0x00 ∷ []) ≡ 0x00 ∷ 0x00 ∷ 0x00 ∷ 0x00 ∷ 0x00 ∷ 0x00 ∷ 0x00 ∷ 0xfe ∷ [] }
@@ -48,12 +49,12 @@ pub fn code_blocks_are_so()
     ensures idle_sequence { fate_in Correct (0x55 ∷ 0x55 ∷ 0x55 ∷ 0x55 ∷ 0x55 ∷ 0x55 ∷ 0x55 ∷ 0x55 ∷ []) ≡ Rejected }
 {}
 
-/// Two code blocks that differ in three places at most carry the same.
+/// Two code blocks that differ in at most three places carry equal octets.
 pub fn code_blocks_differ_in_four_places()
     ensures { (one other : List ℕ) → IsInformation one → IsInformation other → differences (word (code_block one)) (word (code_block other)) ≤ 3 → one ≡ other }
 {}
 
-/// A code block with one, two or three of its 63 bits the other way round has as many errors.
+/// A code block in which one, two or three of its 63 bits are inverted has exactly that many errors.
 pub fn each_turned_bit_is_an_error()
     ensures one { (information : List ℕ) (i : ℕ) → IsInformation information → i < 63 → errors (flipped (code_block information) i) information ≡ 1 }
     ensures two { (information : List ℕ) (i j : ℕ) → IsInformation information → i < j → j < 63
@@ -62,8 +63,8 @@ pub fn each_turned_bit_is_an_error()
         → errors (flipped (flipped (flipped (code_block information) i) j) k) information ≡ 3 }
 {}
 
-/// CLTUs, worked out by hand: the start sequence, code blocks with their parity bits, in the last of them fill where it needs some, and
-/// the tail sequence. The frames are an Unlock, and one with a packet.
+/// States examples of CLTUs, worked out by hand: the start sequence, code blocks with their parity bits, with fill in
+/// the last of them if it needs some, and the tail sequence. The frames are an Unlock and a frame with a packet.
 #[tactic(auto, unfolding(crate::specs::CodeBlock::block_times_x, tc_fecf::specs::Checksum::octet_bits))]
 pub fn a_cltu_is_so()
     ensures one_block { cltu (0x00 ∷ 0x00 ∷ 0x00 ∷ 0x00 ∷ 0x00 ∷ 0x00 ∷ 0x01 ∷ []) ≡ 0xeb ∷ 0x90 ∷ 0x00 ∷ 0x00 ∷ 0x00 ∷ 0x00 ∷ 0x00 ∷ 0x00 ∷ 0x01 ∷ 0x74 ∷ 0xc5 ∷ 0xc5 ∷ 0xc5 ∷ 0xc5 ∷ 0xc5 ∷ 0xc5 ∷ 0xc5 ∷ 0x79 ∷ [] }
@@ -75,8 +76,9 @@ pub fn a_cltu_is_so()
     ensures empty { cltu_fault_of [] ≡ Some Empty }
 {}
 
-/// While a receiving end searches, a CLTU gives the frame that it carries, with its fill, and the search goes on behind it; with
-/// correction also one with a wrong bit in its start sequence. A stream gives the same in any pieces.
+/// While a receiving end searches, a CLTU yields the frame that it carries, with its fill, and the search continues
+/// after it. In the mode that corrects, this also holds for a CLTU with one wrong bit in its start sequence. Dividing a
+/// stream into pieces doesn't change the frames that it yields.
 pub fn a_cltu_gives_its_frame()
     ensures given { (mode : Mode) (last : ℕ) (frame rest : List ℕ) → IsOctets frame → cltu_fault_of frame ≡ None
         → frames_of mode most_octets (Searching last) (cltu frame ++ rest) ≡ filled frame ∷ frames_of mode most_octets (Searching 0) rest }
@@ -87,7 +89,8 @@ pub fn a_cltu_gives_its_frame()
         ≡ frames_of mode most_octets state one ++ frames_of mode most_octets (state_after mode most_octets state one) other }
 {}
 
-/// Whole frames that a CLTU carries one after the other are found again, each of its own length, and behind them is just its fill.
+/// Whole frames that a CLTU carries one after the other are found again by their own lengths, and exactly the CLTU's
+/// fill follows them.
 pub fn a_cltu_gives_its_frames()
     ensures { (mode : Mode) (last most : ℕ) (frames : List (List ℕ)) (rest : List ℕ) → AllByRecursion IsWhole frames → 1 ≤ length frames → length frames ≤ most
         → length (concat frames) ≤ most_octets → (fill : List ℕ)
@@ -95,8 +98,8 @@ pub fn a_cltu_gives_its_frames()
         × (is_fill fill ≡ true) × AreDelimited most (concat frames ++ fill) frames fill }
 {}
 
-/// Octets in which nothing counts as a start sequence don't hide the CLTU behind them. From each state that octets can lead to, 15 octets of the idle
-/// sequence lead back to the search, so the CLTU behind them is found.
+/// Octets in which nothing counts as a start sequence don't hide the CLTU after them. From each state that octets can
+/// lead to, 15 octets of the idle sequence lead back to the search, so the CLTU after them is found.
 pub fn the_next_cltu_is_found()
     ensures quiet { (mode : Mode) (last : ℕ) (before frame rest : List ℕ) → HasNoStart mode last before → IsOctets frame → cltu_fault_of frame ≡ None
         → frames_of mode most_octets (Searching last) (before ++ (cltu frame ++ rest)) ≡ filled frame ∷ frames_of mode most_octets (Searching 0) rest }
@@ -107,8 +110,9 @@ pub fn the_next_cltu_is_found()
         ≡ frames_of mode most_octets state (before ++ idle 15) ++ filled frame ∷ frames_of mode most_octets (Searching 0) rest }
 {}
 
-/// The random sequence, added twice, changes nothing. It is what zeros become, and its octets are the bits of the register, one after the
-/// other. The first 40 bits are as the standard prints them, the others by the register, bit by bit, in another language.
+/// Adding the random sequence twice changes nothing. Zeros become the sequence itself, and its octets are the bits of
+/// the register, one after the other. The first 40 bits are as the standard prints them. The others were computed from
+/// the register, bit by bit, in another language.
 pub fn the_random_sequence_comes_off_as_it_went_on()
     ensures twice { (octets : List ℕ) → randomised (randomised octets) ≡ octets }
     ensures zeros { (n : ℕ) → randomised (replicate n 0) ≡ random_octets 0xff n }

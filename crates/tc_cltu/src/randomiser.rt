@@ -5,11 +5,11 @@ ghost use Rattle.tc_cltu.specs.Randomiser.{randomised};
 
 use crate::tables::NEXT_OCTETS;
 
-/// Adds the random sequence, from its start on, to the octets that code blocks are to carry, or have carried (CCSDS 231.0-B).
-/// Added twice, it changes nothing.
+/// Adds the random sequence, from its start on, to the octets that code blocks are to carry or have carried (CCSDS
+/// 231.0-B). Adding it twice changes nothing.
 ///
-/// No CLTU is randomised by itself: a sender calls this before [`write_cltu`](crate::write_cltu), a receiver with each candidate
-/// frame.
+/// No other function randomises a CLTU. A sender calls this one before [`write_cltu`](crate::write_cltu), and a
+/// receiver calls it with each candidate frame.
 pub fn randomise(octets: &mut [u8])
     ensures { octets.new ≡ randomised octets.old }
 {

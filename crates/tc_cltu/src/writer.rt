@@ -1,4 +1,4 @@
-//! CLTUs, as they are sent.
+//! Writing CLTUs.
 
 ghost use Rattle.std.specs.Prelude.{◌≡◌, ◌+◌, ◌*◌, ◌/◌, ◌<◌, ◌≤◌, ◌++◌, None, length, vec_len, vec_capacity, unwrap_or, IfOk, IfErr, OnOk};
 ghost use Rattle.tc_cltu.specs.CodeBlock.{code_block};
@@ -8,17 +8,17 @@ use crate::block::parity;
 use std::alloc::{AllocError, Global};
 use thiserror::Error;
 
-/// As many octets as a CLTU carries at most, fill included: those of 147 code blocks. The longest frame, of 1,024 octets, needs as
-/// many.
+/// The largest number of octets that a CLTU carries, fill included: those of 147 code blocks. The longest frame, of
+/// 1,024 octets, needs all of these blocks.
 pub const MOST_OCTETS: usize = 1029;
 
 /// The start sequence of a CLTU.
 pub const START: [u8; 2] = [0xeb, 0x90];
 
-/// The tail sequence, a block that no mode takes.
+/// The tail sequence, a block that no mode accepts.
 pub const TAIL: [u8; 8] = [0xc5, 0xc5, 0xc5, 0xc5, 0xc5, 0xc5, 0xc5, 0x79];
 
-/// Why octets get no CLTU: the first of these that applies.
+/// The reason why octets can't become a CLTU: the first of these that applies.
 #[derive(Clone, Copy, Debug, PartialEq, Eq, Error)]
 pub enum CltuFault {
     /// A CLTU carries at least one octet.
@@ -31,8 +31,8 @@ pub enum CltuFault {
     NoMemory,
 }
 
-/// The CLTU that carries a frame, or other octets: the start sequence, the code blocks, with fill in the last one where it needs
-/// some, and the tail sequence.
+/// Writes the CLTU that carries a frame or other octets: the start sequence, the code blocks, with fill in the last of
+/// them if it needs some, and the tail sequence.
 ///
 /// The only allocation is the CLTU.
 pub fn write_cltu(alloc: Global, frame: &[u8]) -> Result<Vec<u8>, CltuFault>
@@ -52,7 +52,7 @@ pub fn write_cltu(alloc: Global, frame: &[u8]) -> Result<Vec<u8>, CltuFault>
     Ok(made)
 }
 
-// The CLTU. Room for all of it is asked for at first.
+// Returns the CLTU. Memory for all of it is requested at the start.
 fn coded(alloc: Global, frame: &[u8]) -> Result<Vec<u8>, AllocError>
     requires { length frame.now ≤ most_octets }
     ensures { IfOk result (λ made. made.items ≡ cltu frame.now) }
@@ -71,7 +71,7 @@ fn coded(alloc: Global, frame: &[u8]) -> Result<Vec<u8>, AllocError>
     Ok(made)
 }
 
-// Adds the code block of what is left, with its fill, if anything is left.
+// Adds the code block of the octets that are left, with its fill, if any are left.
 fn push_last(made: &mut Vec<u8>, octets: &[u8])
     requires few { length octets.now < 7 }
     requires room { vec_len made.old + 8 * ((length octets.now + 6) / 7) + 8 ≤ vec_capacity made.old }
@@ -96,7 +96,7 @@ fn push_block(made: &mut Vec<u8>, information: &[u8])
     made.extend_from_slice(&[parity(information) << 1]).unwrap();
 }
 
-// One to six octets, and fill behind them.
+// Returns one to six octets, followed by fill.
 fn with_fill(octets: &[u8]) -> [u8; 7]
     requires some { 0 < length octets.now }
     requires few { length octets.now < 7 }

@@ -1,4 +1,4 @@
--- Two functions that have one value at each number below n, by computation.
+-- Two functions that agree at each number below n, as a computation shows.
 use Rattle.std.proofs.Common.{◌≡◌, ℕ, ◌<◌, true, eqb}
 use Rattle.std.proofs.lemmas.Bool.{eqb-true, agree_below, agree_below_at}
 

@@ -1,4 +1,4 @@
--- Which changes of bits the remainder shows.
+-- The changes of bits that the remainder detects.
 use Rattle.std.proofs.Common.{◌≡◌, ◌≢◌, ◌⊎◌, ℕ, zero, suc, ◌+◌, ◌-◌, ◌*◌, ◌%◌, ◌^◌, ◌<◌, ◌≤◌, Bool, true, eqb, not, ◌&&◌, List, [], ◌∷◌, bit_xor, length, get_or, drop, refl, ap, sym, ◌∙◌, arith, inl, inr}
 use Rattle.std.proofs.lemmas.Nat.{pow-add, xor_lt, xor_mod, xor_comm}
 use Rattle.std.proofs.Math.Nat.{pow-suc, add-mul, mul_assoc}
@@ -40,7 +40,7 @@ apart r s b c =
 fits-with : (d e : ℕ) → d < 2 ^ 16 → e < 2 → bit_xor d (e * 2 ^ 15) < 2 ^ 16
 fits-with d e d_fits e_fits = xor_lt 16 d (e * 2 ^ 15) d_fits (omega arith)
 
--- one step back
+-- if one step makes two registers equal, they differed only by their two bits
 back-one : (r s b c : ℕ) → r < 2 ^ 16 → s < 2 ^ 16 → b < 2 → c < 2 → with_bit r b ≡ with_bit s c → bit_xor r s ≡ bit_xor b c * 2 ^ 15
 back-one r s b c r_fits s_fits b_fits c_fits e =
     same (bit_xor r s) (bit_xor b c * 2 ^ 15)
@@ -50,7 +50,7 @@ back-one r s b c r_fits s_fits b_fits c_fits e =
 unfoldable pub Alike : List ℕ → List ℕ → ℕ → Type 0
 Alike bs cs k = get_or bs k 0 ≡ get_or cs k 0
 
--- the same bits after two registers that end alike: the registers were the same
+-- if two registers become equal through equal bits, they were equal before
 pub back : (bs cs : List ℕ) → length bs ≡ length cs → AreBits bs → AreBits cs → (r s : ℕ) → r < 2 ^ 16 → s < 2 ^ 16 → ((k : ℕ) → Alike bs cs k)
     → remainder r bs ≡ remainder s cs → (r ≡ s) × (bs ≡ cs)
 unfolding AreBits Alike
@@ -64,7 +64,8 @@ back (b ∷ bs) (c ∷ cs) lengths bits_b bits_c r s r_fits s_fits alike e =
     (same r s (omega arith), cc)
 back _ _ lengths bits_b bits_c r s r_fits s_fits alike e = absurd (omega arith)
 
--- n bits may differ, and the ends are alike: then the registers differ in their n high bits alone, and where they do not, no bit differs
+-- if only the first n bits may differ and the registers become equal, the registers differ at most in their n high
+-- bits, and if they don't differ, no bit does
 window : (n p : ℕ) → n + p ≡ 16 → (bs cs : List ℕ) → length bs ≡ length cs → AreBits bs → AreBits cs → (r s : ℕ) → r < 2 ^ 16 → s < 2 ^ 16
     → ((k : ℕ) → n ≤ k → Alike bs cs k) → remainder r bs ≡ remainder s cs
     → ((q : ℕ) × (bit_xor r s ≡ q * 2 ^ p)) × (r ≡ s → bs ≡ cs)
@@ -103,7 +104,7 @@ window (suc n) p sixteen (b ∷ bs) (c ∷ cs) lengths bits_b bits_c r s r_fits 
     )
 window (suc n) p sixteen _ _ lengths bits_b bits_c r s r_fits s_fits alike e = absurd (omega arith)
 
--- a burst: 16 bits from place i on may differ
+-- a burst: if only the 16 bits from place i on may differ and the remainders are equal, no bit differs
 pub burst : (i : ℕ) (bs cs : List ℕ) → length bs ≡ length cs → AreBits bs → AreBits cs → (r : ℕ) → r < 2 ^ 16
     → ((k : ℕ) → (k < i) ⊎ (i + 16 ≤ k) → Alike bs cs k) → remainder r bs ≡ remainder r cs → bs ≡ cs
 unfolding AreBits Alike
@@ -118,16 +119,16 @@ burst (suc i) (b ∷ bs) (c ∷ cs) lengths bits_b bits_c r r_fits alike e =
 burst (suc i) _ _ lengths bits_b bits_c r r_fits alike e = absurd (omega arith)
 
 -- ---- two bits
--- a sum of registers that a second bit can't undo
+-- a difference of two registers that isn't 0, and that one more bit can't undo
 open_sum : ℕ → Bool
 open_sum d = not (eqb d 0) && not (eqb d 32768)
 
--- that, and the same of the next n - 1 multiples by x
+-- a difference and its next n - 1 multiples by x are all of that kind
 stays : ℕ → ℕ → Bool
 stays zero d = true
 stays (suc n) d = open_sum d && stays n (times_x d)
 
--- x ^ k isn't 1 modulo G for 0 < k < 32767: by computation
+-- x ^ k isn't 1 modulo G for 0 < k < 32767, as a computation shows
 long : stays 32766 (times_x 32768) ≡ true
 unfolding stays open_sum times_x
 long = refl
@@ -146,7 +147,7 @@ shut d zero fits is h = let f : open_sum d ≡ open_sum 0 = ap open_sum is in cc
 shut d (suc zero) fits is h = let f : open_sum d ≡ open_sum 32768 = ap open_sum is in cc
 shut d (suc (suc e)) fits is h = omega arith
 
--- one more place differs, and the ends are alike: that can't be
+-- two registers can't become equal if one more place may differ and their difference is of that kind up to that place
 later : (n : ℕ) (bs cs : List ℕ) → length bs ≡ length cs → AreBits bs → AreBits cs → (r s : ℕ) → r < 2 ^ 16 → s < 2 ^ 16
     → ((k : ℕ) → k ≢ n → Alike bs cs k) → stays (suc n) (bit_xor r s) ≡ true → remainder r bs ≡ remainder s cs → ⊥
 unfolding AreBits Alike stays
@@ -166,7 +167,7 @@ later (suc n) (b ∷ bs) (c ∷ cs) lengths bits_b bits_c r s r_fits s_fits alik
     (ap (stays (suc n)) next ∙ (and_parts (open_sum (bit_xor r s)) (stays (suc n) (times_x (bit_xor r s))) h).1) e
 later n _ _ lengths bits_b bits_c r s r_fits s_fits alike h e = omega arith
 
--- the same, after one bit that differs
+-- two registers that one differing bit set apart can't become equal if only one of the next 32,766 places may differ
 pub later-near : (n : ℕ) → n < 32766 → (bs cs : List ℕ) → length bs ≡ length cs → AreBits bs → AreBits cs → (r s : ℕ) → r < 2 ^ 16 → s < 2 ^ 16
     → ((k : ℕ) → k ≢ n → Alike bs cs k) → bit_xor r s ≡ times_x 32768 → remainder r bs ≡ remainder s cs → ⊥
 later-near n near bs cs lengths bits_b bits_c r s r_fits s_fits alike one e =
@@ -179,7 +180,7 @@ different (suc (suc b)) c b_fits c_fits ne = absurd (omega arith)
 different b (suc (suc c)) b_fits c_fits ne = absurd (omega arith)
 different _ _ b_fits c_fits ne = absurd (ne refl)
 
--- two places, the second n + 1 bits after the first
+-- if only two places may differ, the second n + 1 bits after the first, and the remainders are equal, no bit differs
 pub two : (i n : ℕ) → n < 32766 → (bs cs : List ℕ) → length bs ≡ length cs → AreBits bs → AreBits cs → (r : ℕ) → r < 2 ^ 16
     → ((k : ℕ) → k ≢ i → k ≢ i + suc n → Alike bs cs k) → remainder r bs ≡ remainder r cs → bs ≡ cs
 unfolding AreBits Alike

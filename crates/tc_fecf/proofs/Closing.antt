@@ -21,7 +21,7 @@ sum-fits octets = fits (bits_of octets) 65535 (omega arith)
 sum-append : (xs ys : List ℕ) → checksum_of (xs ++ ys) ≡ remainder (checksum_of xs) (bits_of ys)
 sum-append xs ys = ap (remainder 65535) (bits-append xs ys) ∙ onward (bits_of xs) (bits_of ys) 65535
 
--- a register's own two octets leave nothing
+-- the two octets of a register itself leave no remainder in it
 table-none : table 0 ≡ 0
 unfolding table shifted times_x
 table-none = refl
@@ -53,7 +53,7 @@ own h l h_fits l_fits =
     ∙ onward (octet_bits l) [] (l * 256)
     ∙ second-own l l_fits
 
--- octets with their sum leave no remainder
+-- octets followed by their sum leave no remainder
 pub closed : (octets : List ℕ) → checksum_of (octets ++ spelled (checksum_of octets)) ≡ 0
 closed octets =
     let n = checksum_of octets in
@@ -61,7 +61,7 @@ closed octets =
     let whole : n ≡ 256 * (n / 256) + n % 256 = omega arith in
     sum-append octets (spelled n) ∙ ap (λ (x : ℕ). remainder x (bits_of (spelled n))) whole ∙ own (n / 256) (n % 256) (omega arith) (omega arith)
 
--- and none but with their sum
+-- octets followed by any other two octets leave a remainder
 pub closing : (octets : List ℕ) (h l : ℕ) → h < 256 → l < 256 → checksum_of (octets ++ (h ∷ l ∷ [])) ≡ 0 → h ∷ l ∷ [] ≡ spelled (checksum_of octets)
 unfolding AreBits Alike
 closing octets h l h_fits l_fits none =

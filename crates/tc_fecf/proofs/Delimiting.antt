@@ -1,4 +1,4 @@
--- Frames that follow one another are found in one way, by their own lengths.
+-- There is only one way to divide octets into frames, which is by the lengths that the frames name.
 use Rattle.std.proofs.Common.{◌≡◌, ◌⊎◌, ℕ, zero, suc, ◌≤◌, List, [], ◌∷◌, ◌++◌, length, None, IsSome, inl, inr, refl, ap, sym, ◌∙◌, arith}
 use Rattle.std.proofs.Math.Seq.{take-append_seam, drop-append_seam}
 use Rattle.std.specs.Prelude.{take, drop}
@@ -8,7 +8,7 @@ use Rattle.std.proofs.lemmas.Bool.Decides.{nat_tests}
 use Rattle.tc_link.specs.Frame.{IsWhole, named_length, fault_of}
 use Rattle.tc_fecf.specs.Candidate.{AreDelimited}
 
--- the length field of the front is that of the frame
+-- octets that begin with a whole frame have the length field of that frame
 named-front : (frame rest : List ℕ) → IsWhole frame → named_length (frame ++ rest) ≡ length frame
 named-front (a ∷ b ∷ c ∷ d ∷ e ∷ more) rest w = w.named
 named-front _ rest w = let l = w.least in absurd (omega arith)
@@ -30,7 +30,7 @@ less : (n m : ℕ) (rest : List ℕ) → (suc n ≡ suc m) ⊎ IsSome (fault_of 
 less n m rest (inl full) = inl (omega arith)
 less n m rest (inr fault) = inr fault
 
--- octets that begin with a whole frame are no rest
+-- octets that begin with a whole frame aren't a rest
 not-rest : (most : ℕ) (octets rest frame more : List ℕ) → octets ≡ [] ++ rest → octets ≡ frame ++ more → IsWhole frame → (0 ≡ most) ⊎ IsSome (fault_of rest) → suc 0 ≤ most → ⊥
 not-rest most octets rest frame more is begins w (inl full) some = omega arith
 not-rest most octets rest frame more is begins w (inr fault) some = let none : fault_of rest ≡ None = ap fault_of (sym is ∙ begins) ∙ no-fault frame more w in grind arith

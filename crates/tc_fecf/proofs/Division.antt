@@ -1,4 +1,4 @@
--- The remainder bit by bit is the remainder of the division.
+-- The remainder that is computed bit by bit is the remainder of the division.
 use Rattle.std.proofs.Common.{◌≡◌, ℕ, suc, ◌*◌, ◌^◌, ◌<◌, List, bit_xor, refl, sym, ◌∙◌, arith}
 use Rattle.tc_fecf.specs.Checksum.{times_x, remainder, bits_of, checksum_of}
 use Rattle.tc_fecf.specs.Division.{times_generator, IsRemainder}
@@ -23,7 +23,7 @@ sum-is-remainder octets = record {
   divides = divides 15 12 5 4129 remainder register (bits_of octets) 65535 (bits-bits octets) (omega arith);
 }
 
--- there is no other
+-- there is no other remainder
 pub only-remainder : (r s : ℕ) (m : List ℕ) → IsRemainder r m → IsRemainder s m → r ≡ s
 unfolding times_generator
 only-remainder r s m one other =

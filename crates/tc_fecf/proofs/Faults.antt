@@ -1,4 +1,4 @@
--- Just one frame has no fault.
+-- Octets have no fault exactly when they are one frame.
 use Rattle.std.proofs.Common.{◌≡◌, ℕ, ◌↔◌, List, None, arith}
 use Rattle.std.proofs.lemmas.Bool.Decides.{nat_tests}
 use Rattle.tc_link.specs.Frame.{IsOctets, IsWhole}

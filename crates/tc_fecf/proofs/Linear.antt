@@ -1,4 +1,4 @@
--- The remainder is linear: what it is of a sum is the sum of what it is of each.
+-- The remainder is linear: the remainder of a sum is the sum of the remainders.
 use Rattle.std.proofs.Common.{◌≡◌, ℕ, ◌*◌, ◌%◌, ◌^◌, ◌<◌, List, [], ◌∷◌, ◌++◌, bit_xor, refl, ap, sym, ◌∙◌, arith}
 use Rattle.tc_fecf.proofs.Names.{bits, remainder, times_x, with_bit, xor_assoc, xor_lt, xor_zero_r}
 use Rattle.tc_fecf.proofs.Polynomials.{times-linear}
@@ -11,12 +11,12 @@ pub times_x-fits : (r : ℕ) → times_x r < 2 ^ 16
 unfolding times_x
 times_x-fits r = xor_lt 16 (r * 2 % 2 ^ 16) (bits r 15 1 * 4129) (omega arith) (omega arith)
 
--- a register that goes on through so many bits that are 0
+-- the register after one 0 bit for each element of the list
 unfoldable pub shifted : List ℕ → ℕ → ℕ
 shifted [] r = r
 shifted (b ∷ bs) r = shifted bs (times_x r)
 
--- the register's part and the bits' part
+-- the remainder is the sum of a part from the register and a part from the bits
 pub parts : (bs : List ℕ) (r s : ℕ) → remainder (bit_xor r s) bs ≡ bit_xor (shifted bs r) (remainder s bs)
 unfolding shifted
 parts [] r s = refl

@@ -1,4 +1,4 @@
--- The types, definitions and lemmas of elsewhere that most proofs speak of, under one name.
+-- The types, definitions and lemmas from elsewhere that most proofs use, collected in one module.
 pub use Rattle.std.proofs.lemmas.Nat.{xor_comm, xor_lt, xor_shr}
 pub use Rattle.tc_fecf.specs.Changes.{Passes, SameBits, SameOctets}
 pub use Rattle.tc_fecf.specs.Checksum.{bits_of, checksum_of, remainder, with_bit}

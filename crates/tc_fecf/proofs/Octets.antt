@@ -1,4 +1,4 @@
--- Eight bits at once.
+-- Eight bits in one step.
 use Rattle.std.proofs.Common.{◌≡◌, ℕ, ◌+◌, ◌*◌, ◌/◌, ◌%◌, ◌^◌, ◌<◌, ◌≤◌, List, [], ◌∷◌, length, get_or, drop, take, bit_xor, refl, ap, sym, ◌∙◌, arith}
 use Rattle.std.proofs.lemmas.List.{at_drop_more}
 use Rattle.tc_fecf.proofs.Names.{xor_zero_l, bits_of, octet_bits, remainder, times_x, xor_assoc, xor_comm, xor_lt, xor_shifted}
@@ -48,7 +48,7 @@ same_shift : (r o : ℕ) → shifted (octet_bits o) r ≡ shifted eight r
 unfolding shifted octet_bits
 same_shift r o = refl
 
--- eight bits are one look at the table
+-- eight bits take one look-up in the table
 pub octet_more : (r o : ℕ) → r < 2 ^ 16 → o < 256 → remainder r (octet_bits o) ≡ bit_xor (r % 256 * 256) (table (bit_xor (r / 256) o))
 octet_more r o r_fits o_fits =
     from_register (octet_bits o) r
@@ -57,7 +57,7 @@ octet_more r o r_fits o_fits =
     ∙ xor_assoc (r % 256 * 256) (table (r / 256)) (table o)
     ∙ ap (bit_xor (r % 256 * 256)) (sym (table-linear (r / 256) o))
 
--- and that look is what the shifts give
+-- the shifts compute the value of that look-up
 pub by_shifts : (r o : ℕ) → r < 2 ^ 16 → o < 256
     → remainder r (octet_bits o) ≡ bit_xor (bit_xor (bit_xor (r * 2 ^ 8 % 2 ^ 16) (folded (bit_xor (r / 2 ^ 8) o) * 2 ^ 12 % 2 ^ 16)) (folded (bit_xor (r / 2 ^ 8) o) * 2 ^ 5 % 2 ^ 16)) (folded (bit_xor (r / 2 ^ 8) o))
 unfolding formula
@@ -90,7 +90,7 @@ unfolding table shifted times_x
 rows-three-on = same_below (λ x. get_or SUMS_THREE_ON x 0) (λ x. shifted eight (shifted eight (shifted eight (table x)))) 256 refl
 
 -- ---- four octets at once
--- an octet in the lower half of the register
+-- an octet that eight bits moved from the lower half of the register to the upper half
 low-octet : (l b : ℕ) → l < 256 → b < 256 → remainder (l * 256) (octet_bits b) ≡ table (bit_xor l b)
 low-octet l b l_fits b_fits =
     let none : l * 256 % 256 * 256 ≡ 0 = omega arith in
@@ -141,7 +141,7 @@ four-tables r a b c d r_fits a_fits b_fits c_fits d_fits =
     ∙ ap (λ (z : ℕ). bit_xor (bit_xor (get_or SUMS_THREE_ON x 0) (get_or SUMS_TWO_ON y 0)) (bit_xor z (table d))) (sym (rows-on c c_fits))
     ∙ ap (λ (z : ℕ). bit_xor (bit_xor (get_or SUMS_THREE_ON x 0) (get_or SUMS_TWO_ON y 0)) (bit_xor (get_or SUMS_ON c 0) z)) (sym (rows d d_fits))
 
--- a loop over four octets at a time
+-- the first four octets, which the loop over four octets at a time takes
 abbrev first_four : List ℕ → List ℕ
 first_four os = get_or os 0 0 ∷ get_or os 1 0 ∷ get_or os 2 0 ∷ get_or os 3 0 ∷ []
 
@@ -159,7 +159,7 @@ four-taken r sum os front back less is_front is_back is =
     ∙ ap (λ (b : List ℕ). remainder (remainder r (bits_of (first_four (take 4 os)))) (bits_of b)) is_back
     ∙ four-off r os less
 
--- a loop over octets: one is taken
+-- the loop over single octets takes the next octet
 pub taken : (r i : ℕ) (os : List ℕ) → i < length os → remainder (remainder r (octet_bits (get_or os i 0))) (bits_of (drop (i + 1) os)) ≡ remainder r (bits_of (drop i os))
 taken r i os less =
     sym (onward (octet_bits (get_or os i 0)) (bits_of (drop (i + 1) os)) r)

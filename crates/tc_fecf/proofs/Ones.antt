@@ -1,4 +1,4 @@
--- Octets that pass have an even number of ones, so an odd number of changes is found.
+-- Octets that pass have an even number of ones, so an odd number of changes is detected.
 use Rattle.std.proofs.Common.{◌≡◌, ℕ, suc, ◌+◌, ◌*◌, ◌/◌, ◌%◌, ◌^◌, ◌<◌, ◌==◌, if◌then◌else◌, List, [], ◌∷◌, bit_xor, length, sum, refl, ap, sym, ◌∙◌, arith}
 use Rattle.std.proofs.lemmas.List.Sums.{sum_by-cons}
 use Rattle.tc_fecf.proofs.Names.{bits, bits_of, checksum_of, remainder, times_x, with_bit, xor_lt, xor_shifted, xor_shr}
@@ -15,7 +15,7 @@ half-linear : (k a b : ℕ) → half k (bit_xor a b) ≡ bit_xor (half k a) (hal
 unfolding half
 half-linear k a b = ap (bit_xor (bit_xor a b)) (xor_shr a b k) ∙ exchange a b (a / 2 ^ k) (b / 2 ^ k)
 
--- 1 where an odd number of the 16 digits are 1
+-- 1 if an odd number of the 16 digits are 1, and otherwise 0
 unfoldable pub parity : ℕ → ℕ
 parity y = bits (half 1 (half 2 (half 4 (half 8 y)))) 0 1
 
@@ -88,7 +88,7 @@ even-ones octets passes =
     let end : parity (checksum_of octets) ≡ 0 = ap parity passes ∙ parity-end in
     omega arith
 
--- a place where two bits differ has one 1, and any other place none or two
+-- two bits that differ have one 1 between them, and two equal bits have none or two
 one-place : (b c : ℕ) → b < 2 → c < 2 → (b + c + (if b == c then 0 else 1)) % 2 ≡ 0
 one-place (suc (suc b)) c b_fits c_fits = absurd (omega arith)
 one-place b (suc (suc c)) b_fits c_fits = absurd (omega arith)

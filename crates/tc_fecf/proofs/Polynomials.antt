@@ -78,7 +78,7 @@ four-scaled i j k n q =
     ∙ ap (λ (x : ℕ). bit_xor x (bit_xor (q * 2 ^ k) q * 2 ^ n)) (scaled n (q * 2 ^ i) (q * 2 ^ j) ∙ ap (λ (x : ℕ). bit_xor x (q * 2 ^ j * 2 ^ n)) (up i) ∙ ap (bit_xor (q * 2 ^ n * 2 ^ i)) (up j))
     ∙ ap (bit_xor (bit_xor (q * 2 ^ n * 2 ^ i) (q * 2 ^ n * 2 ^ j))) (scaled n (q * 2 ^ k) q ∙ ap (λ (x : ℕ). bit_xor x (q * 2 ^ n)) (up k))
 
--- ---- a register divides: what its step is by numbers, and R, what is left of bits from a register on
+-- ---- a register that divides: its step in terms of numbers, and R, which is the register after bits
 pub record Divides (m j k g : ℕ) (R : ℕ → List ℕ → ℕ) : Type 0 where
   pub whole : (y : ℕ) → y < 2 ^ suc m → y * 2 ≡ y / 2 ^ m % 2 * 2 ^ suc m + y * 2 % 2 ^ suc m
   pub rest : (b : ℕ) → b < 2 → b * g ≡ bit_xor (b * 2 ^ j) (bit_xor (b * 2 ^ k) b)
@@ -86,7 +86,7 @@ pub record Divides (m j k g : ℕ) (R : ℕ → List ℕ → ℕ) : Type 0 where
   pub none : (r : ℕ) → R r [] ≡ r
   pub more : (r b : ℕ) (bs : List ℕ) → R r (b ∷ bs) ≡ R (times m g (bit_xor r (b * 2 ^ m))) bs
 
--- where a term in x ^ (m + 1) comes, the generator is taken off
+-- if a term in x ^ (m + 1) arises, the generator is subtracted
 times-is : (m j k g : ℕ) (R : ℕ → List ℕ → ℕ) → Divides m j k g R → (y : ℕ) → y < 2 ^ suc m → y * 2 ≡ bit_xor (four (suc m) j k (y / 2 ^ m % 2)) (times m g y)
 times-is m j k g R d y fits =
     let b = y / 2 ^ m % 2 in let low = y * 2 % 2 ^ suc m in
@@ -107,7 +107,7 @@ from-more m r b n p =
     ∙ xor_assoc (p * 2 ^ suc m) bit (r * 2 ^ suc n)
     ∙ ap (bit_xor (p * 2 ^ suc m)) (ap (bit_xor bit) two ∙ xor_comm bit high ∙ sym both)
 
--- one step of the division, and those after it
+-- the quotient: the term of one step of the division, and those of the steps after it
 pub quotient : ℕ → ℕ → ℕ → List ℕ → ℕ
 quotient m g r [] = 0
 quotient m g r (b ∷ bs) = bit_xor (bit_xor r (b * 2 ^ m) / 2 ^ m % 2 * 2 ^ length bs) (quotient m g (times m g (bit_xor r (b * 2 ^ m))) bs)
@@ -133,7 +133,7 @@ divides m j k g R d (b ∷ bs) r each fits =
     ∙ ap (λ (x : ℕ). bit_xor x (R t bs)) (sym (four-linear (suc m) j k (y / 2 ^ m % 2 * 2 ^ n) q))
     ∙ ap (bit_xor (four (suc m) j k (quotient m g r (b ∷ bs)))) (sym (d.more r b bs))
 
--- ---- there is no other remainder: a multiple of the generator that has no term in x ^ i or above is none
+-- ---- there is no other remainder, since a multiple of the generator without a term in x ^ i or above is 0
 low-none : (i j k t q : ℕ) → j < i → k < i → q < 2 ^ t → four i j k q < 2 ^ i → q ≡ 0
 low-none i j k zero q j_less k_less less low = omega arith
 low-none i j k (suc t) q j_less k_less less low =

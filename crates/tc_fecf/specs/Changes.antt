@@ -7,17 +7,18 @@ use Rattle.tc_fecf.specs.Checksum.{bits_of, checksum_of}
 abbrev pub Passes : List ℕ → Type 0
 Passes octets = checksum_of octets ≡ 0
 
--- two lists of as many octets
+-- two lists of equally many octets
 pub record SameOctets (one other : List ℕ) : Type 0 where
   pub each_one : IsOctets one
   pub each_other : IsOctets other
   pub length : length one ≡ length other
 
--- their bits are the same at each place that P names; the first place is the most significant bit of the first octet
+-- two lists of octets have equal bits at each place for which P holds; the first place is the most significant bit of
+-- the first octet
 abbrev pub SameBits : List ℕ → List ℕ → (ℕ → Type 0) → Type 0
 SameBits one other P = (k : ℕ) → P k → slice_index (bits_of one) k ≡ slice_index (bits_of other) k
 
--- at how many places two lists of bits differ, as far as both go
+-- the number of places at which two lists of bits differ, up to the end of the shorter list
 abbrev pub differences : List ℕ → List ℕ → ℕ
 differences (b ∷ bs) (c ∷ cs) = (if b == c then 0 else 1) + differences bs cs
 differences _ _ = 0

@@ -5,15 +5,15 @@
 use Rattle.std.specs.Prelude.{ℕ, ◌+◌, ◌*◌, ◌%◌, ◌^◌, List, [], ◌∷◌, ◌++◌, bit_xor}
 use Rattle.tc_link.specs.Bits.{bits}
 
--- a polynomial of degree under 16, times x, modulo G: where a term in x ^ 16 comes, the rest of G takes its place
+-- a polynomial of degree under 16, times x, modulo G; if a term in x ^ 16 arises, the other terms of G replace it
 unfoldable pub times_x : ℕ → ℕ
 times_x r = bit_xor (r * 2 % 2 ^ 16) (bits r 15 1 * (2 ^ 12 + 2 ^ 5 + 1))
 
--- one bit more: (r + b x ^ 15) x modulo G, as the message is 16 places up
+-- the register after one more bit: (r + b x ^ 15) x modulo G, since the message is shifted up by 16 places
 abbrev pub with_bit : ℕ → ℕ → ℕ
 with_bit r b = times_x (bit_xor r (b * 2 ^ 15))
 
--- what is left from r on, bit after bit
+-- the register after all these bits, from r on
 abbrev pub remainder : ℕ → List ℕ → ℕ
 remainder r [] = r
 remainder r (b ∷ bs) = remainder (with_bit r b) bs
@@ -26,6 +26,6 @@ abbrev pub bits_of : List ℕ → List ℕ
 bits_of [] = []
 bits_of (o ∷ os) = octet_bits o ++ bits_of os
 
--- the field over these octets: the register is preset to ones, which inverts the first 16 bits
+-- the field over these octets, from a register that is preset to ones, which inverts the first 16 bits
 abbrev pub checksum_of : List ℕ → ℕ
 checksum_of octets = remainder 0xffff (bits_of octets)

@@ -10,7 +10,8 @@ use Rattle.tc_fecf.specs.declared.frames.FieldFault.TheVariants.{NoFrame, Fill, 
 abbrev pub spelled : ℕ → List ℕ
 spelled n = n / 256 ∷ n % 256 ∷ []
 
--- what stands before the field: the frame, with a length field, which ends with the fourth octet, that counts two octets more
+-- the octets before the field: those of the frame, but with a length field, which ends with the fourth octet, that
+-- counts two octets more
 unfoldable pub octets_before_field : List ℕ → List ℕ
 octets_before_field (a ∷ b ∷ c ∷ d ∷ rest) = a ∷ b ∷ (256 * c + d + 2) / 256 ∷ (256 * c + d + 2) % 256 ∷ rest
 octets_before_field octets = octets
@@ -19,7 +20,7 @@ octets_before_field octets = octets
 unfoldable pub frame_with_field : List ℕ → List ℕ
 frame_with_field frame = octets_before_field frame ++ spelled (checksum_of (octets_before_field frame))
 
--- why octets aren't just one frame
+-- the reason why octets aren't exactly one frame
 abbrev pub frame_fault_by : Option FrameFault → List ℕ → Option FieldFault
 frame_fault_by (Some fault) octets = Some (NoFrame fault)
 frame_fault_by None octets = if nat_lt (named_length octets) (length octets) then Some Fill else None
@@ -27,16 +28,16 @@ frame_fault_by None octets = if nat_lt (named_length octets) (length octets) the
 abbrev pub frame_fault_of : List ℕ → Option FieldFault
 frame_fault_of octets = frame_fault_by (fault_of octets) octets
 
--- a fault, or else the next
+-- the first fault if there is one, and otherwise the next
 abbrev pub or_else : Option FieldFault → Option FieldFault → Option FieldFault
 or_else (Some fault) next = Some fault
 or_else None next = next
 
--- the first fault of octets that a field is to be added to, in this order
+-- the first fault, in this order, of octets to which a field is to be added
 abbrev pub adding_fault_of : List ℕ → Option FieldFault
 adding_fault_of octets = or_else (frame_fault_of octets) (if nat_lt 1022 (length octets) then Some TooLong else None)
 
--- the first fault of octets that a field is to be taken from, in this order
+-- the first fault, in this order, of octets from which a field is to be removed
 abbrev pub taking_fault_of : List ℕ → Option FieldFault
 taking_fault_of octets = or_else (frame_fault_of octets)
     (if nat_lt (length octets) 8 then Some TooShort

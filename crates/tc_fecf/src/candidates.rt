@@ -1,4 +1,4 @@
-//! What is taken out of what a CLTU carried.
+//! Taking frames out of the octets that a CLTU carried.
 
 ghost use Rattle.std.specs.Prelude.{◌≡◌, Some, None, IfOk, MatchResult};
 ghost use Rattle.tc_link.specs.Frame.{fault_of};
@@ -6,19 +6,20 @@ ghost use Rattle.tc_fecf.specs.Candidate.{IsDelimited, is_fill};
 
 use tc_link::{FrameFault, read_frame};
 
-/// A frame at the front of what a CLTU carried, and what follows it.
+/// A frame at the front of the octets that a CLTU carried, and the octets after it.
 #[derive(Clone, Copy, Debug, PartialEq, Eq)]
 pub struct Delimited<'a> {
-    /// The frame, as many octets as its length field names: 6 to 1,024.
+    /// The frame, which has the 6 to 1,024 octets that its length field names.
     pub frame: &'a [u8],
-    /// Fill, or the next frame and what follows that.
+    /// Fill, or the next frame and everything after it.
     pub rest: &'a [u8],
 }
 
-/// Takes the frame off the front of what a CLTU carried, by its length field alone (frame delimiting and fill removal, CCSDS
-/// 232.0-B). So it comes before the frame error control field is looked at, which stands at the end of the frame.
+/// Takes the frame off the front of the octets that a CLTU carried, by its length field alone (frame delimiting and
+/// fill removal, CCSDS 232.0-B). This comes before the check of the frame error control field, which is at the end of
+/// the frame.
 ///
-/// It allocates nothing.
+/// Nothing is allocated.
 pub fn delimit(octets: &[u8]) -> Result<Delimited<'_>, FrameFault>
     ensures frame { IfOk result (λ found. IsDelimited octets.now found.frame.now found.rest.now) }
     ensures fault { MatchResult result (λ _. fault_of octets.now ≡ None) (λ fault. fault_of octets.now ≡ Some fault) }
@@ -28,10 +29,10 @@ pub fn delimit(octets: &[u8]) -> Result<Delimited<'_>, FrameFault>
     Ok(Delimited { frame, rest })
 }
 
-/// Whether what follows a frame can be the fill of the last code block, which is at most six octets. Where it can't, the CLTU carried
-/// more: another frame, or octets that begin with none.
+/// Returns whether the octets after a frame can be the fill of the last code block, which is at most six octets. If
+/// they can't, the CLTU carried more: another frame, or octets that don't begin with a frame.
 ///
-/// It allocates nothing.
+/// Nothing is allocated.
 pub fn is_fill(rest: &[u8]) -> bool
     ensures { result ≡ is_fill rest.now }
 {

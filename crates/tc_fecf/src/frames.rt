@@ -9,13 +9,13 @@ use std::alloc::Global;
 use tc_link::{Frame, FrameFault, read_frame};
 use thiserror::Error;
 
-/// Why a frame gets no field, or why none is taken from it: the first of these that applies.
+/// The reason why a field isn't added to a frame or isn't removed from it: the first of these that applies.
 #[derive(Clone, Copy, Debug, PartialEq, Eq, Error)]
 pub enum FieldFault {
-    /// No frame stands at the front of the octets.
+    /// The octets don't begin with a frame.
     #[error("no frame: {0}")]
     NoFrame(FrameFault),
-    /// Octets follow the frame. A field stands at the very end, so it isn't looked for before fill.
+    /// Octets follow the frame. A field is at the very end of the octets, so it isn't searched for in front of fill.
     #[error("octets after the frame")]
     Fill,
     /// A frame with a field has at most 1,024 octets.
@@ -30,10 +30,10 @@ pub enum FieldFault {
     NoMemory,
 }
 
-/// The frame with its frame error control field: its length field counts the two octets more, and the field is over all
-/// octets before it.
+/// Returns the frame with its frame error control field. Its length field counts the two octets more, and the frame
+/// error control field covers all octets before it.
 ///
-/// The octets are to be one frame, of at most 1,022 octets, with nothing after it. The only allocation is the new frame.
+/// The octets must be one frame of at most 1,022 octets, with nothing after it. The only allocation is the new frame.
 pub fn with_field(alloc: Global, octets: &[u8]) -> Result<Vec<u8>, FieldFault>
     ensures frame { IfOk result (λ made. made.items ≡ frame_with_field octets.now) }
     ensures whole { IfOk result (λ made. IsWhole made.items) }
@@ -56,10 +56,10 @@ pub fn with_field(alloc: Global, octets: &[u8]) -> Result<Vec<u8>, FieldFault>
     Ok(made)
 }
 
-/// The frame without its frame error control field, where that is right: the one frame of which [`with_field`] makes these
-/// octets.
+/// Returns the frame without its frame error control field, if that field is right. It is the only frame that
+/// [`with_field`] turns into these octets.
 ///
-/// The octets are to be one frame, of at least 8 octets, with nothing after it. The only allocation is the new frame.
+/// The octets must be one frame of at least 8 octets, with nothing after it. The only allocation is the new frame.
 pub fn without_field(alloc: Global, octets: &[u8]) -> Result<Vec<u8>, FieldFault>
     ensures frame { IfOk result (λ plain. octets.now ≡ frame_with_field plain.items) }
     ensures whole { IfOk result (λ plain. IsWhole plain.items) }
@@ -85,7 +85,7 @@ pub fn without_field(alloc: Global, octets: &[u8]) -> Result<Vec<u8>, FieldFault
     Ok(plain)
 }
 
-// That the octets are one frame, and nothing after it.
+// Checks that the octets are one frame, with nothing after it.
 fn whole_frame(octets: &[u8]) -> Result<(), FieldFault>
     ensures whole { OnOk result (IsWhole octets.now) }
     ensures right { OnOk result (frame_fault_of octets.now ≡ None) }

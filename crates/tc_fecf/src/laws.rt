@@ -1,4 +1,4 @@
-//! What the field is, and which changes of bits it finds.
+//! Laws about the frame error control field, and about the changes of bits that it detects.
 
 ghost use Rattle.std.specs.Prelude.{◌≡◌, ◌≢◌, ◌⊎◌, ◌<◌, ◌≤◌, ◌+◌, ◌%◌, ◌++◌, ◌↔◌, ℕ, List, None, true, length, drop};
 ghost use Rattle.std.specs.List.{concat, AllByRecursion};
@@ -15,8 +15,9 @@ pub fn the_field_is_the_remainder()
     ensures only { (r s : ℕ) (bits : List ℕ) → IsRemainder r bits → IsRemainder s bits → r ≡ s }
 {}
 
-/// Octets with the field over them pass. A frame of at most 1,022 octets with its field is a frame, which has the same header
-/// and ends with the field over all octets before it, and no other frame becomes the same with its field.
+/// Octets followed by the field over them pass. A frame of at most 1,022 octets becomes, with its field, a frame that
+/// has the header of the first and ends with the field over all octets before it. With its field, no other frame
+/// becomes these octets.
 pub fn a_field_comes_off_as_it_went_on()
     ensures passes { (octets : List ℕ) → Passes (octets ++ spelled (checksum_of octets)) }
     ensures frame { (frame : List ℕ) → IsWhole frame → length frame ≤ 1022
@@ -25,40 +26,41 @@ pub fn a_field_comes_off_as_it_went_on()
     ensures one { (one other : List ℕ) → IsWhole one → IsWhole other → frame_with_field one ≡ frame_with_field other → one ≡ other }
 {}
 
-/// Octets have no fault where a field is to be added exactly where they are one frame of at most 1,022 octets, and none where
-/// it is to be taken off exactly where they are one frame of at least 8 that passes.
+/// Octets have no fault for adding a field exactly when they are one frame of at most 1,022 octets. They have no fault
+/// for removing a field exactly when they are one frame of at least 8 octets that passes.
 pub fn just_frames_with_room_for_the_field_have_no_fault()
     ensures frame { (octets : List ℕ) → IsOctets octets → (frame_fault_of octets ≡ None) ↔ IsWhole octets }
     ensures adding { (octets : List ℕ) → IsOctets octets → (adding_fault_of octets ≡ None) ↔ (IsWhole octets × (length octets ≤ 1022)) }
     ensures taking { (octets : List ℕ) → IsOctets octets → (taking_fault_of octets ≡ None) ↔ (IsWhole octets × (8 ≤ length octets) × Passes octets) }
 {}
 
-/// Two lists of as many octets that differ within 16 bits in a row don't both pass.
+/// Two lists of equally many octets that differ only within 16 consecutive bits don't both pass.
 ///
-/// So a change of one bit is found, and each burst of up to 16.
+/// So each change of one bit is detected, and each burst of up to 16 bits.
 pub fn a_burst_of_16_bits_is_detected()
     ensures { (one other : List ℕ) (i : ℕ) → SameOctets one other → SameBits one other (λ k. (k < i) ⊎ (i + 16 ≤ k)) → Passes one → Passes other → one ≡ other }
 {}
 
-/// Two lists of as many octets that differ in two bits, less than 32,767 bits apart, don't both pass. All bits of a frame, of
-/// which it has 8,192 at most, are closer than that.
+/// Two lists of equally many octets that differ in two bits, less than 32,767 bits apart, don't both pass. Any two bits
+/// of a frame are closer than that, since a frame has at most 8,192 bits.
 pub fn a_change_of_two_bits_is_detected()
     ensures { (one other : List ℕ) (i j : ℕ) → j < i + 32767 → i < j + 32767 → SameOctets one other → SameBits one other (λ k. (k ≢ i) × (k ≢ j))
         → Passes one → Passes other → one ≡ other }
 {}
 
-/// Two lists of as many octets that differ in three bits, less than 32,767 bits apart, don't both pass.
+/// Two lists of equally many octets that differ in three bits, less than 32,767 bits apart, don't both pass.
 pub fn a_change_of_three_bits_is_detected()
     ensures { (one other : List ℕ) (i j k : ℕ) → i < j → j < k → k < i + 32767 → SameOctets one other → SameBits one other (λ p. (p ≢ i) × (p ≢ j) × (p ≢ k))
         → Passes one → Passes other → one ≡ other }
 {}
 
-/// Two lists of as many octets that differ in an odd number of bits don't both pass.
+/// Two lists of equally many octets that differ in an odd number of bits don't both pass.
 pub fn a_change_of_an_odd_number_of_bits_is_detected()
     ensures { (one other : List ℕ) → SameOctets one other → differences (bits_of one) (bits_of other) % 2 ≡ 1 → Passes one → Passes other → ⊥ }
 {}
 
-/// What a CLTU carried is taken apart in one way. Whole frames in front of fill are just the frames that there are, whatever their number.
+/// The octets that a CLTU carried divide into frames and a rest in only one way. If whole frames stand in front of
+/// fill, they are exactly the frames that are found, whatever their number.
 pub fn each_candidate_is_delimited_in_one_way()
     ensures one { (octets frame other rest behind : List ℕ) → IsDelimited octets frame rest → IsDelimited octets other behind → (frame ≡ other) × (rest ≡ behind) }
     ensures only { (most : ℕ) (octets rest behind : List ℕ) (frames others : List (List ℕ)) → AreDelimited most octets frames rest

@@ -6,9 +6,10 @@ ghost use Rattle.tc_fecf.specs.Changes.{Passes};
 
 use crate::table::{SUMS, SUMS_ON, SUMS_THREE_ON, SUMS_TWO_ON};
 
-/// The frame error control field over octets, which are all that stand before it in its frame (CCSDS 232.0-B, 4.1.4.2).
+/// Returns the frame error control field over octets, which must be all octets before the field in its frame (CCSDS
+/// 232.0-B, 4.1.4.2).
 ///
-/// It allocates nothing.
+/// Nothing is allocated.
 pub fn checksum(octets: &[u8]) -> u16
     ensures { result ≡ checksum_of octets.now }
 {
@@ -25,7 +26,7 @@ pub fn checksum(octets: &[u8]) -> u16
     sum
 }
 
-// The eight bits of an octet, at once.
+// Adds the eight bits of an octet to the sum in one step.
 fn with_octet(sum: u16, octet: u8) -> u16
     ensures { result ≡ remainder sum (octet_bits octet) }
 {
@@ -34,7 +35,7 @@ fn with_octet(sum: u16, octet: u8) -> u16
     (sum << 8) ^ (folded << 12) ^ (folded << 5) ^ folded
 }
 
-// The bits of four octets, at once.
+// Adds the bits of four octets to the sum in one step.
 fn with_four(sum: u16, a: u8, b: u8, c: u8, d: u8) -> u16
     ensures { result ≡ remainder sum (bits_of (a ∷ b ∷ c ∷ d ∷ [])) }
 {
@@ -45,10 +46,10 @@ fn with_four(sum: u16, a: u8, b: u8, c: u8, d: u8) -> u16
     (first ^ second) ^ (third ^ fourth)
 }
 
-/// Whether octets that end with a frame error control field are free of errors as far as it shows: no remainder is left
-/// of them, the field included (CCSDS 232.0-B, 4.1.4.3).
+/// Returns whether octets that end with a frame error control field are free of errors as far as the field shows, that
+/// is whether they leave no remainder, with the field included (CCSDS 232.0-B, 4.1.4.3).
 ///
-/// It doesn't ask whether they are a frame, and allocates nothing.
+/// It doesn't check whether they are a frame. Nothing is allocated.
 pub fn passes(octets: &[u8]) -> bool
     ensures { IsTrue result ↔ Passes octets.now }
 {

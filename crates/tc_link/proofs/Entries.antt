@@ -1,4 +1,4 @@
--- Where a frame that is expected and finds room never comes in S2, the table has an entry.
+-- If no frame that is expected and finds room comes in S2, the table has an entry.
 use Rattle.std.proofs.Common.{◌≡◌, ◌≢◌, ℕ, Bool, true, false, refl}
 use Rattle.std.specs.Prelude.{IsSome}
 use Rattle.tc_link.specs.declared.command.Command.TheVariants.{Unlock, SetVr}
@@ -12,7 +12,7 @@ use Rattle.tc_link.specs.declared.farm.State.TheVariants.{S1, S2}
 use Rattle.tc_link.specs.Window.{place_of}
 use Rattle.tc_link.specs.Farm.{Row, E1, E6, E7, E8, E9, E10, row_at, frame_row, entry_at, entry}
 
--- E1 is met with room alone
+-- a frame meets row E1 only if there is room for it
 pub room-from_E1 : (width vr : ℕ) (kind : Kind) (room : Bool) → frame_row width vr kind room ≡ E1 → room ≡ true
 room-from_E1 width vr (Ad ns) room e = at (place_of width vr ns) room e where
   at : (place : Place) (room : Bool) → row_at place room ≡ E1 → room ≡ true
@@ -24,7 +24,7 @@ room-from_E1 width vr (Ad ns) room e = at (place_of width vr ns) room e where
 room-from_E1 width vr (Bc Unlock) room e = absurd cc
 room-from_E1 width vr _ room e = absurd cc
 
--- each row but E1 has an entry in S2
+-- in S2 each row but E1 has an entry, and in the other states each row has one
 pub enters : (row : Row) (st : State) (r : Report) → (st ≡ S2 → row ≢ E1) → IsSome (entry_at row st r)
 enters E1 S2 r h = absurd (h refl refl)
 enters row S1 r h = refl

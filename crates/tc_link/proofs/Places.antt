@@ -1,4 +1,4 @@
--- One distance shows where a number lies.
+-- The position of a number follows from one distance.
 use Rattle.std.proofs.Common.{◌≡◌, ℕ, zero, suc, ◌+◌, ◌-◌, ◌/◌, ◌%◌, ◌<◌, ◌≤◌, Bool, true, false, ◌||◌, ◌⊎◌, eqb, refl, ap, sym, ◌∙◌, arith, inl, inr}
 use Rattle.std.specs.Prelude.{◌↔◌, IsTrue}
 use Rattle.std.proofs.Math.Bool.{or-true}
@@ -20,7 +20,7 @@ some-found (suc n) k passes low high found =
       | inr ne ↦ rw (some-found n k passes low (omega arith) found) (or-true (passes (n + 1)))
     ]
 
--- d is how far ns lies above vr
+-- `d` is the distance from `vr` up to `ns`
 pub ahead : (width vr ns d : ℕ) → vr < 256 → d < 256 → (vr + d) % 256 ≡ ns → 0 < d → d < width / 2 → place_of width vr ns ≡ Ahead
 ahead width vr ns d vr_fits d_fits at low high =
     let apart : eqb ns vr ≡ false = ne_eqb ns vr (λ e. omega arith) in
@@ -54,6 +54,6 @@ some-number (suc n) passes found = elim (either (passes (n + 1)) (some_of_first 
   | inr before ↦ let below = some-number n passes before in (below.0, below.1, let most = below.2 in omega arith, below.3)
 ]
 
--- the recursion says that there is such a number
+-- the recursion holds exactly when there is such a number
 pub some-is-number : (n : ℕ) (passes : ℕ → Bool) → IsTrue (some_of_first n passes) ↔ ((k : ℕ) × (1 ≤ k) × (k ≤ n) × IsTrue (passes k))
 some-is-number n passes = (some-number n passes, λ found. some-found n found.0 passes found.1 found.2 found.3)

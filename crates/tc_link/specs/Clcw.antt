@@ -5,8 +5,8 @@ use Rattle.tc_link.specs.declared.farm.Report.{Report}
 use Rattle.tc_link.specs.declared.clcw.Link.{Link}
 use Rattle.tc_link.specs.declared.clcw.ClcwFields.{ClcwFields}
 
--- type, version, status, COP in effect, virtual channel, spare, No RF Available, No Bit Lock, Lockout, Wait, Retransmit,
--- FARM-B counter, spare and report value, each with its number of bits
+-- the CLCW: its type, version, status, COP in effect, virtual channel, spare, No RF Available, No Bit Lock, Lockout,
+-- Wait, Retransmit, FARM-B counter, spare and report value, each with its number of bits
 abbrev pub word_of : Report → ℕ → Link → ℕ
 word_of r vcid link = joined (
     (1, 0) ∷ (2, 0) ∷ (3, 0) ∷ (2, 1) ∷ (6, vcid) ∷ (2, 0)
@@ -21,7 +21,7 @@ pub record IsClcw (word : ℕ) : Type 0 where
   pub spare : bits word 16 2 ≡ 0
   pub last_spare : bits word 8 1 ≡ 0
 
--- what stands in the bits of a word
+-- the fields that the bits of a word spell
 abbrev pub fields_of : ℕ → ClcwFields
 fields_of word = record {
   status = bits word 26 3;
@@ -34,7 +34,7 @@ fields_of word = record {
   vr = bits word 0 8;
 }
 
--- what a word that reports these components for this channel says; its status field is 0
+-- the fields of the word that reports these components for this channel, with the status field 0
 abbrev pub reported : Report → ℕ → Link → ClcwFields
 reported r vcid link = record {
   status = 0;

@@ -13,7 +13,7 @@ use Rattle.tc_link.specs.declared.farm.Arrival.{Arrival}
 use Rattle.tc_link.specs.declared.farm.Arrival.TheVariants.{Frame, Release}
 use Rattle.tc_link.specs.Window.{place_of}
 
--- the rows of the table; a Set V(R) brings its number
+-- the rows of the table, of which that of a Set V(R) carries its number
 pub data Row : Type 0 where
   E1 : Row
   E2 : Row
@@ -49,7 +49,7 @@ abbrev pub command_row : Command → Row
 command_row Unlock = E7
 command_row (SetVr x) = E8 x
 
--- the row of a frame: the window's width, V(R), the kind, and whether there is room
+-- the row of a frame, by the window's width, V(R), the kind of the frame, and whether there is room for it
 abbrev pub frame_row : ℕ → ℕ → Kind → Bool → Row
 frame_row width vr (Ad ns) room = row_at (place_of width vr ns) room
 frame_row width vr Bd room = E6
@@ -63,7 +63,7 @@ row_of width vr Release = E10
 abbrev pub counted : Report → Report
 counted r = record r { farm_b = (r.farm_b + 1) % 4 }
 
--- the entry of a row at a state: the six components before, and those after
+-- the entry of a row at a state, which leads from the six components before to those after
 abbrev pub entry_at : Row → State → Report → Option Report
 entry_at E1 S1 r = Some (record r { vr = (r.vr + 1) % 256; retransmit = false })
 entry_at E1 S2 r = None
@@ -108,11 +108,11 @@ accepts_at _ _ = false
 abbrev pub accepts : Row → Report → Bool
 accepts row r = accepts_at row r.state
 
--- what stays when there is no entry is of no matter
+-- the components after a row; if the row has no entry, this value doesn't matter
 abbrev pub after : Row → Report → Report
 after row r = unwrap_or (entry row r) r
 
--- the components of a channel that starts
+-- the components with which a channel starts
 abbrev pub first_report : ℕ → Report
 first_report first = record { state = S1; vr = first; lockout = false; wait = false; retransmit = false; farm_b = 0 }
 

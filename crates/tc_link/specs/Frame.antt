@@ -7,7 +7,7 @@ use Rattle.tc_link.specs.declared.frame.FrameFault.TheVariants.{Short, Version, 
 use Rattle.tc_link.specs.declared.writing.WriteFault.{WriteFault}
 use Rattle.tc_link.specs.declared.writing.WriteFault.TheVariants.{BadField, EmptyData, TooLong}
 
--- what stands in the bits of the first five octets
+-- the header that the bits of the first five octets spell
 abbrev pub header_of : List ℕ → Header
 header_of octets = record {
   bypass = bits (word_at octets 0) 13 1 == 1;
@@ -17,7 +17,7 @@ header_of octets = record {
   ns = slice_index octets 4;
 }
 
--- how many octets the frame has by its length field
+-- the number of octets that the length field names for the frame
 abbrev pub named_length : List ℕ → ℕ
 named_length octets = bits (word_at octets 2) 0 10 + 1
 
@@ -46,7 +46,7 @@ pub record IsFrame (octets : List ℕ) (header : Header) (field : List ℕ) : Ty
   pub header_bits : header ≡ header_of octets
   pub rest : field ≡ drop 5 octets
 
--- a frame stands at the front of the octets, and fill after it
+-- the octets begin with this frame, and the rest is fill
 abbrev pub BeginsWith : List ℕ → List ℕ → Type 0
 BeginsWith octets frame = IsWhole frame × (frame ≡ take (length frame) octets)
 
@@ -56,7 +56,7 @@ pub record IsHeader (header : Header) : Type 0 where
   pub vcid : header.vcid < 64
   pub ns : header.ns < 256
 
--- a data field: as many octets as a frame has room for, and at least one
+-- a data field has at least one octet, and no more than a frame has room for
 pub record IsField (field : List ℕ) : Type 0 where
   pub each : IsOctets field
   pub least : 1 ≤ length field

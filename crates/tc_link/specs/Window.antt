@@ -1,4 +1,4 @@
--- Where a frame's number lies, as seen from V(R) (CCSDS 232.1-B, 6.1, FARM sliding window).
+-- The position of a frame's number, as seen from V(R) (CCSDS 232.1-B, 6.1, FARM sliding window).
 use Rattle.std.specs.Prelude.{◌≡◌, ℕ, zero, suc, ◌+◌, ◌-◌, ◌/◌, ◌%◌, ◌≤◌, Bool, false, ◌==◌, ◌||◌, if◌then◌else◌}
 use Rattle.tc_link.specs.declared.window.Place.{Place}
 use Rattle.tc_link.specs.declared.window.Place.TheVariants.{Expected, Ahead, Behind, Outside}

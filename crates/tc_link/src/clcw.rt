@@ -5,7 +5,7 @@ ghost use Rattle.tc_link.specs.Clcw.{word_of, IsClcw, fields_of};
 
 use crate::farm::Report;
 
-/// What the reader of a CLCW knows of the physical link.
+/// The flags of a CLCW that report the state of the physical link.
 #[derive(Clone, Copy, Debug, PartialEq, Eq)]
 pub struct Link {
     /// No RF Available.
@@ -14,7 +14,7 @@ pub struct Link {
     pub no_bit_lock: bool,
 }
 
-/// The word that reports the components, for a virtual channel (CCSDS 232.0-B, 4.2).
+/// Returns the CLCW that reports these components for a virtual channel (CCSDS 232.0-B, 4.2).
 ///
 /// The status field is 0, and COP-1 is in effect.
 pub fn clcw_word(report: &Report, vcid: u8, link: Link) -> u32
@@ -33,7 +33,7 @@ pub fn clcw_word(report: &Report, vcid: u8, link: Link) -> u32
         + u32::from(report.vr)
 }
 
-/// What a CLCW says (CCSDS 232.0-B, 4.2), apart from the fields that are fixed.
+/// The fields of a CLCW (CCSDS 232.0-B, 4.2), apart from those that are fixed.
 #[derive(Clone, Copy, Debug, PartialEq, Eq)]
 pub struct ClcwFields {
     /// The status field, 0 to 7, whose meaning is left to the mission.
@@ -47,7 +47,7 @@ pub struct ClcwFields {
     pub vr: u8,
 }
 
-/// Reads a word, if it is a CLCW of COP-1: type and version 0, COP 1, and both spares 0.
+/// Reads a word that is a CLCW of COP-1: its type and version are 0, its COP is 1, and both spares are 0.
 pub fn read_clcw(word: u32) -> Option<ClcwFields>
     ensures variant { IsSome result ↔ IsClcw word }
     ensures fields { IfSome result (λ fields. fields ≡ fields_of word) }

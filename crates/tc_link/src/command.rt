@@ -10,7 +10,7 @@ pub enum Command {
     SetVr(u8),
 }
 
-/// What a frame is to the receiver (CCSDS 232.0-B, 4.1.2.3).
+/// The kind of a frame, as the receiver sees it (CCSDS 232.0-B, 4.1.2.3).
 ///
 /// A Type-AD frame comes with its N(S). Type-AC frames, which are reserved, and Type-BC frames
 /// with no control command are invalid.
@@ -22,7 +22,7 @@ pub enum Kind {
     Invalid,
 }
 
-/// Reads the control command that the whole data field is.
+/// Reads a data field as a control command. Returns `None` if the whole field isn't one.
 pub fn read_command(field: &[u8]) -> Option<Command>
     ensures { result ≡ command_of field.now }
 {

@@ -8,7 +8,7 @@ use crate::command::{Command, Kind};
 use crate::window::{Place, Window};
 use std::marker::Model;
 
-/// The state of FARM-1: S1 is Open, S2 Wait and S3 Lockout (CCSDS 232.1-B, 6.1).
+/// The state of FARM-1: S1 is Open, S2 is Wait, and S3 is Lockout (CCSDS 232.1-B, 6.1).
 #[derive(Clone, Copy, Debug, PartialEq, Eq)]
 pub enum State {
     S1,
@@ -29,14 +29,14 @@ pub struct Report {
     pub farm_b: u8,
 }
 
-/// What comes to FARM-1: a frame, with word whether the buffer has room, or a buffer release.
+/// An arrival at FARM-1: a frame, together with whether the buffer has room for it, or a buffer release.
 #[derive(Clone, Copy, Debug, PartialEq, Eq)]
 pub enum Arrival {
     Frame { kind: Kind, room: bool },
     Release,
 }
 
-/// What FARM-1 made of an arrival.
+/// The response of FARM-1 to an arrival.
 #[derive(Clone, Copy, Debug, PartialEq, Eq)]
 pub struct Act {
     /// The number of the event, 1 to 10.
@@ -45,7 +45,7 @@ pub struct Act {
     pub accepted: bool,
 }
 
-// Takes an arrival in: its act, and the components, of which those are written that change.
+// Processes an arrival: returns the act, and writes only those of the components that change.
 #[inline(always)]
 fn stepped(window: &Window, r: &mut Report, arrival: Arrival) -> Act
     requires { IsSome (entry (row_of window.now r.old.vr arrival) r.old) }
@@ -139,8 +139,8 @@ fn expected(r: &mut Report) -> Act
     }
 }
 
-// What a frame for which there is no room, or one that isn't in sequence, changes is rare, so each is compiled apart from the way of one
-// that is accepted: a comparison changed in front of it moves no other code.
+// Few frames find no room or aren't in sequence. The transitions that they cause are compiled apart from the path of an
+// accepted frame, so that a changed comparison in front of a transition moves no other code.
 #[cold]
 #[inline(never)]
 fn full(r: &mut Report)
@@ -265,7 +265,7 @@ impl Model for Farm {
 }
 
 impl Farm {
-    /// Starts in S1 with every flag and the FARM-B counter at 0, and with this first V(R).
+    /// Creates a FARM-1 in S1, with `first` as its V(R), every flag cleared and the FARM-B counter at 0.
     pub fn new(window: Window, first: u8) -> Farm
         ensures width { result.width ≡ window }
         ensures report { result.report ≡ first_report first }
@@ -283,9 +283,10 @@ impl Farm {
         }
     }
 
-    /// Goes on from six components that a caller kept, with the window that they were kept with.
+    /// Creates a FARM-1 that continues from six components that a caller kept, with the window that they were kept
+    /// with.
     ///
-    /// The FARM-B counter is below 4, as [`Farm::report`] gives it; it allocates nothing.
+    /// The FARM-B counter must be below 4, as it is in what [`Farm::report`] returns. Nothing is allocated.
     pub fn resumed(window: Window, report: Report) -> Farm
         requires farm_b { report.farm_b < 4 }
         ensures width { result.width ≡ window }
@@ -294,20 +295,20 @@ impl Farm {
         Farm { window, report }
     }
 
-    /// The six components. A caller of [`Farm::step`] reads here whether the state is S2.
+    /// Returns the six components. A caller of [`Farm::step`] sees from them whether the state is S2.
     pub fn report(&self) -> Report
         ensures report { result ≡ self.now.report }
         ensures farm_b { result.farm_b < 4 }
         ensures width { IsWidth self.now.width }
     {
-        // Asked, so that the width is known.
+        // This call is here for its contract, by which the width is that of a window.
         let _place = self.window.place(0, 0);
         self.report
     }
 
-    /// Takes one arrival in, by the state table of FARM-1 (CCSDS 232.1-B, 6.3).
+    /// Processes one arrival by the state table of FARM-1 (CCSDS 232.1-B, 6.3).
     ///
-    /// The table has an entry wherever an AD frame that comes in S2 finds no room, as it is where
+    /// The table has an entry for every arrival, as long as an AD frame that comes in S2 finds no room. That is so if
     /// the state is S2 only while the buffer is full.
     #[inline(always)]
     pub fn step(&mut self, arrival: Arrival) -> Act

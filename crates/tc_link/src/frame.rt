@@ -8,12 +8,12 @@ use crate::command::{Kind, read_command};
 use std::marker::Model;
 use thiserror::Error;
 
-/// What the primary header says, apart from the length (CCSDS 232.0-B, 4.1.2).
+/// The fields of a primary header, apart from the fixed ones and the frame length (CCSDS 232.0-B, 4.1.2).
 #[derive(Clone, Copy, Debug, PartialEq, Eq)]
 pub struct Header {
-    /// The bypass flag: Type-B frames have it.
+    /// The bypass flag, which is set in Type-B frames.
     pub bypass: bool,
-    /// The control command flag: Type-C frames have it.
+    /// The control command flag, which is set in Type-C frames.
     pub control: bool,
     /// The spacecraft id, 0 to 1,023.
     pub scid: u16,
@@ -23,7 +23,7 @@ pub struct Header {
     pub ns: u8,
 }
 
-/// Why no frame stands at the front of octets: the first of these that applies.
+/// The reason why octets don't begin with a frame: the first of these that applies.
 #[derive(Clone, Copy, Debug, PartialEq, Eq, Error)]
 pub enum FrameFault {
     #[error("fewer than 5 octets")]
@@ -38,7 +38,7 @@ pub enum FrameFault {
     Truncated,
 }
 
-/// A transfer frame: a whole one, with no fill after it. It borrows its octets from the input.
+/// A whole transfer frame, with no fill after it. It borrows its octets from the input.
 #[derive(Debug, Drop)]
 pub struct Frame<'a> {
     octets: &'a [u8],
@@ -53,7 +53,7 @@ impl<'a> Model for Frame<'a> {
 }
 
 impl<'a> Frame<'a> {
-    /// All octets of the frame: 6 to 1,024.
+    /// Returns all octets of the frame, 6 to 1,024.
     pub fn octets(&self) -> &'a [u8]
         ensures octets { result.now ≡ self.now }
         ensures whole { IsWhole self.now }
@@ -61,14 +61,14 @@ impl<'a> Frame<'a> {
         self.octets
     }
 
-    /// What the primary header says, apart from the length. It allocates nothing.
+    /// Returns the fields of the primary header. Nothing is allocated.
     pub fn header(&self) -> Header
         ensures { result ≡ header_of self.now }
     {
         header_at(self.octets)
     }
 
-    /// The data field: 1 to 1,019 octets.
+    /// Returns the data field, 1 to 1,019 octets.
     pub fn field(&self) -> &'a [u8]
         ensures { result.now ≡ drop 5 self.now }
     {
@@ -91,7 +91,7 @@ fn header_at(octets: &[u8]) -> Header
     }
 }
 
-/// Reads the frame at the front of the octets. What follows it is fill, whatever it is.
+/// Reads the frame at the front of the octets. Any octets that follow it are fill.
 pub fn read_frame(octets: &[u8]) -> Result<Frame<'_>, FrameFault>
     ensures frame { IfOk result (λ frame. BeginsWith octets.now frame) }
     ensures fault { MatchResult result (λ _. fault_of octets.now ≡ None) (λ fault. fault_of octets.now ≡ Some fault) }
@@ -120,7 +120,7 @@ pub fn read_frame(octets: &[u8]) -> Result<Frame<'_>, FrameFault>
     })
 }
 
-/// What kind a frame is, by its two flags and its data field.
+/// Returns the kind of a frame, which follows from its two flags and its data field.
 pub fn kind(frame: &Frame) -> Kind
     ensures { result ≡ kind_of (header_of frame.now) (drop 5 frame.now) }
 {

@@ -18,10 +18,10 @@ pub fn each_input_begins_with_one_frame_at_most()
     ensures { (octets one other : List ℕ) → BeginsWith octets one → BeginsWith octets other → one ≡ other }
 {}
 
-/// A header and a data field have a frame exactly where both fit one, each field of the header within its bits and the data
-/// field with 1 to 1,019 octets, and they have no second one.
+/// A header and a data field make a frame exactly when each field of the header fits its bits and the data field has 1
+/// to 1,019 octets. They never make two different frames.
 ///
-/// Where fill follows a frame, that frame is what the octets begin with, and no other.
+/// If fill follows a frame, the octets begin with that frame and with no other.
 pub fn each_header_and_field_have_one_frame()
     ensures some { (header : Header) (field : List ℕ) → IsHeader header → IsField field → (frame : List ℕ) × IsFrame frame header field }
     ensures only { (one other field : List ℕ) (header : Header) → IsFrame one header field → IsFrame other header field → one ≡ other }
@@ -31,8 +31,8 @@ pub fn each_header_and_field_have_one_frame()
     ensures no_other { (frame fill other : List ℕ) → IsWhole frame → BeginsWith (frame ++ fill) other → other ≡ frame }
 {}
 
-/// Transfer frames, worked out by hand: what stands in the bits of their headers, the first fault of octets with which none begins, and
-/// that of a header and a data field that have none.
+/// States examples of transfer frames, worked out by hand: the fields of headers, the first fault of octets that don't
+/// begin with a frame, and the fault of a header and a data field that make no frame.
 pub fn frames_are_so()
     ensures header { header_of (0x00 ∷ 0x2a ∷ 0x04 ∷ 0x0c ∷ 0x05 ∷ []) ≡ record { bypass = false; control = false; scid = 42; vcid = 1; ns = 5 } }
     ensures largest { header_of (0x33 ∷ 0xff ∷ 0xff ∷ 0xff ∷ 0xff ∷ []) ≡ record { bypass = true; control = true; scid = 1023; vcid = 63; ns = 255 } }
@@ -53,40 +53,41 @@ pub fn frames_are_so()
     ensures too_long { write_fault_of (record { bypass = false; control = false; scid = 42; vcid = 1; ns = 0 }) (replicate 1020 0) ≡ Some writing.TooLong }
 {}
 
-/// With N(S) and each octet below 256, as their types have them, a header and a data field that are to be written have no fault
-/// exactly where both fit a frame.
+/// A header and a data field that are to be written have no fault exactly when both fit a frame, given that N(S) and
+/// each octet are below 256, as their types ensure.
 pub fn just_what_fits_a_frame_has_no_write_fault()
     ensures { (header : Header) (field : List ℕ) → header.ns < 256 → IsOctets field → (write_fault_of header field ≡ None) ↔ (IsHeader header × IsField field) }
 {}
 
-/// What the window calls "some k of the first n" is just that.
+/// `some_of_first n` holds exactly when some number from 1 to `n` passes.
 pub fn some_of_the_first_is_some_number()
     ensures { (n : ℕ) (passes : ℕ → Bool) → IsTrue (some_of_first n passes) ↔ ((k : ℕ) × (1 ≤ k) × (k ≤ n) × IsTrue (passes k)) }
 {}
 
-/// Where an AD frame that comes in S2 finds no room, the table has an entry for every arrival.
+/// If every AD frame that comes in S2 finds no room, the table has an entry for every arrival.
 pub fn each_arrival_has_an_entry()
     ensures frame { (width : ℕ) (r : Report) (kind : Kind) (room : Bool) → ((ns : ℕ) → kind ≡ Kind.Ad ns → r.state ≡ S2 → room ≡ false)
         → IsSome (entry (frame_row width r.vr kind room) r) }
     ensures release { (r : Report) → IsSome (entry E10 r) }
 {}
 
-/// Where V(R) changes, it is one more modulo 256 since an expected frame came in S1, or the number of a Set V(R) that came in
-/// S1 or S2.
+/// If V(R) changes, either an expected frame for which there is room came in S1, and V(R) is one more modulo 256, or a
+/// Set V(R) came in S1 or S2, and V(R) is its number.
 pub fn v_r_changes_by_acceptance_and_set_v_r_alone()
     ensures { (row : Row) (r : Report) → (after row r).vr ≢ r.vr
         → ((row ≡ E1) × (r.state ≡ S1) × ((after row r).vr ≡ (r.vr + 1) % 256))
         ⊎ ((x : ℕ) × (row ≡ E8 x) × (r.state ≢ S3) × ((after row r).vr ≡ x)) }
 {}
 
-/// Reading a CLCW that was written gives what it was made of.
+/// A CLCW that was written reads back as the values that it was written from.
 pub fn a_written_clcw_reads_back()
     ensures fits { (r : Report) (vcid : ℕ) (link : Link) → vcid < 64 → r.farm_b < 4 → r.vr < 256 → word_of r vcid link < 2 ^ 32 }
     ensures clcw { (r : Report) (vcid : ℕ) (link : Link) → vcid < 64 → r.farm_b < 4 → r.vr < 256 → IsClcw (word_of r vcid link) }
     ensures fields { (r : Report) (vcid : ℕ) (link : Link) → vcid < 64 → r.farm_b < 4 → r.vr < 256 → fields_of (word_of r vcid link) ≡ reported r vcid link }
 {}
 
-/// CLCWs, worked out by hand: of channel 1 with each of its flags, counters and numbers apart, and what one says.
+/// States examples of CLCWs, worked out by hand: words in which the flags, the counter and the numbers are set apart
+/// from each other, the fields of two words, and words that are no CLCW.
 pub fn clcws_are_so()
     ensures plain { word_of (record { state = S1; vr = 1; lockout = false; wait = false; retransmit = false; farm_b = 0 }) 1 (record { no_rf = false; no_bit_lock = false }) ≡ 0x01040001 }
     ensures no_rf { word_of (record { state = S1; vr = 0; lockout = false; wait = false; retransmit = false; farm_b = 0 }) 1 (record { no_rf = true; no_bit_lock = false }) ≡ 0x01048000 }
@@ -104,8 +105,8 @@ pub fn clcws_are_so()
     ensures last_spare { IsClcw 0x01040100 → ⊥ }
 {}
 
-/// An Unlock and then a Set V(R) to x lead to S1 with V(R) x and no flag set, from any components in which Lockout is set in S3 alone and
-/// Wait never in S1.
+/// An Unlock followed by a Set V(R) to `x` leads to S1 with V(R) at `x` and no flag set, from any components in which
+/// Lockout is set only in S3 and Wait is never set in S1.
 pub fn unlock_and_set_v_r_open_farm_1()
     ensures { (r : Report) (x : ℕ) → (r.lockout ≡ true → r.state ≡ S3) → (r.wait ≡ true → r.state ≢ S1)
         → after (E8 x) (after E7 r) ≡ record { state = S1; vr = x; lockout = false; wait = false; retransmit = false; farm_b = ((r.farm_b + 1) % 4 + 1) % 4 } }

@@ -1,9 +1,9 @@
-//! Which channel of a spacecraft octets are for.
+//! The channel of a spacecraft for which octets are meant.
 
 use crate::frame::FrameFault;
 use thiserror::Error;
 
-/// Why octets are no frame for a channel of the station.
+/// The reason why octets aren't a frame for a channel of the station.
 #[derive(Clone, Copy, Debug, PartialEq, Eq, Error)]
 pub enum LocateFault {
     #[error(transparent)]

@@ -5,7 +5,7 @@ ghost use Rattle.tc_link.specs.Window.{IsWidth, place_of};
 
 use std::marker::Model;
 
-/// Where an N(S) lies, as seen from V(R).
+/// The position of an N(S), as seen from V(R).
 #[derive(Clone, Copy, Debug, PartialEq, Eq)]
 pub enum Place {
     Expected,
@@ -14,9 +14,9 @@ pub enum Place {
     Outside,
 }
 
-/// The sliding window by its width W, which is even and from 2 to 254.
+/// A sliding window of width W, which is even and from 2 to 254.
 ///
-/// Its positive and its negative part are W / 2 each. A contract sees a window as its width.
+/// The positive and the negative part of the window are each W / 2 wide. A contract sees a window as its width.
 #[derive(Clone, Copy, Debug)]
 pub struct Window {
     width: u8,
@@ -33,7 +33,7 @@ impl Model for Window {
 }
 
 impl Window {
-    /// The window of this width, where it may be one.
+    /// Creates a window. Returns `None` unless the width is even and from 2 to 254.
     pub fn new(width: u8) -> Option<Window>
         ensures variant { IsSome result ↔ IsWidth width }
         ensures width { IfSome result (λ window. window ≡ width) }
@@ -45,7 +45,7 @@ impl Window {
         }
     }
 
-    /// Where N(S) lies, as seen from V(R).
+    /// Returns the position of N(S), as seen from V(R).
     pub fn place(&self, vr: u8, ns: u8) -> Place
         ensures place { result ≡ place_of self.now vr ns }
         ensures width { IsWidth self.now }

@@ -7,7 +7,7 @@ use crate::frame::Header;
 use std::alloc::Global;
 use thiserror::Error;
 
-/// Why a frame isn't written: the first of these that applies.
+/// The reason why a frame isn't written: the first of these that applies.
 #[derive(Clone, Copy, Debug, PartialEq, Eq, Error)]
 pub enum WriteFault {
     #[error("a field of the header is over its bound")]
@@ -20,10 +20,10 @@ pub enum WriteFault {
     NoMemory,
 }
 
-/// The five octets of the primary header with which the frame of this header and this data field begins (CCSDS 232.0-B,
-/// 4.1.2); the data field is all that follows them.
+/// Returns the five octets of the primary header with which the frame of this header and this data field begins (CCSDS
+/// 232.0-B, 4.1.2). In that frame only the data field follows them.
 ///
-/// All four combinations of the two flags are written. It allocates nothing, and never answers NoMemory.
+/// All four combinations of the two flags are written. Nothing is allocated, and `NoMemory` is never returned.
 pub fn written_header(header: &Header, field: &[u8]) -> Result<[u8; 5], WriteFault>
     ensures frame { IfOk result (λ front. IsFrame (front ++ field.now) header.now field.now) }
     ensures five { IfOk result (λ front. length front ≡ 5) }
@@ -58,7 +58,7 @@ pub fn write_frame(alloc: Global, header: &Header, field: &[u8]) -> Result<Vec<u
     Ok(octets)
 }
 
-// The primary header of a frame with so many octets.
+// Returns the primary header of a frame of `total` octets.
 fn primary_header(header: &Header, total: u16) -> [u8; 5]
     requires scid { header.now.scid < 1024 }
     requires vcid { header.now.vcid < 64 }

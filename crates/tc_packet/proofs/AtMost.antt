@@ -1,4 +1,4 @@
--- Runs and units within a limit that is not over the largest unit.
+-- Runs and units within a limit that isn't over the largest unit.
 use Rattle.std.proofs.Common.{◌≡◌, ℕ, ◌<◌, ◌≤◌, Bool, true, false, leb, List, ◌++◌, length, Option, Some, None, refl, sym, ◌∙◌, arith}
 use Rattle.std.proofs.lemmas.Bool.{le-leb, lt-leb, leb-true, leb-false}
 use Rattle.tc_packet.proofs.Names.{IsAtMost, Part, length-append, next_run}
@@ -11,7 +11,7 @@ at_most-some n octets h = rw (le-leb (length octets) n h) refl
 pub at_most-none : (n : ℕ) (octets : List ℕ) → n < length octets → at_most n (Some octets) ≡ None
 at_most-none n octets h = rw (lt-leb (length octets) n h) refl
 
--- no unit over a limit is left by it
+-- a limit leaves no unit that is over it
 pub at_most-within : (n : ℕ) (o : Option (List ℕ)) → IsAtMost n (at_most n o)
 at_most-within n None = tt
 at_most-within n (Some octets) = by (leb (length octets) n) refl where
@@ -19,14 +19,14 @@ at_most-within n (Some octets) = by (leb (length octets) n) refl where
   by true h = rw h (leb-true (length octets) n h)
   by false h = rw h tt
 
--- the bound of the largest unit says nothing more than a limit within it
+-- after a limit within the largest unit, the bound of the largest unit has no further effect
 pub at_most-bounded : (n : ℕ) (octets : List ℕ) → n ≤ 65542 → at_most n (bounded octets) ≡ at_most n (Some octets)
 at_most-bounded n octets small = by (leb (length octets) 65542) refl where
   by : (t : Bool) → leb (length octets) 65542 ≡ t → at_most n (bounded octets) ≡ at_most n (Some octets)
   by true h = rw h refl
   by false h = let long = leb-false (length octets) 65542 h in rw h (sym (at_most-none n octets (omega arith)))
 
--- what is over a limit stays over it
+-- octets over a limit stay over it when a body is added
 at_most-extended : (n : ℕ) (run : Option (List ℕ)) (body : List ℕ) → n ≤ 65542 → at_most n (extended (at_most n run) body) ≡ at_most n (extended run body)
 at_most-extended n None body small = refl
 at_most-extended n (Some octets) body small = by (leb (length octets) n) refl where
@@ -37,7 +37,7 @@ at_most-extended n (Some octets) body small = by (leb (length octets) n) refl wh
       let l = length-append octets body in
       rw h (sym (at_most-bounded n (octets ++ body) small ∙ at_most-none n (octets ++ body) (omega arith)))
 
--- a run that was left by its limit goes on as it would without
+-- a run within its limit moves on as it would without the limit
 pub next-at_most : (n : ℕ) (part : Part) (run : Option (List ℕ)) (body : List ℕ) → n ≤ 65542 → at_most n (next_run part (at_most n run) body) ≡ at_most n (next_run part run body)
 next-at_most n Continuing run body small = at_most-extended n run body small
 next-at_most n _ run body small = refl

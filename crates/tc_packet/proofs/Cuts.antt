@@ -1,10 +1,10 @@
--- Each unit has one cut.
+-- Each unit has exactly one cut.
 use Rattle.std.proofs.Common.{◌≡◌, ◌≢◌, ℕ, zero, suc, ◌+◌, ◌≤◌, Bool, true, false, List, [], ◌∷◌, ◌++◌, length, take, drop, refl, sym, ap, subst, ◌∙◌, arith, append_assoc}
 use Rattle.tc_packet.proofs.Names.{common_steps, nat_tests}
 use Rattle.std.proofs.lemmas.List.{get_or-take, take-append-drop, take_at, drop_at, length-append, length-take, length-drop, drop-drop, take_min}
 use Rattle.tc_packet.specs.SpacePacket.{IsPacket, IsCut, joined, version_of, named_length, begins, packets_within, packets_of, rest_of}
 
--- the header of a front is that of the whole
+-- a front of at least 7 octets has the header of the whole
 version-front : (n : ℕ) (u : List ℕ) → 7 ≤ n → version_of (take n u) ≡ version_of u
 version-front n u h = rw (get_or-take n u 0 0 (omega arith), get_or-take n u 1 0 (omega arith)) refl
 
@@ -43,7 +43,7 @@ begins-packet n u p =
 abbrev pub within : ℕ → List ℕ → List ℕ
 within n u = drop (length (joined (packets_within n u))) u
 
--- what is left after the first packet's share
+-- after the first packet, the rest is that of the octets behind that packet
 within-more : (n : ℕ) (u : List ℕ) → begins u ≡ true → within (suc n) u ≡ within n (drop (named_length u) u)
 within-more n u h =
     let f = fits-begins u h in
@@ -104,7 +104,8 @@ one-front u n m p q =
     let front : (k : ℕ) → take k u ≡ take (length (take k u)) u = λ k. sym (ap (λ (j : ℕ). take j u) (length-take k u) ∙ take_min k u) in
     front n ∙ ap (λ (k : ℕ). take k u) (sym a.1 ∙ b.1) ∙ sym (front m)
 
--- a packet at the front is the first of the cut, and the rest of the cut is that of what comes after it
+-- if a unit begins with a packet, that packet is the first of its cut, and the rest of the cut is that of the octets
+-- after it
 pub cut-next : (u p : List ℕ) → IsPacket p → p ≡ take (length p) u → (packets_of u ≡ p ∷ packets_of (drop (length p) u)) × (rest_of u ≡ rest_of (drop (length p) u))
 cut-next u p packet front =
     let after = drop (length p) u in
@@ -115,7 +116,7 @@ cut-next u p packet front =
     let only = only-cut (length u) u (p ∷ packets_of after) (rest_of after) (omega arith) (record { parts = parts; each = (packet, cut.each); ends = cut.ends }) in
     (sym only.0, sym only.1)
 
--- where no packet stands at the front, all is rest
+-- if a unit doesn't begin with a packet, all of it is rest
 pub cut-end : (u : List ℕ) → ((n : ℕ) → IsPacket (take n u) → ⊥) → (packets_of u ≡ []) × (rest_of u ≡ u)
 cut-end u none =
     let only = only-cut (length u) u [] u (omega arith) (record { parts = refl; each = tt; ends = none }) in

@@ -1,4 +1,4 @@
--- The types, definitions and lemmas of elsewhere that most proofs speak of, under one name.
+-- The types, definitions and lemmas from elsewhere that most proofs use, collected in one module.
 pub use Rattle.std.proofs.Math.Seq.{map-set_same}
 pub use Rattle.std.proofs.lemmas.Bool.Decides.{nat_tests}
 pub use Rattle.std.proofs.lemmas.Grind.{common_steps}

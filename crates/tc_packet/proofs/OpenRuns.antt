@@ -1,4 +1,4 @@
--- One more field, and the open run that the longer stream has.
+-- The open run that a stream has after one more field.
 use Rattle.std.proofs.Common.{◌≡◌, ℕ, Bool, true, false, cond, leb, ◌&&◌, List, [], ◌∷◌, ◌++◌, length, Option, Some, None, refl, ap, ◌∙◌, arith}
 use Rattle.std.specs.Option.{option_and_then, option_map, option_or}
 use Rattle.std.specs.List.{flat_map}
@@ -19,7 +19,7 @@ option_or-snoc f g gs t (Some p) = refl
 option_or-snoc f g gs true None = refl
 option_or-snoc f g gs false None = refl
 
--- a field that is no first segment comes after the last first one
+-- a field that isn't a first segment is added after the last first segment
 later : (fs : List (List ℕ)) (f : List ℕ) → is_first (header_of f).part ≡ false → from_last_first (fs ++ f ∷ []) ≡ option_map (snoc f) (from_last_first fs)
 later [] f h = rw h refl
 later (g ∷ gs) f h = rw (later gs f h) (option_or-snoc f g gs (is_first (header_of g).part) (from_last_first gs))
@@ -35,7 +35,7 @@ all-snoc (g ∷ gs) f = grind (arith, common_steps, all-snoc gs f)
 both : (a b x y : Bool) → a ≡ x → b ≡ y → (a && b) ≡ (x && y)
 both a b x y p q = ap (λ (t : Bool). t && b) p ∙ ap (λ (t : Bool). x && t) q
 
--- what is too long stays too long
+-- octets that are too long stay too long
 bounded-extended : (octets body : List ℕ) → bounded (octets ++ body) ≡ extended (bounded octets) body
 bounded-extended octets body = by (leb (length octets) 65542) refl where
   by : (t : Bool) → leb (length octets) 65542 ≡ t → bounded (octets ++ body) ≡ extended (bounded octets) body

@@ -3,7 +3,7 @@ use Rattle.std.proofs.Common.{◌≡◌, ℕ, ◌%◌, Bool, true, false, get_or
 use Rattle.std.specs.Prelude.{IfOk, OnOk, OnErr}
 use Rattle.std.proofs.lemmas.List.{get_or-replicate}
 
--- what follows for a value follows where there is one
+-- a fact that a result ensures can be replaced by one that follows from it
 pub on-ok : {A E P Q : Type 0} (r : Result A E) → (P → Q) → OnOk r P → OnOk r Q
 on-ok (Ok x) follows h = follows h
 on-ok (Err e) follows h = tt
@@ -16,7 +16,7 @@ pub if-ok : {A E : Type 0} (P Q : A → Type 0) (r : Result A E) → ((x : A) �
 if-ok P Q (Ok x) follows h = follows x h
 if-ok P Q (Err e) follows h = tt
 
--- the same limit for each MAP
+-- the limit of a MAP when every MAP has the same one
 pub one-limit : (segmented : Bool) (limit place : ℕ) → (if segmented then get_or (replicate 64 limit) (place % 64) 0 else limit) ≡ limit
 one-limit true limit place = get_or-replicate 64 (place % 64) limit 0 (omega arith)
 one-limit false limit place = refl

@@ -43,11 +43,11 @@ pub same-sizes : (runs : List OpenRun) (i : ℕ) (run next : OpenRun) → i < le
 same-sizes runs i run next inside is same =
     map-set (λ (r : OpenRun). r.room.size) runs i next ∙ ap (λ (n : ℕ). set (sizes_of runs) i n) (same ∙ sym (read-size runs i run inside is)) ∙ set-get_or (sizes_of runs) i 0
 
--- what one more field leaves of a stream, as the law of tc_packet says it
+-- one more field moves its stream's run on, as a law of tc_packet states
 abbrev pub MovesOn : Type 0
 MovesOn = (fields : List (List ℕ)) (field : List ℕ) → open_run (fields ++ field ∷ []) ≡ next_run (header_of field).part (open_run fields) (body_of field)
 
--- the stream of the field has the run of its longer list, within the limit
+-- the stream of the field has the run of its longer list of fields, within the limit
 pub run-pushed : MovesOn → (n : ℕ) (next run : Option (List ℕ)) (fields : List (List ℕ)) (field body : List ℕ) (part : Part) → n ≤ 65542
     → part ≡ (header_of field).part → body ≡ body_of field → next ≡ at_most n (next_run part run body)
     → at_most n (open_run fields) ≡ run → at_most n (open_run (fields ++ field ∷ [])) ≡ next
@@ -61,16 +61,16 @@ pub unit-pushed : (n : ℕ) (unit run : Option (List ℕ)) (fields : List (List 
 unit-pushed n unit run fields field body part small part_is body_is unit_is left =
     unit_is ∙ rw (part_is, body_is, ← left) (ended-at_most n (header_of field).part (open_run fields) (body_of field) small)
 
--- a store after one run was written
+-- a store after one of its runs was written
 abbrev pub with_run : Store → ℕ → OpenRun → Store
 with_run store i next = record store { runs = set store.runs i next }
 
--- what is reported of the unit is what lies there
+-- the unit that is reported is the one that lies at the reported place
 ended-there : (store : Store) (i : ℕ) (next : OpenRun) (t : EndedKind) (field : List ℕ) → i < length store.runs → unit_in (ended_by_stream t i) (with_run store i next) field ≡ ended_kind t next (drop 1 field)
 ended-there store i next ended_kinds.Whole field inside = ap (option_map (λ (r : OpenRun). r.room.octets)) (slice_get-set_same store.runs i next inside)
 ended-there store i next _ field inside = refl
 
--- a run that is behind its segment has the same room
+-- a run has the room that it had before its segment was delivered
 behind-room : (t : EndedKind) (next : OpenRun) → (behind t next).room ≡ next.room
 behind-room ended_kinds.Nothing next = refl
 behind-room _ next = refl
@@ -79,7 +79,7 @@ over-written : (runs : List OpenRun) (i : ℕ) (next : OpenRun) → i < length r
 over-written (r ∷ runs) (suc i) next inside = ap (λ (xs : List OpenRun). r ∷ xs) (over-written runs i next (omega arith))
 over-written _ _ next inside = refl
 
--- a run that is over
+-- writing a run as closed ends the run at its place
 pub closed-set : (runs : List OpenRun) (i : ℕ) (run : OpenRun) → i < length runs → run ≡ get_or runs i run → set runs i (closed run) ≡ over_at i runs
 closed-set [] i run inside is = absurd (omega arith)
 closed-set (r ∷ runs) zero run inside is = ap (λ (x : OpenRun). closed x ∷ runs) is
@@ -90,13 +90,13 @@ none-over [] i outside = refl
 none-over (r ∷ runs) zero outside = absurd (omega arith)
 none-over (r ∷ runs) (suc i) outside = ap (λ (xs : List OpenRun). r ∷ xs) (none-over runs i (omega arith))
 
--- once the unit is delivered the run behind its segment is there
+-- after delivery the store holds the run as it is after its segment
 committed-is : (store : Store) (i : ℕ) (next : OpenRun) (t : EndedKind) → i < length store.runs → committed (ended_by_stream t i) i (with_run store i next) ≡ with_run store i (behind t next)
 committed-is store i next ended_kinds.Nothing inside = refl
 committed-is store i next ended_kinds.Body inside = ap (λ (xs : List OpenRun). record store { runs = xs }) (over-written store.runs i next inside)
 committed-is store i next ended_kinds.Whole inside = ap (λ (xs : List OpenRun). record store { runs = xs }) (over-written store.runs i next inside)
 
--- a run that is over has the room of before
+-- ending a run leaves the sizes of all rooms
 over-sizes : (runs : List OpenRun) (i : ℕ) → sizes_of (over_at i runs) ≡ sizes_of runs
 over-sizes (r ∷ runs) (suc i) = ap (λ (xs : List ℕ). r.room.size ∷ xs) (over-sizes runs i)
 over-sizes _ _ = refl
@@ -120,7 +120,7 @@ pub committed-segmented : (store : Store) (e : Ended) (i : ℕ) → (committed e
 committed-segmented store ends.Nothing i = refl
 committed-segmented store _ i = refl
 
--- the place of a segment with this header, and what it did to the run there
+-- the place of a segment with this header, and its effect on the run there
 pub record IsPassed (store : Store) (i place : ℕ) (part : Part) (field body : List ℕ) : Type 0 where
   pub on : store.segmented ≡ true
   pub at : i ≡ place
@@ -174,7 +174,7 @@ module _ {store : Store} {i place : ℕ} {part : Part} {field body : List ℕ} {
       subst (λ (m : ℕ). IsAtMost m (unit_in (ended_by_stream t i) (record store { runs = later }) field)) (sym n)
       (subst (IsAtMost f.run.room.size) (sym unit) (at_most-within f.run.room.size (ended_by part (open_in f.run) body)))
 
-  -- where it ended a unit the runs are as they were
+  -- a segment that completed a unit leaves the runs as they were
   pub passed-contents : (t ≡ ended_kinds.Nothing → ⊥) → map open_in later ≡ map open_in store.runs
   passed-contents some =
       ap (map open_in) f.new_is ∙ map-set open_in store.runs i f.next
@@ -183,7 +183,7 @@ module _ {store : Store} {i place : ℕ} {part : Part} {field body : List ℕ} {
 pub ended-nothing : (t : EndedKind) (i : ℕ) → (ended_by_stream t i ≡ ends.Nothing → ⊥) → t ≡ ended_kinds.Nothing → ⊥
 ended-nothing t i some is = some (ap (λ (x : EndedKind). ended_by_stream x i) is)
 
--- a run that was written leaves the others
+-- a run that was written leaves the others as they were
 pub written-others : (store : Store) (i place other : ℕ) (later : List OpenRun) → IsWritten i store.runs later → i ≡ place → (other ≡ place → ⊥) → run_at (map open_in later) other ≡ run_at (map open_in store.runs) other
 written-others store i place other later w at apart = ap (λ (xs : List OpenRun). run_at (map open_in xs) other) w.is ∙ others-open store.runs i other w.next (λ e. apart (e ∙ at))
 

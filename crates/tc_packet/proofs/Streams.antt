@@ -18,7 +18,7 @@ continuing-part : (part : Part) → is_continuing part ≡ true → part ≡ Con
 continuing-part Continuing h = refl
 continuing-part _ h = cc
 
--- a test of each field, and the fact of each
+-- the test of all fields holds exactly when the fact holds for each of them
 each-continues : (fs : List (List ℕ)) → all_continue fs ≡ true → AllByRecursion (IsPart Continuing) fs
 each-continues [] h = tt
 each-continues (f ∷ fs) h =
@@ -44,7 +44,7 @@ some-bounded octets whole h = by (leb (length octets) 65542) refl h where
   by true e h = let same : whole ≡ octets = cc in (same, subst (λ (x : List ℕ). length x ≤ 65542) (sym same) (leb-true (length octets) 65542 e))
   by false e h = cc
 
--- where the last first segment stands
+-- the place of the last first segment
 record Found (fields : List (List ℕ)) (f : List ℕ) (fs : List (List ℕ)) : Type 0 where
   before : List (List ℕ)
   parts : fields ≡ before ++ f ∷ fs
@@ -63,7 +63,7 @@ found (g ∷ gs) f fs h = by (from_last_first gs) refl (found gs f fs) h where
   by (Some p) e later h = let r = later (e ∙ h) in record { before = g ∷ r.before; parts = ap (λ (x : List (List ℕ)). g ∷ x) r.parts; opens = r.opens }
   by None e later h = here (is_first (header_of g).part) refl h
 
--- among continuing segments there is no first one
+-- continuing segments contain no first one
 none-first : (fs : List (List ℕ)) → AllByRecursion (IsPart Continuing) fs → from_last_first fs ≡ None
 none-first [] h = refl
 none-first (f ∷ fs) h = rw (none-first fs h.1, h.0) refl

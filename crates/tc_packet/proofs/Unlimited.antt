@@ -1,4 +1,4 @@
--- A store each of whose limits is the largest unit: the limit leaves each run and unit as it is.
+-- In a store whose limits are all the largest unit, the limits leave each run and unit as it is.
 use Rattle.std.proofs.Common.{◌≡◌, ◌≢◌, ℕ, zero, suc, ◌<◌, ◌≤◌, Bool, true, false, get_or, List, [], ◌∷◌, ◌++◌, length, Option, Some, None, inl, inr, replicate, refl, sym, ap, subst, ◌∙◌, arith}
 use Rattle.std.proofs.lemmas.Bool.{cases_eq, cases_lt}
 use Rattle.std.proofs.lemmas.List.{get_or_past}
@@ -15,7 +15,7 @@ use Rattle.tc_packet.specs.declared.service.Service.TheVariants.{Ad, Bd}
 abbrev Runs : Type 0
 Runs = List (Option (List ℕ))
 
--- the first runs, by place
+-- reading the first runs, by place
 
 length-first : (n : ℕ) (runs : Runs) → length (first_runs n runs) ≡ n
 length-first zero runs = refl
@@ -45,7 +45,7 @@ pub place-inside : (service : Service) (field : List ℕ) → stream_place servi
 place-inside Ad field = omega arith
 place-inside Bd field = omega arith
 
--- other streams stay
+-- other streams keep their runs
 pub others-stay : (old new : Store) (place : ℕ) → ((other : ℕ) → other ≢ place → run_at (open_runs new).runs other ≡ run_at (open_runs old).runs other)
     → (other : ℕ) → other ≢ place → run_at (of_streams (open_runs new)).runs other ≡ run_at (of_streams (open_runs old)).runs other
 others-stay old new place same other apart = elim (cases_lt other 128) [
@@ -53,7 +53,7 @@ others-stay old new place same other apart = elim (cases_lt other 128) [
   | inr past ↦ beyond (open_runs new) other past ∙ sym (beyond (open_runs old) other past)
 ]
 
--- the largest unit as a limit
+-- the largest unit as a limit leaves octets within it as they are
 
 whole : (octets : Option (List ℕ)) → IsWithinLimit octets → at_most 65542 octets ≡ octets
 whole None within = refl
@@ -80,7 +80,7 @@ module _ (store : Store) (place : ℕ) (limit : limit_at store place ≡ 65542) 
   pub within-leave : (fields : List (List ℕ)) → LeaveWithin fields store place → Leave fields (of_streams (open_runs store)) place
   within-leave fields left = sym (whole-run fields) ∙ left ∙ sym (stream-at store place inside)
 
--- a new store
+-- a new store has no open runs
 pub begun : (store : Store) → ((place : ℕ) → run_at (open_runs store).runs place ≡ None) → (of_streams (open_runs store)).runs ≡ replicate 128 None
 begun store none = none-first 128 (open_runs store).runs none
 
@@ -106,7 +106,7 @@ pub record HasMovedOn (old new : Store) (place : ℕ) (field : List ℕ) : Type 
   pub others : (other : ℕ) → other ≢ place → run_at (open_runs new).runs other ≡ run_at (open_runs old).runs other
   pub run : (fields : List (List ℕ)) → LeaveWithin fields old place → LeaveWithin (fields ++ field ∷ []) new place
 
--- each open run is left by some fields
+-- each open run is one that some fields leave
 some-fields : (store : Store) (place : ℕ) → place < 128 → IsUnlimited store → (fields : List (List ℕ)) × LeaveWithin fields store place
 some-fields store place inside is = by store.segmented refl where
   by : (segmented : Bool) → store.segmented ≡ segmented → (fields : List (List ℕ)) × LeaveWithin fields store place
@@ -141,7 +141,7 @@ module _ {old new : Store} {place : ℕ} {field : List ℕ} (inside : place < 12
         };
       }
 
--- a field was taken, and what it ended is committed
+-- a field was processed, and the unit that it completed is committed
 pub taken : {old new : Store} {place : ℕ} {field : List ℕ} (mid : Store) (ended : Ended) → mid.segmented ≡ old.segmented → ((at : ℕ) → limit_at mid at ≡ limit_at old at)
     → ((other : ℕ) → other ≢ place → run_at (open_runs mid).runs other ≡ run_at (open_runs old).runs other)
     → ((fields : List (List ℕ)) → LeaveWithin fields old place → LeaveWithin (fields ++ field ∷ []) (committed ended place mid) place)

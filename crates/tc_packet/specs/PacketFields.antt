@@ -1,10 +1,10 @@
--- What a packet's primary header says (CCSDS 133.0-B, 4.1.3).
+-- The fields of a packet's primary header (CCSDS 133.0-B, 4.1.3).
 use Rattle.std.specs.Prelude.{◌≡◌, ℕ, ◌==◌, List, map}
 use Rattle.tc_packet.specs.Bits.{word_at, bits}
 use Rattle.tc_packet.specs.SpacePacket.{apid_of, is_telecommand}
 use Rattle.tc_packet.specs.declared.packet.Packet.{Packet}
 
--- the fields of a packet are what stands in its octets
+-- the fields of a packet are those that its octets spell
 pub record HasFields (p : Packet) : Type 0 where
   pub telecommand : p.telecommand ≡ is_telecommand p.octets.now
   pub secondary : p.secondary ≡ (bits (word_at p.octets.now 0) 11 1 == 1)

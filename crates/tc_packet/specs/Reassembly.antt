@@ -1,4 +1,5 @@
--- What the data fields of a stream make, looking back over all of them (CCSDS 232.0-B, 4.4).
+-- The runs and units that the data fields of a stream make, defined by looking back over all fields (CCSDS 232.0-B,
+-- 4.4).
 use Rattle.std.specs.Prelude.{◌≡◌, ℕ, ◌+◌, ◌≤◌, ◌<◌, slice_index_or, Bool, true, false, ◌==◌, ◌&&◌, ◌⊎◌, List, [], ◌∷◌, ◌++◌, length, map, filter, Option, Some, None, IfSome, nat_le, if◌then◌else◌}
 use Rattle.std.specs.Option.{option_and_then, option_or}
 use Rattle.std.specs.List.{list_all, flat_map, AllByRecursion}
@@ -9,14 +10,15 @@ use Rattle.tc_packet.specs.declared.service.Service.TheVariants.{Ad, Bd}
 use Rattle.tc_packet.specs.Segment.{header_of, body_of}
 use Rattle.tc_packet.specs.SpacePacket.{largest_packet}
 
--- the most octets of a run and of a unit: the largest packet fits
+-- the largest number of octets in a run or a unit, for which the largest packet fits
 abbrev pub largest_unit : ℕ
 largest_unit = largest_packet
 
 abbrev pub bounded : List ℕ → Option (List ℕ)
 bounded octets = if nat_le (length octets) largest_unit then Some octets else None
 
--- octets that are no more than so many, or none; at the largest unit it leaves each run and unit of a stream as it is
+-- the octets if they are no more than the limit, or none; the largest unit as the limit leaves each run and unit of a
+-- stream as it is
 abbrev pub at_most : ℕ → Option (List ℕ) → Option (List ℕ)
 at_most limit None = None
 at_most limit (Some octets) = if nat_le (length octets) limit then Some octets else None
@@ -29,11 +31,11 @@ IsWithinLimit run = IfSome run (λ octets. length octets ≤ largest_unit)
 abbrev pub IsPart : Part → List ℕ → Type 0
 IsPart part field = (header_of field).part ≡ part
 
--- what fields carry behind their segment headers
+-- the octets that fields carry after their segment headers, joined
 abbrev pub joined_bodies : List (List ℕ) → List ℕ
 joined_bodies fields = flat_map body_of fields
 
--- the fields end with a first segment and continuing ones, and these are their octets
+-- the fields end with a first segment and continuing ones, whose joined bodies are these octets
 pub record IsOpenRun (fields : List (List ℕ)) (octets : List ℕ) : Type 0 where
   pub before : List (List ℕ)
   pub first : List ℕ
@@ -44,7 +46,7 @@ pub record IsOpenRun (fields : List (List ℕ)) (octets : List ℕ) : Type 0 whe
   pub joins : octets ≡ joined_bodies (first ∷ after)
   pub limit : length octets ≤ largest_unit
 
--- the last segment of a unit, after a first and continuing ones
+-- the field is a last segment after an open run, and these are the octets of the unit that it completes
 pub record IsClosedBy (fields : List (List ℕ)) (field octets : List ℕ) : Type 0 where
   pub run : List ℕ
   pub opened : IsOpenRun fields run
@@ -52,17 +54,17 @@ pub record IsClosedBy (fields : List (List ℕ)) (field octets : List ℕ) : Typ
   pub joins : octets ≡ run ++ body_of field
   pub limit : length octets ≤ largest_unit
 
--- a unit in one segment
+-- the field is a whole unit in one segment
 pub record IsUnsegmented (field octets : List ℕ) : Type 0 where
   pub whole : IsPart Unsegmented field
   pub joins : octets ≡ body_of field
   pub limit : length octets ≤ largest_unit
 
--- the unit that a field ends, after these fields of its stream
+-- these octets are the unit that a field completes after these fields of its stream
 abbrev pub IsUnit : List (List ℕ) → List ℕ → List ℕ → Type 0
 IsUnit fields field octets = IsUnsegmented field octets ⊎ IsClosedBy fields field octets
 
--- the same as functions
+-- the open run and the unit, as functions
 
 abbrev pub is_first : Part → Bool
 is_first First = true
@@ -80,7 +82,7 @@ from_last_first (f ∷ fs) = option_or (from_last_first fs) (if is_first (header
 abbrev pub all_continue : List (List ℕ) → Bool
 all_continue fs = list_all (λ g. is_continuing (header_of g).part) fs
 
--- their joined bodies, where all after the first are continuing
+-- the joined bodies of a first segment and the fields after it, if these are all continuing segments
 abbrev pub run_of : List ℕ × List (List ℕ) → Option (List ℕ)
 run_of p = if all_continue p.1 then bounded (joined_bodies (p.0 ∷ p.1)) else None
 
@@ -98,13 +100,13 @@ ended_by Last run body = extended run body
 ended_by First run body = None
 ended_by Continuing run body = None
 
--- the unit that a field ends, after these fields of its stream
+-- the unit that a field completes after these fields of its stream
 abbrev pub unit_at : List (List ℕ) → List ℕ → Option (List ℕ)
 unit_at fields field = ended_by (header_of field).part (open_run fields) (body_of field)
 
--- streams
+-- the streams of a channel
 
--- a data field that was given to reassembly
+-- a data field that was passed to reassembly
 pub record Passed : Type 0 where
   pub service : Service
   pub field : List ℕ
@@ -121,7 +123,7 @@ is_of service map_id p = same_service service p.service && (header_of p.field).m
 abbrev pub stream : Service → ℕ → List Passed → List (List ℕ)
 stream service map_id passed = map (λ p. p.field) (filter (is_of service map_id) passed)
 
--- where a reassembler has the open run of a stream: those of AD and then those of BD, by MAP
+-- the place of a stream's open run in a reassembler: first come those of AD, then those of BD, each by MAP
 abbrev pub place_of : Service → ℕ → ℕ
 place_of Ad map_id = map_id
 place_of Bd map_id = 64 + map_id
@@ -132,34 +134,35 @@ run_at runs place = slice_index_or runs place None
 abbrev pub stream_place : Service → List ℕ → ℕ
 stream_place service field = place_of service (header_of field).map
 
--- two services of 64 MAPs
+-- the number of streams: two services of 64 MAPs
 abbrev pub stream_count : ℕ
 stream_count = 128
 
--- with segment headers or without: a plain field, which has none, ends a unit alone and leaves no run
+-- the run and the unit with or without segment headers; without them each field is plain, is a unit by itself and
+-- leaves no run
 
 -- the run that the fields of a stream leave open
 abbrev pub run_left : Bool → List (List ℕ) → Option (List ℕ)
 run_left true fields = open_run fields
 run_left false fields = None
 
--- the unit that a field ends, after these fields of its stream
+-- the unit that a field completes after these fields of its stream
 abbrev pub unit_ended : Bool → List (List ℕ) → List ℕ → Option (List ℕ)
 unit_ended true fields field = unit_at fields field
 unit_ended false fields field = bounded field
 
--- what a contract sees of a reassembler: whether data fields have segment headers, and the open run of each stream
+-- the view of a reassembler in contracts: whether data fields have segment headers, and the open run of each stream
 pub record OpenRuns : Type 0 where
   pub segmented : Bool
   pub runs : List (Option (List ℕ))
 
--- one run, or none, for each stream, none beyond the limit, and none at all without segment headers
+-- each stream has one run or none, no run is beyond the limit, and without segment headers there is none at all
 pub record AreOpenRuns (open_runs : OpenRuns) : Type 0 where
   pub streams : length open_runs.runs ≡ stream_count
   pub limit : (place : ℕ) → IsWithinLimit (run_at open_runs.runs place)
   pub plain : open_runs.segmented ≡ false → (place : ℕ) → run_at open_runs.runs place ≡ None
 
--- the fields leave the run that stands at this place
+-- the fields leave the run that is kept at this place
 abbrev pub Leave : List (List ℕ) → OpenRuns → ℕ → Type 0
 Leave fields open_runs place = run_left open_runs.segmented fields ≡ run_at open_runs.runs place
 

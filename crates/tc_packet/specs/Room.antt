@@ -1,7 +1,7 @@
--- What a contract sees of a room: what lies in it, and how large it is.
+-- The view of a room in contracts: the octets in it, and its size.
 use Rattle.std.specs.Prelude.{ℕ, List}
 
--- the octets that lie in a room, and how many there may be
+-- the octets in a room, and the largest number of them
 pub record Contents : Type 0 where
   pub octets : List ℕ
   pub size : ℕ

@@ -1,4 +1,4 @@
--- What one more field does to an open run, and the octets of a unit that may be there.
+-- The effect of one more field on an open run, and the octets of a unit, if there is one.
 use Rattle.std.specs.Prelude.{ℕ, List, Option, Some, None}
 use Rattle.std.specs.Global.{Vec}
 use Rattle.tc_packet.specs.declared.segment.Part.{Part}

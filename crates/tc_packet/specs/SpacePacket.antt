@@ -1,9 +1,9 @@
--- Space packets (CCSDS 133.0-B, 4.1), and how a unit is cut into them.
+-- Space packets (CCSDS 133.0-B, 4.1), and the cutting of a unit into them.
 use Rattle.std.specs.Prelude.{◌≡◌, ℕ, zero, suc, ◌+◌, ◌≤◌, Bool, ◌==◌, ◌&&◌, List, [], ◌∷◌, ◌++◌, length, take, drop, nat_le, if◌then◌else◌}
 use Rattle.std.specs.List.{flat_map, AllByRecursion}
 use Rattle.tc_packet.specs.Bits.{word_at, bits}
 
--- the most octets of a packet, as the data length field can name
+-- the largest number of octets that the data length field of a packet can name
 abbrev pub largest_packet : ℕ
 largest_packet = 65542
 
@@ -11,7 +11,7 @@ largest_packet = 65542
 abbrev pub version_of : List ℕ → ℕ
 version_of octets = bits (word_at octets 0) 13 3
 
--- how many octets the packet has by its data length field (4.1.3.5)
+-- the number of octets that a packet's data length field names (4.1.3.5)
 abbrev pub named_length : List ℕ → ℕ
 named_length octets = word_at octets 4 + 7
 
@@ -33,26 +33,26 @@ pub record IsPacket (octets : List ℕ) : Type 0 where
 abbrev pub joined : List (List ℕ) → List ℕ
 joined packets = flat_map (λ p. p) packets
 
--- a unit is these packets and this rest, and no packet stands at the front of the rest
+-- a unit consists of these packets and this rest, and the rest doesn't begin with a packet
 pub record IsCut (unit : List ℕ) (packets : List (List ℕ)) (rest : List ℕ) : Type 0 where
   pub parts : unit ≡ joined packets ++ rest
   pub each : AllByRecursion IsPacket packets
   pub ends : (n : ℕ) → IsPacket (take n rest) → ⊥
 
--- a packet stands at the front
+-- the octets begin with a packet
 abbrev pub begins : List ℕ → Bool
 begins octets = nat_le 7 (length octets) && (version_of octets == 0 && (nat_le (named_length octets) largest_packet && nat_le (named_length octets) (length octets)))
 
--- at most so many packets from the front
+-- the first packets of the octets, at most `n` of them
 abbrev pub packets_within : ℕ → List ℕ → List (List ℕ)
 packets_within zero octets = []
 packets_within (suc n) octets =
     if begins octets then take (named_length octets) octets ∷ packets_within n (drop (named_length octets) octets) else []
 
--- the packets of a unit's cut: no more stand in it than it has octets
+-- the packets of a unit's cut, of which there are no more than the unit has octets
 abbrev pub packets_of : List ℕ → List (List ℕ)
 packets_of unit = packets_within (length unit) unit
 
--- what a unit's cut leaves
+-- the rest that a unit's cut leaves
 abbrev pub rest_of : List ℕ → List ℕ
 rest_of unit = drop (length (joined (packets_of unit))) unit

@@ -1,4 +1,4 @@
--- The open runs in their rooms, and the limit that each room is to its stream.
+-- The open runs in their rooms, each of whose sizes is the limit of its stream.
 use Rattle.std.specs.Prelude.{◌≡◌, ◌≤◌, ℕ, Bool, true, false, List, length, map, drop, get_or, set, zero, suc, [], ◌∷◌, Option, Some, None, option_map, slice_get, ◌<◌, IfSome, if◌then◌else◌}
 use Rattle.tc_packet.specs.Reassembly.{AreOpenRuns, OpenRuns, at_most, ended_by, largest_unit, stream_count, run_left, run_at}
 use Rattle.tc_packet.specs.declared.segment.Part.{Part}
@@ -12,7 +12,7 @@ use Rattle.tc_packet.specs.OpenRun.{OpenRun, open_in, closed}
 abbrev pub sizes_of : List OpenRun → List ℕ
 sizes_of runs = map (λ (r : OpenRun). r.room.size) runs
 
--- what a contract sees of a reassembler: whether data fields have segment headers, the limit where they have none, and the rooms
+-- the view of runs in contracts: whether data fields have segment headers, the limit if they have none, and the rooms
 pub record Store : Type 0 where
   pub segmented : Bool
   pub plain_limit : ℕ
@@ -22,66 +22,66 @@ pub record Store : Type 0 where
 abbrev pub open_runs : Store → OpenRuns
 open_runs store = record { segmented = store.segmented; runs = map open_in store.runs }
 
--- the first runs, and where there are fewer, none
+-- the first `n` runs, filled up with none where there are fewer
 abbrev pub first_runs : ℕ → List (Option (List ℕ)) → List (Option (List ℕ))
 first_runs zero runs = []
 first_runs (suc n) [] = None ∷ first_runs n []
 first_runs (suc n) (run ∷ runs) = run ∷ first_runs n runs
 
--- the run of each of the 128 streams: where data fields have no segment headers there is no room, and none is open
+-- the run of each of the 128 streams; if data fields have no segment headers, there are no rooms, and no run is open
 abbrev pub of_streams : OpenRuns → OpenRuns
 of_streams opened = record { segmented = opened.segmented; runs = first_runs stream_count opened.runs }
 
--- the most octets of a unit of a stream
+-- the largest number of octets in a unit of a stream
 abbrev pub limit_at : Store → ℕ → ℕ
 limit_at store place = if store.segmented then get_or (sizes_of store.runs) place 0 else store.plain_limit
 
--- with segment headers a room for each stream, without them none; no limit is over the largest unit
+-- there is a room for each stream with segment headers and no room without them, and no limit is over the largest unit
 pub record IsStore (store : Store) : Type 0 where
   pub streams : store.segmented ≡ true → length store.runs ≡ stream_count
   pub plain : store.segmented ≡ false → length store.runs ≡ 0
   pub plain_limit : store.plain_limit ≤ largest_unit
 
--- the store of a `Reassembler`: each limit is the largest unit
+-- the store is that of a `Reassembler`: each limit is the largest unit
 pub record IsUnlimited (store : Store) : Type 0 where
   pub limits : (place : ℕ) → place < stream_count → limit_at store place ≡ largest_unit
   pub runs : AreOpenRuns (of_streams (open_runs store))
 
--- the fields leave the run in the room at this place, where it is within the limit
+-- the fields leave the run in the room at this place, if it is within the limit
 abbrev pub LeaveWithin : List (List ℕ) → Store → ℕ → Type 0
 LeaveWithin fields store place = at_most (limit_at store place) (run_left store.segmented fields) ≡ run_at (open_runs store).runs place
 
--- the unit that a segment with this body ended
+-- the unit that a segment with this body completed
 abbrev pub ended_kind : EndedKind → OpenRun → List ℕ → Option (List ℕ)
 ended_kind ended_kinds.Nothing run body = None
 ended_kind ended_kinds.Body run body = Some body
 ended_kind ended_kinds.Whole run body = Some run.room.octets
 
--- the run behind a segment that was reported so: one that ended a unit is over once that is delivered
+-- the run after a segment with this report; a run that completed a unit is over once the unit is delivered
 abbrev pub behind : EndedKind → OpenRun → OpenRun
 behind ended_kinds.Nothing run = run
 behind ended_kinds.Body run = closed run
 behind ended_kinds.Whole run = closed run
 
--- where the unit lies that a segment of the stream with this place ended
+-- the place of the unit that a segment of the stream with this place completed
 abbrev pub ended_by_stream : EndedKind → ℕ → Ended
 ended_by_stream ended_kinds.Nothing place = Nothing
 ended_by_stream ended_kinds.Body place = Lying 1
 ended_by_stream ended_kinds.Whole place = Joined place
 
--- the unit that a field ended
+-- the unit that a field completed
 abbrev pub unit_in : Ended → Store → List ℕ → Option (List ℕ)
 unit_in Nothing store field = None
 unit_in (Lying from) store field = Some (drop from field)
 unit_in (Joined place) store field = option_map (λ (r : OpenRun). r.room.octets) (slice_get store.runs place)
 
--- where a unit is said to lie there is room for it
+-- there are octets at the place that is reported for the unit
 abbrev pub IsThere : Ended → Store → List ℕ → Type 0
 IsThere Nothing store field = Unit {0}
 IsThere (Lying from) store field = from ≤ length field
 IsThere (Joined place) store field = place < length store.runs
 
--- the runs where the one at this place is over
+-- the runs after the one at this place has ended
 abbrev pub over_at : ℕ → List OpenRun → List OpenRun
 over_at place [] = []
 over_at zero (run ∷ runs) = closed run ∷ runs
@@ -90,7 +90,7 @@ over_at (suc place) (run ∷ runs) = run ∷ over_at place runs
 abbrev pub over : ℕ → Store → Store
 over place store = record store { runs = over_at place store.runs }
 
--- the store once the unit is delivered that a field of this stream ended, if it ended one
+-- the store after delivery of the unit that a field of this stream completed, if it completed one
 abbrev pub committed : Ended → ℕ → Store → Store
 committed Nothing place store = store
 committed (Lying from) place store = over place store
@@ -102,7 +102,8 @@ pub record IsWritten (place : ℕ) (old new : List OpenRun) : Type 0 where
   pub is : new ≡ set old place next
   pub sizes : sizes_of new ≡ sizes_of old
 
--- the run at this place followed a segment with this body, and it is reported where the unit lies that it ended
+-- the run at this place was moved on by a segment with this body, and the place of the unit that it completed was
+-- reported
 pub record IsFollowed (place : ℕ) (part : Part) (body : List ℕ) (old new : List OpenRun) (t : EndedKind) : Type 0 where
   pub run : OpenRun
   pub next : OpenRun

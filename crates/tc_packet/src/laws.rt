@@ -10,8 +10,8 @@ ghost use Rattle.tc_packet.specs.declared.packet.Packet.{Packet};
 ghost use Rattle.tc_packet.specs.declared.segment.Part.TheVariants as parts;
 ghost use Rattle.tc_packet.specs.SpacePacket.{IsCut, IsPacket, packets_of, rest_of};
 
-/// Segment headers and packets, worked out by hand: the sequence flags and the MAP id; the fields of a primary header; and units with the
-/// packets and the rest that they are cut into.
+/// States examples worked out by hand: the sequence flags and the MAP id of segment headers, the fields of a primary
+/// header, and units with the packets and the rest that they are cut into.
 pub fn segments_and_packets_are_so()
     ensures unsegmented { segment_of 0xc0 ≡ record { part = parts.Unsegmented; map = 0 } }
     ensures first { segment_of 0x41 ≡ record { part = parts.First; map = 1 } }
@@ -28,7 +28,7 @@ pub fn segments_and_packets_are_so()
     ensures cut_short { packets_of (0x10 ∷ 0x05 ∷ 0xc0 ∷ 0x00 ∷ 0x00 ∷ 0x01 ∷ 0xaa ∷ []) ≡ [] }
 {}
 
-/// The cut of a unit is this one, and no other.
+/// A unit has exactly one cut, which `packets_of` and `rest_of` compute.
 pub fn each_unit_has_one_cut()
     ensures cut { (unit : List ℕ) → IsCut unit (packets_of unit) (rest_of unit) }
     ensures only { (unit : List ℕ) (ps : List (List ℕ)) (rest : List ℕ) → IsCut unit ps rest → (ps ≡ packets_of unit) × (rest ≡ rest_of unit) }
@@ -39,38 +39,40 @@ pub fn each_input_begins_with_one_packet_at_most()
     ensures { (octets : List ℕ) (n m : ℕ) → IsPacket (take n octets) → IsPacket (take m octets) → take n octets ≡ take m octets }
 {}
 
-/// A stream has an open run where its fields end with a first segment and continuing ones that join to no more octets than
-/// the limit, and that is what they join to.
+/// A stream has an open run exactly when its fields end with a first segment, followed by any number of continuing
+/// ones, and their bodies join to no more octets than the limit. The run is these joined bodies.
 pub fn an_open_run_looks_back_over_its_stream()
     ensures { (fields : List (List ℕ)) (octets : List ℕ) → (open_run fields ≡ Some octets) ↔ IsOpenRun fields octets }
 {}
 
-/// A field ends a unit where it is unsegmented, or a last segment after an open run, and the unit is within the limit: its
-/// own body, or that run and its body.
+/// A field completes a unit exactly when it is unsegmented, or a last segment after an open run, and the unit is within
+/// the limit. The unit is the field's own body, or the run followed by that body.
 pub fn a_unit_looks_back_over_its_stream()
     ensures { (fields : List (List ℕ)) (field octets : List ℕ) → (unit_at fields field ≡ Some octets) ↔ IsUnit fields field octets }
 {}
 
-/// Fields leave just the runs within the limit open, on each MAP, and no unit that they end is beyond it.
+/// Fields can leave exactly the runs within the limit open, on each MAP, and they never complete a unit beyond the
+/// limit.
 pub fn each_run_within_the_limit_is_left_by_fields()
     ensures left { (map : ℕ) (run : Option (List ℕ)) → map < 64 → IsWithinLimit run → IsLeftByFields map run }
     ensures only { (fields : List (List ℕ)) → IsWithinLimit (open_run fields) }
     ensures units { (fields : List (List ℕ)) (field : List ℕ) → IsWithinLimit (unit_at fields field) }
 {}
 
-/// What one more field leaves of a stream follows from the run that the fields before it left, its part and its body alone: a first
-/// segment begins a run, a continuing one makes the open run longer, and no run is open behind any other.
+/// The run that a stream has after one more field follows from the run before that field, and from the field's part and
+/// body alone: a first segment begins a run, a continuing one extends the open run, and after any other segment no run
+/// is open.
 pub fn one_more_field_moves_its_run_on()
     ensures { (fields : List (List ℕ)) (field : List ℕ) → open_run (fields ++ field ∷ []) ≡ next_run (header_of field).part (open_run fields) (body_of field) }
 {}
 
-/// Without segment headers a field is a unit by itself where it is within the limit, and no run is left open.
+/// Without segment headers, a field is a unit by itself exactly when it is within the limit, and no run is left open.
 pub fn a_plain_field_is_a_unit_by_itself()
     ensures unit { (fields : List (List ℕ)) (field octets : List ℕ) → (unit_ended false fields field ≡ Some octets) ↔ ((octets ≡ field) × (length field ≤ largest_unit)) }
     ensures run { (fields : List (List ℕ)) → run_left false fields ≡ None }
 {}
 
-/// Each stream has a place of its own among the open runs.
+/// Each stream has its own place among the open runs.
 pub fn each_stream_has_a_place_of_its_own()
     ensures within { (service : Service) (map : ℕ) → map < 64 → place_of service map < stream_count }
     ensures own { (service other : Service) (map id : ℕ) → map < 64 → id < 64 → place_of service map ≡ place_of other id → (service ≡ other) × (map ≡ id) }

@@ -1,13 +1,14 @@
 //! Segments, reassembly and space packets of a telecommand link.
 //!
-//! A [`Room`] is a place for octets, up to a size: a block of that size ([`FixedRoom`]), or a block that grows ([`GrowingRoom`]).
-//! [`Runs`] have a room for the open run of each stream, and say where the unit lies that a data field ends ([`Ended`]): it needn't be
-//! copied to be given out. A unit is staged behind what counts. Once it is delivered its run is over ([`Runs::commit`]); where memory
-//! runs out before, the runs are as they were. A [`Reassembler`] is such runs in rooms that grow, and gives a copy of each unit.
+//! A [`Room`] holds octets, up to a size. It is either a block of that size ([`FixedRoom`]) or a block that grows
+//! ([`GrowingRoom`]). [`Runs`] have a room for the open run of each stream. They report where the unit lies that a data
+//! field completes ([`Ended`]), so that it needn't be copied to be handed out. A last segment is staged behind the open
+//! run's octets. Once the unit is delivered, its run is over ([`Runs::commit`]). If memory runs out before, the runs are
+//! as they were. A [`Reassembler`] consists of such runs in rooms that grow, and returns a copy of each unit.
 //!
-//! The rooms of the streams are a boxed slice, and so is the block of a [`FixedRoom`]: types that have no call that grows them. So with
-//! rooms that are made at the start only what makes them allocates, and no other call can run out of memory. The block of a
-//! [`GrowingRoom`] alone is a `Vec`.
+//! The rooms of the streams are a boxed slice, and so is the block of a [`FixedRoom`]. These types have no call that
+//! grows them. Rooms that are created at the start therefore request memory only when they are created, and no other
+//! call can run out of memory. Only the block of a [`GrowingRoom`] is a `Vec`.
 //!
 //! Laws over the definitions stand as contracts of functions with empty bodies:
 //! [`each_unit_has_one_cut`], [`each_input_begins_with_one_packet_at_most`],

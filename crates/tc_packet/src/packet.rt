@@ -4,31 +4,31 @@ ghost use Rattle.std.specs.Prelude.{◌≡◌, ℕ, length, take, IfSome, IfNone
 ghost use Rattle.tc_packet.specs.PacketFields.{HasFields};
 ghost use Rattle.tc_packet.specs.SpacePacket.{IsPacket};
 
-/// A packet: what its primary header says, and all of its octets.
+/// A packet: the fields of its primary header, and all of its octets.
 #[derive(Clone, Copy, Debug, PartialEq, Eq)]
 pub struct Packet<'a> {
-    /// The packet type: a telecommand packet, not a telemetry one.
+    /// Whether the packet is a telecommand packet (by the packet type), rather than a telemetry packet.
     pub telecommand: bool,
     /// The secondary header flag.
     pub secondary: bool,
-    /// The application process identifier, at most 2,047, which marks idle packets.
+    /// The application process identifier, at most 2,047, which is the value that marks idle packets.
     pub apid: u16,
     /// The sequence flags, at most 3.
     pub flags: u8,
-    /// The sequence count or the name, at most 16,383.
+    /// The sequence count or the packet name, at most 16,383.
     pub count: u16,
     /// The whole packet, its primary header included.
     pub octets: &'a [u8],
 }
 
-/// The packets at the front of a unit, and what is left of it.
+/// The packets at the front of a unit, and the rest of the unit.
 #[derive(Debug, Drop, PartialEq, Eq)]
 pub struct Cut<'a> {
     pub packets: Vec<Packet<'a>>,
     pub rest: &'a [u8],
 }
 
-/// The packet at the front of the octets. Secondary header, sequence flags and count are not judged.
+/// Reads the packet at the front of the octets. The secondary header, the sequence flags and the count aren't checked.
 pub fn read_packet(octets: &[u8]) -> Option<Packet<'_>>
     ensures packet { IfSome result (λ p. IsPacket p.octets.now) }
     ensures front { IfSome result (λ p. p.octets.now ≡ take (length p.octets.now) octets.now) }

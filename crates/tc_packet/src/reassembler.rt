@@ -12,9 +12,11 @@ use crate::service::{LARGEST_UNIT, Service};
 use std::alloc::Global;
 use std::marker::Model;
 
-/// The open run of each stream: of the 64 MAPs of the AD service, and then of those of the BD service.
-/// Where data fields have no segment header, each is a unit by itself and no run is ever open.
-/// It is what a channel reassembles with ([`Runs`]), in rooms that grow to the largest unit; here each unit is given in a list of its own.
+/// The open run of each stream: first those of the AD service's 64 MAPs, then those of the BD service's. If data fields
+/// have no segment header, each is a unit by itself and no run is ever open.
+///
+/// A channel reassembles with the type that this one wraps ([`Runs`]). Here the rooms grow to the largest unit, and
+/// each unit is returned in a list of its own.
 #[derive(Drop)]
 pub struct Reassembler {
     alloc: Global,
@@ -33,7 +35,8 @@ impl Model for Reassembler {
 }
 
 impl Reassembler {
-    /// No run is open. The room for all streams is made here. `segmented` says whether data fields begin with a segment header.
+    /// Creates a reassembler with no open run. The room for all streams is allocated here. `segmented` tells whether
+    /// data fields begin with a segment header.
     pub fn new(alloc: Global, segmented: bool) -> Result<Reassembler, NoMemory>
         ensures { IfOk result (λ r. r ≡ record { segmented = segmented; runs = replicate stream_count None }) }
     {
@@ -41,7 +44,8 @@ impl Reassembler {
         Ok(Reassembler { alloc, runs })
     }
 
-    /// The unit that this field would end, in a list of its own. Room for it, and for the stream's open run, is the one allocation.
+    /// Returns the unit that this field would complete, in a list of its own. The only memory requested is room for
+    /// this unit and for the stream's open run.
     pub fn unit_after(&self, service: Service, field: &[u8]) -> Result<Option<Vec<u8>>, NoMemory>
         requires { 0 < length field.now }
         ensures unit { (fields : List (List ℕ)) → Leave fields self.now (stream_place service field.now)
@@ -52,8 +56,8 @@ impl Reassembler {
         Ok(unit)
     }
 
-    /// Takes the next field of its stream, and gives a copy of the unit that it ends. All growths come before the first change of an
-    /// open run.
+    /// Processes the next field of its stream, and returns a copy of the unit that it completes, if any. All requests
+    /// for memory come before the first change of an open run.
     pub fn push(&mut self, service: Service, field: &[u8]) -> Result<Option<Vec<u8>>, NoMemory>
         requires { 0 < length field.now }
         ensures unit { (fields : List (List ℕ)) → Leave fields self.old (stream_place service field.now)

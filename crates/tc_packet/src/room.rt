@@ -8,24 +8,24 @@ use std::boxed::BoxedSlice;
 use std::marker::Model;
 use std::mem::replace;
 
-/// A place for the octets of one item or of one run, and how many they may be. Queues and reassembly are generic over it, so that
-/// they are one code for rooms that are made at the start ([`FixedRoom`]) and for rooms that grow ([`GrowingRoom`]).
+/// A place for the octets of one item or of one run, up to a size. Queues and reassembly are generic over it, so that
+/// they have one code for rooms that are created at the start ([`FixedRoom`]) and for rooms that grow ([`GrowingRoom`]).
 pub trait Room: Drop {
-    // the octets that lie here, and how many there may be
+    // the octets in use, and the largest number of them
     ghost contents: { Self → Contents };
 
-    // whether octets take memory where they are put here; where they take none, none are refused
+    // whether storing octets may request memory; if not, it never fails
     ghost grows: { Bool };
 
-    /// Room for so many octets, none of them in use.
+    /// Creates a room for `size` octets, none of them in use.
     fn with_size(alloc: Global, size: usize) -> Result<Self, AllocError>
         ensures { IfOk result (λ r. contents r ≡ contents_of [] size) };
 
-    /// Whether memory may be asked for where octets are put here.
+    /// Returns whether memory may be requested when octets are stored.
     fn may_ask() -> bool
         ensures { result ≡ grows };
 
-    /// How many octets may be in use.
+    /// Returns the largest number of octets that may be in use.
     fn size(&self) -> usize
         ensures size { result ≡ (contents self.now).size };
 
@@ -43,21 +43,22 @@ pub trait Room: Drop {
         ensures refused { OnErr result (contents self.new ≡ contents self.old) }
         ensures answered { grows ≡ false → IsOk result };
 
-    /// Leaves the first octets alone in use.
+    /// Keeps only the first `count` octets in use.
     fn cut(&mut self, count: usize)
         ensures cut { contents self.new ≡ contents_of (take count (contents self.old).octets) (contents self.old).size };
 
-    /// No octets are in use, and a block that grew is given back.
+    /// Leaves no octets in use, and frees a block that grew.
     fn clear(&mut self)
         ensures cleared { contents self.new ≡ contents_of [] (contents self.old).size };
 
-    /// The octets in use, lent.
+    /// Lends the octets in use.
     fn as_slice(&self) -> &[u8]
         ensures octets { result.now ≡ (contents self.now).octets }
         ensures within { length result.now ≤ (contents self.now).size };
 }
 
-/// A block of octets, of which the first ones are in use. The block has no call that grows it: only `with_size` allocates.
+/// A block of octets, of which the first ones are in use. The block has no call that grows it, so only `with_size`
+/// allocates.
 #[derive(Drop)]
 pub struct FixedRoom {
     block: BoxedSlice<u8>,
@@ -134,7 +135,7 @@ impl Room for FixedRoom {
     }
 }
 
-/// A block of octets that asks for memory where it is too small, up to a size.
+/// A block of octets, up to a size, that requests memory when it is too small.
 #[derive(Drop)]
 pub struct GrowingRoom {
     alloc: Global,
@@ -204,7 +205,8 @@ impl Room for GrowingRoom {
 }
 
 impl GrowingRoom {
-    /// Takes the octets in use out, in the block that has them: none is copied, and no memory is asked for. No octets are in use then.
+    /// Takes out the octets in use, in the block that holds them, and leaves none in use. No octet is copied, and no
+    /// memory is requested.
     pub fn take_block(&mut self) -> Vec<u8>
         ensures octets { result.items ≡ self.old.octets }
         ensures cleared { self.new ≡ contents_of [] self.old.size }
@@ -212,7 +214,7 @@ impl GrowingRoom {
         replace(&mut self.block, Vec::new(self.alloc))
     }
 
-    // A copy in a block of its own, with room for so many octets more as far as they may be in use.
+    // Returns a copy in a block of its own, which has room for `more` further octets as far as the size allows them.
     pub(crate) fn copied(&self, more: usize) -> Result<GrowingRoom, AllocError>
         ensures { IfOk result (λ r. r ≡ self.now) }
     {

@@ -1,4 +1,4 @@
-//! Reassembly (CCSDS 232.0-B, 4.4) in a room for each stream.
+//! Reassembly (CCSDS 232.0-B, 4.4) in one room for each stream.
 
 ghost use Rattle.std.specs.Prelude.{◌≡◌, ◌<◌, ◌≤◌, ◌%◌, ◌∷◌, ◌++◌, ℕ, true, false, List, [], length, map, get_or, replicate, Some, None, IfOk, IsOk, OnErr, slice_get, option_map, if◌then◌else◌};
 ghost use Rattle.std.specs.Box.{boxed_slice_items};
@@ -20,8 +20,8 @@ use std::alloc::{AllocError, Global};
 use std::boxed::BoxedSlice;
 use std::marker::Model;
 
-/// The run of a stream: the first octets in its room, while it is open. A last segment stages its octets behind them, so that the unit
-/// is one slice, and the run stays until that is delivered.
+/// The run of a stream: while it is open, its octets are the first ones in its room. A last segment stages its octets
+/// behind them, so that the unit is one slice. The run stays until the unit is delivered.
 #[derive(Drop)]
 pub struct Run<R: Room> {
     is_open: bool,
@@ -39,7 +39,7 @@ impl<R: Room> Model for Run<R> {
     ghost invariant = { λ r. IsRun (record { is_open = r.is_open; count = r.count; room = R.contents r.room }) };
 }
 
-/// Where the unit lies that a segment ended: nowhere, in its body, or in the room of the run.
+/// The place of the unit that a segment completed: nowhere, in the segment's body, or in the room of the run.
 #[derive(Clone, Copy)]
 pub(crate) enum EndedKind {
     Nothing,
@@ -47,18 +47,20 @@ pub(crate) enum EndedKind {
     Whole,
 }
 
-/// Where the unit lies that a data field ended.
+/// The place of the unit that a data field completed.
 #[derive(Clone, Copy, Debug, PartialEq, Eq)]
 pub enum Ended {
-    /// It ended none.
+    /// The field completed no unit.
     Nothing,
-    /// In the field itself, behind so many octets.
+    /// The unit lies in the field itself, after the given number of octets.
     Lying(usize),
-    /// In the room of the stream with this place, until the next field of that stream. [`Runs::joined`] lends it.
+    /// The unit lies in the room of the stream with this place, until the next field of that stream. [`Runs::joined`]
+    /// lends it.
     Joined(usize),
 }
 
-/// The open run of each stream, in a room of its own. With rooms that are made at the start only what makes it allocates.
+/// The open run of each stream, each in a room of its own. If the rooms are created at the start, only their creation
+/// allocates.
 #[derive(Drop)]
 pub struct Runs<R: Room> {
     segmented: bool,
@@ -78,7 +80,7 @@ impl<R: Room> Model for Runs<R> {
 }
 
 impl<R: Room> Run<R> {
-    // No run is open, and there is room for so many octets.
+    // Creates a run that isn't open, with room for `size` octets.
     fn with_size(alloc: Global, size: usize) -> Result<Run<R>, AllocError>
         requires { size ≤ LARGEST_UNIT }
         ensures { IfOk result (λ r. r ≡ record { is_open = false; count = 0; room = contents_of [] size }) }
@@ -91,7 +93,8 @@ impl<R: Room> Run<R> {
         })
     }
 
-    // Stages a body behind the open run, and says whether it did: not where no run is open, nor beyond its room.
+    // Stages a body behind the open run. Returns false, without staging it, if no run is open or the body exceeds the
+    // run's room.
     fn extend(&mut self, body: &[u8]) -> Result<bool, AllocError>
         ensures contents_of { IfOk result (λ done. done ≡ true → (self.old.is_open ≡ true) × (at_most self.old.room.size (extended (open_in self.old) body.now) ≡ Some self.new.room.octets)) }
         ensures none { IfOk result (λ done. done ≡ false → at_most self.old.room.size (extended (open_in self.old) body.now) ≡ None) }
@@ -109,7 +112,7 @@ impl<R: Room> Run<R> {
         Ok(true)
     }
 
-    // A first segment with this body opens the run, where it fits the room.
+    // Opens the run with the body of a first segment, if it fits the room.
     fn begin(&mut self, body: &[u8]) -> Result<(), AllocError>
         ensures run { IfOk result (λ _. open_in self.new ≡ at_most self.old.room.size (bounded body.now)) }
         ensures refused { OnErr result (open_in self.new ≡ open_in self.old) }
@@ -127,7 +130,7 @@ impl<R: Room> Run<R> {
         Ok(())
     }
 
-    // A continuing segment with this body moves the run on; a run that would outgrow its room is dropped.
+    // Continues the run with the body of a continuing segment. A run that would outgrow its room is dropped.
     fn go_on(&mut self, body: &[u8]) -> Result<(), AllocError>
         ensures run { IfOk result (λ _. open_in self.new ≡ at_most self.old.room.size (extended (open_in self.old) body.now)) }
         ensures refused { OnErr result (open_in self.new ≡ open_in self.old) }
@@ -143,8 +146,8 @@ impl<R: Room> Run<R> {
         Ok(())
     }
 
-    // A segment with this body moves the run on, where it ends no unit. Where it ends one, it says where that lies, and the run stays
-    // until it is closed.
+    // Moves the run on by a segment with this body. If the segment completes a unit, the place of the unit is returned,
+    // and the run stays until it is closed.
     fn follow(&mut self, part: Part, body: &[u8]) -> Result<EndedKind, AllocError>
         ensures unit { IfOk result (λ t. ended_kind t self.new body.now ≡ at_most self.old.room.size (ended_by part (open_in self.old) body.now)) }
         ensures run { IfOk result (λ t. open_in (behind t self.new) ≡ at_most self.old.room.size (next_run part (open_in self.old) body.now)) }
@@ -180,14 +183,15 @@ impl<R: Room> Run<R> {
         }
     }
 
-    // The run is over.
+    // Ends the run.
     fn close(&mut self)
         ensures { self.new ≡ record self.old { is_open = false } }
     {
         self.is_open = false;
     }
 
-    // The octets in the room, lent: where a segment said that a unit lies there, that unit.
+    // Lends the octets in the room. They are the completed unit if the last segment was reported to have its unit
+    // there.
     fn octets(&self) -> &[u8]
         ensures { result.now ≡ self.now.room.octets }
     {
@@ -196,8 +200,8 @@ impl<R: Room> Run<R> {
 }
 
 impl Run<GrowingRoom> {
-    // The unit that a segment with this body would end: that of a copy which follows it. There is room for all of it in the copy's block,
-    // which is the one allocation.
+    // Returns the unit that a segment with this body would complete, by moving on a copy of the run. The copy's block
+    // has room for the whole unit and is the only allocation.
     fn unit_after(&self, part: Part, body: &[u8]) -> Result<Option<Vec<u8>>, AllocError>
         ensures unit { IfOk result (λ unit. octets_in unit ≡ at_most self.now.room.size (ended_by part (open_in self.now) body.now)) }
         ensures small { self.now.room.size ≤ largest_unit }
@@ -218,7 +222,7 @@ impl Run<GrowingRoom> {
     }
 }
 
-// Where the unit lies that a segment of the stream with this place ended.
+// Returns the place of the unit that a segment completed, in terms of the stream's place.
 fn ended_at(ended_kind: EndedKind, place: usize) -> Ended
     ensures { result ≡ ended_by_stream ended_kind place }
 {
@@ -229,7 +233,7 @@ fn ended_at(ended_kind: EndedKind, place: usize) -> Ended
     }
 }
 
-// The run at this place follows a segment with this body.
+// Moves the run at this place on by a segment with this body.
 fn follow_at<R: Room>(
     runs: &mut BoxedSlice<Run<R>>,
     at: usize,
@@ -246,7 +250,7 @@ fn follow_at<R: Room>(
     run.follow(part, body)
 }
 
-// The run at this place is over, if there is one.
+// Ends the run at this place, if there is one.
 fn close_at<R: Room>(runs: &mut BoxedSlice<Run<R>>, at: usize)
     ensures over { boxed_slice_items runs.new ≡ over_at at (boxed_slice_items runs.old) }
     ensures places { length (boxed_slice_items runs.new) ≡ length (boxed_slice_items runs.old) }
@@ -257,7 +261,7 @@ fn close_at<R: Room>(runs: &mut BoxedSlice<Run<R>>, at: usize)
     }
 }
 
-// Where the unit lies that a plain field is.
+// Returns the place of the unit that a plain field is.
 fn whole_field(field: &[u8], limit: usize) -> Ended
     requires { limit ≤ LARGEST_UNIT }
     ensures unit { (store : Store) → unit_in result store field.now ≡ at_most limit (bounded field.now) }
@@ -270,7 +274,7 @@ fn whole_field(field: &[u8], limit: usize) -> Ended
     Ended::Nothing
 }
 
-// A room for each of so many streams, as large as the limit of its MAP.
+// Creates `count` runs that aren't open, each with a room as large as the limit of its MAP.
 fn empty_runs<R: Room>(
     alloc: Global,
     count: usize,
@@ -290,7 +294,7 @@ fn empty_runs<R: Room>(
     Ok(runs)
 }
 
-// No run is open. With segment headers each stream has a room, as large as the limit of its MAP.
+// Creates runs of which none is open. With segment headers each stream has a room, as large as the limit of its MAP.
 fn with_rooms<R: Room>(
     alloc: Global,
     segmented: bool,
@@ -314,8 +318,9 @@ fn with_rooms<R: Room>(
 }
 
 impl<R: Room> Runs<R> {
-    /// No run is open. Units of more octets than the limit are dropped. With segment headers the room of each of the 128 streams
-    /// is made here; without them there is none, since each data field is a unit by itself.
+    /// Creates runs of which none is open. Units of more than `limit` octets are dropped. With segment headers the room
+    /// of each of the 128 streams is allocated here. Without them there are no rooms, since each data field is a unit
+    /// by itself.
     pub fn new(alloc: Global, segmented: bool, limit: usize) -> Result<Runs<R>, AllocError>
         requires { limit ≤ LARGEST_UNIT }
         ensures segmented { IfOk result (λ r. r.segmented ≡ segmented) }
@@ -325,8 +330,9 @@ impl<R: Room> Runs<R> {
         with_rooms(alloc, segmented, limit, &[limit; MAPS])
     }
 
-    /// No run is open, and data fields have segment headers. Units of a MAP that have more octets than its limit are dropped: `limits`
-    /// has one for each of the 64 MAPs. The room of each of the 128 streams is made here, as large as the limit of its MAP.
+    /// Creates runs of which none is open, for data fields with segment headers. A MAP's units of more octets than its
+    /// limit are dropped. `limits` holds one limit for each of the 64 MAPs. The room of each of the 128 streams is
+    /// allocated here, as large as the limit of its MAP.
     pub fn by_map(alloc: Global, limits: &[usize]) -> Result<Runs<R>, AllocError>
         requires maps { length limits.now ≡ 64 }
         requires limits { AllByRecursion (λ n. n ≤ largest_unit) limits.now }
@@ -337,9 +343,10 @@ impl<R: Room> Runs<R> {
         with_rooms(alloc, true, 0, limits)
     }
 
-    /// Takes the next field of its stream, and says where the unit lies that it ends. A run or a unit of more octets than the limit
-    /// of its stream is dropped. A run that ends stays until [`commit`](Runs::commit), so that where memory runs out behind
-    /// this call the runs are as they were. What is said of the fields before holds of any fields that have left the stream's run as it is.
+    /// Processes the next field of its stream, and returns the place of the unit that it completes. A run or a unit of
+    /// more octets than the stream's limit is dropped. A run that ends stays until [`commit`](Runs::commit), so that
+    /// the runs are as they were if memory runs out after this call. The clauses about the fields before hold for any
+    /// fields that leave the stream's run as it is.
     #[inline(always)]
     pub fn stage(&mut self, service: Service, field: &[u8]) -> Result<Ended, AllocError>
         requires { 0 < length field.now }
@@ -371,7 +378,7 @@ impl<R: Room> Runs<R> {
         Ok(ended_at(ended_kind, at))
     }
 
-    /// What a field of this stream ended is delivered: its run is over, if it ended a unit.
+    /// Ends the run of this stream, if its field completed a unit. A caller does this once the unit is delivered.
     #[inline(always)]
     pub fn commit(&mut self, service: Service, map: u8, ended: Ended)
         requires { map < 64 }
@@ -384,7 +391,8 @@ impl<R: Room> Runs<R> {
         }
     }
 
-    /// The octets in the room of the stream with this place, lent: behind `stage` the unit that it said is joined there.
+    /// Lends the octets in the room of the stream with this place. After `stage` they are the unit that it reported as
+    /// joined there.
     pub fn joined(&self, place: usize) -> &[u8]
         requires { place < length self.now.runs }
         ensures { Some result.now ≡ option_map (λ r. r.room.octets) (slice_get self.now.runs place) }
@@ -394,7 +402,7 @@ impl<R: Room> Runs<R> {
 }
 
 impl Runs<GrowingRoom> {
-    // A copy of the unit that this field ended, if it ended one.
+    // Returns a copy of the unit that this field completed, if it completed one.
     pub(crate) fn copied(
         &self,
         alloc: Global,
@@ -412,7 +420,7 @@ impl Runs<GrowingRoom> {
         }
     }
 
-    // The unit that this field would end, in a block of its own, which is the one allocation.
+    // Returns the unit that this field would complete, in a block of its own, which is the only allocation.
     pub(crate) fn unit_after(
         &self,
         alloc: Global,

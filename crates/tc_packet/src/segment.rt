@@ -3,7 +3,7 @@
 ghost use Rattle.std.specs.Prelude.{◌≡◌, ◌<◌};
 ghost use Rattle.tc_packet.specs.Segment.{part_by, segment_of};
 
-/// Which part of a unit a segment carries.
+/// The part of a unit that a segment carries.
 #[derive(Clone, Copy, Debug, PartialEq, Eq)]
 pub enum Part {
     First,
@@ -12,14 +12,14 @@ pub enum Part {
     Unsegmented,
 }
 
-/// What a segment header says; a MAP id is at most 63.
+/// The fields of a segment header. A MAP id is at most 63.
 #[derive(Clone, Copy, Debug, PartialEq, Eq)]
 pub struct Segment {
     pub part: Part,
     pub map: u8,
 }
 
-/// The sequence flags and the MAP id that stand in a segment header.
+/// Reads the sequence flags and the MAP id of a segment header.
 pub fn read_segment(octet: u8) -> Segment
     ensures { result ≡ segment_of octet }
 {

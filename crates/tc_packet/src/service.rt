@@ -3,23 +3,23 @@
 ghost use Rattle.std.specs.Prelude.{◌≡◌, ◌<◌};
 ghost use Rattle.tc_packet.specs.Reassembly.{place_of};
 
-/// By which service a data field came.
+/// The service by which a data field came.
 #[derive(Clone, Copy, Debug, PartialEq, Eq)]
 pub enum Service {
     Ad,
     Bd,
 }
 
-/// The most octets of a run or a unit.
+/// The largest number of octets in a run or a unit.
 pub const LARGEST_UNIT: usize = 65_542;
 
-/// How many MAPs there are.
+/// The number of MAPs.
 pub(crate) const MAPS: usize = 64;
 
-/// Two services of 64 MAPs.
+/// The number of streams: two services of 64 MAPs.
 pub(crate) const STREAMS: usize = 128;
 
-/// Where the open run of a stream stands: those of AD and then those of BD, by MAP.
+/// Returns the place of a stream's open run: first come those of AD, then those of BD, each by MAP.
 pub(crate) fn place(service: Service, map: u8) -> usize
     requires { map < 64 }
     ensures value { result ≡ place_of service map }
