@@ -1,4 +1,4 @@
--- Where those that have reported have made as many events as the journal has, it is a merge of what they made.
+-- If the seats that have reported have made as many entries as the log has, the log is a merge of what they made.
 use Rattle.std.proofs.Common.{◌≡◌, ◌≢◌, ℕ, zero, suc, ◌+◌, ◌/◌, ◌<◌, ◌≤◌, ◌==◌, cond, Bool, List, [], ◌∷◌, length, map, refl, sym, ap, ◌∙◌, subst, arith, eq-eqb, ne_eqb, lt_of_not-le}
 use Rattle.std.proofs.lemmas.Bool.Decides.{nat_tests}
 use Rattle.std.proofs.lemmas.List.{length-map}
@@ -10,7 +10,7 @@ use Rattle.logged_lock.specs.Log.{owned, made_by, total_made, IsMergeOf}
 use Rattle.logged_lock.specs.Rule.{seat_tag, reported_tag, AreReported, NoSeatOwns}
 use Rattle.logged_lock.proofs.Owned.{owned-own, owned-other}
 
--- the first n of a row of numbers, added up
+-- the sum of the first n numbers of a row
 sum_to : (ℕ → ℕ) → ℕ → ℕ
 sum_to f zero = 0
 sum_to f (suc n) = sum_to f n + f n
@@ -40,7 +40,7 @@ unfolding sum_to
 total-sum [] = refl
 total-sum (a ∷ more) = ap (λ (m : ℕ). length a.made + m) (total-sum more) ∙ sym (sum_to-front (λ k. length (made_by (a ∷ more) k)) (length more))
 
--- 1 of the owner t, and else 0
+-- 1 if the owner is t, and otherwise 0
 is : ℕ → ℕ → ℕ
 is o t = cond (o == t) 1 0
 
@@ -52,7 +52,7 @@ is-else : (o t : ℕ) → o ≢ t → is o t ≡ 0
 unfolding is
 is-else o t apart = ap (λ (b : Bool). cond b 1 0) (ne_eqb o t apart)
 
--- how many places are an owner's
+-- the number of places that belong to an owner
 count : ℕ → List ℕ → ℕ
 count t [] = 0
 count t (o ∷ os) = is o t + count t os
@@ -67,7 +67,7 @@ count-owned t at (o ∷ os) (e ∷ es) len =
     (λ same. ap (λ l. length l) (owned-own t at o os e es same) ∙ omega (arith, more, is-same o t same))
     (λ apart. ap (λ l. length l) (owned-other t at o os e es apart) ∙ omega (arith, more, is-else o t apart))
 
--- how many of the first n have this tag: one at most
+-- the number of the first n accounts that have this tag, which is at most one
 tagged : ℕ → ℕ → ℕ
 tagged n o = sum_to (λ k. is o (reported_tag k)) n
 
@@ -117,7 +117,7 @@ even o n = dite (dec_le (suc (o / 2 + o / 2)) o)
     (λ (le : suc (o / 2 + o / 2) ≤ o). absurd (n (omega (arith, le))))
     (λ (no : suc (o / 2 + o / 2) ≤ o → ⊥). let lt : o < suc (o / 2 + o / 2) = lt_of_not-le no in omega (arith, lt))
 
--- an owner that is no seat, and none of those that haven't reported, has reported
+-- an owner that is no seat, and none of the accounts from the n-th on, is one of the first n accounts
 tagged-whole : (n o : ℕ) → ((id : ℕ) → is o (seat_tag id) ≡ 0) → ((k : ℕ) → n ≤ k → is o (reported_tag k) ≡ 0) → tagged n o ≡ 1
 tagged-whole n o seats later =
     let k = o / 2 in
@@ -139,7 +139,7 @@ made_by-past [] k le = refl
 made_by-past (a ∷ reported) zero le = absurd (omega (arith, le))
 made_by-past (a ∷ reported) (suc k) le = made_by-past reported k (omega (arith, le))
 
--- where no seat owns anything, those that have reported have made all
+-- if no seat owns anything, the seats that have reported have made everything
 pub made-whole : {D E : Type 0} (now : Log D E) (owners : List ℕ) (reported : List (Account D E)) → length owners ≡ length now.entries → AreReported now owners reported → NoSeatOwns now owners → total_made reported ≡ length now.entries
 made-whole now owners reported long are none =
     let n = length reported in
@@ -148,7 +148,7 @@ made-whole now owners reported long are none =
     let later : (k : ℕ) → n ≤ k → count (reported_tag k) owners ≡ 0 = λ k le. sym (count-owned (reported_tag k) 0 owners now.entries long) ∙ ap (λ l. length l) (are.0 k ∙ made_by-past reported k le) in
     total-sum reported ∙ (each ∙ (count-tagged n owners ∙ (all-whole n owners seats later ∙ long)))
 
--- each owner's number in place of its tag
+-- the number of an owner, from its tag
 abbrev number_of : ℕ → ℕ
 number_of o = o / 2
 

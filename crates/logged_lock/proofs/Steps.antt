@@ -52,17 +52,17 @@ at_end [] a b (suc j) e = absurd (some-ne-none b (sym e))
 at_end (x ∷ xs) a b zero e = inl e
 at_end (x ∷ xs) a b (suc j) e = ⊎_elim (λ h. inl h) (λ h. inr (ap suc h.0, h.1)) (at_end xs a b j e)
 
--- of how many makers a seat is
+-- the number of makers that a seat counts for
 abbrev bit : Bool → ℕ
 bit b = cond b 1 0
 
--- as many are makers where a seat's view is changed, but not whether it is one
+-- the number of makers stays if a seat's view changes, but not whether it is a maker
 makers-set : {D E : Type 0} (views : List (View D E)) (id : ℕ) (v w : View D E) → get_elem? views id ≡ some v → w.maker ≡ v.maker → makers_in (set views id w) ≡ makers_in views
 makers-set [] id v w here same = refl
 makers-set {D = D} {E = E} (x ∷ xs) zero v w here same = ap (λ (b : Bool). bit b + makers_in xs) (same ∙ ap (λ (u : View D E). u.maker) (sym (some-injective x v here)))
 makers-set (x ∷ xs) (suc id) v w here same = ap (λ (n : ℕ). bit x.maker + n) (makers-set xs id v w here same)
 
--- one fewer where it ceases to be one
+-- there is one maker fewer if a seat ceases to be one
 makers-fewer : {D E : Type 0} (views : List (View D E)) (id : ℕ) (v w : View D E) → get_elem? views id ≡ some v → v.maker ≡ true → w.maker ≡ false → suc (makers_in (set views id w)) ≡ makers_in views
 makers-fewer [] id v w here was is = absurd (some-ne-none v (sym here))
 makers-fewer {D = D} {E = E} (x ∷ xs) zero v w here was is =
@@ -79,7 +79,7 @@ cond-true : (b : Bool) → bit b ≡ 0 → b ≡ false
 cond-true true h = absurd (omega (arith, h))
 cond-true false h = refl
 
--- where there are none, no seat is one
+-- if there are no makers, no seat is one
 makers-none : {D E : Type 0} (views : List (View D E)) (id : ℕ) (v : View D E) → makers_in views ≡ 0 → get_elem? views id ≡ some v → v.maker ≡ false
 makers-none [] id v empty here = absurd (some-ne-none v (sym here))
 makers-none {D = D} {E = E} (x ∷ xs) zero v empty here =
@@ -87,7 +87,7 @@ makers-none {D = D} {E = E} (x ∷ xs) zero v empty here =
     ap (λ (u : View D E). u.maker) (sym (some-injective x v here)) ∙ cond-true x.maker nothing
 makers-none (x ∷ xs) (suc id) v empty here = makers-none xs id v (omega (arith, empty)) here
 
--- where the first is the only one, no other seat is one
+-- if the first seat is the only maker, no other seat is one
 only-first : {D E : Type 0} (views : List (View D E)) (p : View D E) (id : ℕ) (v : View D E) → get_elem? views 0 ≡ some p → p.maker ≡ true → makers_in views ≤ 1 → id ≢ 0 → get_elem? views id ≡ some v → v.maker ≡ false
 only-first [] p id v first lead one away here = absurd (some-ne-none p (sym first))
 only-first (x ∷ xs) p zero v first lead one away here = absurd (away refl)
@@ -100,7 +100,8 @@ seat-there [] id lt = absurd (omega (arith, lt))
 seat-there (x ∷ xs) zero lt = (x, refl)
 seat-there (x ∷ xs) (suc id) lt = seat-there xs id (omega (arith, lt))
 
--- what is known of the first seat stays where a seat's view is changed, but not what was reported to it and what it issued, and whether it is a maker
+-- the facts about the first seat stay if a seat's view changes, but not its reports, the number of seats that it
+-- issued, and whether it is a maker
 first-stays : {D E : Type 0} (views : List (View D E)) (id : ℕ) (p v w : View D E) → get_elem? views 0 ≡ some p → get_elem? views id ≡ some v → w.reported ≡ v.reported → w.maker ≡ v.maker → w.own.issued ≡ v.own.issued
     → AreCounted views p → (q : View D E) × (get_elem? (set views id w) 0 ≡ some q) × (q.reported ≡ p.reported) × AreCounted (set views id w) q
 first-stays [] id p v w at here same maker issued counted = absurd (some-ne-none p (sym at))
@@ -129,7 +130,7 @@ others-set : {D E : Type 0} (now : Log D E) (owners : List ℕ) (views : List (V
     → ((j : ℕ) → length views ≤ j → owned (seat_tag j) 0 owners now.entries ≡ []) → (j : ℕ) → length (set views id w) ≤ j → owned (seat_tag j) 0 owners now.entries ≡ []
 others-set now owners views id w all j le = all j (omega (arith, length-set views id w))
 
--- tags of seats are even and apart, and those of what was reported are odd and apart
+-- the tags of seats are even and distinct, and those of reported accounts are odd and distinct
 even-odd : (j k : ℕ) → j + j ≡ suc (k + k) → ⊥
 even-odd j k e = absurd (omega arith)
 
@@ -172,20 +173,20 @@ module _ {S D E : Type 0} (log : S → Log D E) (fits : S → Type 0) (top : D) 
       one zero v e = subst (IsSeat (start_of top) [] none 0) (some-injective (newcomer (start_of top)) v e) record { mine = refl; behind = λ _. beginning-self (start_of top); locks = λ h. absurd (off h); quiet = λ _. refl }
       one (suc id) v e = absurd (some-ne-none v (sym e))
 
-  -- where nothing is changed but the lock
+  -- nothing changes except for the lock
   relock : (words words' : List ℕ) (homes homes' : List (Option S)) (views : List (View D E)) (b : IsLock log fits top words homes views)
       → IsFree log fits words' homes' b.now b.holder ⊎ IsTakenOut words' homes' → IsLock log fits top words' homes' views
   relock words words' homes homes' views b lock = record { now = b.now; headed = b.headed; owners = b.owners; long = b.long; holder = b.holder; seats = b.seats; others = b.others; first = b.first; at_first = b.at_first; reported = b.reported; counted = b.counted; lock = lock }
 
-  -- where a view is put in its own place
+  -- a view that is put in its own place changes nothing
   again : (words : List ℕ) (homes : List (Option S)) (views : List (View D E)) (id : ℕ) (v : View D E) → get_elem? views id ≡ some v → IsLock log fits top words homes views → IsLock log fits top words homes (set views id v)
   again words homes views id v at b = subst (λ l. IsLock log fits top words homes l) (sym (set_again views id v at)) b
 
-  -- while a seat has the lock it isn't free
+  -- the lock isn't free while a seat has it
   not-free : (s : State S (View D E)) (id : ℕ) (v : View D E) (b : Recorded s) → get_elem? s.views id ≡ some v → v.locks ≡ true → IsTakenOut s.words s.homes
   not-free s id v b at locks = ⊎_elim (λ (f : IsFree log fits s.words s.homes b.now b.holder). absurd (some-ne-none id (sym ((b.seats id v at).locks locks).0 ∙ f.nobody))) (λ (t : IsTakenOut s.words s.homes). t) b.lock
 
-  -- what a step at the lock owes
+  -- the obligation of a step at the lock
   abbrev Owes : ℕ → Me S (View D E) → (ℕ → ℕ) → (ℕ → Me S (View D E) → Type 0) → List (View D E) → List ℕ → List (Option S) → Type 0
   Owes id me f then views words homes =
       (w : View D E) × (a : Act S) × Valid homes me.1 a × IsLock log fits top (set words 16 (f (slice_index words 16))) (homes_after homes me.1 a) (set views id w) × then (slice_index words 16) (w, carried_after me.1 a)
@@ -197,7 +198,7 @@ module _ {S D E : Type 0} (log : S → Log D E) (fits : S → Type 0) (top : D) 
   abbrev Takes : Me S (View D E) → ℕ → ℕ → Me S (View D E) → Type 0
   Takes me current n w = MatchBool (n == current) (IsTaken log fits me w) (w ≡ me)
 
-  -- nothing happens where the word is another
+  -- nothing happens if the word is another one
   misses : (s : State S (View D E)) (id : ℕ) (me : Me S (View D E)) (m current next : ℕ) → Recorded s → get_elem? s.views id ≡ some me.0
       → s.words ≡ words_of m → m ≢ current → Owes id me (swapped current next) (Takes me current) s.views s.words s.homes
   misses s id me m current next b at word other =
@@ -251,7 +252,7 @@ module _ {S D E : Type 0} (log : S → Log D E) (fits : S → Type 0) (top : D) 
   not-current : (mark current : ℕ) → current < 2 → suc (suc mark) ≢ current
   not-current mark current free = λ e. absurd (omega arith)
 
-  -- the lock is taken where its word is this free one
+  -- the lock is taken if its word is this one of a free lock
   pub takes_lock : (slots id : ℕ) (me : Me S (View D E)) (current next : ℕ) → current < 2 → 2 ≤ next → IsIdle me → Allows Recorded slots id me 16 (swapped current next) (Takes me current)
   takes_lock slots id me current (suc (suc mark)) free some_mark idle s b len at small = ⊎_elim
       (λ (f : IsFree log fits s.words s.homes b.now b.holder). dite (ℕ_discrete f.mark current) (takes-free s id me current mark idle b at f) (misses s id me f.mark current (suc (suc mark)) b at f.word))
@@ -259,7 +260,7 @@ module _ {S D E : Type 0} (log : S → Log D E) (fits : S → Type 0) (top : D) 
       b.lock
   takes_lock slots id me current _ free some_mark idle s b len at small = absurd (omega arith)
 
-  -- a taken lock's word becomes another of a taken lock
+  -- the word of a taken lock becomes another one of a taken lock
   marks-free : (s : State S (View D E)) (id : ℕ) (me : Me S (View D E)) (current next : ℕ) → 2 ≤ current → (b : Recorded s) → get_elem? s.views id ≡ some me.0
       → IsFree log fits s.words s.homes b.now b.holder → Owes id me (swapped current next) (λ _ w. w ≡ me) s.views s.words s.homes
   marks-free s id me current next taken b at f =
@@ -291,14 +292,14 @@ module _ {S D E : Type 0} (log : S → Log D E) (fits : S → Type 0) (top : D) 
   marks slots id me current (suc (suc mark)) taken some_mark s b len at small = ⊎_elim (marks-free s id me current (suc (suc mark)) taken b at) (marks-away s id me current mark b at) b.lock
   marks slots id me current _ taken some_mark s b len at small = absurd (omega arith)
 
-  -- what is kept is put back, where the state but for the lock is right already
+  -- the protected data is put back, if the state is right already except for the lock
   puts-back : (s : State S (View D E)) (id : ℕ) (me : Me S (View D E)) (free : ℕ) (y : S) (w : View D E) (then : ℕ → Me S (View D E) → Type 0) → me.1 ≡ (0, y) ∷ [] → IsTakenOut s.words s.homes
       → IsLock log fits top (words_of free) (some y ∷ []) (set s.views id w) → ((n : ℕ) → then n (w, [])) → Owes id me (λ _. free) then s.views s.words s.homes
   puts-back s id me free y w then hands t after reported =
       let here : Owes id (me.0, (0, y) ∷ []) (λ _. free) then s.views (words_of (suc (suc t.mark))) (none ∷ []) = (w, gives, tt, after, reported (suc (suc t.mark))) in
       subst (λ (x : List ℕ × List (Option S) × List (ℕ × S)). Owes id (me.0, x.2) (λ _. free) then s.views x.0 x.1) (λ i. (sym t.word i, sym t.away i, sym hands i)) here
 
-  -- the lock is given back, and nothing happened
+  -- the lock is released without an entry
   pub leaves : (slots id : ℕ) (me : Me S (View D E)) (free : ℕ) → free < 2 → HasLock log fits me me.0.own.seen → Allows Recorded slots id me 16 (λ _. free) (λ _ w. w ≡ (unlocked me.0, []))
   leaves slots id me free is_free turn s b len at small =
       let t = not-free s id me.0 b at turn.locks in
@@ -323,7 +324,7 @@ module _ {S D E : Type 0} (log : S → Log D E) (fits : S → Type 0) (top : D) 
         lock = inl record { kept = turn.kept; mark = free; small = is_free; word = refl; home = refl; fitting = turn.fitting; same = turn.same ∙ had.1; nobody = refl };
       } (λ _. refl)
 
-  -- the lock is given back, and this event happened
+  -- the lock is released with this entry
   pub leaves_with : (slots id : ℕ) (me : Me S (View D E)) (e : E) (free : ℕ) → free < 2 → me.0.maker ≡ true → HasLock log fits me (with_entry me.0.own.seen e) → Allows Recorded slots id me 16 (λ _. free) (λ _ w. w ≡ (unlocked_with e me.0, []))
   leaves_with slots id me e free is_free maker turn s b len at small =
       let t = not-free s id me.0 b at turn.locks in
@@ -365,7 +366,7 @@ module _ {S D E : Type 0} (log : S → Log D E) (fits : S → Type 0) (top : D) 
         lock = inl record { kept = turn.kept; mark = free; small = is_free; word = refl; home = refl; fitting = turn.fitting; same = turn.same ∙ ap (λ h. with_entry h e) had.1; nobody = refl };
       } (λ _. refl)
 
-  -- a new seat
+  -- a seat is created
   sits-at : (s : State S (View D E)) (b : Recorded s) (views : List (View D E)) (first w : View D E) → length views ≡ length s.views
       → ((j : ℕ) (u : View D E) → get_elem? views j ≡ some u → IsSeat b.now b.owners b.holder j u) → get_elem? views 0 ≡ some first → AreReported b.now b.owners first.reported → AreCounted (views ++ w ∷ []) first
       → w.locks ≡ false → w.own.made ≡ [] → IsBeginning w.own.seen b.now → IsLock log fits top s.words s.homes (views ++ w ∷ [])
@@ -418,7 +419,7 @@ module _ {S D E : Type 0} (log : S → Log D E) (fits : S → Type 0) (top : D) 
   pub issues : (id : ℕ) (v : View D E) → id ≡ 0 → v.live ≡ true → Splits Recorded id v (issued_one v) (newcomer v.own.seen)
   issues id v is_first live = subst (λ (i : ℕ). Splits Recorded i v (issued_one v) (newcomer v.own.seen)) (sym is_first) (issues-first v live)
 
-  -- what another has seen and made is reported to the first seat
+  -- the first seat learns what another has seen and made
   reports-first : (d : D) (v : View D E) (other : ℕ) (w : View D E) → v.live ≡ true → w.live ≡ true → w.maker ≡ true → Joins Recorded 0 v other w (reported_of v w) (gone d)
   reports-first d v other w live live' maker s b at apart there =
       let both = reported_of v w in
@@ -479,7 +480,7 @@ module _ {S D E : Type 0} (log : S → Log D E) (fits : S → Type 0) (top : D) 
       (λ (t : IsTakenOut s.words s.homes). subst (λ (ws : List ℕ). set ws 16 (slice_index ws 16) ≡ ws) (sym t.word) refl)
       b.lock
 
-  -- where the first seat has made nothing, and all that it issued were joined to it, no seat owns anything
+  -- if the first seat has made nothing, and all seats that it issued were joined to it, no seat owns anything
   no-seat-owns : (s : State S (View D E)) (b : Recorded s) (v : View D E) → get_elem? s.views 0 ≡ some v → AreCounted s.views v → v.own.made ≡ [] → v.own.issued ≤ length v.reported → NoSeatOwns b.now b.owners
   no-seat-owns s b v at counted idle back id =
       let many = counted.many in

@@ -1,4 +1,4 @@
--- The rule of a lock: one log of what lies under it, each entry of which belongs to the seat that made it.
+-- The rule of a lock: there is one log of the protected data, and each of its entries belongs to the seat that made it.
 use Rattle.std.specs.Prelude.{◌≡◌, ℕ, suc, ◌+◌, ◌<◌, ◌≤◌, true, false, List, [], ◌∷◌, ◌++◌, length, ◌⊎◌, if◌then◌else◌}
 use mathlib.Core.Option.{Option, some, none}
 use lib.ListN.{get_elem?}
@@ -9,51 +9,53 @@ use Rattle.logged_lock.specs.declared.views.Account.{Account}
 use Rattle.logged_lock.specs.declared.views.View.{View}
 use Rattle.logged_lock.specs.Log.{with_entry, IsBeginning, owned, made_by, AreBehind}
 
--- which lock it is, and the head of the log of what lies under it, which never changes
+-- the identity of a lock, and the head of the log of the protected data, which never changes
 pub record LockAt (D : Type 0) : Type 0 where
   pub id : TableId
   pub head : D
 
--- the words of a lock whose word is this number: those around it are never used
+-- the words of a lock whose own word is this number; the words around it are never used
 abbrev pub words_of : ℕ → List ℕ
 words_of n = 0 ∷ 0 ∷ 0 ∷ 0 ∷ 0 ∷ 0 ∷ 0 ∷ 0 ∷ 0 ∷ 0 ∷ 0 ∷ 0 ∷ 0 ∷ 0 ∷ 0 ∷ 0 ∷ n ∷ 0 ∷ 0 ∷ 0 ∷ 0 ∷ 0 ∷ 0 ∷ 0 ∷ 0 ∷ 0 ∷ 0 ∷ 0 ∷ 0 ∷ 0 ∷ 0 ∷ 0 ∷ 0 ∷ []
 
--- the owner of what was made from a seat, and of what the k-th seat that was joined to the first had made
+-- the tag that owns the entries made from a seat, and the tag that owns those of the k-th seat that was joined to the
+-- first
 abbrev pub seat_tag : ℕ → ℕ
 seat_tag id = id + id
 
 abbrev pub reported_tag : ℕ → ℕ
 reported_tag k = suc (k + k)
 
--- a seat that has seen this log, and has made nothing of it
+-- the view of a seat that has seen this log, and has made nothing
 abbrev pub newcomer : {D E : Type 0} → Log D E → View D E
 newcomer l = record { live = true; locks = false; maker = true; own = record { seen = l; made = []; issued = 0 }; reported = [] }
 
--- a seat that has seen this log, and makes nothing
+-- the view of a seat that has seen this log, and never makes anything
 abbrev pub guest : {D E : Type 0} → Log D E → View D E
 guest l = record { live = true; locks = false; maker = false; own = record { seen = l; made = []; issued = 0 }; reported = [] }
 
--- one seat more was issued from it
+-- the view of a seat after one more seat was issued from it
 abbrev pub issued_one : {D E : Type 0} → View D E → View D E
 issued_one v = record { live = v.live; locks = v.locks; maker = v.maker; own = record { seen = v.own.seen; made = v.own.made; issued = suc v.own.issued }; reported = v.reported }
 
--- what a seat leaves that was joined to the first
+-- the view that is left of a seat that was joined to the first one
 abbrev pub gone : {D E : Type 0} → D → View D E
 gone d = record { live = false; locks = false; maker = false; own = record { seen = record { head = d; entries = [] }; made = []; issued = 0 }; reported = [] }
 
--- the first seat has learned what another had seen and made
+-- the view of the first seat after it has learned what another had seen and made
 abbrev pub reported_of : {D E : Type 0} → View D E → View D E → View D E
 reported_of v w = record { live = v.live; locks = v.locks; maker = v.maker; own = v.own; reported = v.reported ++ w.own ∷ [] }
 
--- the seat has the lock, and has seen this log
+-- the view of a seat that has the lock, and has seen this log
 abbrev pub locked : {D E : Type 0} → Log D E → View D E → View D E
 locked l v = record { live = true; locks = true; maker = v.maker; own = record { seen = l; made = v.own.made; issued = v.own.issued }; reported = v.reported }
 
--- the seat has given the lock back, and made nothing
+-- the view of a seat after it has released the lock without an entry
 abbrev pub unlocked : {D E : Type 0} → View D E → View D E
 unlocked v = record { live = true; locks = false; maker = v.maker; own = v.own; reported = v.reported }
 
--- the seat has given the lock back, and this entry is its own, at the place after all that it had seen
+-- the view of a seat after it has released the lock with this entry, which is its own, at the place after all that it
+-- had seen
 abbrev pub unlocked_with : {D E : Type 0} → E → View D E → View D E
 unlocked_with e v = record {
   live = true;
@@ -63,29 +65,29 @@ unlocked_with e v = record {
   reported = v.reported;
 }
 
--- what is so of a seat: what it has made is its own in the log, which begins with what it has seen; who has the lock has seen all; and
--- only makers have made anything
+-- the facts about a seat: the entries that it has made are its own in the log, which begins with what it has seen; a
+-- seat that has the lock has seen all of the log; and only makers have made anything
 pub record IsSeat {D E : Type 0} (now : Log D E) (owners : List ℕ) (holder : Option ℕ) (id : ℕ) (v : View D E) : Type 0 where
   pub mine : owned (seat_tag id) 0 owners now.entries ≡ v.own.made
   pub behind : v.live ≡ true → IsBeginning v.own.seen now
   pub locks : v.locks ≡ true → (holder ≡ some id) × (v.own.seen ≡ now)
   pub quiet : v.maker ≡ false → v.own.made ≡ []
 
--- what was joined to the first seat is its own in the log
+-- the entries of the seats that were joined to the first one are their own in the log
 abbrev pub AreReported : {D E : Type 0} → Log D E → List ℕ → List (Account D E) → Type 0
 AreReported now owners reported = ((k : ℕ) → owned (reported_tag k) 0 owners now.entries ≡ made_by reported k) × AreBehind reported now
 
--- how many of these seats are makers
+-- the number of makers among these seats
 abbrev pub makers_in : {D E : Type 0} → List (View D E) → ℕ
 makers_in [] = 0
 makers_in (v ∷ vs) = (if v.maker then 1 else 0) + makers_in vs
 
--- the makers are the first seat, and those that it issued and that haven't reported
+-- the makers are the first seat, and the seats that it issued and that haven't reported
 pub record AreCounted {D E : Type 0} (views : List (View D E)) (first : View D E) : Type 0 where
   pub lead : first.maker ≡ true
   pub many : makers_in views + length first.reported ≡ suc first.own.issued
 
--- the lock is free: what lies under it is at home, and its log is the one log
+-- the lock is free: the protected data is in its slot, and its log is the one log
 pub record IsFree {S D E : Type 0} (log : S → Log D E) (fits : S → Type 0) (words : List ℕ) (homes : List (Option S)) (now : Log D E) (holder : Option ℕ) : Type 0 where
   pub kept : S
   pub mark : ℕ
@@ -96,13 +98,13 @@ pub record IsFree {S D E : Type 0} (log : S → Log D E) (fits : S → Type 0) (
   pub same : log kept ≡ now
   pub nobody : holder ≡ none
 
--- the lock is taken, and what lies under it is with the seat that has it
+-- the lock is taken, and the protected data is with the seat that has the lock
 pub record IsTakenOut {S : Type 0} (words : List ℕ) (homes : List (Option S)) : Type 0 where
   pub mark : ℕ
   pub word : words ≡ words_of (suc (suc mark))
   pub away : homes ≡ none ∷ []
 
--- what holds at every moment of a lock over a log with this head
+-- the facts that hold at every moment of a lock over a log with this head
 pub record IsLock {S D E : Type 0} (log : S → Log D E) (fits : S → Type 0) (head : D) (words : List ℕ) (homes : List (Option S)) (views : List (View D E)) : Type 0 where
   pub now : Log D E
   pub headed : now.head ≡ head
@@ -123,7 +125,7 @@ pub record IsIdle {S D E : Type 0} (me : Me S (View D E)) : Type 0 where
   pub locks : me.0.locks ≡ false
   pub hands : me.1 ≡ []
 
--- a seat that has the lock, and with it what lies under it, of which this is the log
+-- a seat that has the lock, and with it the protected data, whose log is this one
 pub record HasLock {S D E : Type 0} (log : S → Log D E) (fits : S → Type 0) (me : Me S (View D E)) (l : Log D E) : Type 0 where
   pub kept : S
   pub live : me.0.live ≡ true
@@ -132,7 +134,7 @@ pub record HasLock {S D E : Type 0} (log : S → Log D E) (fits : S → Type 0) 
   pub fitting : fits kept
   pub same : log kept ≡ l
 
--- the lock was taken, and with it what lies under it, whose log goes on from what the seat had seen
+-- the lock was taken, and with it the protected data, whose log continues the one that the seat had seen
 pub record IsTaken {S D E : Type 0} (log : S → Log D E) (fits : S → Type 0) (before after : Me S (View D E)) : Type 0 where
   pub kept : S
   pub me : after ≡ (locked (log kept) before.0, (0, kept) ∷ [])
@@ -143,8 +145,9 @@ pub record IsTaken {S D E : Type 0} (log : S → Log D E) (fits : S → Type 0) 
 abbrev pub NoSeatOwns : {D E : Type 0} → Log D E → List ℕ → Type 0
 NoSeatOwns now owners = (id : ℕ) → owned (seat_tag id) 0 owners now.entries ≡ []
 
--- The log that was seen is made of what was joined to the first seat, and of what other seats made; of the first alone where all that
--- it issued were joined to it, and it has made nothing.
+-- The log that was seen consists of the entries of the seats that were joined to the first one, and of the entries of
+-- other seats. It consists of the former alone if all seats that the first one issued were joined to it, and it has
+-- made nothing.
 abbrev pub IsAccountedFor : {D E : Type 0} → View D E → Type 0
 IsAccountedFor v = (owners : List ℕ) × (length owners ≡ length v.own.seen.entries) × AreReported v.own.seen owners v.reported
     × (v.own.made ≡ [] → v.own.issued ≤ length v.reported → NoSeatOwns v.own.seen owners)

@@ -1,11 +1,13 @@
-//! A lock whose contracts name the log of what lies under it, each entry of which belongs to the seat that made it.
+//! A lock whose contracts name the log of the data that it protects. Each entry of the log belongs to the seat that
+//! made it.
 //!
-//! What lies under a [`LoggedLock`] is [`Logged`]: contracts see a log of it, which is a head that never changes and entries so
-//! far. Each thread has a seat at the lock, which has no octets, and whose view says what it has seen of the log and which
-//! entries were made from it, each with its place. The lock is given back with an entry more ([`LoggedLock::unlock_with`]) or
-//! with none ([`LoggedLock::unlock`]). At the end the first seat learns what the others have seen and made
-//! ([`LoggedLock::report`], [`LoggedLock::account`]): where that is as much as the log has, the log is a merge of it. So it is where
-//! all seats that it issued have reported to it. A guest ([`LoggedLock::guest`]) makes nothing.
+//! The data under a [`LoggedLock`] is [`Logged`]: contracts see a log of it, which consists of a head that never
+//! changes and the entries so far. Each thread has a seat at the lock. A seat has no octets. Its view tells what the
+//! seat has seen of the log, and which entries were made from it, each with its place. The lock is released with one
+//! more entry ([`LoggedLock::unlock_with`]) or without one ([`LoggedLock::unlock`]). At the end the first seat learns
+//! what the others have seen and made ([`LoggedLock::report`], [`LoggedLock::account`]). If they have made as many
+//! entries as the log has, the log is a merge of what they made. This is so when all seats that the first one issued
+//! have reported to it, and it has made nothing itself. A guest ([`LoggedLock::guest`]) makes nothing.
 #![tactic(auto)]
 
 mod lock;

@@ -16,35 +16,37 @@ use std::hint::spin_loop;
 use std::marker::Model;
 use std::sync::Wait;
 
-// What the word says of a free lock: any thread may take it, or only one that has slept.
+// The words of a free lock. At `FREE` any thread may take it, and at `LEFT` only a thread that has slept.
 const FREE: u64 = 0;
 
 const LEFT: u64 = 1;
 
-// What it says of a taken one: that is all; a thread may sleep; and one has asked that the lock be left to those that have slept.
-// While the lock is taken its word only rises.
+// The words of a taken lock. `TAKEN` says no more than that, `SLEEPERS` that a thread may sleep, and `ASKED` that a
+// thread has requested that the lock be left to threads that have slept. While the lock is taken its word only rises.
 const TAKEN: u64 = 2;
 
 const SLEEPERS: u64 = 3;
 
 const ASKED: u64 = 4;
 
-// The word is the middle one of so many. The others are never used: they keep what lies before and after them on the heap off the
-// pair of cache lines that the word lies on, which processors fetch together.
+// The lock's word is the middle one of these words. The others are never used. They keep other data on the heap away
+// from the pair of cache lines with the lock's word, which processors fetch together.
 const WORDS: [u64; 33] = [FREE; 33];
 
 const WORD: usize = 16;
 
-// How often a thread looks at the word of a taken lock before it sleeps, and how many pauses it makes after the first look; after each
-// further one it makes twice as many. A look takes the word's cache line from the thread that has the lock.
+// The number of times that a thread looks at the word of a taken lock before it sleeps, and the number of pauses after
+// its first look. After each further look it makes twice as many pauses. A look takes the word's cache line from the
+// thread that has the lock.
 const LOOKS: u32 = 6;
 
 const PAUSES: u32 = 32;
 
-// How often it sleeps before it asks that the lock be left to those that have slept. That makes starving rare, and does not bound it.
+// The number of times that a thread sleeps before it requests that the lock be left to threads that have slept. That
+// makes starvation rare, but doesn't bound it.
 const LOST_WAKES: u64 = 2;
 
-// Whether a thread that has slept so often may take a lock with this word.
+// Returns whether a thread that has slept `sleeps` times may take a lock with this word.
 fn is_open(word: u64, sleeps: u64) -> bool
     ensures open { result ≡ is_open word sleeps }
     ensures free { result ≡ true → word < 2 }
@@ -52,7 +54,7 @@ fn is_open(word: u64, sleeps: u64) -> bool
     word == FREE || (word == LEFT && sleeps != 0)
 }
 
-// The word of a taken lock by which a thread that has slept so often says that it waits.
+// Returns the word of a taken lock by which a thread that has slept `sleeps` times shows that it waits.
 fn asking(sleeps: u64) -> u64
     ensures asked { result ≡ asking sleeps }
     ensures taken { (2 ≤ result) × (result ≤ 4) }
@@ -60,7 +62,7 @@ fn asking(sleeps: u64) -> u64
     if sleeps < LOST_WAKES { SLEEPERS } else { ASKED }
 }
 
-// The word of a lock that is given back, in place of this one.
+// Returns the word that a lock with this word gets when it is released.
 fn given_back(word: u64) -> u64
     ensures given_back { result ≡ given_back word }
     ensures free { result < 2 }
@@ -68,7 +70,8 @@ fn given_back(word: u64) -> u64
     if word == ASKED { LEFT } else { FREE }
 }
 
-/// A lock. Who has it has what lies under it. A contract sees which lock it is, and the head of the log, which never changes.
+/// A lock. The thread that has it has the data that it protects. A contract sees the lock's identity, and the head of
+/// the log, which never changes.
 #[derive(Drop)]
 pub struct LoggedLock<S: Logged<D, E>, D, E> {
     table: Table<S, View<D, E>, D, LockRule, Global>,
@@ -86,7 +89,7 @@ impl<S: Logged<D, E>, D, E> Model for LoggedLock<S, D, E> {
 }
 
 impl<S: Logged<D, E>, D: Head, E> LoggedLock<S, D, E> {
-    /// A lock that is free, and its first seat. The log of what lies under it has no entry.
+    /// Creates a lock that is free, and its first seat. The log of the protected data must have no entry.
     pub fn new(
         alloc: Global,
         kept: S,
@@ -107,7 +110,8 @@ impl<S: Logged<D, E>, D: Head, E> LoggedLock<S, D, E> {
         Ok((LoggedLock { table }, seat))
     }
 
-    // Takes the lock if its word is this one of a free lock, and makes it the next one.
+    // Takes the lock if its word is `current`, which is one of a free lock, and changes the word to `next`. Returns
+    // whether it was `current`.
     fn take(&self, seat: &mut LockSeat<S, D, E>, current: u64, next: u64) -> bool
         requires free { current < 2 }
         requires taken { 2 ≤ next }
@@ -122,7 +126,7 @@ impl<S: Logged<D, E>, D: Head, E> LoggedLock<S, D, E> {
             == current
     }
 
-    // Raises the word of a taken lock from this one to the next one, and says whether it was this one.
+    // Raises the word of a taken lock from `current` to `next`, and returns whether it was `current`.
     fn mark(&self, seat: &mut LockSeat<S, D, E>, current: u64, next: u64) -> bool
         requires taken { (2 ≤ current) × (2 ≤ next) }
         requires own { seat.old.table_id ≡ self.now.id }
@@ -134,14 +138,15 @@ impl<S: Logged<D, E>, D: Head, E> LoggedLock<S, D, E> {
             == current
     }
 
-    // The word at this moment.
+    // Returns the word at this moment.
     fn look(&self) -> u64
         ensures { result ≤ 4 }
     {
         self.table.shared.peek(WORD).min(ASKED)
     }
 
-    // Looks for a while, as long as the lock is taken and no thread sleeps.
+    // Looks at the word for a while, as long as the lock is taken and no thread sleeps. Returns the last word that it
+    // saw.
     fn spin(&self) -> u64
         ensures { result ≤ 4 }
     {
@@ -159,7 +164,8 @@ impl<S: Logged<D, E>, D: Head, E> LoggedLock<S, D, E> {
         TAKEN
     }
 
-    // Sleeps while the word is this one, once it says that a thread may sleep, and gives the word afterwards.
+    // Marks the word to show that a thread may sleep, sleeps while the word stays as it is, and returns the word
+    // afterwards.
     fn sleep<R: Wait>(&self, rt: &R, seat: &mut LockSeat<S, D, E>, word: u64, sleeps: u64) -> u64
         requires small { word ≤ 4 }
         requires own { seat.old.table_id ≡ self.now.id }
@@ -188,7 +194,8 @@ impl<S: Logged<D, E>, D: Head, E> LoggedLock<S, D, E> {
         self.take(seat, FREE, TAKEN)
     }
 
-    // Takes the lock once it is free. It looks at it for a while, and then sleeps until it is given back.
+    // Takes the lock once it is free. The thread looks at the word for a while, and then sleeps until the lock is
+    // released.
     #[cold]
     #[inline(never)]
     fn wait<R: Wait>(&self, rt: &R, seat: &mut LockSeat<S, D, E>)
@@ -216,7 +223,8 @@ impl<S: Logged<D, E>, D: Head, E> LoggedLock<S, D, E> {
         unreachable!()
     }
 
-    /// Takes the lock once it is free. A thread that waits looks at it for a while, and then sleeps until it is given back.
+    /// Takes the lock once it is free. A thread that waits looks at the lock for a while, and then sleeps until it is
+    /// released.
     pub fn lock<R: Wait>(&self, rt: &R, seat: &mut LockSeat<S, D, E>)
         requires own { seat.old.table_id ≡ self.now.id }
         requires idle { IsIdle seat.old.me }
@@ -228,14 +236,14 @@ impl<S: Logged<D, E>, D: Head, E> LoggedLock<S, D, E> {
         }
     }
 
-    // Wakes a thread if one may sleep, as the word of the lock that was given back says.
+    // Wakes a thread if one may sleep according to `word`, which the lock had before it was released.
     fn wake(&self, word: u64) {
         if TAKEN < word {
             self.table.shared.wake_one(WORD);
         }
     }
 
-    /// Gives the lock back with no entry.
+    /// Releases the lock without an entry.
     pub fn unlock(&self, seat: &mut LockSeat<S, D, E>)
         requires own { seat.old.table_id ≡ self.now.id }
         requires unchanged { HasLock S.log S.fits seat.old.me seat.old.me.0.own.seen }
@@ -247,7 +255,7 @@ impl<S: Logged<D, E>, D: Head, E> LoggedLock<S, D, E> {
         self.wake(word);
     }
 
-    /// Gives the lock back with an entry, which is the seat's own from then on.
+    /// Releases the lock with an entry, which belongs to the seat from then on.
     pub fn unlock_with<P: NextEntry<E>>(&self, seat: &mut LockSeat<S, D, E>)
         requires own { seat.old.table_id ≡ self.now.id }
         requires maker { seat.old.me.0.maker ≡ true }
@@ -260,7 +268,7 @@ impl<S: Logged<D, E>, D: Head, E> LoggedLock<S, D, E> {
         self.wake(word);
     }
 
-    /// A new seat, from which nothing can be made, for who has none.
+    /// Creates a seat from which nothing can be made, for a thread that has none.
     pub fn guest(&self) -> LockSeat<S, D, E>
         ensures own { result.table_id ≡ self.now.id }
         ensures head { result.me.0.own.seen.head ≡ self.now.head }
@@ -269,7 +277,7 @@ impl<S: Logged<D, E>, D: Head, E> LoggedLock<S, D, E> {
         self.table.shared.load_new_seat::<Sits>(WORD).1
     }
 
-    /// A new seat, from which nothing was made, and which has seen what the first one has seen.
+    /// Creates a seat from which nothing was made, and which has seen what the first one has seen.
     pub fn issue(&self, first: &mut LockSeat<S, D, E>) -> LockSeat<S, D, E>
         requires own { first.old.table_id ≡ self.now.id }
         requires first { first.old.id ≡ 0 }
@@ -282,7 +290,7 @@ impl<S: Logged<D, E>, D: Head, E> LoggedLock<S, D, E> {
         self.table.shared.split_seat::<Issues>(first)
     }
 
-    /// Lets the first seat know what another has seen and made, which is spent.
+    /// Lets the first seat know what another seat has seen and made. The other seat is consumed.
     pub fn report(&self, first: &mut LockSeat<S, D, E>, other: LockSeat<S, D, E>)
         requires own { (first.old.table_id ≡ self.now.id) × (other.table_id ≡ self.now.id) }
         requires first { first.old.id ≡ 0 }
@@ -295,9 +303,9 @@ impl<S: Logged<D, E>, D: Head, E> LoggedLock<S, D, E> {
         self.table.shared.join_seat::<Reports>(first, other);
     }
 
-    /// Shows what the log is made of, by the first seat, which has the lock. Where those that reported to it have made as many
-    /// entries as the log has, the log is a merge of what they made. Where all that it issued have reported, and has made nothing,
-    /// they have made as many.
+    /// Shows what the log consists of, through the first seat, which must have the lock. If the seats that reported to
+    /// it have made as many entries as the log has, the log is a merge of what they made. They have made that many if
+    /// all seats that the first one issued have reported, and it has made nothing itself.
     pub fn account(&self, first: &mut LockSeat<S, D, E>)
         requires own { first.old.table_id ≡ self.now.id }
         requires first { first.old.id ≡ 0 }
@@ -311,14 +319,14 @@ impl<S: Logged<D, E>, D: Head, E> LoggedLock<S, D, E> {
         self.table.shared.load::<Accounts>(first, WORD);
     }
 
-    /// The table for `slot_mut` of a seat that has the lock, which lends what lies under it, in slot 0.
+    /// Returns the table for `slot_mut` of a seat that has the lock, which lends the protected data in slot 0.
     pub fn table(&self) -> &Shared<S, View<D, E>, D, LockRule>
         ensures { result.now.table_id ≡ self.now.id }
     {
         &self.table.shared
     }
 
-    /// What lies under the lock, by the seat that has it, which gets this in its place.
+    /// Takes the protected data out, through the seat that has the lock, and puts `kept` in its place.
     pub fn replace(&self, seat: &mut LockSeat<S, D, E>, kept: S) -> S
         requires own { seat.old.table_id ≡ self.now.id }
         requires locks { (old : S) × (seat.old.me.1 ≡ (0, old) ∷ []) }

@@ -16,12 +16,12 @@ impl<D, E, S: Logged<D, E>> TableRule<S, View<D, E>, D> for LockRule {
     ghost first = { λ d. newcomer (start_of d) };
 }
 
-/// The entry with which the lock is given back. Each call picks it.
+/// The entry with which the lock is released. Each call chooses it.
 pub trait NextEntry<E> {
     ghost entry: { E };
 }
 
-/// The lock is taken if its word is the free one that was expected.
+/// The step that takes the lock if its word is the expected one of a free lock.
 pub struct Takes;
 
 impl<D, E, S: Logged<D, E>> Play<S, View<D, E>> for Takes {
@@ -31,7 +31,7 @@ impl<D, E, S: Logged<D, E>> Play<S, View<D, E>> for Takes {
     ghost then = { λ s before found after. MatchBool (found == s.first) (IsTaken S.log S.fits before after) (after ≡ before) };
 }
 
-/// Whoever has the lock learns that another waits.
+/// The step that marks a taken lock, so that the thread that has it learns that another waits.
 pub struct Marks;
 
 impl<S, D, E> Play<S, View<D, E>> for Marks {
@@ -40,7 +40,7 @@ impl<S, D, E> Play<S, View<D, E>> for Marks {
     ghost then = { λ _ before _ after. after ≡ before };
 }
 
-/// The lock is given back with no entry.
+/// The step that releases the lock without an entry.
 pub struct Leaves;
 
 impl<S, D, E> Play<S, View<D, E>> for Leaves {
@@ -50,7 +50,7 @@ impl<S, D, E> Play<S, View<D, E>> for Leaves {
     ghost then = { λ _ before _ after. after ≡ (unlocked before.0, []) };
 }
 
-/// The lock is given back with an entry.
+/// The step that releases the lock with an entry.
 pub struct LeavesWith<P> {
     marker: PhantomData<P>,
 }
@@ -62,7 +62,8 @@ impl<S, D, E, P: NextEntry<E>> Play<S, View<D, E>> for LeavesWith<P> {
     ghost then = { λ _ before _ after. after ≡ (unlocked_with P.entry before.0, []) };
 }
 
-/// A new seat, from which nothing is made. What it has seen has the head that the table was given.
+/// The step that creates a seat from which nothing is made. The log that this seat has seen has the head that the table
+/// was given.
 pub struct Sits;
 
 impl<S, D, E> Play<S, View<D, E>> for Sits {
@@ -72,7 +73,7 @@ impl<S, D, E> Play<S, View<D, E>> for Sits {
     ghost then = { λ _ before _ after. (after ≡ (guest after.0.own.seen, [])) × (after.0.own.seen.head ≡ before.0.own.seen.head) };
 }
 
-/// The first seat learns what the log is made of.
+/// The step by which the first seat learns what the log consists of.
 pub struct Accounts;
 
 impl<S, D, E> Play<S, View<D, E>> for Accounts {
@@ -82,7 +83,7 @@ impl<S, D, E> Play<S, View<D, E>> for Accounts {
     ghost then = { λ _ before _ after. (after ≡ before) × IsAccountedFor before.0 };
 }
 
-/// A new seat, which has seen what this one has seen.
+/// The step that issues a new seat, which has seen what this one has seen.
 pub struct Issues;
 
 impl<D, E> Split<View<D, E>> for Issues {
@@ -93,7 +94,7 @@ impl<D, E> Split<View<D, E>> for Issues {
     ghost right = { λ v. newcomer v.own.seen };
 }
 
-/// The first seat learns what another has seen and made, which is spent.
+/// The step by which the first seat learns what another has seen and made. The other seat is consumed.
 pub struct Reports;
 
 impl<D: Head, E> Join<View<D, E>> for Reports {
@@ -104,5 +105,5 @@ impl<D: Head, E> Join<View<D, E>> for Reports {
     ghost spent = { gone D.blank };
 }
 
-/// A seat at a lock, which has no octets.
+/// A seat at a lock. It has no octets.
 pub type LockSeat<S, D, E> = Seat<S, View<D, E>>;

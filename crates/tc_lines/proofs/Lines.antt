@@ -9,14 +9,14 @@ use Rattle.tc_lines.specs.Answering.{AreAllWritten, AreAnswered, AreFirstWritten
 use Rattle.tc_lines.specs.Reading.{IsLineRead, IsOneLine, feed_of}
 use Rattle.tc_lines.specs.declared.reading.LineRead.{LineRead}
 
--- a line and its line feed
+-- the first line ends with the first line feed
 lines-ended : (line after : List ℕ) → IsOneLine line → lines_of (line ++ 10 ∷ after) ≡ line ∷ lines_of after
 lines-ended [] after one = refl
 lines-ended (x ∷ xs) after one =
     ap (λ b. cond b ([] ∷ lines_of (xs ++ 10 ∷ after)) (lines_after x (lines_of (xs ++ 10 ∷ after)))) (ne_eqb x 10 (All-head (λ octet. octet ≢ 10) x xs one))
     ∙ ap (lines_after x) (lines-ended xs after (All-tail (λ octet. octet ≢ 10) x xs one))
 
--- octets without a line feed
+-- octets without a line feed are one line, unless there are none
 lines-last : (line : List ℕ) → IsOneLine line → line ≢ [] → lines_of line ≡ line ∷ []
 lines-last [] one some = absurd (some refl)
 lines-last (x ∷ []) one some =
@@ -26,7 +26,7 @@ lines-last (x ∷ (y ∷ ys)) one some =
     ∙ ap (lines_after x) (lines-last (y ∷ ys) (All-tail (λ octet. octet ≢ 10) x (y ∷ ys) one) (λ no. cc))
 
 module _ {S : Type 0} (limit : ℕ) (Answers : S → List ℕ → S → List ℕ → Type 0) where
-  -- one line more
+  -- one more line is answered
   answered-more : (old now new : S) (lines : List (List ℕ)) (line text more : List ℕ) → AreAnswered limit Answers old lines now text
       → IsAnswered limit Answers now line new more → AreAnswered limit Answers old (lines ++ line ∷ []) new (text ++ more)
   answered-more old now new [] line text more before next = (
@@ -100,7 +100,7 @@ module _ {S : Type 0} (limit : ℕ) (Answers : S → List ℕ → S → List ℕ
       )
       at (inr (not, none, same, reported)) found = absurd (both_ways read.ended not ended)
 
-  -- the last line
+  -- the last line is answered
   pub lines-end : (old now new : S) (known left after_it : Option (List ℕ)) (kept shown : List ℕ) (read : LineRead) (a b c : Option (List ℕ))
       → IsSoFar old known now left a b → IsLineRead limit left after_it kept read → read.ended ≡ false
       → shown ≡ kept → Writes b c (IsReadAnswered Answers now read shown new) → IfSome known (λ octets. AreAllWritten limit Answers old octets new a c)
@@ -140,7 +140,7 @@ module _ {S : Type 0} (limit : ℕ) (Answers : S → List ℕ → S → List ℕ
         Appends-trans a b c text more written appended,
       )
 
-  -- where no more can be read
+  -- no more lines can be read
   pub lines-cut : (old now : S) (known left a b : Option (List ℕ)) → IsSoFar old known now left a b
       → IfSome known (λ octets. AreFirstWritten limit Answers old octets now a b)
   lines-cut old now None left a b so_far = tt

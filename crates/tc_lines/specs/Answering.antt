@@ -1,11 +1,11 @@
--- Lines of octets, and how they are answered.
+-- Lines of octets, and their answers.
 use Rattle.std.specs.Prelude.{◌≡◌, ◌≢◌, ◌<◌, ◌≤◌, ◌==◌, if◌then◌else◌, ◌⊎◌, ℕ, true, false, List, [], ◌∷◌, ◌++◌, length, codes, Option}
 use Rattle.std.specs.Io.KnownBytes.{Appends, Keeps}
 use Rattle.tc_lines.specs.declared.reading.LineRead.{LineRead}
 use Rattle.tc_lines.specs.declared.answering.ServingFault.{ServingFault}
 use Rattle.tc_lines.specs.declared.answering.ServingFault.TheVariants.{Read, Write, NoMemory}
 
--- an octet that isn't a line feed is the first of the first line
+-- the lines with one more octet in front, which isn't a line feed and so belongs to the first line
 abbrev pub lines_after : ℕ → List (List ℕ) → List (List ℕ)
 lines_after octet [] = (octet ∷ []) ∷ []
 lines_after octet (line ∷ lines) = (octet ∷ line) ∷ lines
@@ -15,15 +15,15 @@ abbrev pub lines_of : List ℕ → List (List ℕ)
 lines_of [] = []
 lines_of (octet ∷ octets) = if octet == 10 then [] ∷ lines_of octets else lines_after octet (lines_of octets)
 
--- what a writer holds grew by a text that is such
+-- the contents of a writer grew by a text with this property
 abbrev pub Writes : Option (List ℕ) → Option (List ℕ) → (List ℕ → Type 0) → Type 0
 Writes old new Is = (text : List ℕ) × Is text × Appends old new text
 
--- what a line is answered that is longer than a line may be
+-- the answer to a line that is longer than a line may be
 abbrev pub too_long_text : List ℕ
 too_long_text = codes "bad too long\n"
 
--- a line that is too long is answered so, and changes nothing; any other is answered as `Answers` has it
+-- a line that is too long gets the answer for that, and changes nothing; any other line is answered as `Answers` states
 abbrev pub IsAnswered : {S : Type 0} → ℕ → (S → List ℕ → S → List ℕ → Type 0) → S → List ℕ → S → List ℕ → Type 0
 IsAnswered limit Answers old line new text =
     ((limit < length line) × (new ≡ old) × (text ≡ too_long_text)) ⊎ ((length line ≤ limit) × Answers old line new text)
@@ -35,7 +35,8 @@ AreAnswered {S} limit Answers old (line ∷ lines) new text =
     (between : S) × (first : List ℕ) × (rest : List ℕ) × IsAnswered limit Answers old line between first
     × AreAnswered limit Answers between lines new rest × (text ≡ first ++ rest)
 
--- a line that was read is answered: what is kept of it, or that it is too long. There is none where the input ended after a line feed
+-- a line that was read is answered by the octets that were kept of it, or as too long; there is no line if the input
+-- ended after a line feed
 abbrev pub IsReadAnswered : {S : Type 0} → (S → List ℕ → S → List ℕ → Type 0) → S → LineRead → List ℕ → S → List ℕ → Type 0
 IsReadAnswered Answers old read kept new text =
     ((read.too_long ≡ true) × (new ≡ old) × (text ≡ too_long_text))
@@ -46,13 +47,14 @@ IsReadAnswered Answers old read kept new text =
 abbrev pub AreAllWritten : {S : Type 0} → ℕ → (S → List ℕ → S → List ℕ → Type 0) → S → List ℕ → S → Option (List ℕ) → Option (List ℕ) → Type 0
 AreAllWritten limit Answers old octets new before after = Writes before after (AreAnswered limit Answers old (lines_of octets) new)
 
--- those of some first lines were
+-- the answers of the first lines of these octets were written, up to some line
 abbrev pub AreFirstWritten : {S : Type 0} → ℕ → (S → List ℕ → S → List ℕ → Type 0) → S → List ℕ → S → Option (List ℕ) → Option (List ℕ) → Type 0
 AreFirstWritten limit Answers old octets new before after =
     (lines : List (List ℕ)) × (rest : List (List ℕ)) × (lines_of octets ≡ lines ++ rest)
     × Writes before after (AreAnswered limit Answers old lines new)
 
--- what was written where it ended early: nothing of what failed to be written is known
+-- the state after an early end: after a failed read some first lines were answered, after a failed write nothing is
+-- known, and without memory nothing was done
 abbrev pub IsCutShort : {S : Type 0} → ℕ → (S → List ℕ → S → List ℕ → Type 0) → S → List ℕ → S → Option (List ℕ) → Option (List ℕ) → ServingFault → Type 0
 IsCutShort limit Answers old octets new before after Read = AreFirstWritten limit Answers old octets new before after
 IsCutShort limit Answers old octets new before after Write = Unit {0}

@@ -21,6 +21,6 @@ decimal_of word =
 abbrev pub if_at_most : ℕ → ℕ → Option ℕ
 if_at_most most number = if nat_le number most then Some number else None
 
--- the number that a word is, where it is one and is within its bound
+-- the number that a word spells, if it spells one within its bound
 abbrev pub word_number : ℕ → List ℕ → Option ℕ
 word_number most word = option_and_then (if_at_most most) (decimal_of word)

@@ -1,4 +1,4 @@
--- What is read of a line.
+-- The results of reading a line.
 use Rattle.std.specs.Prelude.{◌≡◌, ◌≢◌, ◌≤◌, ◌+◌, ℕ, Bool, true, false, List, [], ◌∷◌, ◌++◌, All, length, take, nat_lt, Option, OnSome}
 use Rattle.std.specs.Io.KnownBytes.{Consumes, IsAtEnd}
 use Rattle.tc_lines.specs.declared.reading.Front.{Front}
@@ -9,12 +9,13 @@ use Rattle.tc_lines.specs.declared.reading.Part.{Part}
 abbrev pub IsOneLine : List ℕ → Type 0
 IsOneLine line = All (λ octet. octet ≢ 10) line
 
--- the line feed of a line that one ended
+-- the line feed of a line, if one ended it
 abbrev pub feed_of : Bool → List ℕ
 feed_of true = 10 ∷ []
 feed_of false = []
 
--- a reader lost a line, and its line feed or, where there was none, all that it had; so many octets of it are kept at most
+-- a reader lost a line and its line feed, or all that it had if there was no line feed; at most `limit` octets of the
+-- line are kept
 pub record IsLineRead (limit : ℕ) (old new : Option (List ℕ)) (kept : List ℕ) (read : LineRead) : Type 0 where
   pub line : List ℕ
   pub one : IsOneLine line
@@ -23,7 +24,7 @@ pub record IsLineRead (limit : ℕ) (old new : Option (List ℕ)) (kept : List �
   pub kept_is : kept ≡ take limit line
   pub too_long_is : read.too_long ≡ nat_lt limit (length line)
 
--- the same of a part of a line, which follows what was kept before
+-- a reader lost a part of a line, which follows the octets that were kept before
 pub record IsPartRead (limit : ℕ) (old new : Option (List ℕ)) (before after : List ℕ) (part : Part) : Type 0 where
   pub octets : List ℕ
   pub one : IsOneLine octets
@@ -33,7 +34,7 @@ pub record IsPartRead (limit : ℕ) (old new : Option (List ℕ)) (before after 
   pub after_is : after ≡ take limit (before ++ octets)
   pub over_is : part.over ≡ nat_lt limit (length before + length octets)
 
--- where nothing was read so far
+-- the result when nothing has been read so far
 abbrev pub nothing_yet : Part
 nothing_yet = record { over = false; goes_on = true; ended = false }
 

@@ -1,9 +1,9 @@
--- The words of a line, and what is read of them.
+-- The words of a line, and the values that are read from them.
 use Rattle.std.specs.Prelude.{ℕ, Bool, true, false, ◌==◌, ◌||◌, List, [], ◌∷◌, filter, slice_index, nat_eq, Result, Ok, Err}
 use Rattle.std.specs.Cmp.Lexicographic.{pointwise}
 use Rattle.std.specs.List.{slice_split}
 
--- space, tab and carriage return
+-- whether an octet is a space, a tab or a carriage return
 abbrev pub is_separator : ℕ → Bool
 is_separator octet = octet == 32 || octet == 9 || octet == 13
 
@@ -19,11 +19,11 @@ words octets = filter is_filled (slice_split is_separator octets)
 abbrev pub is : List ℕ → List ℕ → Bool
 is word text = pointwise nat_eq word text
 
--- the word begins with a number sign, and with it a comment
+-- the word begins with a number sign, and so begins a comment
 abbrev pub is_comment : List ℕ → Bool
 is_comment word = slice_index word 0 == 35
 
--- what follows where something could be read
+-- the next result, if there was one before, and otherwise the reason that there was none
 abbrev pub after_ok : {A B E : Type 0} → Result A E → (A → Result B E) → Result B E
 after_ok (Ok x) next = next x
 after_ok (Err reason) next = Err reason

@@ -1,4 +1,4 @@
-//! Lines in, answers out.
+//! Answering lines of input.
 
 ghost use Rattle.std.specs.Prelude.{◌≡◌, ℕ, List, IfErr, IfSome, OnOk};
 ghost use Rattle.tc_lines.specs.Answering.{AreAllWritten, IsCutShort, IsReadAnswered, Writes};
@@ -9,7 +9,7 @@ use std::io;
 use std::io::{BufRead, Write};
 use thiserror::Error;
 
-/// Why lines are no longer answered.
+/// The reason why no more lines are answered.
 #[derive(Clone, Copy, Debug, PartialEq, Eq, Error)]
 pub enum ServingFault {
     /// The reader failed.
@@ -18,17 +18,17 @@ pub enum ServingFault {
     /// The writer failed.
     #[error("cannot write")]
     Write,
-    /// Memory was wanting for a line.
+    /// There was no memory for a line.
     #[error("no memory")]
     NoMemory,
 }
 
-/// What answers lines.
+/// An answerer of lines.
 pub trait LineAnswerer {
-    // What a line does to it, and by what text it is answered.
+    // the effect of a line on the answerer, and the text that answers the line
     ghost answers: { Self → List ℕ → Self → List ℕ → Type 0 };
 
-    /// Answers a line, which is given without its line feed.
+    /// Answers a line, which is passed without its line feed.
     fn answer_line<W: Write>(
         &mut self,
         alloc: Global,
@@ -40,9 +40,9 @@ pub trait LineAnswerer {
 
 /// Answers lines until there are no more, and flushes after each answer.
 ///
-/// A line that has more octets than a line may have is answered `bad too long`, and isn't kept. Octets after the last line feed are
-/// a line. Where the octets of the reader are known, the answers of all its lines are written, or as many as it gave before it
-/// failed. After 2^64 - 1 lines it counts as failed.
+/// A line of more than `limit` octets is answered `bad too long`, and isn't kept. Octets after the last line feed are a
+/// line. If the octets of the reader are known, the answers to all its lines are written, or to the lines that it
+/// returned before it failed. After 2^64 - 1 lines the reader counts as failed.
 pub fn answer_lines<A: LineAnswerer, R: BufRead, W: Write>(
     alloc: Global,
     limit: usize,

@@ -6,11 +6,11 @@ ghost use Rattle.tc_lines.specs.Printed.{octets_text};
 
 use std::fmt;
 
-// So many octets are made into digits at a time.
+// The number of octets that are turned into digits at a time.
 const AT_ONCE: usize = 64;
 
-/// Octets: two hexadecimal digits for each. A packet or a unit may have 65,542, so that digits for all of it at once would be a
-/// growth.
+/// Octets, each of which is written as two hexadecimal digits. A packet or a unit may have 65,542 octets, so making the
+/// digits of all of them at once would request memory.
 #[derive(Clone, Copy, Debug)]
 pub struct Digits<'a>(pub &'a [u8]);
 
@@ -25,7 +25,7 @@ impl fmt::Display for Digits<'_> {
     }
 }
 
-// The digits of so many octets as are made into digits at a time, at most.
+// Writes the digits of at most [`AT_ONCE`] octets.
 fn write_digits<W: fmt::Write>(f: &mut fmt::Formatter<W>, octets: &[u8]) -> fmt::Result
     requires { length octets.now ≤ AT_ONCE }
     ensures { WritesOnOk W.write_str_gives f.old result (octets_text octets.now) f.new }

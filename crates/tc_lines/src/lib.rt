@@ -1,8 +1,9 @@
-//! Lines of text that are answered one by one, each before the next is read, and what lines are made of: words, numbers and digits.
+//! Lines of text that are answered one by one, each before the next is read, and the parts of lines: words, numbers and
+//! digits.
 //!
-//! [`answer_lines`] reads lines until there are no more, and has each answered by a [`LineAnswerer`]. Of a line no more is kept than
-//! a line may have. [`next_word`] takes the first word off a line, [`small_number`] and [`large_number`] read a word as a number,
-//! and [`Digits`] are octets in hexadecimal digits.
+//! [`answer_lines`] reads lines until there are no more, and has each answered by a [`LineAnswerer`]. It never keeps
+//! more octets of a line than a line may have. [`next_word`] takes the first word off a line, [`small_number`] and
+//! [`large_number`] read a word as a number, and [`Digits`] are octets to be written as hexadecimal digits.
 #![tactic(auto)]
 
 mod answering;

@@ -1,4 +1,4 @@
-//! The numbers that words are.
+//! Words that are numbers.
 
 ghost use Rattle.std.specs.Prelude.{◌≡◌, MatchResult};
 ghost use Rattle.std.specs.List.{list_all};
@@ -6,11 +6,11 @@ ghost use Rattle.tc_lines.specs.Number.{is_digit, decimal_of, word_number};
 
 const MAX_DIGITS: usize = 5;
 
-/// That a word isn't 1 to 5 decimal digits, or is over its bound.
+/// The fault of a word that isn't 1 to 5 decimal digits, or is over its bound.
 #[derive(Clone, Copy, Debug, PartialEq, Eq)]
 pub struct BadNumber;
 
-/// The number of at most 255 that a word is.
+/// Reads a word as a number of at most 255.
 pub fn small_number(word: &[u8]) -> Result<u8, BadNumber>
     ensures { MatchResult result
         (λ number. word_number 255 word.now ≡ Some number)
@@ -25,7 +25,7 @@ pub fn small_number(word: &[u8]) -> Result<u8, BadNumber>
     }
 }
 
-/// The number of at most 65,535 that a word is.
+/// Reads a word as a number of at most 65,535.
 pub fn large_number(word: &[u8]) -> Result<u16, BadNumber>
     ensures { MatchResult result
         (λ number. word_number 65535 word.now ≡ Some number)
@@ -40,7 +40,7 @@ pub fn large_number(word: &[u8]) -> Result<u16, BadNumber>
     }
 }
 
-// The number that 1 to 5 decimal digits spell.
+// Returns the number that 1 to 5 decimal digits spell.
 fn decimal(word: &[u8]) -> Option<u32>
     ensures { result ≡ decimal_of word.now }
 {

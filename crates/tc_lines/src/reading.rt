@@ -8,19 +8,20 @@ use std::alloc::AllocError;
 use std::io;
 use std::io::{BufRead, ErrorKind};
 
-/// What was read of a line that is kept elsewhere.
+/// The result of reading a line whose octets are kept elsewhere.
 #[derive(Clone, Copy)]
 pub(crate) struct LineRead {
-    /// Whether a line feed ended the line. Where none did, the input ended, and the line is empty if nothing came after the last
-    /// line feed.
+    /// Whether a line feed ended the line. If none did, the input ended, and the line is empty if nothing came after
+    /// the last line feed.
     pub(crate) ended: bool,
-    /// Whether the line is longer than it may be. Its front alone is kept.
+    /// Whether the line is longer than it may be. In that case only its front is kept.
     pub(crate) too_long: bool,
 }
 
-/// Reads a line of any length, and keeps its octets without the line feed, at most as many as a line may have.
+/// Reads a line of any length, and keeps its octets without the line feed, at most `limit` of them.
 ///
-/// A line ends at a line feed, or where the input ends. What was kept before is dropped. A read that is interrupted is done again.
+/// A line ends at a line feed or at the end of the input. The previous contents of `line` are dropped. A read that is
+/// interrupted is repeated.
 pub(crate) fn read_line<R: BufRead>(
     reader: &mut R,
     limit: usize,
@@ -41,18 +42,18 @@ pub(crate) fn read_line<R: BufRead>(
     Err(io::Error::from(ErrorKind::TimedOut))
 }
 
-// What was read of a part of a line.
+// The result of reading a part of a line.
 #[derive(Clone, Copy)]
 struct Part {
-    // Whether it was longer than what there was room for.
+    // Whether the part was longer than the room for it.
     over: bool,
-    // Whether it was followed by more of the line, as far as is known.
+    // Whether more of the line follows the part, as far as is known.
     goes_on: bool,
-    // Whether it was followed by a line feed.
+    // Whether a line feed followed the part.
     ended: bool,
 }
 
-// Reads what the reader has in its buffer of a line, and adds it to the line as far as a line may go.
+// Reads the octets of a line that the reader has in its buffer, and adds them to the line up to its limit.
 fn read_part<R: BufRead>(reader: &mut R, limit: usize, line: &mut Vec<u8>) -> io::Result<Part>
     requires { length line.old.items ≤ limit }
     ensures { IfOk result (IsPartRead limit (R.remaining reader.old) (R.remaining reader.new) line.old.items line.new.items) }
@@ -71,7 +72,8 @@ fn read_part<R: BufRead>(reader: &mut R, limit: usize, line: &mut Vec<u8>) -> io
     })
 }
 
-// Nothing was read where the read was interrupted, and it is done again.
+// Returns a part in which nothing was read if the read was interrupted, so that it is repeated. Returns any other
+// error.
 fn after_error(error: io::Error) -> io::Result<Part>
     ensures { IfOk result (λ part. part ≡ nothing_yet) }
 {
@@ -86,7 +88,8 @@ fn after_error(error: io::Error) -> io::Result<Part>
     }
 }
 
-// What octets have of a line: how many octets of it, with its line feed or without, and whether there is one.
+// The front of octets up to a line feed: its number of octets without the line feed and with it, and whether there is
+// one.
 #[derive(Clone, Copy)]
 struct Front {
     line: usize,
@@ -95,7 +98,7 @@ struct Front {
 }
 
 impl Front {
-    // Whether the line may go on after it.
+    // Returns whether the line may continue after this front.
     fn goes_on(self) -> bool
         ensures more { result ≡ true → self.ended ≡ false }
         ensures end { result ≡ false → self.ended ≡ false → self.all ≡ 0 }
@@ -121,7 +124,7 @@ fn front_of(octets: &[u8]) -> Front
     }
 }
 
-// Adds to a line as far as a line may go, and says whether it would go further.
+// Adds octets to a line up to its limit, and returns whether there were more.
 fn keep(line: &mut Vec<u8>, limit: usize, part: &[u8]) -> Result<bool, AllocError>
     requires { length line.old.items ≤ limit }
     ensures kept { OnOk result (line.new.items ≡ take limit (line.old.items ++ part.now)) }

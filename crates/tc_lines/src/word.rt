@@ -6,10 +6,11 @@ ghost use Rattle.tc_lines.specs.Word.{is_separator as is_separator_octet, words}
 
 use memchr::memchr3;
 
-// Of fewer octets each is looked at. A search takes as long to begin with.
+// The shortest input that is searched. Fewer octets are examined one by one, since starting a search takes as long as
+// that.
 const LONG: usize = 64;
 
-/// The first word, and what follows it.
+/// Returns the first word and the octets after it.
 #[inline]
 pub fn next_word(octets: &[u8]) -> Option<(&[u8], &[u8])>
     ensures cases { MatchOption result (words octets.now ≡ []) (λ parts. words octets.now ≡ parts.0.now ∷ words parts.1.now) }
@@ -22,7 +23,7 @@ pub fn next_word(octets: &[u8]) -> Option<(&[u8], &[u8])>
     Some(words.split_at(word_length(words)))
 }
 
-// How many separators come first.
+// Returns the number of separators at the front.
 fn gap_length(octets: &[u8]) -> usize
     ensures { result ≡ length (take_while is_separator_octet octets.now) }
 {
@@ -32,7 +33,7 @@ fn gap_length(octets: &[u8]) -> usize
         .count()
 }
 
-// How many octets come before a separator.
+// Returns the number of octets before the first separator.
 fn word_length(octets: &[u8]) -> usize
     ensures { result ≡ length (take_while (λ octet. not (is_separator_octet octet)) octets.now) }
 {
@@ -45,7 +46,8 @@ fn word_length(octets: &[u8]) -> usize
     long_word_length(octets)
 }
 
-// The same of many octets, by a search, whose code stays out of that for short words.
+// Returns the number of octets before the first separator, by a search, whose code is kept apart from that for short
+// words.
 #[inline(never)]
 fn long_word_length(octets: &[u8]) -> usize
     ensures { result ≡ length (take_while (λ octet. not (is_separator_octet octet)) octets.now) }
@@ -56,7 +58,7 @@ fn long_word_length(octets: &[u8]) -> usize
     }
 }
 
-/// Whether an octet is a space, a tab or a carriage return, which are between words.
+/// Returns whether an octet is a space, a tab or a carriage return, which separate words.
 pub fn is_separator(octet: u8) -> bool
     ensures { result ≡ is_separator_octet octet }
 {

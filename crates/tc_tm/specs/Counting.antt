@@ -1,8 +1,9 @@
--- How telemetry frames are counted (CCSDS 132.0-B, 4.1.2.5 and 4.1.2.6): each master channel by itself, and each virtual channel.
+-- The counting of telemetry frames (CCSDS 132.0-B, 4.1.2.5 and 4.1.2.6), separately for each master channel and each
+-- virtual channel.
 use Rattle.std.specs.Prelude.{ℕ, ◌+◌, ◌*◌, ◌%◌, List, replicate, slice_index, slice_set}
 use Rattle.tc_tm.specs.declared.frame.TmHeader.{TmHeader}
 
--- how many frames there were, modulo 256: of each spacecraft, and of each of its eight virtual channels
+-- the number of frames so far, modulo 256, for each spacecraft and for each of its eight virtual channels
 pub record Counted : Type 0 where
   pub masters : List ℕ
   pub channels : List ℕ
@@ -10,7 +11,7 @@ pub record Counted : Type 0 where
 unfoldable pub none_yet : Counted
 none_yet = record { masters = replicate 1024 0; channels = replicate 8192 0 }
 
--- where a virtual channel of a spacecraft is counted
+-- the place at which a virtual channel of a spacecraft is counted
 abbrev pub count_place : ℕ → ℕ → ℕ
 count_place scid vcid = 8 * scid + vcid
 
@@ -23,7 +24,7 @@ next_header counts scid vcid = record {
   channel_count = slice_index counts.channels (count_place scid vcid);
 }
 
--- one frame more of a virtual channel
+-- the counts after one more frame of a virtual channel
 abbrev pub frame_counted : Counted → ℕ → ℕ → Counted
 frame_counted counts scid vcid = record {
   masters = slice_set counts.masters scid ((slice_index counts.masters scid + 1) % 256);

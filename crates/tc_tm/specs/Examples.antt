@@ -1,4 +1,4 @@
--- Telemetry frames whose bits are worked out by hand, to be read with the definitions.
+-- Telemetry frames whose bits were worked out by hand, to be read beside the definitions.
 use Rattle.std.specs.Prelude.{ℕ, List, [], ◌∷◌}
 use Rattle.tc_tm.specs.declared.frame.TmHeader.{TmHeader}
 use Rattle.tc_tm.specs.declared.reading.TmFields.{TmFields}
@@ -11,15 +11,16 @@ header = record { scid = 42; vcid = 1; master_count = 255; channel_count = 7 }
 abbrev pub control : List ℕ
 control = 0x01 ∷ 0x04 ∷ 0x00 ∷ 0x01 ∷ []
 
--- 00 0000101010 001 1: version, spacecraft, virtual channel, and a 1, since there is an operational control field. The two counts.
--- 0 0 0 11 11111111110: no secondary header, packets in order, and the pointer of only idle data. An octet of these, and the CLCW
+-- The first 16 bits are 00 0000101010 001 1: the version, the spacecraft, the virtual channel, and a 1, since there is
+-- an operational control field. The two counts follow. The next 16 bits are 0 0 0 11 11111111110: no secondary header,
+-- packets in order, and the pointer for only idle data. An octet of idle data and the CLCW follow.
 abbrev pub frame : List ℕ
 frame = 0x02 ∷ 0xa3 ∷ 0xff ∷ 0x07 ∷ 0x1f ∷ 0xfe ∷ 0x55 ∷ 0x01 ∷ 0x04 ∷ 0x00 ∷ 0x01 ∷ []
 
--- the same with its frame error control field, which is that of Python's `binascii.crc_hqx(.., 0xffff)`
+-- this frame with its frame error control field, which Python's `binascii.crc_hqx(.., 0xffff)` computes
 abbrev pub frame_with_sum : List ℕ
 frame_with_sum = 0x02 ∷ 0xa3 ∷ 0xff ∷ 0x07 ∷ 0x1f ∷ 0xfe ∷ 0x55 ∷ 0x01 ∷ 0x04 ∷ 0x00 ∷ 0x01 ∷ 0x73 ∷ 0xd2 ∷ []
 
--- what both say
+-- the fields of both frames
 abbrev pub fields : TmFields
 fields = record { header = header; pointer = 2046; control = control }

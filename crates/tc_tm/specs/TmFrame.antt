@@ -17,16 +17,17 @@ pub record IsTmHeader (header : TmHeader) : Type 0 where
   pub scid : header.scid < 1024
   pub vcid : header.vcid < 8
 
--- version, spacecraft, virtual channel, and the flag that an operational control field is there, each with its number of bits
+-- the first 16 bits: the version, the spacecraft, the virtual channel, and the flag that an operational control field
+-- is there, each with its number of bits
 abbrev pub identifiers : TmHeader → ℕ
 identifiers header = joined ((2, 0) ∷ (10, header.scid) ∷ (3, header.vcid) ∷ (1, 1) ∷ [])
 
--- the first header pointer of a frame with only idle data
+-- the first header pointer of a frame that has only idle data
 abbrev pub only_idle : ℕ
 only_idle = 2046
 
--- the data field status: no secondary header, packets that begin anywhere, in forward order, a segment length that says nothing, and the
--- first header pointer
+-- the data field status: no secondary header, packets that may begin anywhere and come in forward order, a segment
+-- length without meaning, and the first header pointer
 abbrev pub idle_status : ℕ
 idle_status = joined ((1, 0) ∷ (1, 0) ∷ (1, 0) ∷ (2, 3) ∷ (11, only_idle) ∷ [])
 
@@ -34,16 +35,16 @@ idle_status = joined ((1, 0) ∷ (1, 0) ∷ (1, 0) ∷ (2, 3) ∷ (11, only_idle
 abbrev pub primary_header : TmHeader → List ℕ
 primary_header header = spelled (identifiers header) ++ header.master_count ∷ header.channel_count ∷ spelled idle_status
 
--- so many octets up to the error control field: the header, idle data, and the operational control field (4.1.5)
+-- the first `n` octets, up to the error control field: the header, idle data, and the operational control field (4.1.5)
 abbrev pub before_sum : TmHeader → List ℕ → ℕ → List ℕ
 before_sum header control n = primary_header header ++ replicate (n - 10) 0x55 ++ control
 
--- a frame of so many octets; its error control field (4.1.6) is over all octets before it
+-- a frame of `n` octets; its error control field (4.1.6), if it has one, covers all octets before it
 abbrev pub tm_frame : ErrorControl → TmHeader → List ℕ → ℕ → List ℕ
 tm_frame Absent header control n = before_sum header control n
 tm_frame Present header control n = before_sum header control (n - 2) ++ spelled (checksum_of (before_sum header control (n - 2)))
 
--- the fewest octets that a frame has here: one of idle data
+-- the length of the shortest frame here, which has one octet of idle data
 abbrev pub least_length : ErrorControl → ℕ
 least_length Absent = 11
 least_length Present = 13
@@ -59,7 +60,7 @@ tm_fault_of error scid vcid n =
     else if nat_lt n (least_length error) || nat_lt most_length n then Some BadLength
     else None
 
--- what stands in the bits of a frame without an error control field
+-- the fields that the bits of a frame without an error control field spell
 abbrev pub fields_before_sum : List ℕ → TmFields
 fields_before_sum octets = record {
   header = record {

@@ -4,7 +4,7 @@ use crate::frame::{ErrorControl, TmFault, TmHeader, write_tm};
 use std::alloc::{AllocError, Global};
 use std::marker::Model;
 
-/// How many telemetry frames there were of each spacecraft, and of each of its eight virtual channels, modulo 256.
+/// The number of telemetry frames so far, modulo 256, for each spacecraft and for each of its eight virtual channels.
 #[derive(Debug, Drop)]
 pub struct Counts {
     masters: Vec<u8>,
@@ -27,7 +27,7 @@ impl Counts {
     ghost use Rattle.tc_tm.specs.TmFrame.{tm_frame, tm_fault_of};
     ghost use Rattle.tc_tm.specs.Counting.{none_yet, next_header, frame_counted};
 
-    /// No frame yet. This asks for memory, 9,216 octets.
+    /// Creates counts of no frames. This allocates 9,216 bytes.
     pub fn new(alloc: Global) -> Result<Counts, AllocError>
         ensures { IfOk result (λ counts. counts ≡ none_yet) }
     {
@@ -36,7 +36,8 @@ impl Counts {
         Ok(Counts { masters, channels })
     }
 
-    /// The next telemetry frame of a virtual channel, as [`write_tm`] makes it; both counts go on. At `Err` they don't.
+    /// Writes the next telemetry frame of a virtual channel by [`write_tm`], and advances both counts. At `Err` they
+    /// aren't advanced.
     ///
     /// The only allocation is the frame.
     pub fn next_frame(

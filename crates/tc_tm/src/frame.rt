@@ -1,4 +1,4 @@
-//! Telemetry frames, as they are sent.
+//! Writing telemetry frames.
 
 ghost use Rattle.std.specs.Prelude.{◌≡◌, ◌<◌, ◌≤◌, None, vec_len, vec_capacity, unwrap_or, IfOk, IfErr, OnOk};
 ghost use Rattle.tc_tm.specs.TmFrame.{primary_header as primary, before_sum, tm_frame, least_length as least_of, tm_fault_of};
@@ -7,42 +7,44 @@ use std::alloc::{AllocError, Global};
 use tc_fecf::checksum;
 use thiserror::Error;
 
-/// Whether frames end with a frame error control field, which the whole physical channel has or has not (CCSDS 132.0-B, 4.1.6).
+/// The presence of a frame error control field at the end of each frame, which is a property of the whole physical
+/// channel (CCSDS 132.0-B, 4.1.6).
 #[derive(Clone, Copy, Debug, PartialEq, Eq)]
 pub enum ErrorControl {
     Absent,
     Present,
 }
 
-/// What the primary header says of whose frame it is, and which (CCSDS 132.0-B, 4.1.2).
+/// The fields of a primary header that tell to which channel a frame belongs, and which of its frames it is (CCSDS
+/// 132.0-B, 4.1.2).
 #[derive(Clone, Copy, Debug, PartialEq, Eq)]
 pub struct TmHeader {
     /// The spacecraft id, 0 to 1,023.
     pub scid: u16,
     /// The virtual channel id, 0 to 7.
     pub vcid: u8,
-    /// The master channel frame count: how many frames of the spacecraft came before, modulo 256.
+    /// The master channel frame count: the number of the spacecraft's frames before this one, modulo 256.
     pub master_count: u8,
-    /// The virtual channel frame count: how many of the virtual channel.
+    /// The virtual channel frame count: the number of the virtual channel's frames before this one, modulo 256.
     pub channel_count: u8,
 }
 
-/// Why a frame isn't written: the first of these that applies.
+/// The reason why a frame isn't written: the first of these that applies.
 #[derive(Clone, Copy, Debug, PartialEq, Eq, Error)]
 pub enum TmFault {
     #[error("the spacecraft id is over 1,023")]
     BadScid,
     #[error("the virtual channel id is over 7")]
     BadVcid,
-    /// A frame here has at most 2,048 octets; at least 11, or 13 with a frame error control field.
+    /// A frame here has 11 to 2,048 octets, or 13 to 2,048 with a frame error control field.
     #[error("the frame length is out of bounds")]
     BadLength,
     #[error("no memory")]
     NoMemory,
 }
 
-/// The telemetry frame of so many octets with this header, whose operational control field is these four octets, a CLCW. All other
-/// data are idle, octets 55 (CCSDS 132.0-B, 4.1).
+/// Writes the telemetry frame of `length` octets with this header, whose operational control field is the four octets
+/// of `control`, a CLCW. All other data are idle, octets 0x55 (CCSDS 132.0-B, 4.1).
 ///
 /// The only allocation is the frame.
 pub fn write_tm(
@@ -71,7 +73,7 @@ pub fn write_tm(
     Ok(frame)
 }
 
-// The fewest octets of a frame: one of idle data.
+// Returns the length of the shortest frame, which has one octet of idle data.
 pub(crate) fn least_length(error: ErrorControl) -> usize
     ensures { result ≡ least_of error }
 {
@@ -81,7 +83,7 @@ pub(crate) fn least_length(error: ErrorControl) -> usize
     }
 }
 
-// The frame with its error control field, or without one.
+// Writes the frame, with its error control field or without one.
 fn ended(
     alloc: Global,
     error: ErrorControl,
@@ -105,7 +107,7 @@ fn ended(
     }
 }
 
-// The octets up to the error control field, and room for so many.
+// Writes the `end` octets before the error control field, and leaves room for `room` octets in all.
 fn idle_frame(
     alloc: Global,
     header: &TmHeader,
@@ -130,7 +132,7 @@ fn idle_frame(
     Ok(frame)
 }
 
-// The six octets of the primary header.
+// Returns the six octets of the primary header.
 fn primary_header(header: &TmHeader) -> [u8; 6]
     requires scid { header.now.scid < 1024 }
     requires vcid { header.now.vcid < 8 }

@@ -10,7 +10,8 @@ ghost use Rattle.tc_tm.specs.declared.frame.TmHeader.{TmHeader};
 ghost use Rattle.tc_tm.specs.declared.reading.TmReadFault.TheVariants.{Short, Version, NoControl, WrongSum};
 ghost use Rattle.tc_tm.specs.Examples as example;
 
-/// A frame that was written has as many octets as it was to have, and reads back, field by field, as what it was made of.
+/// A frame that was written has the requested length, and reads back, field by field, as the values that it was written
+/// from.
 pub fn a_written_frame_reads_back()
     ensures long { (error : ErrorControl) (header : TmHeader) (control : List ℕ) (n : ℕ) → length control ≡ 4 → least_length error ≤ n
         → length (tm_frame error header control n) ≡ n }
@@ -20,8 +21,8 @@ pub fn a_written_frame_reads_back()
         → tm_fields_of error (tm_frame error header control n) ≡ record { header = header; pointer = only_idle; control = control } }
 {}
 
-/// A telemetry frame, worked out by hand: its primary header with the first header pointer of only idle data, an idle octet, the
-/// operational control field, and the error control field.
+/// States an example of a telemetry frame, worked out by hand: its primary header, with the first header pointer for
+/// only idle data, an idle octet, the operational control field, and the error control field.
 #[tactic(auto, unfolding(tc_fecf::specs::Checksum::octet_bits, tc_fecf::specs::Checksum::times_x))]
 pub fn a_telemetry_frame_is_so()
     ensures header { primary_header example.header ≡ 0x02 ∷ 0xa3 ∷ 0xff ∷ 0x07 ∷ 0x1f ∷ 0xfe ∷ [] }
@@ -34,7 +35,8 @@ pub fn a_telemetry_frame_is_so()
     ensures right { read_fault_of Present example.frame_with_sum ≡ None }
 {}
 
-/// Where the bounds of a telemetry frame are, and which of its first bits are asked for, worked out by hand.
+/// States examples, worked out by hand, of the bounds of telemetry frames, and of octets that don't read as a telemetry
+/// frame.
 #[tactic(auto, unfolding(tc_fecf::specs::Checksum::octet_bits, tc_fecf::specs::Checksum::times_x))]
 pub fn telemetry_frames_are_bounded_so()
     ensures longest { tm_fault_of Present 1023 7 2048 ≡ None }
@@ -51,7 +53,8 @@ pub fn telemetry_frames_are_bounded_so()
     ensures wrong_sum { read_fault_of Present (0x02 ∷ 0xa3 ∷ 0xff ∷ 0x07 ∷ 0x1f ∷ 0xfe ∷ 0x55 ∷ 0x01 ∷ 0x04 ∷ 0x00 ∷ 0x01 ∷ 0x73 ∷ 0xd3 ∷ []) ≡ Some WrongSum }
 {}
 
-/// How telemetry frames are counted, worked out by hand: by spacecraft and by virtual channel, from 0 to 255 and on from 0.
+/// States examples, worked out by hand, of the counts of telemetry frames: they count by spacecraft and by virtual
+/// channel, from 0 to 255 and then from 0 again.
 #[tactic(auto, unfolding(crate::specs::Counting::none_yet))]
 pub fn telemetry_frames_are_counted_so()
     ensures first { next_header none_yet 42 1 ≡ record { scid = 42; vcid = 1; master_count = 0; channel_count = 0 } }

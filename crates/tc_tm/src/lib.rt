@@ -1,4 +1,5 @@
-//! Telemetry transfer frames that carry a CLCW and nothing else but idle data (CCSDS 132.0-B): the way back of a command link.
+//! Telemetry transfer frames that carry a CLCW and otherwise only idle data (CCSDS 132.0-B), on the way back of a
+//! command link.
 //!
 //! [`write_tm`] writes a frame, [`Counts`] numbers frame after frame, and [`read_tm`] reads one. Laws over the definitions stand as
 //! contracts of functions with empty bodies: [`a_written_frame_reads_back`], [`a_telemetry_frame_is_so`],

@@ -1,4 +1,4 @@
-//! Telemetry frames, as they are read.
+//! Reading telemetry frames.
 
 ghost use Rattle.std.specs.Prelude.{◌≡◌, ◌≤◌, None, length, IfOk, MatchResult};
 ghost use Rattle.tc_tm.specs.TmFrame.{fields_before_sum, tm_fields_of, read_fault_of};
@@ -7,18 +7,18 @@ use crate::frame::{ErrorControl, TmHeader, least_length};
 use tc_fecf::passes;
 use thiserror::Error;
 
-/// What a telemetry frame with an operational control field says (CCSDS 132.0-B, 4.1).
+/// The fields of a telemetry frame with an operational control field (CCSDS 132.0-B, 4.1).
 #[derive(Clone, Copy, Debug, PartialEq, Eq)]
 pub struct TmFields {
     pub header: TmHeader,
-    /// The first header pointer: where the first packet begins in the data field. 2,046 says that all data are idle, 2,047 that no
-    /// packet begins.
+    /// The first header pointer: the place in the data field at which the first packet begins. The value 2,046 means
+    /// that all data are idle, and 2,047 that no packet begins.
     pub pointer: u16,
     /// The operational control field.
     pub control: [u8; 4],
 }
 
-/// Why octets aren't read as a telemetry frame: the first of these that applies.
+/// The reason why octets aren't read as a telemetry frame: the first of these that applies.
 #[derive(Clone, Copy, Debug, PartialEq, Eq, Error)]
 pub enum TmReadFault {
     /// A frame here has at least 11 octets, or 13 with a frame error control field.
@@ -32,10 +32,10 @@ pub enum TmReadFault {
     WrongSum,
 }
 
-/// Reads octets that are one telemetry frame, whose length the physical channel has fixed. A secondary header and packets are not
-/// looked into.
+/// Reads octets that are one telemetry frame, whose length the physical channel has fixed. A secondary header and
+/// packets aren't interpreted.
 ///
-/// It allocates nothing.
+/// Nothing is allocated.
 pub fn read_tm(error: ErrorControl, octets: &[u8]) -> Result<TmFields, TmReadFault>
     ensures fields { IfOk result (λ fields. fields ≡ tm_fields_of error octets.now) }
     ensures fault { MatchResult result (λ _. read_fault_of error octets.now ≡ None) (λ fault. read_fault_of error octets.now ≡ Some fault) }
@@ -61,7 +61,7 @@ pub fn read_tm(error: ErrorControl, octets: &[u8]) -> Result<TmFields, TmReadFau
     }
 }
 
-// What stands before the error control field.
+// Reads the fields before the error control field.
 fn read_fields(octets: &[u8]) -> TmFields
     requires { 11 ≤ length octets.now }
     ensures { result ≡ fields_before_sum octets.now }

@@ -1,4 +1,4 @@
--- Six octets and a packet data field are a packet, where the six say so.
+-- Six octets and a packet data field are a packet, if the six are the primary header of such a packet.
 use Rattle.std.proofs.Common.{◌≡◌, ℕ, ◌+◌, ◌≤◌, List, [], ◌∷◌, ◌++◌, length, refl, arith}
 use Rattle.tc_packet.specs.SpacePacket.{version_of, named_length}
 use Rattle.tc_write.specs.declared.packets.PacketHeader.{PacketHeader}

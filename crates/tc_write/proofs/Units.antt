@@ -13,17 +13,17 @@ use Rattle.tc_packet.specs.declared.segment.Segment.{Segment}
 use Rattle.tc_write.specs.Parts.{segments_needed, part_at}
 use Rattle.tc_write.specs.Segments.{AreSegments, MakeUnit}
 
--- a list without its first place, and its places
+-- a fact about each element of a list, by its place
 abbrev Places : List (List ℕ) → (ℕ → List ℕ → Type 0) → Type 0
 Places fields P = (k : ℕ) → k < length fields → P k (get_or fields k [])
 
--- so many octets, and then so many more
+-- the first `a` octets, followed by the next `b`, are the first `a + b`
 take-more : (a b : ℕ) (xs : List ℕ) → take a xs ++ take b (drop a xs) ≡ take (a + b) xs
 take-more zero b xs = let e : zero + b ≡ b = omega arith in ap (λ (n : ℕ). take n xs) (sym e)
 take-more (suc a) b [] = grind (arith, common_steps)
 take-more (suc a) b (x ∷ xs) = let e : suc a + b ≡ suc (a + b) = omega arith in ap (λ (ys : List ℕ). x ∷ ys) (take-more a b xs) ∙ ap (λ (n : ℕ). take n (x ∷ xs)) (sym e)
 
--- pieces one after the other, from a place on
+-- pieces that follow one another join to the front of the octets from which they were cut
 pieces-joined : (fields : List (List ℕ)) (size : ℕ) (rest : List ℕ)
     → Places fields (λ k field. body_of field ≡ take size (drop (k * size) rest)) → joined_bodies fields ≡ take (length fields * size) rest
 pieces-joined [] size rest each = let e : 0 * size ≡ 0 = omega arith in ap (λ (n : ℕ). take n rest) (sym e)
@@ -46,7 +46,7 @@ last-part place count some at = grind (arith, nat_tests)
 inner-part : (place count : ℕ) → 1 ≤ place → place + 1 < count → part_at place count ≡ Continuing
 inner-part place count some before = grind (arith, nat_tests)
 
--- segments after the first one: the last of them, and those before it
+-- the segments after the first one: the last of them, and those before it
 record Closed (rest : List (List ℕ)) : Type 0 where
   middle : List (List ℕ)
   last : List ℕ
@@ -70,7 +70,7 @@ closed count place (f ∷ g ∷ rest) some more whole parts =
       closes = c.closes;
     }
 
--- so many segments have room for the unit, and one at least is needed
+-- at least one segment is needed, and the segments have room for the unit
 count-least : (size n : ℕ) → 1 ≤ size → 1 ≤ n → 1 ≤ segments_needed size n
 count-least size n some more =
     let room = lt-div-mul-add {a = n + size - 1} {b = size} (omega arith) in

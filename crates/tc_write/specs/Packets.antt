@@ -4,7 +4,7 @@ use Rattle.tc_packet.specs.Bits.{word_at, bits}
 use Rattle.tc_packet.specs.SpacePacket.{IsPacket, apid_of, is_telecommand}
 use Rattle.tc_write.specs.declared.packets.PacketHeader.{PacketHeader}
 
--- what stands in the bits of a packet's primary header, apart from its version and its length
+-- the fields that the bits of a packet's primary header spell, apart from its version and its length
 abbrev pub packet_header_of : List ℕ → PacketHeader
 packet_header_of packet = record {
   telecommand = is_telecommand packet;

@@ -4,11 +4,11 @@ use Rattle.tc_packet.specs.declared.segment.Part.{Part}
 use Rattle.tc_packet.specs.declared.segment.Part.TheVariants.{First, Continuing, Last, Unsegmented}
 use Rattle.tc_packet.specs.declared.segment.Segment.{Segment}
 
--- how many segments of so many octets, the last of them perhaps shorter, carry n
+-- the number of segments of `size` octets that carry `n` octets; the last of them may be shorter
 abbrev pub segments_needed : ℕ → ℕ → ℕ
 segments_needed size n = (n + size - 1) / size
 
--- which part of the unit the segment at a place carries
+-- the part of the unit that the segment at a place carries
 abbrev pub part_at : ℕ → ℕ → Part
 part_at place count =
     if count == 1 then Unsegmented
@@ -20,6 +20,6 @@ part_at place count =
 abbrev pub segment_at : ℕ → ℕ → ℕ → List ℕ → Segment
 segment_at map size place unit = record { part = part_at place (segments_needed size (length unit)); map = map }
 
--- what it carries
+-- the octets of a unit that the segment at a place carries
 abbrev pub piece_at : ℕ → List ℕ → ℕ → List ℕ
 piece_at size unit place = take size (drop (place * size) unit)

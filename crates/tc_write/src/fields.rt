@@ -8,7 +8,7 @@ ghost use Rattle.tc_fecf.specs.FrameWithField.{frame_with_field, frame_fault_of,
 use tc_fecf::{FieldFault, checksum, passes};
 use tc_link::read_frame;
 
-// That the octets are one frame, and nothing after it.
+// Checks that the octets are one frame, with nothing after it.
 fn whole_frame(octets: &[u8]) -> Result<(), FieldFault>
     ensures whole { OnOk result (IsWhole octets.now) }
     ensures right { OnOk result (frame_fault_of octets.now ≡ None) }
@@ -21,7 +21,8 @@ fn whole_frame(octets: &[u8]) -> Result<(), FieldFault>
     Ok(())
 }
 
-/// Looks whether a field can go onto octets: they are to be one frame, of at most 1,022 octets, with nothing after it.
+/// Checks whether a field can be added to octets, which must be one frame of at most 1,022 octets, with nothing after
+/// it.
 pub fn check_adding(octets: &[u8]) -> Result<(), FieldFault>
     ensures whole { OnOk result (IsWhole octets.now) }
     ensures most { OnOk result (length octets.now ≤ 1022) }
@@ -35,7 +36,8 @@ pub fn check_adding(octets: &[u8]) -> Result<(), FieldFault>
     Ok(())
 }
 
-/// Writes the frame with its field, as `with_field` of tc_fecf makes it, over two octets more than it has.
+/// Writes the frame with its field, as `with_field` of tc_fecf does, into `made`, which must be two octets longer than
+/// the frame.
 pub fn write_with_field(octets: &[u8], made: &mut [u8])
     requires whole { IsWhole octets.now }
     requires most { length octets.now ≤ 1022 }
@@ -50,7 +52,7 @@ pub fn write_with_field(octets: &[u8], made: &mut [u8])
     field.copy_from_slice(&checksum(before).to_be_bytes());
 }
 
-/// Looks whether octets end with a right field: they are to be one frame, of at least 8 octets, with nothing after it.
+/// Checks whether octets end with a right field. They must be one frame of at least 8 octets, with nothing after it.
 pub fn check_taking(octets: &[u8]) -> Result<(), FieldFault>
     ensures whole { OnOk result (IsWhole octets.now) }
     ensures least { OnOk result (8 ≤ length octets.now) }
@@ -68,7 +70,8 @@ pub fn check_taking(octets: &[u8]) -> Result<(), FieldFault>
     Ok(())
 }
 
-/// Writes the frame without its field, as `without_field` of tc_fecf makes it, over two octets fewer than it has.
+/// Writes the frame without its field, as `without_field` of tc_fecf does, into `plain`, which must be two octets
+/// shorter than the frame.
 pub fn write_without_field(octets: &[u8], plain: &mut [u8])
     requires whole { IsWhole octets.now }
     requires least { 8 ≤ length octets.now }

@@ -1,9 +1,9 @@
-//! What a sender writes: packets, segments, and the frames that carry these, into octets that the caller lends. Nothing is
+//! The writing of packets, segments, and the frames that carry them, into octets that the caller lends. Nothing is
 //! allocated.
 //!
-//! [`packet_front`] is the header of a packet. A unit is sent in [`segment_count`] segments, each of which carries a [`piece`],
-//! has a [`segment_header`] and goes into a frame with a [`later_header`]; [`write_segment`] writes that. [`write_with_field`] adds
-//! the frame error control field, and [`write_without_field`] takes it off.
+//! [`packet_front`] returns the header of a packet. A unit is sent in [`segment_count`] segments. Each segment carries
+//! a [`piece`], has a [`segment_header`] and goes into a frame with a [`later_header`], which [`write_segment`] writes.
+//! [`write_with_field`] adds the frame error control field, and [`write_without_field`] removes it.
 //!
 //! A law stands as the contract of a function with an empty body: [`the_segments_of_a_unit_make_the_unit`].
 #![tactic(auto)]

@@ -4,23 +4,23 @@ ghost use Rattle.std.specs.Prelude.{◌≡◌, ◌<◌, ◌≤◌, ◌+◌, ◌+
 ghost use Rattle.tc_packet.specs.SpacePacket.{version_of, named_length};
 ghost use Rattle.tc_write.specs.Packets.{IsPacketOf, packet_header_of};
 
-/// What the primary header of a packet says, apart from the version and the length (CCSDS 133.0-B, 4.1.3).
+/// The fields of a packet's primary header, apart from the version and the length (CCSDS 133.0-B, 4.1.3).
 #[derive(Clone, Copy, Debug, PartialEq, Eq)]
 pub struct PacketHeader {
-    /// The packet type: a telecommand packet, not a telemetry one.
+    /// Whether the packet is a telecommand packet (by the packet type), rather than a telemetry packet.
     pub telecommand: bool,
     /// The secondary header flag.
     pub secondary: bool,
-    /// The application process identifier, at most 2,047, which marks idle packets.
+    /// The application process identifier, at most 2,047, which is the value that marks idle packets.
     pub apid: u16,
     /// The sequence flags, at most 3.
     pub flags: u8,
-    /// The sequence count or the name, at most 16,383.
+    /// The sequence count or the packet name, at most 16,383.
     pub count: u16,
 }
 
-/// The six octets of the primary header with which the packet of this header and this packet data field begins (CCSDS 133.0-B,
-/// 4.1.3); the field, of 1 to 65,536 octets, is all that follows them.
+/// Returns the six octets of the primary header with which the packet of this header and this packet data field begins
+/// (CCSDS 133.0-B, 4.1.3). In that packet only the field follows them, which must have 1 to 65,536 octets.
 pub fn packet_front(header: &PacketHeader, field: &[u8]) -> [u8; 6]
     requires apid { header.now.apid < 2048 }
     requires flags { header.now.flags < 4 }
@@ -33,7 +33,7 @@ pub fn packet_front(header: &PacketHeader, field: &[u8]) -> [u8; 6]
     primary_header(header, (field.len() - 1) as u16)
 }
 
-// The primary header of a packet whose packet data field has one octet more than this.
+// Returns the primary header of a packet whose packet data field has `others` + 1 octets.
 fn primary_header(header: &PacketHeader, others: u16) -> [u8; 6]
     requires apid { header.now.apid < 2048 }
     requires flags { header.now.flags < 4 }

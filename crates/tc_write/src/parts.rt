@@ -7,7 +7,7 @@ ghost use Rattle.tc_write.specs.Parts.{segments_needed, part_at, piece_at};
 use tc_link::Header;
 use tc_packet::{Part, Segment};
 
-/// How many segments carry a unit of so many octets, where each carries `size` of them, and the last one what is left.
+/// Returns the number of segments that carry a unit of `octets` octets, if each carries `size` and the last one the rest.
 pub fn segment_count(size: usize, octets: usize) -> usize
     requires some { 1 ≤ size }
     requires few { size ≤ 1018 }
@@ -17,7 +17,7 @@ pub fn segment_count(size: usize, octets: usize) -> usize
     (octets + size - 1) / size
 }
 
-/// The header of the segment at this place, from 0 on, of so many.
+/// Returns the header of the segment at this place, counted from 0, out of `count` segments.
 pub fn segment_header(map: u8, place: usize, count: usize) -> Segment
     requires { place < count }
     ensures { result ≡ record { part = part_at place count; map = map } }
@@ -34,7 +34,7 @@ pub fn segment_header(map: u8, place: usize, count: usize) -> Segment
     Segment { part, map }
 }
 
-/// What the segment at this place carries.
+/// Returns the octets that the segment at this place carries.
 pub fn piece(unit: &[u8], size: usize, place: usize) -> &[u8]
     requires some { 1 ≤ size }
     requires most { length unit.now ≤ 65542 }
@@ -49,8 +49,8 @@ pub fn piece(unit: &[u8], size: usize, place: usize) -> &[u8]
     }
 }
 
-/// The header of the frame that carries the segment at this place, by that of the first one: the N(S) of Type-AD frames counts up
-/// modulo 256.
+/// Returns the header of the frame that carries the segment at this place, from the header of the frame with the first
+/// segment. The N(S) of Type-AD frames counts up modulo 256.
 pub fn later_header(first: &Header, place: usize) -> Header
     ensures { result ≡ header_later first.now place }
 {

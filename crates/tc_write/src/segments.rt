@@ -7,7 +7,7 @@ ghost use Rattle.tc_write.specs.Frames.{IsMadeFrame};
 use tc_link::{Header, written_header};
 use tc_packet::{Part, Segment};
 
-/// The octet that is this segment header (CCSDS 232.0-B, 4.1.3.2.2).
+/// Returns the octet of this segment header (CCSDS 232.0-B, 4.1.3.2.2).
 pub fn segment_octet(segment: Segment) -> u8
     requires { segment.map < 64 }
     ensures { segment_of result ≡ segment }
@@ -21,7 +21,8 @@ pub fn segment_octet(segment: Segment) -> u8
     flags * 64 + segment.map
 }
 
-/// Writes the frame with this header whose data field is the segment header and these octets, over as many octets as it has.
+/// Writes the frame with this header, whose data field is the segment header and these octets, into `frame`, which must
+/// have its length.
 pub fn write_segment(header: &Header, segment: Segment, octets: &[u8], frame: &mut [u8])
     requires scid { header.now.scid < 1024 }
     requires vcid { header.now.vcid < 64 }
