@@ -1,4 +1,4 @@
--- The limits of MAPs, and how large rooms are by them.
+-- The limits of MAPs, and the sizes of rooms that follow from them.
 use Rattle.std.proofs.Common.{◌≡◌, ◌≢◌, ℕ, zero, suc, ◌+◌, ◌-◌, ◌<◌, ◌≤◌, Bool, true, false, cond, eqb, List, [], ◌∷◌, length, get_or, refl, sym, ap, subst, ◌∙◌, inl, inr, arith}
 use Rattle.std.specs.Prelude.{max, min, nat_lt}
 use Rattle.std.specs.List.{AllByRecursion, Contains}
@@ -48,14 +48,14 @@ limit-small (m ∷ ms) others map_id all small = by (eqb m.map map_id) (limit-sm
 pub each-small : (limits : Limits) (map_id : ℕ) → HaveOctets limits.maps → limits.others ≤ 65542 → limit_of limits map_id ≤ 65542
 each-small limits map_id all small = limit-small limits.maps limits.others map_id all small
 
--- a place is that of a stream
+-- each place is that of a stream
 pub place-split : (place : ℕ) → place < 128 → (service : Service) × (map_id : ℕ) × (map_id < 64) × (place ≡ place_of service map_id)
 place-split place inside = by (nat_lt place 64) refl where
   by : (t : Bool) → nat_lt place 64 ≡ t → (service : Service) × (map_id : ℕ) × (map_id < 64) × (place ≡ place_of service map_id)
   by true e = (Ad, place, grind (arith, nat_tests), refl)
   by false e = let high : 64 ≤ place = grind (arith, nat_tests) in (Bd, place - 64, omega arith, omega arith)
 
--- what holds of the limit of each MAP holds of that of each place
+-- a fact about the limit of each MAP holds for the limit of each place
 by-place : (P : ℕ → Type 0) (limits : ℕ → ℕ) (store : Store) → HaveLimits limits store → ((map_id : ℕ) → P (limits map_id)) → (place : ℕ) → place < 128 → P (limit_at store place)
 by-place P limits store have each place inside =
     let p = place-split place inside in
@@ -67,14 +67,14 @@ small-at-start s limits store are have = by-place (λ n. n ≤ 65542) (limit_of 
 min-mono : (a b n : ℕ) → a ≤ b → min a n ≤ min b n
 min-mono a b n le = omega arith
 
--- the rooms of the largest limit are enough
+-- rooms for the largest limit are large enough
 pub fits-at-start : (limits : Limits) (store : Store) (segmented : Bool) → store.segmented ≡ segmented → HaveLimits (limit_of limits) store
     → (place : ℕ) → place < 128 → min (limit_at store place) (largest_item store.segmented) ≤ item_size limits segmented
 fits-at-start limits store segmented is have place inside =
     let below = by-place (λ n. n ≤ largest_limit limits) (limit_of limits) store have (below-largest limits) place inside in
     subst (λ (t : Bool). min (limit_at store place) (largest_item t) ≤ item_size limits segmented) (sym is) (min-mono (limit_at store place) (largest_limit limits) (largest_item segmented) below)
 
--- the listed ones
+-- the limits of listed MAPs
 
 pub others-limit : (ms : List MapLimit) (others map_id : ℕ) → AllByRecursion (λ (m : MapLimit). m.map ≢ map_id) ms → limit_in ms others map_id ≡ others
 others-limit [] others map_id none = refl

@@ -1,4 +1,5 @@
--- What a channel in rooms holds: the core of its journal's run within its limits, which its settings can have.
+-- The contents of a channel in rooms: the core after the run of its journal within its limits, which must be limits
+-- that its settings can have.
 use Rattle.std.specs.Prelude.{List}
 use Rattle.tc_channel.specs.declared.settings.Settings.{Settings}
 use Rattle.tc_channel.specs.declared.event.Event.{Event}

@@ -1,4 +1,5 @@
--- What a contract sees of a channel in rooms: its settings, its limits, and the events that it answered, the oldest first.
+-- The view of a channel in rooms in contracts: its settings, its limits, and the events that it answered, the oldest
+-- first.
 use Rattle.std.specs.Prelude.{List, [], ◌∷◌, ◌++◌}
 use Rattle.tc_channel.specs.declared.settings.Settings.{Settings}
 use Rattle.tc_channel.specs.declared.event.Event.{Event}
@@ -9,6 +10,6 @@ pub record LimitedHistory : Type 0 where
   pub limits : Limits
   pub journal : List Event
 
--- the same channel, one event later
+-- the view of the channel after one more event
 abbrev pub with_limited_event : LimitedHistory → Event → LimitedHistory
 with_limited_event history event = record history { journal = history.journal ++ event ∷ [] }

@@ -1,4 +1,5 @@
--- How long the units of each MAP may be, which limits a channel can have, and why it can't have others. They are this receiver's own rule.
+-- The limits on the length of units by MAP, the limits that a channel can have, and the faults of others. They are this
+-- receiver's own rule.
 use Rattle.std.specs.Prelude.{◌≡◌, ◌≢◌, ◌≤◌, ◌⊎◌, ◌==◌, ℕ, max, min, Bool, false, List, [], ◌∷◌, All, AllPairs, Any, if◌then◌else◌}
 use Rattle.std.specs.List.{AllByRecursion}
 use Rattle.tc_packet.specs.Reassembly.{largest_unit}
@@ -14,7 +15,7 @@ use Rattle.tc_fixed.specs.declared.limits.LentLimits.{LentLimits}
 use Rattle.tc_fixed.specs.declared.limits.LimitsFault.{LimitsFault}
 use Rattle.tc_fixed.specs.declared.limits.LimitsFault.TheVariants as faults
 
--- the limit of a MAP: as it is listed, else that of the others
+-- the limit of a MAP, which is the one that is listed for it, or else that of the others
 abbrev pub limit_in : List MapLimit → ℕ → ℕ → ℕ
 limit_in [] others map_id = others
 limit_in (m ∷ ms) others map_id = if m.map == map_id then m.octets else limit_in ms others map_id
@@ -30,7 +31,7 @@ largest_in (m ∷ ms) others = largest_in ms (max others m.octets)
 abbrev pub largest_limit : Limits → ℕ
 largest_limit limits = largest_in limits.maps limits.others
 
--- the most octets of a packet and of a unit: on a plain channel it is in one data field
+-- the largest number of octets in a packet or a unit, which on a plain channel fits one data field
 abbrev pub item_size : Limits → Bool → ℕ
 item_size limits segmented = min (largest_limit limits) (largest_item segmented)
 
@@ -63,7 +64,7 @@ LimitsMapsByHeaders maps segmented = segmented ≡ false → maps ≡ []
 abbrev pub IsListed : List MapLimit → ℕ → Type 0
 IsListed maps map_id = Any (λ (m : MapLimit). m.map ≡ map_id) maps
 
--- each chosen MAP is listed, where the limit of the others is 0
+-- each chosen MAP is listed if the limit of the others is 0
 abbrev pub AreListed : Limits → List MapSetting → Type 0
 AreListed limits chosen = limits.others ≡ 0 → AllByRecursion (λ (m : MapSetting). IsListed limits.maps m.map) chosen
 
@@ -76,7 +77,7 @@ pub record AreLimits (s : Settings) (limits : Limits) : Type 0 where
   pub by_headers : LimitsMapsByHeaders limits.maps s.segmented
   pub listed : AreListed limits s.maps
 
--- what limits keep that are free of this fault; the settings have faults of their own
+-- the property of limits that are free of this fault; the faults of settings are defined elsewhere
 abbrev pub IsFreeOfLimitsFault : Settings → Limits → LimitsFault → Type 0
 IsFreeOfLimitsFault s limits (faults.Settings fault) = Unit {0}
 IsFreeOfLimitsFault s limits faults.BadOthers = IsOthers limits.others s.segmented
@@ -86,11 +87,11 @@ IsFreeOfLimitsFault s limits faults.BadLimit = HaveOctets limits.maps
 IsFreeOfLimitsFault s limits faults.PlainMap = LimitsMapsByHeaders limits.maps s.segmented
 IsFreeOfLimitsFault s limits faults.UnlistedMap = AreListed limits s.maps
 
--- the faults that limits may have, in the order in which they are looked for
+-- the faults that limits may have, in the order in which they are checked
 abbrev pub limits_faults_in_order : List LimitsFault
 limits_faults_in_order = faults.BadOthers ∷ faults.BadMap ∷ faults.DoubleMap ∷ faults.BadLimit ∷ faults.PlainMap ∷ faults.UnlistedMap ∷ []
 
--- of the listed faults the limits have this one, and none before it
+-- the limits have this one of the listed faults, and none before it
 abbrev pub IsFirstLimitsFault : Settings → Limits → List LimitsFault → LimitsFault → Type 0
 IsFirstLimitsFault s limits [] fault = ⊥
 IsFirstLimitsFault s limits (next ∷ later) fault = ((fault ≡ next) × ¬ IsFreeOfLimitsFault s limits next) ⊎ (IsFreeOfLimitsFault s limits next × IsFirstLimitsFault s limits later fault)
@@ -103,10 +104,10 @@ IsLimitsFault s limits fault = IsFirstLimitsFault s limits limits_faults_in_orde
 abbrev pub of_settings : SettingsFault → LimitsFault
 of_settings fault = faults.Settings fault
 
--- the first fault is this one, where those of the settings come before those of the limits
+-- the first fault is this one; the faults of the settings come before those of the limits
 abbrev pub IsFaultWithLimits : Settings → Limits → LimitsFault → Type 0
 IsFaultWithLimits s limits fault = ((its : SettingsFault) × (fault ≡ of_settings its) × IsFaultOfSettings s its) ⊎ (IsAllowed s × IsLimitsFault s limits fault)
 
--- why no channel was made: out of memory only where there is no fault
+-- the reason why no channel was created, which is running out of memory only if there is no fault
 abbrev pub IsRefusalWithLimits : Settings → Limits → LimitsFault → Type 0
 IsRefusalWithLimits s limits fault = IsFaultWithLimits s limits fault ⊎ ((fault ≡ of_settings settings_faults.NoMemory) × IsAllowed s × AreLimits s limits)

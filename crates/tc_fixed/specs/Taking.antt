@@ -1,4 +1,4 @@
--- Why nothing is taken from the queues.
+-- The reasons why nothing is taken from the queues.
 use Rattle.std.specs.Prelude.{◌≡◌, ℕ, ◌<◌, List, length, Option, Some, None}
 use Rattle.tc_channel.specs.declared.reply.NotCopied.{NotCopied}
 use Rattle.tc_channel.specs.declared.reply.NotCopied.TheVariants.{NoQueue, Empty, NoRoom}
@@ -7,12 +7,12 @@ use Rattle.tc_fixed.specs.declared.faults.NothingTaken.TheVariants as taking
 use Rattle.tc_fixed.specs.declared.faults.NoUnitTaken.{NoUnitTaken}
 use Rattle.tc_fixed.specs.declared.faults.NoUnitTaken.TheVariants as unit_taking
 
--- an item has so many octets, and more than there is room for
+-- the item has `needed` octets, which is more than there is room for
 abbrev pub IsOver : ℕ → ℕ → Option (List ℕ) → Type 0
 IsOver room needed None = ⊥
 IsOver room needed (Some item) = (room < length item) × (needed ≡ length item)
 
--- the fault of a packet queue, and of a unit queue, where both are taken from alike
+-- the fault of a packet queue, and that of a unit queue, for a fault that both kinds of queues have
 abbrev pub packet_fault_of : NotCopied → NothingTaken
 packet_fault_of NoQueue = taking.NoQueue
 packet_fault_of Empty = taking.Empty

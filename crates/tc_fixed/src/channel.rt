@@ -1,4 +1,4 @@
-//! A channel that asks for memory where it is made, and never after.
+//! A channel that requests memory when it is created, and never afterwards.
 
 ghost use Rattle.std.specs.Prelude.{◌≡◌, [], ◌<◌, ◌≤◌, ◌+◌, ◌↔◌, ◌++◌, ◌^◌, ◌-◌, length, drop, min, ℕ, IfOk, IfSome, IfNone, OnOk, OnErr, IsErrOf, MatchResult, IsSome, IsTrue, Some, None, option_map, false};
 ghost use Rattle.tc_channel.specs.declared.event.Event.TheVariants as Event;
@@ -28,7 +28,8 @@ use tc_channel::{
 use tc_link::{Frame, Link, Report, clcw_word};
 use tc_rooms::{FixedRoom, Runs};
 
-// Steps that nobody counts. No other module can name it, so what the calls of a channel run counts all that it looks at.
+// Steps that aren't counted. No other module can name this type, so the code that a channel's calls run elsewhere
+// counts everything that it examines.
 #[derive(Drop)]
 struct NoSteps;
 
@@ -42,10 +43,11 @@ impl Tick for NoSteps {
     fn tick(&mut self) {}
 }
 
-/// One virtual channel, as a [`ChannelWith`](tc_channel::ChannelWith): FARM-1, the buffer of accepted data fields, reassembly, the
-/// packet queues, the unit queues of chosen MAPs, and the journal of all that it answered. It has a room for each data field,
-/// packet, unit and open run that it may ever hold, and only `new` asks for memory. So no other call allocates, and none can be
-/// refused since memory ran out. A call that is refused leaves the channel as it was.
+/// One virtual channel, as a [`ChannelWith`](tc_channel::ChannelWith): FARM-1, the buffer of accepted data fields,
+/// reassembly, the packet queues, the unit queues of chosen MAPs, and the journal of everything that it answered. It
+/// has a room for each data field, packet, unit and open run that it may ever hold, and only its creation requests
+/// memory. So no other call allocates, and none can be refused because memory ran out. A call that is refused leaves
+/// the channel as it was.
 #[derive(Drop)]
 pub struct FixedChannelWith<N: Noted> {
     settings: Settings,
@@ -54,7 +56,7 @@ pub struct FixedChannelWith<N: Noted> {
     journal: N,
 }
 
-/// Such a counting channel: its journal is read by clauses alone, and takes no memory.
+/// A channel in rooms that only counts its events. Its journal can be read by contracts alone, and takes no memory.
 pub type FixedChannel = FixedChannelWith<Unrecorded>;
 
 impl<N: Noted> Model for FixedChannelWith<N> {
@@ -69,8 +71,8 @@ impl<N: Noted> Model for FixedChannelWith<N> {
 }
 
 impl<N: Noted> FixedChannelWith<N> {
-    /// A channel that starts: in S1, with nothing in it and an empty journal, and with no limit by MAP: a unit has 65,542 octets at
-    /// most. All memory that it ever has is asked for here: [`storage`](crate::storage) octets.
+    /// Creates a channel in S1, with nothing in it, an empty journal and no limit by MAP, so that a unit has at most
+    /// 65,542 octets. All memory that it ever has is requested here: [`storage`](crate::storage) bytes.
     pub fn new(alloc: Global, settings: Settings) -> Result<FixedChannelWith<N>, SettingsFault>
         ensures settings { IfOk result (λ channel. channel.settings ≡ settings) }
         ensures limits { IfOk result (λ channel. channel.limits ≡ none) }
@@ -84,9 +86,10 @@ impl<N: Noted> FixedChannelWith<N> {
         }
     }
 
-    /// The same with a limit for the units of each MAP, so that it asks for less memory:
-    /// [`storage_with_limits`](crate::storage_with_limits) octets. A unit of more octets than its MAP's limit is dropped where it
-    /// ends, and no answer says so, just as one of more than 65,542 octets is without limits.
+    /// Creates a channel as [`new`](FixedChannelWith::new) does, but with a limit for the units of each MAP, so that it
+    /// requests less memory: [`storage_with_limits`](crate::storage_with_limits) bytes. A unit of more octets than its
+    /// MAP's limit is dropped when it ends, and no reply reports that. Without limits, this happens to a unit of more
+    /// than 65,542 octets.
     pub fn with_limits(
         alloc: Global,
         settings: Settings,
@@ -104,8 +107,9 @@ impl<N: Noted> FixedChannelWith<N> {
         }
     }
 
-    /// Takes a frame in, of whatever virtual channel. An accepted AD data field is copied into the buffer; of an accepted BD data
-    /// field the unit that it ends is queued at once: whole where its MAP is chosen, else its packets, each copied into its room.
+    /// Processes a frame of any virtual channel. An accepted AD data field is copied into the buffer. The unit that an
+    /// accepted BD data field completes is queued at once: as a whole if its MAP is chosen, and otherwise as its
+    /// packets, each copied into its room.
     pub fn frame(&mut self, frame: &Frame) -> FrameReply
         ensures allowed { IsAllowed self.old.settings }
         ensures lawful { IsLawfulWithin (limit_of self.old.limits) self.old.settings self.old.journal }
@@ -115,8 +119,9 @@ impl<N: Noted> FixedChannelWith<N> {
         self.frame_with_steps(frame, &mut NoSteps)
     }
 
-    /// As [`frame`](FixedChannelWith::frame), which counts no steps. A step is a packet that is cut from the unit
-    /// that the frame ends, or a queue that is looked at; a frame that isn't of Type-BD takes none.
+    /// Processes a frame as [`frame`](FixedChannelWith::frame) does, and counts the steps. A step is a packet that is
+    /// cut from the unit that the frame completes, or a queue that is examined. A frame that isn't of Type-BD takes
+    /// none.
     pub fn frame_with_steps<C: Tick>(&mut self, frame: &Frame, steps: &mut C) -> FrameReply
         ensures allowed { IsAllowed self.old.settings }
         ensures lawful { IsLawfulWithin (limit_of self.old.limits) self.old.settings self.old.journal }
@@ -130,8 +135,8 @@ impl<N: Noted> FixedChannelWith<N> {
         reply
     }
 
-    /// Lets the oldest data field out of the buffer, and queues the unit that it ends: whole where its MAP is chosen, else its
-    /// packets.
+    /// Releases the oldest data field from the buffer, and queues the unit that it completes: as a whole if its MAP is
+    /// chosen, and otherwise as its packets.
     pub fn release(&mut self) -> Result<Delivery, NothingReleased>
         ensures allowed { IsAllowed self.old.settings }
         ensures lawful { IsLawfulWithin (limit_of self.old.limits) self.old.settings self.old.journal }
@@ -143,8 +148,8 @@ impl<N: Noted> FixedChannelWith<N> {
         self.release_with_steps(&mut NoSteps)
     }
 
-    /// As [`release`](FixedChannelWith::release), which counts no steps. Steps are those of
-    /// [`frame_with_steps`](FixedChannelWith::frame_with_steps).
+    /// Releases the oldest data field as [`release`](FixedChannelWith::release) does, and counts the steps, which are
+    /// those of [`frame_with_steps`](FixedChannelWith::frame_with_steps).
     pub fn release_with_steps<C: Tick>(
         &mut self,
         steps: &mut C,
@@ -165,7 +170,8 @@ impl<N: Noted> FixedChannelWith<N> {
         Ok(delivery)
     }
 
-    /// Takes the oldest packet out of the queue with this APID: copies it to the front of these octets, and says how many it has.
+    /// Takes the oldest packet out of the queue with this APID, copies it to the front of `into`, and returns its
+    /// number of octets.
     pub fn take(&mut self, apid: u16, into: &mut [u8]) -> Result<usize, NothingTaken>
         ensures allowed { IsAllowed self.old.settings }
         ensures lawful { IsLawfulWithin (limit_of self.old.limits) self.old.settings self.old.journal }
@@ -179,7 +185,8 @@ impl<N: Noted> FixedChannelWith<N> {
         self.take_with_steps(apid, into, &mut NoSteps)
     }
 
-    /// As [`take`](FixedChannelWith::take), which counts no steps. A step is a queue that is looked at.
+    /// Takes a packet as [`take`](FixedChannelWith::take) does, and counts the steps. A step is a queue that is
+    /// examined.
     pub fn take_with_steps<C: Tick>(
         &mut self,
         apid: u16,
@@ -201,7 +208,8 @@ impl<N: Noted> FixedChannelWith<N> {
         Ok(count)
     }
 
-    /// Takes the oldest unit out of the queue of this chosen MAP: copies it to the front of these octets, and says how many it has.
+    /// Takes the oldest unit out of the queue of this chosen MAP, copies it to the front of `into`, and returns its
+    /// number of octets.
     pub fn take_unit(&mut self, map: u8, into: &mut [u8]) -> Result<usize, NoUnitTaken>
         ensures allowed { IsAllowed self.old.settings }
         ensures lawful { IsLawfulWithin (limit_of self.old.limits) self.old.settings self.old.journal }
@@ -215,7 +223,8 @@ impl<N: Noted> FixedChannelWith<N> {
         self.take_unit_with_steps(map, into, &mut NoSteps)
     }
 
-    /// As [`take_unit`](FixedChannelWith::take_unit), which counts no steps. A step is a queue that is looked at.
+    /// Takes a unit as [`take_unit`](FixedChannelWith::take_unit) does, and counts the steps. A step is a queue that is
+    /// examined.
     pub fn take_unit_with_steps<C: Tick>(
         &mut self,
         map: u8,
@@ -237,8 +246,8 @@ impl<N: Noted> FixedChannelWith<N> {
         Ok(count)
     }
 
-    /// Takes the oldest packet out of the queue with this APID and drops it, where one waits, and says whether it did.
-    /// [`oldest`](FixedChannelWith::oldest) lends it before.
+    /// Drops the oldest packet of the queue with this APID, if one waits, and returns whether one did.
+    /// [`oldest`](FixedChannelWith::oldest) lends it beforehand.
     pub fn drop_oldest(&mut self, apid: u16) -> bool
         ensures allowed { IsAllowed self.old.settings }
         ensures lawful { IsLawfulWithin (limit_of self.old.limits) self.old.settings self.old.journal }
@@ -253,8 +262,8 @@ impl<N: Noted> FixedChannelWith<N> {
         true
     }
 
-    /// Takes the oldest unit out of the queue of this chosen MAP and drops it, where one waits, and says whether it did.
-    /// [`oldest_unit`](FixedChannelWith::oldest_unit) lends it before.
+    /// Drops the oldest unit of the queue of this chosen MAP, if one waits, and returns whether one did.
+    /// [`oldest_unit`](FixedChannelWith::oldest_unit) lends it beforehand.
     pub fn drop_oldest_unit(&mut self, map: u8) -> bool
         ensures allowed { IsAllowed self.old.settings }
         ensures lawful { IsLawfulWithin (limit_of self.old.limits) self.old.settings self.old.journal }
@@ -269,8 +278,8 @@ impl<N: Noted> FixedChannelWith<N> {
         true
     }
 
-    /// The octets of the packet that [`take`](FixedChannelWith::take) with this APID gives next, lent. None where there is no such
-    /// queue, and where it is empty. It is no event.
+    /// Lends the octets of the packet that [`take`](FixedChannelWith::take) with this APID returns next. Returns `None`
+    /// if there is no such queue, or if it is empty. The call is no event.
     pub fn oldest(&self, apid: u16) -> Option<&[u8]>
         ensures packet { option_map (λ octets. octets.now) result ≡ take_reply_within (limit_of self.now.limits) self.now.settings self.now.journal apid }
         ensures allowed { IsAllowed self.now.settings }
@@ -279,7 +288,8 @@ impl<N: Noted> FixedChannelWith<N> {
         self.oldest_with_steps(apid, &mut NoSteps)
     }
 
-    /// As [`oldest`](FixedChannelWith::oldest), which counts no steps. A step is a queue that is looked at.
+    /// Lends a packet as [`oldest`](FixedChannelWith::oldest) does, and counts the steps. A step is a queue that is
+    /// examined.
     pub fn oldest_with_steps<C: Tick>(&self, apid: u16, steps: &mut C) -> Option<&[u8]>
         ensures packet { option_map (λ octets. octets.now) result ≡ take_reply_within (limit_of self.now.limits) self.now.settings self.now.journal apid }
         ensures allowed { IsAllowed self.now.settings }
@@ -289,8 +299,8 @@ impl<N: Noted> FixedChannelWith<N> {
         self.channel_core.oldest(apid, steps)
     }
 
-    /// The octets of the unit that [`take_unit`](FixedChannelWith::take_unit) with this MAP gives next, lent. None where the MAP
-    /// isn't chosen, and where its queue is empty. It is no event.
+    /// Lends the octets of the unit that [`take_unit`](FixedChannelWith::take_unit) with this MAP returns next. Returns
+    /// `None` if the MAP isn't chosen, or if its queue is empty. The call is no event.
     pub fn oldest_unit(&self, map: u8) -> Option<&[u8]>
         ensures unit { option_map (λ octets. octets.now) result ≡ unit_reply_within (limit_of self.now.limits) self.now.settings self.now.journal map }
         ensures allowed { IsAllowed self.now.settings }
@@ -299,7 +309,8 @@ impl<N: Noted> FixedChannelWith<N> {
         self.oldest_unit_with_steps(map, &mut NoSteps)
     }
 
-    /// As [`oldest_unit`](FixedChannelWith::oldest_unit), which counts no steps. A step is a queue that is looked at.
+    /// Lends a unit as [`oldest_unit`](FixedChannelWith::oldest_unit) does, and counts the steps. A step is a queue
+    /// that is examined.
     pub fn oldest_unit_with_steps<C: Tick>(&self, map: u8, steps: &mut C) -> Option<&[u8]>
         ensures unit { option_map (λ octets. octets.now) result ≡ unit_reply_within (limit_of self.now.limits) self.now.settings self.now.journal map }
         ensures allowed { IsAllowed self.now.settings }
@@ -309,7 +320,7 @@ impl<N: Noted> FixedChannelWith<N> {
         self.channel_core.oldest_unit(map, steps)
     }
 
-    /// FARM-1's components.
+    /// Returns FARM-1's components.
     pub fn report(&self) -> Report
         ensures report { result ≡ (run_within (limit_of self.now.limits) self.now.settings self.now.journal).report }
         ensures farm_b { result.farm_b < 4 }
@@ -320,7 +331,7 @@ impl<N: Noted> FixedChannelWith<N> {
         self.channel_core.report()
     }
 
-    /// The communications link control word.
+    /// Returns the communications link control word.
     pub fn clcw(&self, link: Link) -> u32
         ensures word { result ≡ clcw_within (limit_of self.now.limits) self.now.settings self.now.journal link }
         ensures allowed { IsAllowed self.now.settings }
@@ -329,7 +340,7 @@ impl<N: Noted> FixedChannelWith<N> {
         clcw_word(&self.channel_core.report(), self.settings.vcid, link)
     }
 
-    /// How many data fields wait in the buffer.
+    /// Returns the number of data fields that wait in the buffer.
     pub fn buffered(&self) -> usize
         ensures count { result ≡ length (buffered_fields_within (limit_of self.now.limits) self.now.settings self.now.journal) }
         ensures allowed { IsAllowed self.now.settings }
@@ -338,7 +349,7 @@ impl<N: Noted> FixedChannelWith<N> {
         self.channel_core.buffered()
     }
 
-    /// How many packets wait in the queue with this APID, if there is one.
+    /// Returns the number of packets that wait in the queue with this APID, if there is one.
     pub fn queued(&self, apid: u16) -> Option<usize>
         ensures count { result ≡ option_map length (waiting_packets_within (limit_of self.now.limits) self.now.settings self.now.journal apid) }
         ensures allowed { IsAllowed self.now.settings }
@@ -347,7 +358,7 @@ impl<N: Noted> FixedChannelWith<N> {
         self.channel_core.queued(apid, &mut NoSteps)
     }
 
-    /// How many units wait in the queue of this MAP, if it is chosen.
+    /// Returns the number of units that wait in the queue of this MAP, if it is chosen.
     pub fn units(&self, map: u8) -> Option<usize>
         ensures count { result ≡ option_map length (waiting_units_within (limit_of self.now.limits) self.now.settings self.now.journal map) }
         ensures allowed { IsAllowed self.now.settings }
@@ -356,7 +367,7 @@ impl<N: Noted> FixedChannelWith<N> {
         self.channel_core.units(map, &mut NoSteps)
     }
 
-    /// How many events there are in the journal; where they are more than 2^64 - 1, that number.
+    /// Returns the number of events in the journal, or 2^64 - 1 if there are more.
     pub fn events(&self) -> u64
         ensures count { result ≡ min (length self.now.journal) (2 ^ 64 - 1) }
         ensures allowed { IsAllowed self.now.settings }
@@ -365,7 +376,7 @@ impl<N: Noted> FixedChannelWith<N> {
         self.journal.count()
     }
 
-    /// What clauses see of the channel at this moment. It takes no memory.
+    /// Returns the channel at this moment as contracts see it. The value takes no memory.
     pub fn past(&self) -> Past
         ensures past { result ≡ self.now }
         ensures allowed { IsAllowed self.now.settings }
@@ -378,7 +389,7 @@ impl<N: Noted> FixedChannelWith<N> {
         }
     }
 
-    /// The settings that the channel was made by.
+    /// Returns the settings with which the channel was created.
     pub fn settings(&self) -> &Settings
         ensures settings { result.now ≡ self.now.settings }
         ensures allowed { IsAllowed self.now.settings }
@@ -387,7 +398,7 @@ impl<N: Noted> FixedChannelWith<N> {
         &self.settings
     }
 
-    /// The limits that the channel was made by.
+    /// Returns the limits with which the channel was created.
     pub fn limits(&self) -> &Limits
         ensures limits { result.now ≡ self.now.limits }
         ensures allowed { AreLimits self.now.settings self.now.limits }
@@ -396,7 +407,8 @@ impl<N: Noted> FixedChannelWith<N> {
     }
 }
 
-// The open runs of a channel that starts. A plain data field is a unit by itself, with the limit of the MAPs that aren't listed.
+// Creates the open runs of a new channel. A plain data field is a unit by itself, with the limit of the MAPs that
+// aren't listed.
 fn open_none(alloc: Global, segmented: bool, limits: &Limits) -> Result<Runs<FixedRoom>, AllocError>
     requires others { IsOthers limits.now.others segmented }
     requires octets { HaveOctets limits.now.maps }
@@ -411,7 +423,7 @@ fn open_none(alloc: Global, segmented: bool, limits: &Limits) -> Result<Runs<Fix
     Runs::new(alloc, false, limits.others as usize)
 }
 
-// A channel by settings and limits that were checked.
+// Creates a channel from settings and limits that were checked.
 fn start<N: Noted>(
     alloc: Global,
     settings: Settings,

@@ -1,42 +1,42 @@
-//! Why a call gives nothing. None of these is that memory ran out.
+//! The reasons why a call returns nothing. Running out of memory isn't one of them.
 
 ghost use Rattle.std.specs.Prelude.{◌≡◌};
 
 use tc_channel::NotCopied;
 use thiserror::Error;
 
-/// Why no data field was released.
+/// The reason why no data field was released.
 #[derive(Clone, Copy, Debug, PartialEq, Eq, Error)]
 pub enum NothingReleased {
     #[error("the buffer is empty")]
     Empty,
 }
 
-/// Why no packet was taken.
+/// The reason why no packet was taken.
 #[derive(Clone, Copy, Debug, PartialEq, Eq, Error)]
 pub enum NothingTaken {
     #[error("no queue with that application process identifier")]
     NoQueue,
     #[error("the queue is empty")]
     Empty,
-    /// The packet has so many octets, more than the place that it would be copied to. It still waits.
+    /// The packet has this number of octets, which is more than the place to which it would be copied. It still waits.
     #[error("no room for the packet")]
     NoRoom(usize),
 }
 
-/// Why no unit was taken.
+/// The reason why no unit was taken.
 #[derive(Clone, Copy, Debug, PartialEq, Eq, Error)]
 pub enum NoUnitTaken {
     #[error("no queue for that multiplexer access point")]
     NoMap,
     #[error("the queue is empty")]
     Empty,
-    /// The unit has so many octets, more than the place that it would be copied to. It still waits.
+    /// The unit has this number of octets, which is more than the place to which it would be copied. It still waits.
     #[error("no room for the unit")]
     NoRoom(usize),
 }
 
-/// The same fault, of a packet queue.
+/// The conversion of a fault that both kinds of queues have to the fault of a packet queue.
 impl From<NotCopied> for NothingTaken {
     ghost use Rattle.tc_fixed.specs.Taking.{packet_fault_of};
 
@@ -51,7 +51,7 @@ impl From<NotCopied> for NothingTaken {
     }
 }
 
-/// The same fault, of the unit queue of a MAP.
+/// The conversion of a fault that both kinds of queues have to the fault of a MAP's unit queue.
 impl From<NotCopied> for NoUnitTaken {
     ghost use Rattle.tc_fixed.specs.Taking.{unit_fault_of};
 

@@ -1,11 +1,12 @@
-//! One virtual channel of a telecommand receiver that asks for memory where it is made, and never after.
+//! One virtual channel of a telecommand receiver that requests memory when it is created, and never afterwards.
 //!
-//! A contract sees a [`FixedChannel`] as tc_channel's contracts see a channel: as its settings and its journal, and as its [`Limits`],
-//! which say how long the units of each MAP may be. All else that it has is the run of that journal within these limits, so each law
-//! of tc_channel over runs holds of it as it stands. What differs is where things lie: in rooms of tc_rooms that are made at the start,
-//! one for each data field, packet, unit and open run that the settings allow.
+//! A contract sees a [`FixedChannel`] as tc_channel's contracts see a channel, by its settings and its journal, and
+//! also by its [`Limits`] on the length of each MAP's units. Everything else that it has is the run of that journal
+//! within these limits, so each law of tc_channel about runs holds for it unchanged. The difference is the place of its
+//! data: they lie in rooms of tc_rooms that are created at the start, one for each data field, packet, unit and open
+//! run that the settings allow.
 //!
-//! No call but [`FixedChannelWith::new`] and [`FixedChannelWith::with_limits`] is given an allocator, and no answer of another one is
+//! Only [`FixedChannelWith::new`] and [`FixedChannelWith::with_limits`] receive an allocator, and no other call reports
 //! that memory ran out.
 #![tactic(auto)]
 

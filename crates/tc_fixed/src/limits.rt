@@ -1,4 +1,4 @@
-//! How long the units of each MAP may be.
+//! The limits on the length of units, by MAP.
 
 ghost use Rattle.std.specs.Prelude.{ℕ, ◌≡◌, ◌<◌, ◌≤◌, ◌↔◌, IfOk, IsTrue, MatchResult, get_or};
 ghost use Rattle.tc_channel.specs.declared.settings.MapSetting.{MapSetting};
@@ -13,40 +13,42 @@ use tc_channel::{Items, LARGEST_FIELD, LentSettings, MapSetting, Settings, Setti
 use tc_packet::LARGEST_UNIT;
 use thiserror::Error;
 
-/// How many MAPs there are: they have six bits (CCSDS 232.0-B, 4.1.3.2.2).
+/// The number of MAPs, whose ids have six bits (CCSDS 232.0-B, 4.1.3.2.2).
 pub(crate) const MAPS: usize = 64;
 
-/// How long the units of one MAP may be.
+/// The limit on the length of one MAP's units.
 #[repr(C)]
 #[derive(Clone, Copy, Debug, PartialEq, Eq)]
 pub struct MapLimit {
     /// The multiplexer access point, at most 63.
     pub map: u8,
-    /// The most octets of a unit, 1 to 65,542.
+    /// The largest number of octets in a unit, 1 to 65,542.
     pub octets: u32,
 }
 
-/// How long the units of each MAP may be. A longer unit is dropped, as one of more than 65,542 octets is where there are no limits.
+/// The limits on the length of units, by MAP. A longer unit is dropped, as one of more than 65,542 octets is when there
+/// are no limits.
 #[derive(Debug, Drop, PartialEq, Eq)]
 pub struct Limits {
-    /// The most octets of a unit of each MAP that isn't listed, at most 65,542. It may be 0 where there are segment headers: then
-    /// such a MAP ends no unit but the empty one. On a plain channel it is the limit of each data field.
+    /// The largest number of octets in a unit of each MAP that isn't listed, at most 65,542. It may be 0 if there are
+    /// segment headers, in which case such a MAP completes only empty units. On a plain channel it is the limit of each
+    /// data field.
     pub others: u32,
-    /// The MAPs with a limit of their own, no two the same, and none on a plain channel.
+    /// The MAPs with a limit of their own. No MAP is listed twice, and none is listed on a plain channel.
     pub maps: Items<MapLimit>,
 }
 
-/// Limits whose list is lent, so that they can be looked at without memory.
+/// Limits whose list is lent, so that they can be examined without memory.
 #[derive(Clone, Copy, Debug)]
 pub struct LentLimits<'a> {
     pub others: u32,
     pub maps: &'a [MapLimit],
 }
 
-/// Why settings and limits make no channel: the first fault that they have, in this order.
+/// The reason why settings and limits don't make a channel: the first fault that they have, in this order.
 #[derive(Clone, Copy, Debug, PartialEq, Eq, Error)]
 pub enum LimitsFault {
-    /// The settings have this fault. With `NoMemory` nothing has a fault, and memory ran out.
+    /// The settings have this fault. `NoMemory` means that nothing has a fault, and memory ran out.
     #[error(transparent)]
     Settings(SettingsFault),
     #[error("bad limit of the other multiplexer access points")]
@@ -75,7 +77,7 @@ impl From<SettingsFault> for LimitsFault {
 }
 
 impl Limits {
-    /// No limit by MAP: a unit has 65,542 octets at most. It takes no memory.
+    /// Returns limits without any limit by MAP, so that a unit has at most 65,542 octets. They take no memory.
     pub fn none(alloc: Global) -> Limits
         ensures { result ≡ none }
     {
@@ -85,7 +87,7 @@ impl Limits {
         }
     }
 
-    /// The same limits, with the list lent.
+    /// Returns these limits, with the list lent.
     pub fn lent(&self) -> LentLimits<'_>
         ensures { limits_of result ≡ self.now }
     {
@@ -95,21 +97,22 @@ impl Limits {
         }
     }
 
-    /// The most octets of a unit of this MAP.
+    /// Returns the largest number of octets in a unit of this MAP.
     pub fn of(&self, map: u8) -> u32
         ensures { result ≡ limit_of self.now map }
     {
         self.lent().of(map)
     }
 
-    /// Whether a channel can be made by these settings and limits. It never answers that there is no memory, and takes none.
+    /// Checks whether a channel can be created with these settings and limits. `NoMemory` is never returned, and no
+    /// memory is requested.
     pub fn check(&self, settings: &Settings) -> Result<(), LimitsFault>
         ensures { MatchResult result (λ _. IsAllowed settings.now × AreLimits settings.now self.now) (IsFaultWithLimits settings.now self.now) }
     {
         self.lent().check(settings.lent())
     }
 
-    // The most octets of a packet and of a unit.
+    // Returns the largest number of octets in a packet or a unit.
     pub(crate) fn item_size(&self, segmented: bool) -> usize
         ensures size { result ≡ item_size self.now segmented }
         ensures within { result ≤ LARGEST_UNIT }
@@ -117,7 +120,7 @@ impl Limits {
         self.lent().item_size(segmented)
     }
 
-    // The most octets of a unit of each MAP.
+    // Returns the largest number of octets in a unit, for each MAP.
     pub(crate) fn table(&self) -> [usize; MAPS]
         requires others { self.now.others ≤ largest_unit }
         requires octets { HaveOctets self.now.maps }
@@ -133,7 +136,7 @@ impl Limits {
 }
 
 impl LentLimits<'_> {
-    /// The same limits, with a copy of the list: one allocation.
+    /// Returns these limits, with a copy of the list, which is the only allocation.
     pub fn copied(self, alloc: Global) -> Result<Limits, AllocError>
         ensures { IfOk result (λ limits. limits ≡ limits_of self.entry) }
     {
@@ -144,7 +147,7 @@ impl LentLimits<'_> {
         })
     }
 
-    /// The most octets of a unit of this MAP.
+    /// Returns the largest number of octets in a unit of this MAP.
     pub fn of(self, map: u8) -> u32
         ensures { result ≡ limit_of (limits_of self.entry) map }
     {
@@ -156,7 +159,8 @@ impl LentLimits<'_> {
         self.others
     }
 
-    /// Whether a channel can be made by these settings and limits. It never answers that there is no memory, and takes none.
+    /// Checks whether a channel can be created with these settings and limits. `NoMemory` is never returned, and no
+    /// memory is requested.
     pub fn check(self, settings: LentSettings<'_>) -> Result<(), LimitsFault>
         ensures { MatchResult result (λ _. IsAllowed (settings_of settings.entry) × AreLimits (settings_of settings.entry) (limits_of self.entry)) (IsFaultWithLimits (settings_of settings.entry) (limits_of self.entry)) }
     {
@@ -164,7 +168,7 @@ impl LentLimits<'_> {
         self.check_alone(settings)
     }
 
-    // Whether a channel of these settings can have these limits.
+    // Checks whether a channel with these settings can have these limits.
     #[tactic(auto, unfolding(crate::specs::Limits::IsLimitsFault))]
     fn check_alone(self, settings: LentSettings<'_>) -> Result<(), LimitsFault>
         ensures { MatchResult result (λ _. AreLimits (settings_of settings.entry) (limits_of self.entry)) (IsLimitsFault (settings_of settings.entry) (limits_of self.entry)) }
@@ -190,7 +194,7 @@ impl LentLimits<'_> {
         Ok(())
     }
 
-    // The most octets of a unit of whatever MAP.
+    // Returns the largest number of octets in a unit of any MAP.
     fn largest(self) -> u32
         ensures { result ≡ largest_limit (limits_of self.entry) }
     {
@@ -201,7 +205,7 @@ impl LentLimits<'_> {
         largest
     }
 
-    // The most octets of a packet and of a unit.
+    // Returns the largest number of octets in a packet or a unit.
     pub(crate) fn item_size(self, segmented: bool) -> usize
         ensures size { result ≡ item_size (limits_of self.entry) segmented }
         ensures within { result ≤ LARGEST_UNIT }
@@ -233,21 +237,21 @@ fn have_octets(maps: &[MapLimit]) -> bool
     maps.iter().all(|limit| limit.octets >= 1 && limit.octets as usize <= LARGEST_UNIT)
 }
 
-// Whether no MAP is listed where there are no segment headers.
+// Returns whether there are segment headers or no MAP is listed.
 fn has_maps_by_headers(maps: &[MapLimit], segmented: bool) -> bool
     ensures { IsTrue result ↔ LimitsMapsByHeaders maps.now segmented }
 {
     segmented || maps.is_empty()
 }
 
-// Whether one of the listed MAPs is this one.
+// Returns whether this MAP is listed.
 fn has_map(maps: &[MapLimit], map: u8) -> bool
     ensures { IsTrue result ↔ IsListed maps.now map }
 {
     maps.iter().any(|other| other.map == map)
 }
 
-// Whether no MAP is listed twice.
+// Returns whether no MAP is listed twice.
 fn are_maps_apart(maps: &[MapLimit]) -> bool
     ensures { IsTrue result ↔ AreLimitedMapsApart maps.now }
 {
@@ -259,14 +263,14 @@ fn are_maps_apart(maps: &[MapLimit]) -> bool
     true
 }
 
-// Whether each chosen MAP has a limit that isn't 0.
+// Returns whether each chosen MAP has a limit that isn't 0.
 fn are_listed(limits: LentLimits<'_>, chosen: &[MapSetting]) -> bool
     ensures { IsTrue result ↔ AreListed (limits_of limits.entry) chosen.now }
 {
     limits.others >= 1 || all_listed(limits.maps, chosen)
 }
 
-// Whether each chosen MAP is listed.
+// Returns whether each chosen MAP is listed.
 fn all_listed(maps: &[MapLimit], chosen: &[MapSetting]) -> bool
     ensures { IsTrue result ↔ AllByRecursion (λ (m : MapSetting). IsListed maps.now m.map) chosen.now }
 {

@@ -1,4 +1,4 @@
-//! How much memory the making of a channel asks for.
+//! The memory that creating a channel requests.
 
 ghost use Rattle.std.specs.Prelude.{◌≡◌, ◌+◌, ◌^◌, ◌-◌, ◌<◌, min};
 ghost use Rattle.tc_fixed.specs.Limits.{limits_of, none};
@@ -10,20 +10,21 @@ use crate::limits::{LentLimits, Limits, MAPS};
 use tc_channel::{LentSettings, QUEUE_WORDS, ROOM_WORDS, RUN_WORDS, Settings};
 use tc_packet::LARGEST_UNIT;
 
-// Two services of 64 MAPs.
+// The number of streams: two services of 64 MAPs.
 const STREAMS: u128 = 128;
 
-/// How many octets [`FixedChannelWith::new`](crate::FixedChannelWith::new) asks its allocator for by these settings, where they make
-/// a channel, on a machine of 64 bits; 2^64 - 1 where it is more. No other call of the channel asks for any. What an allocator adds
-/// to a block is not counted, nor is the room of the lists of the settings themselves, which whoever made them chose. It takes a step
-/// a queue and a MAP, and no memory.
+/// Returns the number of bytes that [`FixedChannelWith::new`](crate::FixedChannelWith::new) requests from its allocator
+/// for these settings, if they make a channel, on a machine of 64 bits, or 2^64 - 1 if it is more. No other call of the
+/// channel requests any. This doesn't count what an allocator adds to a block, nor the memory of the lists of the
+/// settings themselves, whose size their creator chose. The computation takes one step for each queue and each MAP, and
+/// no memory.
 pub fn storage(settings: &Settings) -> u64
     ensures { result ≡ min (storage_of settings.now) (2 ^ 64 - 1) }
 {
     storage_of_lent(settings.lent())
 }
 
-/// The same of settings whose lists are lent.
+/// Returns what [`storage`] returns, for settings whose lists are lent.
 #[tactic(auto, unfolding(crate::specs::Storage::storage_within))]
 pub fn storage_of_lent(settings: LentSettings<'_>) -> u64
     ensures { result ≡ min (storage_of (settings_of settings.entry)) (2 ^ 64 - 1) }
@@ -31,15 +32,16 @@ pub fn storage_of_lent(settings: LentSettings<'_>) -> u64
     all_octets(settings, run_octets(settings), settings.largest_item())
 }
 
-/// The same of [`FixedChannelWith::with_limits`](crate::FixedChannelWith::with_limits) by these settings and limits. It takes a step a
-/// queue, and for each of the 64 MAPs one a limit that is listed.
+/// Returns the number of bytes that [`FixedChannelWith::with_limits`](crate::FixedChannelWith::with_limits) requests
+/// for these settings and limits, counted as [`storage`] counts. The computation takes one step for each queue, and for
+/// each of the 64 MAPs one for each limit that is listed.
 pub fn storage_with_limits(settings: &Settings, limits: &Limits) -> u64
     ensures { result ≡ min (storage_within settings.now limits.now) (2 ^ 64 - 1) }
 {
     storage_with_lent(settings.lent(), limits.lent())
 }
 
-/// The same of settings and limits whose lists are lent.
+/// Returns what [`storage_with_limits`] returns, for settings and limits whose lists are lent.
 #[tactic(auto, unfolding(crate::specs::Storage::storage_within))]
 pub fn storage_with_lent(settings: LentSettings<'_>, limits: LentLimits<'_>) -> u64
     ensures { result ≡ min (storage_within (settings_of settings.entry) (limits_of limits.entry)) (2 ^ 64 - 1) }
@@ -51,7 +53,8 @@ pub fn storage_with_lent(settings: LentSettings<'_>, limits: LentLimits<'_>) -> 
     )
 }
 
-// All octets, with so many for the streams, where a packet and a unit have so many at most.
+// Returns the number of all bytes, with `runs` bytes for the streams, and with packets and units of at most `item`
+// octets.
 fn all_octets(settings: LentSettings<'_>, runs: u128, item: u128) -> u64
     requires runs { runs < 2 ^ 100 }
     requires item { item < 2 ^ 20 }
@@ -67,7 +70,7 @@ fn all_octets(settings: LentSettings<'_>, runs: u128, item: u128) -> u64
     }
 }
 
-// The rooms of the streams, where there are no limits by MAP.
+// Returns the number of bytes for the rooms of the streams if there are no limits by MAP.
 fn run_octets(settings: LentSettings<'_>) -> u128
     ensures value { result ≡ runs_storage (settings_of settings.entry) none }
     ensures within { result < 2 ^ 100 }
@@ -78,7 +81,7 @@ fn run_octets(settings: LentSettings<'_>) -> u128
     0
 }
 
-// The limits of all MAPs, together.
+// Returns the sum of the limits of all MAPs.
 fn all_limits(limits: LentLimits<'_>) -> u128
     ensures value { result ≡ limits_below (limits_of limits.entry) 64 }
     ensures within { result < 2 ^ 80 }
@@ -90,7 +93,7 @@ fn all_limits(limits: LentLimits<'_>) -> u128
     all
 }
 
-// The rooms of the streams within these limits.
+// Returns the number of bytes for the rooms of the streams within these limits.
 fn limited_run_octets(settings: LentSettings<'_>, limits: LentLimits<'_>) -> u128
     ensures value { result ≡ runs_storage (settings_of settings.entry) (limits_of limits.entry) }
     ensures within { result < 2 ^ 100 }
@@ -101,7 +104,7 @@ fn limited_run_octets(settings: LentSettings<'_>, limits: LentLimits<'_>) -> u12
     0
 }
 
-// The queues and their rooms, where a packet and a unit have so many octets at most.
+// Returns the number of bytes for the queues and their rooms, with packets and units of at most `item` octets.
 fn queue_octets(settings: LentSettings<'_>, item: u128) -> u128
     requires { item < 2 ^ 20 }
     ensures value { result ≡ queues_in_rooms (settings_of settings.entry) item }

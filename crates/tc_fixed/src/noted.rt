@@ -1,4 +1,4 @@
-//! What a channel does with its events where it may not allocate.
+//! The journal of a channel that may not allocate.
 
 ghost use Rattle.std.specs.Prelude.{◌≡◌, List, ◌∷◌, [], ◌++◌, length, min, ◌^◌, ◌-◌};
 ghost use Rattle.tc_channel.specs.declared.event.Event.{Event};
@@ -7,25 +7,25 @@ ghost use Rattle.tc_channel.specs.Journal.{event_of};
 use std::alloc::Global;
 use tc_channel::{EventsSeen, Journal, LentEvent, Unrecorded};
 
-/// A journal to which each event can be appended without memory. A channel of rooms is generic over it, so that its clauses hold
-/// of the events as they were noted, and of no others.
+/// A journal to which each event can be appended without memory. A channel in rooms is generic over it, so that its
+/// contracts hold for exactly the events that were noted.
 pub trait Noted: Drop {
     // the events, the oldest first
     ghost noted: { Self → List Event };
 
-    /// The journal of no event. It allocates nothing.
+    /// Creates a journal without events. Nothing is allocated.
     fn start(alloc: Global) -> Self
         ensures events { noted result ≡ [] };
 
-    /// Appends an event. It allocates nothing.
+    /// Appends an event. Nothing is allocated.
     fn note(&mut self, event: &LentEvent<'_>)
         ensures events { noted self.new ≡ noted self.old ++ event_of event.now ∷ [] };
 
-    /// The events as clauses see them, without an octet.
+    /// Returns the events as contracts see them, in a value without octets.
     fn seen(&self) -> EventsSeen
         ensures events { result.events ≡ noted self.now };
 
-    /// How many events there are; where they are more than 2^64 - 1, that number.
+    /// Returns the number of events, or 2^64 - 1 if there are more.
     fn count(&self) -> u64
         ensures count { result ≡ min (length (noted self.now)) (2 ^ 64 - 1) };
 }

@@ -1,11 +1,12 @@
-//! What clauses see of a channel, without an octet.
+//! The view of a channel in contracts, as a value without octets.
 
 use crate::limits::Limits;
 use std::marker::Model;
 use std::snapshot::Snapshot;
 use tc_channel::{EventsSeen, Settings};
 
-/// The settings of a channel, its limits and its journal at a moment, as clauses see them. It takes no memory, and no program can read it.
+/// The settings of a channel, its limits and its journal at a moment, as contracts see them. It takes no memory, and no
+/// program can read it.
 #[derive(Drop)]
 pub struct Past {
     pub(crate) settings: Snapshot<Settings>,

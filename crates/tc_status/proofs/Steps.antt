@@ -20,7 +20,7 @@ set-there [] i a b e = absurd (some-ne-none a (sym e))
 set-there (x ∷ xs) zero a b e = refl
 set-there (x ∷ xs) (suc i) a b e = set-there xs i a b e
 
--- the first seat still has what it had seen, where a live view that has seen the same is put anywhere
+-- the first seat still has the history that it had seen, if a live view that has seen an equal history is put anywhere
 first-stays : (views : List View) (id : ℕ) (p w : View) → get_elem? views 0 ≡ some p → p.live ≡ true → w.live ≡ true → w.seen ≡ p.seen → (q : View) × (get_elem? (set views id w) 0 ≡ some q) × (q.live ≡ true) × (q.seen ≡ p.seen)
 first-stays [] id p w at live live' same = absurd (some-ne-none p (sym at))
 first-stays (x ∷ xs) zero p w at live live' same = (w, refl, live', same)
@@ -54,7 +54,7 @@ opens word h is allowed law = record {
     one zero v e = subst (IsBehind h) (some-injective (view h) v e) (behind-self h)
     one (suc id) v e = absurd (some-ne-none v (sym e))
 
--- what is published by a store of its word
+-- storing the word of a history publishes the history
 pub publishes : (slots id : ℕ) (me : Me (Unit {0}) View) (h : History) (word : ℕ) → id ≡ 0 → word ≡ status_word h → IsLawful h.settings h.journal → IsEarlier me.0.seen h
     → Allows Kept slots id me 0 (λ _. word) (λ _ w. w ≡ (view h, me.1))
 publishes slots id me h word is_first is law later = rw is_first (λ s b len at small.
@@ -90,7 +90,7 @@ splits id v s b at =
           (at_snoc (set s.views id v) v u j e);
     }
 
--- a load after which the seat has the view of what was published
+-- after a load the seat has the view of the published history
 loads : (s : State (Unit {0}) View) (id : ℕ) (b : Kept s) → IsBoard (set s.words 0 (slice_index s.words 0)) (set s.views id (view b.publisher.seen))
 loads s id b =
     let h : History = b.publisher.seen in

@@ -1,4 +1,5 @@
--- The board of a channel: one word, which is the CLCW (CCSDS 232.0-B, 4.2) of what was published, and what is known at each seat.
+-- The board of a channel: one word, which is the CLCW (CCSDS 232.0-B, 4.2) of the published history, and the knowledge
+-- at each seat.
 use Rattle.std.specs.Prelude.{◌≡◌, ℕ, List, [], ◌∷◌, true, false}
 use mathlib.Core.Option.{some}
 use mathlib.Core.List.{IsPrefix}
@@ -12,21 +13,21 @@ use Rattle.tc_channel.specs.Run.{IsLawful}
 use Rattle.tc_channel.specs.Reply.{clcw}
 use Rattle.tc_status.specs.declared.board.View.{View}
 
--- what a contract sees of a publisher: which board it has, and the settings and the journal that it has published
+-- the view of a publisher in contracts: its board, and the settings and the journal that it has published
 pub record Publishing : Type 0 where
   pub board : TableId
   pub published : History
 
--- what a contract sees of a watcher: which board it has, and the settings and the journal that it has seen
+-- the view of a watcher in contracts: its board, and the settings and the journal that it has seen
 pub record Watching : Type 0 where
   pub board : TableId
   pub seen : History
 
--- the settings are the same, and the old journal is a beginning of the new one
+-- the settings are equal, and the old journal is a beginning of the new one
 abbrev pub IsEarlier : History → History → Type 0
 IsEarlier old new = (new.settings ≡ old.settings) × IsPrefix old.journal new.journal
 
--- who reads the word knows the two flags of the link, and the channel doesn't
+-- both flags of the link 0, since the reader of the word knows these flags and the channel doesn't
 abbrev pub no_flag : Link
 no_flag = record { no_rf = false; no_bit_lock = false }
 
@@ -38,23 +39,24 @@ status_word h = clcw h.settings h.journal no_flag
 abbrev pub view : History → View
 view h = record { live = true; seen = h; reported = h }
 
--- a history that stands where none is meant
+-- a history for places where none is meant
 abbrev pub no_history : History
 no_history = record { settings = record { vcid = 0; width = 0; buffer = 0; first = 0; segmented = true; queues = []; maps = [] }; journal = [] }
 
--- what a seat leaves that was joined to another
+-- the view that is left of a seat that was joined to another
 abbrev pub spent : View
 spent = record { live = false; seen = no_history; reported = no_history }
 
--- what the second seat has seen is reported to the first
+-- the view of the first seat after it learned the history that the second has seen
 abbrev pub with_reported : View → View → View
 with_reported v w = record v { reported = w.seen }
 
--- what a live seat has seen, and what was reported to it, are beginnings of what was published
+-- the histories that a live seat has seen, and that were reported to it, are beginnings of the published one
 abbrev pub IsBehind : History → View → Type 0
 IsBehind published v = v.live ≡ true → IsEarlier v.seen published × IsEarlier v.reported published
 
--- what holds of a board at every moment: the first seat is the publisher's, whose publication the word is of, and no live seat is ahead of it
+-- the facts about a board that hold at every moment: the first seat is the publisher's, the word belongs to its
+-- publication, and no live seat is ahead of it
 pub record IsBoard (words : List ℕ) (views : List View) : Type 0 where
   pub publisher : View
   pub first : get_elem? views 0 ≡ some publisher
@@ -64,7 +66,7 @@ pub record IsBoard (words : List ℕ) (views : List View) : Type 0 where
   pub word : words ≡ status_word publisher.seen ∷ []
   pub behind : (id : ℕ) (v : View) → get_elem? views id ≡ some v → IsBehind publisher.seen v
 
--- a load found the word of what was published, which is then seen
+-- a load found the word of the published history, which the seat has then seen
 pub record IsRead (before : Me Unit View) (found : ℕ) (after : Me Unit View) : Type 0 where
   pub seat : after ≡ (view after.0.seen, before.1)
   pub allowed : IsAllowed after.0.seen.settings
@@ -72,7 +74,7 @@ pub record IsRead (before : Me Unit View) (found : ℕ) (after : Me Unit View) :
   pub word : found ≡ status_word after.0.seen
   pub later : IsEarlier before.0.seen after.0.seen
 
--- what was seen begins with what was reported, which needs to be known no longer
+-- the history that was seen begins with the reported one, which needn't be known any longer
 pub record IsCompared (before after : Me Unit View) : Type 0 where
   pub seat : after ≡ (view before.0.seen, before.1)
   pub later : IsEarlier before.0.reported before.0.seen

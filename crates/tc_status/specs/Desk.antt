@@ -1,4 +1,4 @@
--- A contract sees of a desk its channel, and the board on which that is published.
+-- The view of a desk in contracts: its channel, and the board on which the channel is published.
 use Rattle.atomic_table.specs.Seated.{TableId}
 use Rattle.tc_channel.specs.Journal.{History}
 

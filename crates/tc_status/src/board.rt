@@ -5,13 +5,14 @@ use std::alloc::Global;
 use std::marker::{Brand, PhantomData};
 use tc_channel::Past;
 
-/// Says what is known at a seat. No value of it is ever made: in a clause each `Past` is the settings and the journal of a channel.
+/// The knowledge at a seat. No value of this type is ever created. In a contract each `Past` is the settings and the
+/// journal of a channel.
 pub struct View {
-    /// False of a seat that was joined to another, and of no other.
+    /// False for a seat that was joined to another one, and true for any other.
     pub live: bool,
-    /// This was published from this seat, or seen from it.
+    /// The history that was published from this seat, or seen from it.
     pub seen: Past,
-    /// This was seen from the seat that was last joined to this one.
+    /// The history that was seen from the seat that was last joined to this one.
     pub reported: Past,
 }
 
@@ -26,7 +27,7 @@ impl TableRule<(), View, Past> for BoardRule {
     ghost first = { view };
 }
 
-/// Names what a store publishes. Each call picks it.
+/// The history that a store publishes. Each call chooses it.
 pub trait Publication {
     ghost use Rattle.tc_channel.specs.Journal.{History};
 
@@ -39,7 +40,7 @@ impl Publication for Brand {
     ghost next = { no_history };
 }
 
-/// A store by the publisher, which publishes.
+/// The publisher's store, which publishes a history.
 pub struct Publishes<P> {
     marker: PhantomData<P>,
 }
@@ -51,7 +52,7 @@ impl<P: Publication> Play<(), View> for Publishes<P> {
     ghost then = { λ _ before _ after. after ≡ (view P.next, before.1) };
 }
 
-/// A load by a watcher, which then has seen what was published.
+/// A watcher's load, after which the watcher has seen the published history.
 pub struct Reads;
 
 impl Play<(), View> for Reads {
@@ -60,7 +61,8 @@ impl Play<(), View> for Reads {
     ghost then = { λ _ before found after. IsRead before found after };
 }
 
-/// A load by the publisher, which learns that what was reported to it is a beginning of what it has published.
+/// The publisher's load, by which it learns that the history reported to it is a beginning of the one that it has
+/// published.
 pub struct Compares;
 
 impl Play<(), View> for Compares {
@@ -69,7 +71,7 @@ impl Play<(), View> for Compares {
     ghost then = { λ _ before _ after. IsCompared before after };
 }
 
-/// A new seat that starts with the view of the old one, which keeps it.
+/// The step that creates a seat with the view of the old one, which keeps this view.
 pub struct Doubles;
 
 impl Split<View> for Doubles {
@@ -78,7 +80,7 @@ impl Split<View> for Doubles {
     ghost right = { λ v. v };
 }
 
-/// Reports to the publisher what a watcher had seen, whose seat is spent.
+/// The step that reports to the publisher the history that a watcher had seen. The watcher's seat is consumed.
 pub struct Reports;
 
 impl Join<View> for Reports {
@@ -92,11 +94,12 @@ impl Join<View> for Reports {
 /// One word, which lies on the heap in a block of its own.
 pub type WordTable = Table<(), View, Past, BoardRule, Global>;
 
-/// A seat at a board, which has no bytes.
+/// A seat at a board. It has no bytes.
 pub type BoardSeat = Seat<(), View>;
 
-/// The word's table, between octets that are never used. Those before it keep what a read goes through off the pair of
-/// cache lines that the word lies on, which processors fetch together; those after it keep it off the next channel's.
+/// The word's table, between two arrays that are never used. The array before it keeps the data that a read goes
+/// through away from the pair of cache lines with the word, which processors fetch together. The array after it keeps
+/// these data away from the cache lines with the next channel's word.
 #[derive(Drop)]
 pub struct Board {
     pub before: [u64; 16],

@@ -1,4 +1,4 @@
-//! A channel with its publisher: what lies under the lock of a channel.
+//! A channel with its publisher, which together lie under the channel's lock.
 
 ghost use Rattle.std.specs.Prelude.{◌≡◌, ◌↔◌, false, [], IfOk, OnOk, OnErr, IsErrOf, MatchResult, Some, None};
 ghost use Rattle.tc_channel.specs.Settings.{IsAllowed, IsRefusal};
@@ -17,8 +17,9 @@ use tc_channel::{
 };
 use tc_link::Frame;
 
-/// The channel behind a lock, and the publisher of its status. A call that is refused leaves it as it was; one that is
-/// answered publishes the channel before it returns, so that at rest just the channel's journal is published.
+/// The channel behind a lock, and the publisher of its status. A call that is refused leaves the channel as it was. A
+/// call that is answered publishes the channel before it returns, so that exactly the channel's journal is published
+/// between calls.
 #[derive(Drop)]
 pub struct DeskOf<J: Journal> {
     channel: ChannelWith<J>,
@@ -43,7 +44,7 @@ impl<J: Journal> Model for DeskOf<J> {
 }
 
 impl<J: Journal> DeskOf<J> {
-    /// A desk with a new channel, on a board of its own. It takes the memory of both.
+    /// Creates a desk with a new channel, on a board of its own. It requests the memory of both.
     pub fn new(alloc: Global, settings: Settings) -> Result<DeskOf<J>, SettingsFault>
         ensures settings { IfOk result (λ desk. desk.channel.settings ≡ settings) }
         ensures journal { IfOk result (λ desk. desk.channel.journal ≡ []) }
@@ -56,14 +57,14 @@ impl<J: Journal> DeskOf<J> {
         Ok(DeskOf { channel, publisher })
     }
 
-    /// The channel.
+    /// Returns the channel.
     pub fn channel(&self) -> &ChannelWith<J>
         ensures { result.now ≡ self.now.channel }
     {
         &self.channel
     }
 
-    /// The publisher of the channel's status.
+    /// Returns the publisher of the channel's status.
     pub fn publisher(&self) -> &Publisher
         ensures board { result.now.board ≡ self.now.board }
         ensures published { result.now.published ≡ self.now.channel }
@@ -71,7 +72,7 @@ impl<J: Journal> DeskOf<J> {
         &self.publisher
     }
 
-    /// The channel takes a frame in. No more is allocated than by the channel, here and in the next three calls.
+    /// Passes a frame to the channel. This call and the next three allocate no more than the channel does.
     pub fn frame(&mut self, frame: &Frame) -> Result<FrameReply, NoMemory>
         ensures allowed { IsAllowed self.old.channel.settings }
         ensures lawful { IsLawful self.old.channel.settings self.old.channel.journal }
@@ -86,7 +87,7 @@ impl<J: Journal> DeskOf<J> {
         Ok(reply)
     }
 
-    /// The channel lets the oldest data field out of its buffer.
+    /// Releases the oldest data field from the channel's buffer.
     pub fn release(&mut self) -> Result<Delivery, ReleaseFault>
         ensures allowed { IsAllowed self.old.channel.settings }
         ensures lawful { IsLawful self.old.channel.settings self.old.channel.journal }
@@ -101,7 +102,7 @@ impl<J: Journal> DeskOf<J> {
         Ok(delivery)
     }
 
-    /// The channel gives the oldest packet of the queue with this APID.
+    /// Takes the oldest packet out of the channel's queue with this APID.
     pub fn take(&mut self, apid: u16) -> Result<Vec<u8>, TakeFault>
         ensures allowed { IsAllowed self.old.channel.settings }
         ensures lawful { IsLawful self.old.channel.settings self.old.channel.journal }
@@ -118,7 +119,7 @@ impl<J: Journal> DeskOf<J> {
         Ok(packet)
     }
 
-    /// The channel gives the oldest unit of this chosen MAP.
+    /// Takes the oldest unit of this chosen MAP out of the channel.
     pub fn take_unit(&mut self, map: u8) -> Result<Vec<u8>, TakeUnitFault>
         ensures allowed { IsAllowed self.old.channel.settings }
         ensures lawful { IsLawful self.old.channel.settings self.old.channel.journal }
@@ -135,7 +136,8 @@ impl<J: Journal> DeskOf<J> {
         Ok(unit)
     }
 
-    /// A watcher of this desk's board, which has seen the channel as it is. It takes what the publisher's call takes.
+    /// Creates a watcher of this desk's board, which has seen the channel as it is. It requests no more memory than the
+    /// publisher's call does.
     pub fn watcher(&mut self) -> Result<Watcher, NoMemory>
         ensures board { IfOk result (λ watcher. watcher.board ≡ self.old.board) }
         ensures seen { IfOk result (λ watcher. watcher.seen ≡ self.old.channel) }
@@ -143,12 +145,13 @@ impl<J: Journal> DeskOf<J> {
         ensures lawful { IsLawful self.old.channel.settings self.old.channel.journal }
         ensures unchanged { self.new ≡ self.old }
     {
-        // It ensures that the settings are allowed and the journal is lawful.
+        // This call is here for its contract, by which the settings are allowed and the journal is lawful.
         let _ = self.channel.settings();
         self.publisher.watcher()
     }
 
-    /// Lets a watcher of this desk's board see the channel as it is, so that all its reads are of that moment or later ones.
+    /// Lets a watcher of this desk's board see the channel as it is, so that each of its later reads shows that moment
+    /// or a later one.
     pub fn meet(&mut self, watcher: &mut Watcher)
         requires { watcher.old.board ≡ self.old.board }
         ensures desk { self.new ≡ self.old }
@@ -159,7 +162,7 @@ impl<J: Journal> DeskOf<J> {
         meet(&mut self.publisher, watcher);
     }
 
-    /// The channel, out of the desk.
+    /// Takes the channel out of the desk.
     pub fn into_channel(self) -> ChannelWith<J>
         ensures { result ≡ self.channel }
     {

@@ -10,9 +10,9 @@ ghost use Rattle.tc_link.specs.declared.Link.{Link};
 ghost use Rattle.tc_channel.specs.Journal.{History};
 ghost use Rattle.tc_channel.specs.Reply.{clcw};
 
-/// Where the rule of a board holds: the word is the CLCW of what the publisher has published, with both flags of the link 0,
-/// and what each seat has seen has the same settings and a journal with which the published one begins. A seat that was
-/// joined to another is excepted.
+/// While the rule of a board holds, the word is the CLCW of the history that the publisher has published, with both
+/// flags of the link 0. The history that each seat has seen has the published settings, and its journal is a beginning
+/// of the published one. Only a seat that was joined to another is excepted.
 pub fn each_seat_is_behind_the_publisher()
     ensures word { (words : List ℕ) (views : List View) (p : View) → IsBoard words views → get_elem? views 0 ≡ some p → words ≡ status_word p.seen ∷ [] }
     ensures behind { (words : List ℕ) (views : List View) (p : View) (id : ℕ) (v : View) → IsBoard words views → get_elem? views 0 ≡ some p → get_elem? views id ≡ some v → v.live ≡ true → IsEarlier v.seen p.seen }

@@ -1,4 +1,4 @@
-//! The publishing end of a board. There is one, and it only moves.
+//! The publishing end of a board. A board has exactly one, which can be moved but not copied.
 
 ghost use Rattle.std.specs.Prelude.{◌≡◌, [], IfOk};
 ghost use Rattle.std.specs.Arc.{arc_value};
@@ -17,7 +17,7 @@ const NO_FLAG: Link = Link {
     no_bit_lock: false,
 };
 
-/// Publishes the status of one channel.
+/// The publisher of one channel's status.
 #[derive(Drop)]
 pub struct Publisher {
     pub(crate) board: Arc<Board>,
@@ -37,8 +37,8 @@ impl Model for Publisher {
 }
 
 impl Publisher {
-    /// Makes a board by the settings of a channel, whose journal so far is its first publication. The board and its word are
-    /// the two allocations.
+    /// Creates a board with the settings of a channel, whose journal so far is its first publication. The board and its
+    /// word are the two allocations.
     pub fn new<J: Journal>(alloc: Global, channel: &ChannelWith<J>) -> Result<Publisher, NoMemory>
         ensures { IfOk result (λ publisher. publisher.published ≡ channel.now) }
     {
@@ -57,7 +57,7 @@ impl Publisher {
         Ok(Publisher { board, seat })
     }
 
-    /// Publishes the channel's journal: one store.
+    /// Publishes the channel's journal, by one store.
     pub fn publish<J: Journal>(&mut self, channel: &ChannelWith<J>)
         requires { IsEarlier self.old.published channel.now }
         ensures board { self.new.board ≡ self.old.board }
@@ -66,7 +66,8 @@ impl Publisher {
         store::<Brand, J>(&self.board, &mut self.seat, channel);
     }
 
-    /// A watcher of this board, which has seen what was published. It is refused only where the board can count no more owners.
+    /// Creates a watcher of this board, which has seen the published history. It fails only if the board can count no
+    /// more owners.
     pub fn watcher(&mut self) -> Result<Watcher, NoMemory>
         ensures board { IfOk result (λ watcher. watcher.board ≡ self.old.board) }
         ensures seen { IfOk result (λ watcher. watcher.seen ≡ self.old.published) }
@@ -80,7 +81,7 @@ impl Publisher {
     }
 }
 
-// The store of a publication.
+// Stores the word of a publication.
 fn store<P: Publication, J: Journal>(
     board: &Arc<Board>,
     seat: &mut BoardSeat,

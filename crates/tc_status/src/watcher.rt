@@ -12,7 +12,7 @@ use std::mem;
 use std::sync::Arc;
 use tc_channel::each_clcw_fits_its_word;
 
-/// Reads the status of one channel, from any thread.
+/// A reader of one channel's status, for any thread.
 #[derive(Drop)]
 pub struct Watcher {
     pub(crate) board: Arc<Board>,
@@ -31,9 +31,11 @@ impl Model for Watcher {
 }
 
 impl Watcher {
-    /// The CLCW of a moment of the channel, with both link flags 0: one load, which waits for nobody.
+    /// Returns the CLCW of a moment of the channel, with both link flags 0. It takes one load, and waits for no other
+    /// thread.
     ///
-    /// The moment is no earlier than that of the read before. It is the one that was last published, but no clause says so.
+    /// The moment is no earlier than that of the read before. It is the moment that was published last, but no contract
+    /// states this.
     pub fn read(&mut self) -> u32
         ensures board { self.new.board ≡ self.old.board }
         ensures later { IsEarlier self.old.seen self.new.seen }
@@ -46,7 +48,8 @@ impl Watcher {
     }
 }
 
-/// Lets a watcher see what its publisher has published, so that all its reads are of that moment or later ones.
+/// Lets a watcher see the history that its publisher has published, so that each of its later reads shows that moment
+/// or a later one.
 pub fn meet(publisher: &mut Publisher, watcher: &mut Watcher)
     requires { watcher.old.board ≡ publisher.old.board }
     ensures publisher { publisher.new ≡ publisher.old }

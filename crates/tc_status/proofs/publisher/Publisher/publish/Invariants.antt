@@ -1,5 +1,5 @@
 use Rattle.tc_status.proofs.publisher.Publisher.publish.Given as goal
 
--- what is published is the channel
+-- the published history is that of the channel
 abbrev pub ghosts-store : goal.ghosts-store
 ghosts-store g a = record { next = a.channel.now }
