@@ -1,11 +1,11 @@
--- What one operator makes alone is all that there is.
+-- The events that one operator makes alone are all events.
 use Rattle.tc_desk.proofs.Names.{◌≡◌, ◌≢◌, ℕ, zero, suc, ◌+◌, ◌≤◌, List, [], ◌∷◌, ◌++◌, length, inl, inr, refl, sym, ap, ◌∙◌, arith, Event, IsBeginning, IsMergeOf, Moment, Own, made, length-append, nil_from_length, append-nil, same_from_push, owned, made_by, looked}
 use Rattle.std.proofs.lemmas.Bool.Decides.{eqb_tells}
 use mathlib.Core.List.{IsPrefix}
 use Rattle.logged_lock.proofs.Owned.{owned-own, owned-other}
 use Rattle.tc_desk.specs.Alone.{with_places, HasMadeAll, HasSeenItsOwn}
 
--- one place, where nobody but the k-th owns any
+-- one place, if nobody but the k-th maker owns any
 own-step : (k at o : ℕ) (os : List ℕ) (e : Event) (es : List Event) → ((j : ℕ) → j ≢ k → owned j at (o ∷ os) (e ∷ es) ≡ [])
     → (((j : ℕ) → j ≢ k → owned j (suc at) os es ≡ []) → owned k (suc at) os es ≡ with_places (suc at) es) → owned k at (o ∷ os) (e ∷ es) ≡ with_places at (e ∷ es)
 own-step k at o os e es none rest = elim (eqb_tells o k) [
@@ -15,7 +15,7 @@ own-step k at o os e es none rest = elim (eqb_tells o k) [
   | inr h ↦ absurd (let nothing : (at, e) ∷ owned o (suc at) os es ≡ [] = sym (owned-own o at o os e es refl) ∙ none o h.1 in cc)
 ]
 
--- where nobody but the k-th owns a place, the k-th owns all of them
+-- if nobody but the k-th maker owns a place, the k-th owns all of them
 all-own : (k at : ℕ) (os : List ℕ) (es : List Event) → length os ≡ length es → ((j : ℕ) → j ≢ k → owned j at os es ≡ []) → owned k at os es ≡ with_places at es
 all-own k at [] [] len none = refl
 all-own k at (o ∷ os) (e ∷ es) len none = own-step k at o os e es none (all-own k (suc at) os es (omega arith))
@@ -36,7 +36,7 @@ whole-prefix xs ys p le =
     let none : p.0 ≡ [] = nil_from_length p.0 (omega (arith, count)) in
     sym (append-nil xs) ∙ (ap (λ l. xs ++ l) (sym none) ∙ p.1)
 
--- where only one of several has made anything
+-- only one of several operators has made anything
 pub maker-alone : (makers : List Own) (k : ℕ) (own : Own) (journal : List Event) → made_by makers k ≡ own.made → ((j : ℕ) → j ≢ k → made_by makers j ≡ []) → HasSeenItsOwn own
     → IsBeginning own.seen (record { head = own.seen.head; entries = journal }) → IsMergeOf journal makers → HasMadeAll own × (own.seen.entries ≡ journal)
 maker-alone makers k own journal mine none its behind merge =
@@ -53,7 +53,7 @@ pub only-maker : (own : Own) (journal : List Event) → HasSeenItsOwn own → Is
     → HasMadeAll own × (own.seen.entries ≡ journal)
 only-maker own journal its behind merge = maker-alone (own ∷ []) 0 own journal refl (nobody-else own) its behind merge
 
--- it was answered at the moment that it had seen
+-- the call was answered at the moment that the operator had seen
 same-moment : (before : Own) (now : Moment) → HasSeenItsOwn before → IsBeginning before.seen now → before.made ≡ with_places 0 now.entries → HasMadeAll before × (now ≡ before.seen)
 same-moment before now its later all =
     let count : length before.made ≡ length now.entries = ap (λ l. length l) all ∙ length-placed 0 now.entries in
@@ -67,7 +67,7 @@ alone-event before now e its later all =
 pub alone-look : (before : Own) (now : Moment) → HasSeenItsOwn before → IsBeginning before.seen now → HasMadeAll (looked now before) → HasMadeAll before × (now ≡ before.seen)
 alone-look before now its later all = same-moment before now its later all
 
--- what was seen is no less than before
+-- the operator has seen no less than before
 longer : (before : Own) (now : Moment) → IsBeginning before.seen now → length before.seen.entries ≤ length now.entries
 longer before now later = omega (arith, sym (length-append before.seen.entries later.1.0) ∙ ap (λ l. length l) later.1.1)
 

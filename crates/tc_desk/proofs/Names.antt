@@ -1,4 +1,4 @@
--- The types and definitions that most proofs speak of, imported from one file.
+-- The types and definitions that most proofs use, imported from one file.
 pub use Rattle.atomic_table.proofs.Fields.{pin_told, token_val}
 pub use Rattle.atomic_table.proofs.Names.{ !, Goes-dropped, Is, SProp, Stays, Val, Valss, a_type, agg, alive, alloc_all, and_then, by, emp, enter, fact, fact_i, feq_i, fjoin, fld, fpack, fpick, free_all, fsep, fsplit, fsplit3, get, get_in, inst_fn, keep, layouts, look_at, move, no, no_more, nothing, of_list, of_opd, owns, param, pass_all, peeks, plain, qed, raw, returns, rewrite, sets, shows, split, stay_dropped, stop, sub, tables, types_at, use0, vstruct, walk_of, whole, ‵, ◌$◌, ◌∵◌, ◌⊛◌}
 pub use Rattle.atomic_table.proofs.Walks.{leaves, proved}

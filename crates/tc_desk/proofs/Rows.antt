@@ -1,4 +1,4 @@
--- Desks whose locks are taken, whose owners are reported to, and that are taken out, list by list.
+-- Desks whose locks are taken, whose owners learn of operators, and which are taken out, list by list.
 use Rattle.tc_desk.proofs.Names.{◌≡◌, ◌<◌, ◌≤◌, ◌-◌, ℕ, zero, suc, List, [], ◌∷◌, ◌++◌, length, get_or, map, reverse, Some, slice_get, refl, sym, ap, subst, ◌∙◌, append_assoc, arith, All, length-map, slice_get_within, get_or_from_slice_get, total_made, IsBeginning, IsMergeOf, Event, Own, Moment, AtLock, AtHand, accounts_of, reported_at, CanClose, IsBalanced, IsClosed, AreOurs, AreSame, CanCloseEach, CannotCloseOne, IsFresh, IsOut, column, owners_of, nobody, settings_of_desks, reported_row, reported_rows, drop, set, Vec, AllZip, map-append, reverse-append, reverse-reverse, length-reverse, get_or-reverse, with_items_is, All-tail, All-head, none-some, same_Some, slice_get-map, AreBehind, IsClosingRefusal, AreClosed, AreMoments, HasCause, heads_of, issued_of, locks_of, reported_one}
 use Rattle.std.proofs.Common.{append-nil}
 use Rattle.std.specs.Vec.{with_items}
@@ -9,9 +9,9 @@ use Rattle.tc_desk.proofs.Counted.{as-balanced, cause-of, not-balanced}
 use Rattle.tc_desk.specs.declared.together.Refusal.{Refusal}
 use Rattle.tc_desk.specs.declared.together.Refusal.TheVariants.{Unbalanced}
 
--- ---- locks that are taken and given back
+-- ---- locks that are taken and unlocked
 
--- one guard more
+-- one more guard
 pub one_guard : (ps : List AtLock) (hs : List AtHand) (p : AtLock) (h : AtHand) → h.owner ≡ p → ps ++ reverse (owners_of (hs ++ h ∷ [])) ≡ (ps ++ p ∷ []) ++ reverse (owners_of hs)
 one_guard ps hs p h is =
     ap (λ (l : List AtLock). ps ++ reverse l) (map-append (λ (x : AtHand). x.owner) hs (h ∷ []))
@@ -27,7 +27,7 @@ pub guard_step : (all owned_desks ps : List AtLock) (hs next : List AtHand) (p :
 guard_step all owned_desks ps hs next p h popped grown is before =
     ap (λ (l : List AtHand). ps ++ reverse (owners_of l)) grown ∙ one_guard ps hs p h is ∙ sym (ap (λ (l : List AtLock). l ++ reverse (owners_of hs)) popped) ∙ before
 
--- one desk is left
+-- one desk is unlocked
 pub roll_back_step : (old ps next : List AtLock) (guard hs : List AtHand) (p : AtLock) (h : AtHand) → guard ≡ hs ++ h ∷ [] → next ≡ ps ++ p ∷ [] → p.lock ≡ h.owner.lock → p.own.seen.head ≡ h.owner.own.seen.head → p.own.issued ≡ h.owner.own.issued
     → AreSame old (ps ++ reverse (owners_of guard)) → AreSame old (next ++ reverse (owners_of hs))
 roll_back_step old ps next guard hs p h popped grown lock head issued same =
@@ -57,7 +57,7 @@ all_guard owned_desks left guard back none all is fresh = (
   subst (All IsFresh) (sym is) (fresh-reverse guard fresh),
 )
 
--- all locks were given back
+-- all desks were unlocked
 pub given_back : (owned_desks next : List AtLock) (guard back : List AtHand) → owned_desks ≡ [] → back ≡ reverse guard → AreSame (owned_desks ++ reverse (owners_of back)) next → AreSame (owners_of guard) next
 given_back owned_desks next guard back none is same =
     subst (λ (l : List AtLock). AreSame l next)
@@ -79,7 +79,7 @@ inside_all at hs [] place ours inside k d lt = absurd (omega arith)
 inside_all at hs (x ∷ xs) place ours inside zero d lt = same_long (at x) hs place (All-head (λ (operator_list : List AtLock). locks_of operator_list ≡ locks_of (owners_of hs)) (at x) (map at xs) ours) inside
 inside_all at hs (x ∷ xs) place ours inside (suc k) d lt = inside_all at hs xs place (All-tail (λ (operator_list : List AtLock). locks_of operator_list ≡ locks_of (owners_of hs)) (at x) (map at xs) ours) inside k d (omega arith)
 
--- ---- owners that operators are reported to
+-- ---- owners to which operators are reported
 
 -- each of these operators is at the lock of the desk at its place
 abbrev pub AreAt : List AtHand → List AtLock → Type 0
@@ -192,7 +192,7 @@ owners-rows : (hs : List AtHand) (rows : List (List AtLock)) → owners_of (repo
 owners-rows hs [] = refl
 owners-rows hs (row ∷ rows) = owners-rows (reported_row hs row) rows ∙ owners-reported hs row
 
--- the list of desks, once their owners got the reports
+-- the list of desks after their owners got the reports
 pub written_back : {Z : Type 0} (v : Vec AtHand Z) (start next : List AtHand) (rows : List (List AtLock)) → start ≡ v.items → next ≡ reported_rows start rows → (with_items v next).items ≡ reported_rows v.items rows
 written_back v start next rows from is =
     let one = ap (λ (l : List AtHand). length l) is in
@@ -223,7 +223,7 @@ closed_one h operators c none later can out =
       seen = subst (λ (x : List Own × Moment). AreBehind x.0 x.1) (λ i. (reported i, now i)) out.seen;
     }
 
--- all are closed
+-- all desks are closed
 pub closed_all : (owned_desks : List AtLock) (rows : List (List AtLock)) (guard reported : List AtHand) (closed : List History) → AreMoments owned_desks guard → AreOurs owned_desks rows → CanCloseEach guard rows
     → AllZip IsOut reported closed → reported ≡ reported_rows guard rows → AreClosed owned_desks rows closed
 closed_all owned_desks rows guard reported closed moments ours can all is =
@@ -240,7 +240,7 @@ closed_all owned_desks rows guard reported closed moments ours can all is =
           (closed_one h (column place rows) channel fresh.0 fresh.1 (can place h found.1) (out_at (reported_rows guard rows) closed place _ channel out (rows_at guard rows place h ours_guard found.1) there));
     }
 
--- desks that aren't balanced are a refusal
+-- the close of desks that aren't balanced is refused
 pub unbalanced : (owned_desks : List AtLock) (rows : List (List AtLock)) (guard : List AtHand) (refusal : Refusal) → refusal ≡ Unbalanced → AreMoments owned_desks guard → CannotCloseOne guard rows → IsClosingRefusal owned_desks rows refusal
 unbalanced owned_desks rows guard refusal is moments cannot =
     let h = cannot.1 in

@@ -1,4 +1,4 @@
--- Says what a call by an operator promises.
+-- The promises of a call by an operator.
 use Rattle.std.specs.Prelude.{◌≡◌, ◌≢◌, ◌-◌, ◌^◌, min, ⊤, ℕ, Bool, false, List, [], ◌∷◌, ◌++◌, length, Some, None, Result, MatchResult}
 use Rattle.tc_channel.specs.declared.event.Event.{Event}
 use Rattle.tc_channel.specs.declared.event.Event.TheVariants.{Frame}
@@ -24,27 +24,28 @@ use Rattle.tc_desk.specs.Log.{Moment, Own, AtLock, history_of}
 abbrev pub IsMoment : Moment → Type 0
 IsMoment m = IsAllowed m.head.settings × IsLawful m.head.settings m.entries
 
--- an operation on a desk: what it answers where it is an event, and where it is refused and nothing happens
+-- an operation on a desk: an answer makes it an event, and a refusal leaves the desk as it was
 pub record IsStep {R F : Type 0} (e : Event) (ok : Moment → R → Type 0) (err : Moment → F → Type 0) (before : Moment) (result : Result R F) (after : Moment) : Type 0 where
   pub moment : IsMoment before
   pub answer : MatchResult result (λ r. ok before r × (after ≡ with_entry before e)) (λ f. err before f × (after ≡ before))
 
--- a question to a desk, which leaves it as it is
+-- a question to a desk, which leaves the desk as it is
 pub record IsAsked {R : Type 0} (ok : Moment → R → Type 0) (before : Moment) (result : R) (after : Moment) : Type 0 where
   pub moment : IsMoment before
   pub answer : ok before result
   pub same : after ≡ before
 
--- the operator has seen this moment, and made nothing
+-- the account of an operator that has seen this moment, and made nothing at it
 abbrev pub looked : Moment → Own → Own
 looked now own = record { seen = now; made = own.made; issued = own.issued }
 
--- This event was made at this moment: it is the last that the operator has seen, at its place in the journal, and the operator's own.
+-- The account of an operator that made this event at this moment. The event is the last that the operator has seen, at
+-- its place in the journal, and the operator's own.
 abbrev pub made : Event → Moment → Own → Own
 made e now own = record { seen = with_entry now e; made = own.made ++ (length now.entries, e) ∷ []; issued = own.issued }
 
--- At a moment of the desk, which goes on from all that the operator had seen, this was answered. Where it is an event, it is the
--- next of the journal, and of the operator's own.
+-- The call was decided at a moment of the desk that continues all that the operator had seen. If it was answered, its
+-- event is the next one of the journal, and of the operator's own.
 pub record IsCall {R F : Type 0} (e : Event) (ok : Moment → R → Type 0) (err : Moment → F → Type 0) (before : AtLock) (result : Result R F) (after : AtLock) : Type 0 where
   pub now : Moment
   pub later : IsBeginning before.own.seen now
@@ -52,7 +53,7 @@ pub record IsCall {R F : Type 0} (e : Event) (ok : Moment → R → Type 0) (err
   pub lock : after.lock ≡ before.lock
   pub answer : MatchResult result (λ r. ok now r × (after.own ≡ made e now before.own)) (λ f. err now f × (after.own ≡ looked now before.own))
 
--- At a moment of the desk, which goes on from all that the operator had seen, this was read.
+-- The answer was read at a moment of the desk that continues all that the operator had seen.
 pub record IsLook {R : Type 0} (ok : Moment → R → Type 0) (before : AtLock) (result : R) (after : AtLock) : Type 0 where
   pub now : Moment
   pub later : IsBeginning before.own.seen now
@@ -61,42 +62,43 @@ pub record IsLook {R : Type 0} (ok : Moment → R → Type 0) (before : AtLock) 
   pub answer : ok now result
   pub looked : after.own ≡ looked now before.own
 
--- the reply to this frame
+-- the reply is that to this frame
 abbrev pub IsFramed : List ℕ → Moment → FrameReply → Type 0
 IsFramed frame m reply = reply ≡ frame_reply m.head.settings m.entries frame
 
--- the watcher is of the desk's board, and has seen this history
+-- the watcher belongs to the desk's board, and has seen this history
 abbrev pub HasSeen : Moment → History → Watching → Type 0
 HasSeen m seen watcher = (watcher.board ≡ m.head.board) × (watcher.seen ≡ seen)
 
--- what the watcher has seen is a beginning of the journal at this moment
+-- the history that the watcher has seen is a beginning of the journal at this moment
 abbrev pub HasSeenNoMore : Watching → Moment → Type 0
 HasSeenNoMore watcher m = board.IsEarlier watcher.seen (history_of m)
 
--- the watcher is of the desk's board, and has seen the journal as it is
+-- the watcher belongs to the desk's board, and has seen the journal as it is
 abbrev pub HasMet : Moment → Watching → Type 0
 HasMet m watcher = HasSeen m (history_of m) watcher
 
--- The same call, before which a watcher of the desk's board had seen no more than what was there at its moment; behind it the watcher
--- has seen all that the operator has.
+-- A call, and a watcher of the desk's board. Before the call, the watcher had seen no more than the journal at the
+-- call's moment. After it, the watcher has seen all that the operator has.
 pub record IsMetCall {R F : Type 0} (e : Event) (ok : Moment → R → Type 0) (err : Moment → F → Type 0) (early : Watching) (before : AtLock) (result : Result R F) (late : Watching) (after : AtLock) : Type 0 where
   pub call : IsCall e (λ m r. ok m r × HasSeenNoMore early m) (λ m f. err m f × HasSeenNoMore early m) before result after
   pub met : HasMet after.own.seen late
 
--- the watcher met the desk at a moment of it, and nothing was made
+-- the watcher met the desk at a moment, and nothing was made
 pub record IsMeeting (early : Watching) (before : AtLock) (late : Watching) (after : AtLock) : Type 0 where
   pub look : IsLook (λ m (done : Unit {0}). HasSeenNoMore early m) before tt after
   pub met : HasMet after.own.seen late
 
--- the reply to this frame, and a watcher of the desk's board that has seen the journal with the frame at its end
+-- the answer is the reply to this frame, and a watcher of the desk's board that has seen the journal with the frame at
+-- its end
 abbrev pub IsFramedWatched : List ℕ → Moment → FrameReply × Watching → Type 0
 IsFramedWatched frame m answer = IsFramed frame m answer.0 × HasSeen m (with_event (history_of m) (Frame frame)) answer.1
 
--- out of memory; where the journal takes none, only a Type-BD frame can be refused so
+-- memory ran out; if the journal takes none, this refuses only Type-BD frames
 abbrev pub IsFrameFault : Bool → List ℕ → Moment → NoMemory → Type 0
 IsFrameFault grows frame m fault = grows ≡ false → IsBypassData frame
 
--- a data field waited, and this became of it
+-- a data field waited, and its release had this result
 abbrev pub IsReleased : Moment → Delivery → Type 0
 IsReleased m delivery = (buffered_fields m.head.settings m.entries ≢ []) × (delivery ≡ release_reply m.head.settings m.entries)
 
@@ -108,7 +110,7 @@ IsReleaseFault m release_faults.NoMemory = ⊤
 abbrev pub IsOldestPacket : ℕ → Moment → List ℕ → Type 0
 IsOldestPacket apid m packet = take_reply m.head.settings m.entries apid ≡ Some packet
 
--- where the journal takes no memory, a take doesn't run out of it
+-- a take doesn't run out of memory if the journal takes none
 abbrev pub IsTakeFault : Bool → ℕ → Moment → TakeFault → Type 0
 IsTakeFault grows apid m take_faults.NoQueue = waiting_packets m.head.settings m.entries apid ≡ None
 IsTakeFault grows apid m take_faults.Empty = waiting_packets m.head.settings m.entries apid ≡ Some []
@@ -123,6 +125,6 @@ IsTakeUnitFault grows map_id m unit_faults.NoMap = waiting_units m.head.settings
 IsTakeUnitFault grows map_id m unit_faults.Empty = waiting_units m.head.settings m.entries map_id ≡ Some []
 IsTakeUnitFault grows map_id m unit_faults.NoMemory = grows ≡ false → ⊥
 
--- how many events there are in the journal; where they are more than 2^64 - 1, that number
+-- the number of events in the journal, or 2^64 - 1 if there are more
 abbrev pub IsCount : Moment → ℕ → Type 0
 IsCount m count = count ≡ min (length m.entries) (2 ^ 64 - 1)

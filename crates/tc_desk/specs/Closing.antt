@@ -1,25 +1,25 @@
--- When a desk is taken out of its lock, and what its channel is to those who worked at it.
+-- The conditions for taking a desk out of its lock, and the relation of its channel to the operators that worked at it.
 use Rattle.std.specs.Prelude.{◌≡◌, ◌<◌, ◌≤◌, ◌⊎◌, ◌-◌, ◌^◌, ℕ, List, length}
 use Rattle.tc_channel.specs.declared.event.Event.{Event}
 use Rattle.tc_channel.specs.Journal.{History}
 use Rattle.logged_lock.specs.Log.{total_made, IsMergeOf, AreBehind}
 use Rattle.tc_desk.specs.Log.{Own, AtLock, accounts_of}
 
--- they have made as many events as the journal has, and these are fewer than a count of 64 bits shows
+-- the operators have made as many events as the journal has, which are fewer than the largest count of 64 bits
 abbrev pub IsBalanced : List Own → List Event → Type 0
 IsBalanced makers journal = (total_made makers ≡ length journal) × (length journal < 2 ^ 64 - 1)
 
--- they can close a desk whose owner has issued so many operators: all of these are among them, or they have made as many events as the
--- journal has; and what they have made is less than a count of 64 bits shows
+-- the operators can close a desk whose owner has issued this many: all that were issued are among them, or they have
+-- made as many events as the journal has; and what they have made is less than the largest count of 64 bits
 abbrev pub CanClose : ℕ → List Own → List Event → Type 0
 CanClose issued makers journal = (total_made makers < 2 ^ 64 - 1) × ((issued ≤ length makers) ⊎ (total_made makers ≡ length journal))
 
--- the cause of an imbalance: not all operators are among them, or they have made too many events for a count
+-- the cause of an imbalance: not all issued operators are among these, or these have made too many events for a count
 abbrev pub IsCause : ℕ → List Own → Type 0
 IsCause issued makers = (length makers < issued) ⊎ (2 ^ 64 - 1 ≤ total_made makers)
 
--- The journal of the closed channel is a merge of what these operators made, with as many events as they have made, and what each of
--- them had seen is a beginning of it, with the settings of the desk and its board.
+-- The journal of the closed channel is a merge of what these operators made, and has as many events as they have made.
+-- What each of them had seen is a beginning of it, with the settings of the desk and its board.
 pub record IsClosed (owner : AtLock) (operators : List AtLock) (closed : History) : Type 0 where
   pub settings : closed.settings ≡ owner.own.seen.head.settings
   pub balanced : IsBalanced (accounts_of operators) closed.journal

@@ -1,4 +1,4 @@
--- The log of a desk behind its lock, and what operators have seen and made of it.
+-- The log of a desk behind its lock, and the accounts that operators have of it.
 use Rattle.std.specs.Prelude.{◌≡◌, ℕ, suc, ◌-◌, ◌^◌, min, List, [], ◌∷◌, ◌++◌, length, map, true, false, Option, Some, None}
 use Rattle.atomic_table.specs.Seated.{TableId}
 use Rattle.tc_channel.specs.declared.settings.Settings.{Settings}
@@ -12,16 +12,17 @@ use Rattle.logged_lock.specs.Log.{start_of}
 use Rattle.logged_lock.specs.Rule.{LockAt, gone}
 use Rattle.tc_status.specs.Desk.{AtDesk}
 
--- what never changes of a desk: the settings of its channel, and the board on which it is published
+-- the parts of a desk that never change: the settings of its channel, and the board on which the channel is published
 pub record Identity : Type 0 where
   pub settings : Settings
   pub board : TableId
 
--- a desk at some moment: what never changes of it, and the journal of its channel
+-- a desk at some moment: its parts that never change, and the journal of its channel
 abbrev pub Moment : Type 0
 Moment = Log Identity Event
 
--- what one has seen of a desk, the events that one has made, each with its place in the journal, and how many operators one has issued
+-- the account of an operator or owner: the moment of the desk that it has seen, the events that it has made, each with
+-- its place in the journal, and the number of operators that it has issued
 abbrev pub Own : Type 0
 Own = Account Identity Event
 
@@ -32,7 +33,7 @@ Sight = View Identity Event
 abbrev pub history_of : Moment → History
 history_of m = record { settings = m.head.settings; journal = m.entries }
 
--- what is put where no desk is meant
+-- the identity for places where no desk is meant
 abbrev pub nowhere : Identity
 nowhere = record {
   settings = no_history.settings;
@@ -42,21 +43,21 @@ nowhere = record {
 abbrev pub identity_of : AtDesk → Identity
 identity_of d = record { settings = d.channel.settings; board = d.board }
 
--- a desk as it is
+-- the moment of a desk as it is
 abbrev pub moment_of : AtDesk → Moment
 moment_of d = record { head = identity_of d; entries = d.channel.journal }
 
--- the same of what lies under the lock: the desk is there until it is taken out
+-- the moment of the desk under the lock, which is there until it is taken out
 abbrev pub desk_log : Option AtDesk → Moment
 desk_log None = start_of nowhere
 desk_log (Some d) = moment_of d
 
--- which lock an operator works at, and what it has seen and made there
+-- the lock of an operator or owner, and its account there
 pub record AtLock : Type 0 where
   pub lock : TableId
   pub own : Own
 
--- who has issued one operator more
+-- an owner after it has issued one more operator
 abbrev pub with_one_issued : AtLock → AtLock
 with_one_issued k = record { lock = k.lock; own = record { seen = k.own.seen; made = k.own.made; issued = suc k.own.issued } }
 
@@ -73,24 +74,25 @@ pub record IsResting (views : List Sight) : Type 0 where
   pub live : (view_in views).live ≡ true
   pub locks : (view_in views).locks ≡ false
 
--- how many events were made; where they are more than 2^64 - 1, that number
+-- the number of events that were made, or 2^64 - 1 if there are more
 abbrev pub count_of : Own → ℕ
 count_of own = min (length own.made) (2 ^ 64 - 1)
 
--- the same of the operators that were issued, for a count of 128 bits
+-- the number of operators that were issued, in a count of 128 bits
 abbrev pub issued_count : Own → ℕ
 issued_count own = min own.issued (2 ^ 128 - 1)
 
 abbrev pub accounts_of : List AtLock → List Own
 accounts_of operators = map (λ (o : AtLock). o.own) operators
 
--- a desk whose lock its owner has: the owner before, the desk as it is, and what was reported to the owner of operators
+-- a desk whose owner has its lock: the owner as it was before, the desk as it is, and the accounts of operators that
+-- were reported to the owner
 pub record AtHand : Type 0 where
   pub desk : LockAt Identity
   pub owner : AtLock
   pub now : Moment
   pub reported : List Own
 
--- the same, once what these have seen and made was reported to the owner, too
+-- the desk after these accounts were reported to its owner, too
 abbrev pub reported_at : AtHand → List Own → AtHand
 reported_at h accounts = record { desk = h.desk; owner = h.owner; now = h.now; reported = h.reported ++ accounts }

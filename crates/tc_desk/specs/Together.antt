@@ -1,4 +1,4 @@
--- When desks are closed together, and what their channels are to those who worked at them.
+-- The conditions for closing desks together, and the relation of their channels to the operators that worked at them.
 use Rattle.std.specs.Prelude.{◌≡◌, ◌≤◌, ℕ, List, [], ◌∷◌, length, map, slice_get, slice_index_or, Some, All}
 use Rattle.std.specs.List.{AllZip}
 use Rattle.tc_desk.specs.{TableId}
@@ -14,19 +14,19 @@ use Rattle.tc_desk.specs.declared.together.Refusal.TheVariants.{NoMemory, InUse,
 abbrev pub locks_of : List AtLock → List TableId
 locks_of list = map (λ (o : AtLock). o.lock) list
 
--- what never changes of their desks
+-- the parts of the desks that never change
 abbrev pub heads_of : List AtLock → List Identity
 heads_of list = map (λ (o : AtLock). o.own.seen.head) list
 
--- how many operators each of them has issued
+-- the numbers of operators that the owners have issued
 abbrev pub issued_of : List AtLock → List ℕ
 issued_of list = map (λ (o : AtLock). o.own.issued) list
 
--- the same desks, as far as that goes
+-- the lists agree in the locks, the parts of desks that never change, and the numbers of operators that were issued
 abbrev pub AreSame : List AtLock → List AtLock → Type 0
 AreSame old new = (locks_of new ≡ locks_of old) × (heads_of new ≡ heads_of old) × (issued_of new ≡ issued_of old)
 
--- each has an operator at each of these desks, in their order
+-- each list of operators has one at each of these desks, in their order
 abbrev pub AreOurs : List AtLock → List (List AtLock) → Type 0
 AreOurs owned_desks operator_lists = All (λ (operator_list : List AtLock). locks_of operator_list ≡ locks_of owned_desks) operator_lists
 
@@ -34,11 +34,11 @@ AreOurs owned_desks operator_lists = All (λ (operator_list : List AtLock). lock
 abbrev pub nobody : AtLock
 nobody = record { lock = nowhere.board; own = (gone nowhere).own }
 
--- their operators at the desk of this place
+-- the operators at the desk of this place, one from each list
 abbrev pub column : ℕ → List (List AtLock) → List AtLock
 column place operator_lists = map (λ (operator_list : List AtLock). slice_index_or operator_list place nobody) operator_lists
 
--- as many channels as desks, and each is that of the desk at its place, closed with the operators there
+-- each desk has a channel at its place, which is that desk's channel, closed with the operators there
 pub record AreClosed (owned_desks : List AtLock) (operator_lists : List (List AtLock)) (closed : List History) : Type 0 where
   pub as_many : length closed ≡ length owned_desks
   pub each : (place : ℕ) (owned_desk : AtLock) (channel : History) → slice_get owned_desks place ≡ Some owned_desk → slice_get closed place ≡ Some channel → IsClosed owned_desk (column place operator_lists) channel
@@ -46,11 +46,11 @@ pub record AreClosed (owned_desks : List AtLock) (operator_lists : List (List At
 abbrev pub owners_of : List AtHand → List AtLock
 owners_of list = map (λ (h : AtHand). h.owner) list
 
--- the desk is its owner's, and goes on from what its owner had seen, to which nothing was reported
+-- the desk belongs to its owner, continues what the owner had seen, and nothing was reported to the owner
 abbrev pub IsFresh : AtHand → Type 0
 IsFresh h = (h.reported ≡ []) × IsBeginning h.owner.own.seen h.now × (h.owner.own.seen.head ≡ h.desk.head)
 
--- these moments of the desks: each a later one than its owner has seen
+-- these are moments of the desks, each of which continues what its owner has seen
 abbrev pub AreMoments : List AtLock → List AtHand → Type 0
 AreMoments owned_desks guard = (owners_of guard ≡ owned_desks) × All IsFresh guard
 
@@ -62,36 +62,37 @@ AreBalanced guard operator_lists = (place : ℕ) (h : AtHand) → slice_get guar
 abbrev pub CanCloseEach : List AtHand → List (List AtLock) → Type 0
 CanCloseEach guard operator_lists = (place : ℕ) (h : AtHand) → slice_get guard place ≡ Some h → CanClose h.owner.own.issued (accounts_of (column place operator_lists)) h.now.entries
 
--- those of one desk can't
+-- the operators of one desk can't close it
 abbrev pub CannotCloseOne : List AtHand → List (List AtLock) → Type 0
 CannotCloseOne guard operator_lists = (place : ℕ) × (h : AtHand) × (slice_get guard place ≡ Some h) × ¬ CanClose h.owner.own.issued (accounts_of (column place operator_lists)) h.now.entries
 
--- the cause of an imbalance, at one of these desks
+-- one of these desks has a cause of an imbalance
 abbrev pub HasCause : List AtLock → List (List AtLock) → Type 0
 HasCause owned_desks operator_lists = (place : ℕ) × (owned_desk : AtLock) × (slice_get owned_desks place ≡ Some owned_desk) × IsCause owned_desk.own.issued (accounts_of (column place operator_lists))
 
--- why the desks weren't closed: where counts are the reason, there were moments of the desks, all at once, at which one wasn't balanced
+-- the reason why the desks weren't closed; if it is the counts, there were moments of the desks, all at once, at which
+-- one wasn't balanced
 abbrev pub IsClosingRefusal : List AtLock → List (List AtLock) → Refusal → Type 0
 IsClosingRefusal owned_desks operator_lists NoMemory = Unit {0}
 IsClosingRefusal owned_desks operator_lists InUse = Unit {0}
 IsClosingRefusal owned_desks operator_lists Unbalanced = (guard : List AtHand) × AreMoments owned_desks guard × ¬ AreBalanced guard operator_lists
 
--- one operator more was reported to the owner
+-- the desk after one more operator was reported to its owner
 abbrev pub reported_one : AtHand → AtLock → AtHand
 reported_one h o = reported_at h (o.own ∷ [])
 
--- the operators of one list of operators were reported to the owners
+-- the desks after one list of operators was reported to their owners
 abbrev pub reported_row : List AtHand → List AtLock → List AtHand
 reported_row [] operator_list = []
 reported_row (h ∷ hs) [] = h ∷ hs
 reported_row (h ∷ hs) (o ∷ os) = reported_one h o ∷ reported_row hs os
 
--- and of one list of operators after the other
+-- the desks after these lists of operators were reported to their owners, one after the other
 abbrev pub reported_rows : List AtHand → List (List AtLock) → List AtHand
 reported_rows guard [] = guard
 reported_rows guard (operator_list ∷ operator_lists) = reported_rows (reported_row guard operator_list) operator_lists
 
--- the channel that was at hand
+-- the channel was taken out of this desk
 pub record IsOut (h : AtHand) (closed : History) : Type 0 where
   pub settings : closed.settings ≡ h.owner.own.seen.head.settings
   pub journal : closed.journal ≡ h.now.entries
@@ -99,7 +100,7 @@ pub record IsOut (h : AtHand) (closed : History) : Type 0 where
   pub merge : total_made h.reported ≡ length h.now.entries → IsMergeOf closed.journal h.reported
   pub whole : h.owner.own.issued ≤ length h.reported → total_made h.reported ≡ length h.now.entries
 
--- the channels that were at hand
+-- the channels were taken out of these desks
 abbrev pub AreOut : List AtHand → List History → Type 0
 AreOut guard closed = AllZip IsOut guard closed
 

@@ -1,4 +1,4 @@
-//! A desk whose lock its owner has.
+//! A desk whose owner has its lock.
 
 ghost use Rattle.std.specs.Prelude.{◌≡◌, ◌≤◌, [], ◌∷◌, ◌↔◌, min, length, ◌^◌, ◌-◌, IfOk, IfErr, IsTrue, List};
 ghost use Rattle.logged_lock.specs.Log.{IsBeginning, total_made, IsMergeOf, AreBehind};
@@ -12,7 +12,7 @@ use std::marker::Model;
 use std::snapshot::Snapshot;
 use tc_channel::{ChannelWith, Journal};
 
-/// A desk whose lock its owner has. It isn't `Send`.
+/// A desk whose owner has its lock. It isn't `Send`.
 #[derive(Drop)]
 pub(crate) struct DeskGuard<J: Journal> {
     lock: DeskLock<J>,
@@ -72,7 +72,7 @@ impl<J: Journal> DeskGuard<J> {
         })
     }
 
-    /// Gives the lock back.
+    /// Unlocks the desk.
     pub(crate) fn leave(self) -> (LockedDesk<J>, DeskOwner)
         requires { self.reported ≡ [] }
         ensures desk { result.0 ≡ self.desk }
@@ -95,8 +95,9 @@ impl<J: Journal> DeskGuard<J> {
         )
     }
 
-    /// Whether so many operators, with so many events in all, are all that were issued, or have made as many events as the journal has.
-    /// A count of 2^64 - 1 is for as many or more.
+    /// Returns whether this many operators, with this many events in all, are all that were issued, or have made as
+    /// many events as the journal has. A count of 2^64 - 1 stands for that number or more, and the result is then
+    /// false.
     pub(crate) fn can_close(&self, operators: usize, count: u64) -> bool
         ensures { (makers : List Own) → operators ≡ length makers → count ≡ min (total_made makers) (2 ^ 64 - 1) → (IsTrue result ↔ CanClose self.now.owner.own.issued makers self.now.now.entries) }
     {

@@ -9,35 +9,37 @@ ghost use Rattle.tc_channel.specs.declared.reply.ReleaseFault.{ReleaseFault};
 ghost use Rattle.tc_desk.specs.Call.{IsReleased, IsReleaseFault, made, looked};
 ghost use Rattle.tc_desk.specs.Alone.{HasMadeAll, HasSeenItsOwn};
 
-/// Where a journal is a merge of what one operator made, that operator has made, and seen, all of it.
+/// If a journal is a merge of what one operator made, that operator has made, and has seen, all of it.
 pub fn the_only_operator_made_the_whole_journal()
     ensures { (own : Own) (journal : List Event) → HasSeenItsOwn own → IsBeginning own.seen (record { head = own.seen.head; entries = journal }) → IsMergeOf journal (own ∷ [])
         → HasMadeAll own × (own.seen.entries ≡ journal) }
 {}
 
-/// Where a journal is a merge of what several operators made, of which only one made anything, that one has made, and seen, all of it.
+/// If a journal is a merge of what several operators made, and only one of them made anything, that operator has made,
+/// and has seen, all of it.
 pub fn the_only_maker_made_the_whole_journal()
     ensures { (makers : List Own) (k : ℕ) (own : Own) (journal : List Event) → made_by makers k ≡ own.made → ((j : ℕ) → j ≢ k → made_by makers j ≡ []) → HasSeenItsOwn own
         → IsBeginning own.seen (record { head = own.seen.head; entries = journal }) → IsMergeOf journal makers → HasMadeAll own × (own.seen.entries ≡ journal) }
 {}
 
-/// Where an operator has made all that it has seen after a call, it had before it, too, and was answered at just the moment that
-/// it had seen. So each answer of one who works alone is that of the journal of its own events so far.
+/// If an operator has made everything that it has seen after a call, it had also made everything that it had seen
+/// before the call, and it was answered at exactly the moment that it had seen. So each answer to an operator that
+/// works alone is that of the journal of its own events so far.
 pub fn one_alone_is_answered_after_its_own_events()
     ensures event { (before : Own) (now : Moment) (e : Event) → HasSeenItsOwn before → IsBeginning before.seen now → HasMadeAll (made e now before) → HasMadeAll before × (now ≡ before.seen) }
     ensures look { (before : Own) (now : Moment) → HasSeenItsOwn before → IsBeginning before.seen now → HasMadeAll (looked now before) → HasMadeAll before × (now ≡ before.seen) }
     ensures seen { (before : Own) (now : Moment) (e : Event) → HasSeenItsOwn before → IsBeginning before.seen now → HasSeenItsOwn (made e now before) × HasSeenItsOwn (looked now before) }
 {}
 
-/// An event that an operator made is at its place in each later journal of the desk, and the moment at which the call was answered is
-/// that journal's beginning before it. So by [`DeskOperator::operate`] and the close each answer is the model's at a beginning of the
-/// closed journal.
+/// An event that an operator made is at its place in each later journal of the desk, and the moment at which the call
+/// was answered is the beginning of that journal before the event. So, by [`DeskOperator::operate`] and the close, each
+/// answer is the model's answer at a beginning of the closed journal.
 pub fn each_event_stands_at_its_place()
     ensures { (before : Own) (now : Moment) (e : Event) (closed : Moment) → IsBeginning (made e now before).seen closed
         → (slice_get closed.entries (length now.entries) ≡ Some e) × (now ≡ record { head = closed.head; entries = take (length now.entries) closed.entries }) }
 {}
 
-/// A release is answered where a data field waits, and refused as empty where none does: never both.
+/// A release is answered if a data field waits, and refused as empty if none does. It is never both.
 pub fn a_release_finds_a_data_field()
     ensures { (m : Moment) (delivery : Delivery) → IsReleased m delivery → IsReleaseFault m ReleaseFault.Empty → ⊥ }
 {}

@@ -1,9 +1,10 @@
 //! The desk of a channel, behind a lock that remembers.
 //!
-//! Several threads share a [`LockedDesk`], each with a [`DeskOperator`] of its own, which the desk's [`DeskOwner`] makes, and does an
-//! [`Operation`] by it. Contracts see which lock that is, and what each operator has seen of the channel's journal and made of it: so each
-//! call is answered by this very channel's journal, and [`close_together`] gives out channels whose journals are merges of what their
-//! operators made. Each call takes the lock once, and waits while another has it.
+//! Several threads share a [`LockedDesk`]. Each has a [`DeskOperator`] of its own, which the desk's [`DeskOwner`]
+//! creates, and uses it to run an [`Operation`]. Contracts see the identity of the lock, and what each operator has
+//! seen and made of the channel's journal. So each call is answered by this very channel's journal, and
+//! [`close_together`] returns channels whose journals are merges of what their operators made. Each call takes the lock
+//! once, and waits while another thread has it.
 #![tactic(auto)]
 
 mod guard;

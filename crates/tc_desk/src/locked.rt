@@ -27,7 +27,8 @@ pub(crate) type DeskSeat<J> = LockSeat<DeskSlot<J>, DeskHead, Event>;
 
 pub(crate) type DeskBadge = Badge<View<DeskHead, Event>>;
 
-/// A desk behind a lock, which threads share. A contract sees which lock it is, and what never changes of the desk.
+/// A desk behind a lock, which threads share. A contract sees the identity of the lock, and the parts of the desk that
+/// never change.
 #[derive(Drop)]
 pub struct LockedDesk<J: Journal> {
     pub(crate) lock: DeskLock<J>,
@@ -42,11 +43,11 @@ impl<J: Journal> Model for LockedDesk<J> {
     ghost view = { λ d. d.lock };
 }
 
-/// Makes operations on a desk behind its lock.
+/// An operator of a desk, through which a thread runs operations behind the desk's lock.
 #[derive(Drop)]
 pub struct DeskOperator {
     badge: DeskBadge,
-    // on cache lines of its own, since another thread raises the next operator's
+    // The count is on cache lines of its own, since another thread raises the next operator's count.
     count: CachePadded<u64>,
 }
 
@@ -62,12 +63,12 @@ impl Model for DeskOperator {
     ghost invariant = { λ o. IsResting o.badge.views × ((view_in o.badge.views).maker ≡ true) × (padded_value o.count ≡ count_of (view_in o.badge.views).own) };
 }
 
-/// Makes operators for a lock, and takes the channel out of it. It counts the operators, and makes no events. Threads may share it:
-/// a `&` to it offers nothing.
+/// The owner of a lock, through which operators are created and the channel is taken out. It counts the operators, and
+/// makes no events. Threads may share it, since a `&` to it offers nothing.
 #[derive(Drop)]
 pub struct DeskOwner {
     badge: ResidentBadge<View<DeskHead, Event>>,
-    // of 128 bits, so that no list is as long as the largest number
+    // The number has 128 bits, so that no list is as long as its largest value.
     issued: u128,
 }
 
@@ -83,8 +84,8 @@ impl Model for DeskOwner {
         × ((view_in k.badge.badge.views).own.made ≡ []) × (k.issued ≡ issued_count (view_in k.badge.badge.views).own) };
 }
 
-// Takes the lock, does what the operation asks for, and gives the lock back: with the event where it is answered. An answer is
-// handed on as it is, since each match on it would copy it.
+// Takes the lock, runs the operation, and unlocks, with the event if the operation is answered. The answer is passed on
+// as it is, since each match on it would copy it.
 fn operate_by<P: Occasion, J: Journal, O: Operation<J>, R: Wait>(
     lock: &DeskLock<J>,
     rt: &R,
@@ -114,7 +115,7 @@ fn operate_by<P: Occasion, J: Journal, O: Operation<J>, R: Wait>(
     answer
 }
 
-// The same, and a watcher of the desk's board meets it before and behind.
+// Runs the operation as `operate_by` does, and lets a watcher of the desk's board meet the desk before and after it.
 fn operate_met_by<P: Occasion, J: Journal, O: Operation<J>, R: Wait>(
     lock: &DeskLock<J>,
     rt: &R,
@@ -146,7 +147,7 @@ fn operate_met_by<P: Occasion, J: Journal, O: Operation<J>, R: Wait>(
     answer
 }
 
-// The desk answers the question, by the seat that has the lock.
+// Returns the desk's answer to the question, through the seat that has the lock.
 pub(crate) fn answer_at<J: Journal, Q: Question<J>>(
     lock: &DeskLock<J>,
     seat: &mut DeskSeat<J>,
@@ -162,7 +163,7 @@ pub(crate) fn answer_at<J: Journal, Q: Question<J>>(
     kept.answer(question)
 }
 
-// Takes the lock, lets the watcher meet the desk, and gives the lock back.
+// Takes the lock, lets the watcher meet the desk, and unlocks.
 fn meet_by<J: Journal, R: Wait>(
     lock: &DeskLock<J>,
     rt: &R,
@@ -185,7 +186,7 @@ fn meet_by<J: Journal, R: Wait>(
     seat.into_badge()
 }
 
-// One event more.
+// Counts one more event.
 fn raise(count: &mut CachePadded<u64>)
     ensures count { padded_value count.new ≡ min (padded_value count.old + 1) (2 ^ 64 - 1) }
 {
@@ -193,7 +194,7 @@ fn raise(count: &mut CachePadded<u64>)
     *count = count.saturating_add(1);
 }
 
-// A new seat, from the first one.
+// Issues a new seat from the first one.
 fn issue_from<J: Journal>(lock: &DeskLock<J>, owner: DeskBadge) -> (DeskBadge, DeskBadge)
     requires own { owner.table_id ≡ lock.now.id }
     requires first { owner.id ≡ 0 }
@@ -209,7 +210,7 @@ fn issue_from<J: Journal>(lock: &DeskLock<J>, owner: DeskBadge) -> (DeskBadge, D
 }
 
 impl DeskOwner {
-    /// A new operator, which has made nothing, and has seen what the owner has seen.
+    /// Creates an operator, which has made nothing, and has seen what the owner has seen.
     pub fn operator<J: Journal>(&mut self, desk: &LockedDesk<J>) -> DeskOperator
         requires ours { self.old.lock ≡ desk.now.id }
         ensures issued { self.new ≡ with_one_issued self.old }
@@ -226,7 +227,7 @@ impl DeskOwner {
         DeskOperator { badge, count }
     }
 
-    // An owner of this first seat, to which nothing was reported, and from which so many were issued.
+    // Creates the owner of this first seat, to which nothing was reported, and from which `issued` seats were issued.
     pub(crate) fn of(badge: DeskBadge, issued: u128) -> DeskOwner
         requires first { badge.id ≡ 0 }
         requires resting { IsResting badge.views }
@@ -239,7 +240,7 @@ impl DeskOwner {
         DeskOwner { badge, issued }
     }
 
-    // The first seat, and how many were issued from it.
+    // Returns the first seat, and the number of seats that were issued from it.
     pub(crate) fn into_parts(self) -> (DeskBadge, u128)
         ensures first { result.0.id ≡ 0 }
         ensures resting { IsResting result.0.views }
@@ -254,14 +255,14 @@ impl DeskOwner {
 }
 
 impl DeskOperator {
-    /// How many events the operator has made; where they are more than 2^64 - 1, that number.
+    /// Returns the number of events that the operator has made, or 2^64 - 1 if there are more.
     pub fn count(&self) -> u64
         ensures { result ≡ count_of self.now.own }
     {
         *self.count
     }
 
-    // The seat, once the operator has made all its events.
+    // Returns the seat, once the operator has made all its events.
     pub(crate) fn into_badge(self) -> DeskBadge
         ensures resting { IsResting result.views }
         ensures maker { (view_in result.views).maker ≡ true }
@@ -271,7 +272,8 @@ impl DeskOperator {
         badge
     }
 
-    /// The operation on the desk, by this operator, under the lock. An answer counts. It allocates no more than the operation.
+    /// Runs the operation on the desk under the lock. An answered operation is counted for this operator. It allocates
+    /// no more than the operation.
     pub fn operate<J: Journal, O: Operation<J>, R: Wait>(
         &mut self,
         desk: &LockedDesk<J>,
@@ -288,8 +290,9 @@ impl DeskOperator {
         answer
     }
 
-    /// The same under one hold of the lock, and a watcher of the desk's board meets the desk before the operation and behind it: what it
-    /// had seen is a beginning of the journal at that moment, and then it has seen all that the operator has.
+    /// Runs the operation as [`operate`](DeskOperator::operate) does, and lets a watcher of the desk's board meet the
+    /// desk before and after it, while the lock is held once. The history that the watcher had seen is a beginning of
+    /// the journal at that moment. Afterwards the watcher has seen all that the operator has.
     pub fn operate_met<J: Journal, O: Operation<J>, R: Wait>(
         &mut self,
         desk: &LockedDesk<J>,
@@ -314,8 +317,9 @@ impl DeskOperator {
         answer
     }
 
-    /// A watcher of the desk's board meets the desk, by this operator, under the lock: what it had seen is a beginning of the journal at
-    /// that moment, and then it has seen all that the operator has. It allocates nothing.
+    /// Lets a watcher of the desk's board meet the desk under the lock. The history that the watcher had seen is a
+    /// beginning of the journal at that moment. Afterwards the watcher has seen all that the operator has. Nothing is
+    /// allocated.
     pub fn meet<J: Journal, R: Wait>(&mut self, desk: &LockedDesk<J>, rt: &R, watcher: &mut Watcher)
         requires ours { self.old.lock ≡ desk.now.id }
         requires board { watcher.old.board ≡ self.old.own.seen.head.board }
@@ -327,7 +331,8 @@ impl DeskOperator {
 }
 
 impl<J: Journal> LockedDesk<J> {
-    /// A desk with a new channel behind a lock that is free, and its owner. It takes the memory of the desk, and of the lock.
+    /// Creates a desk with a new channel behind a lock that is free, and its owner. It requests the memory of the desk
+    /// and of the lock.
     pub fn new(
         alloc: Global,
         settings: Settings,
@@ -349,8 +354,8 @@ impl<J: Journal> LockedDesk<J> {
         Ok((LockedDesk { lock }, DeskOwner::of(first.into_badge(), 0)))
     }
 
-    /// The desk's answer to the question at a moment under the lock, for who has no operator. Of that moment no more is known
-    /// than what never changes of the desk, and that its journal is lawful.
+    /// Returns the desk's answer to the question at a moment under the lock, for a thread that has no operator. Nothing
+    /// is known of that moment except the parts of the desk that never change, and that its journal is lawful.
     pub fn ask_as_guest<Q: Question<J>, R: Wait>(&self, rt: &R, question: &Q) -> Q::Answer
         ensures { (now : Moment) × IsMoment now × (now.head ≡ self.now.head) × Q.answers question.now now result }
     {

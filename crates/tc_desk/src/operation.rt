@@ -1,4 +1,4 @@
-//! Says what operators ask a desk for.
+//! The operations of a desk's operators, and their questions.
 
 ghost use Rattle.std.specs.Prelude.{◌≡◌};
 ghost use Rattle.tc_desk.specs.Log.{moment_of};
@@ -12,7 +12,7 @@ use tc_channel::{
 use tc_link::Frame;
 use tc_status::{DeskOf, Watcher};
 
-/// The event that a call makes. Each call picks it.
+/// The event that a call makes. Each call chooses it.
 pub trait Occasion {
     ghost use Rattle.tc_channel.specs.declared.event.Event.{Event};
 
@@ -25,7 +25,7 @@ impl Occasion for Brand {
     ghost event = { Release };
 }
 
-/// The event of the call is made.
+/// The entry of a journal that is the event of a call.
 pub(crate) struct Makes<P> {
     marker: PhantomData<P>,
 }
@@ -34,7 +34,7 @@ impl<P: Occasion> NextEntry<Event> for Makes<P> {
     ghost entry = { P.event };
 }
 
-/// An operation on a desk: an event where it is answered.
+/// An operation on a desk, which is an event if it is answered.
 pub trait Operation<J: Journal> {
     ghost use Rattle.tc_channel.specs.declared.event.Event.{Event};
     ghost use Rattle.tc_desk.specs.Log.{Moment};
@@ -43,20 +43,20 @@ pub trait Operation<J: Journal> {
 
     type Fault;
 
-    // the event that it is where it is answered
+    // the event that the operation is if it is answered
     ghost event: { Self → Event };
 
-    // what it answers at a moment
+    // the answers that the operation may have at a moment
     ghost answers: { Self → Moment → Self.Answer → Type 0 };
 
-    // where it is refused
+    // the faults with which the operation may be refused at a moment
     ghost refuses: { Self → Moment → Self.Fault → Type 0 };
 
     fn run(&self, desk: &mut DeskOf<J>) -> Result<Self::Answer, Self::Fault>
         ensures step { IsStep (event self.now) (answers self.now) (refuses self.now) (moment_of desk.old) result (moment_of desk.new) };
 }
 
-/// The operation on the desk, which the watcher meets before and behind.
+/// Runs the operation on the desk, and lets the watcher meet the desk before and after it.
 pub(crate) fn run_met<J: Journal, O: Operation<J>>(
     desk: &mut DeskOf<J>,
     watcher: &mut Watcher,
@@ -72,13 +72,13 @@ pub(crate) fn run_met<J: Journal, O: Operation<J>>(
     answer
 }
 
-/// A question to a desk, which leaves it as it is.
+/// A question to a desk, which leaves the desk as it is.
 pub trait Question<J: Journal> {
     ghost use Rattle.tc_desk.specs.Log.{Moment};
 
     type Answer;
 
-    // what it answers at a moment
+    // the answers that the question may have at a moment
     ghost answers: { Self → Moment → Self.Answer → Type 0 };
 
     fn ask(&self, desk: &mut DeskOf<J>) -> Self::Answer
@@ -108,7 +108,7 @@ impl<J: Journal> Operation<J> for Release {
     }
 }
 
-/// A frame that comes in.
+/// The arrival of a frame.
 #[derive(Drop)]
 pub struct Framing<'a> {
     pub frame: &'a Frame<'a>,
@@ -133,7 +133,7 @@ impl<J: Journal> Operation<J> for Framing<'_> {
     }
 }
 
-/// The same, and a watcher of the desk's board sees it.
+/// The arrival of a frame, with a new watcher of the desk's board that has seen it.
 #[derive(Drop)]
 pub struct WatchedFraming<'a> {
     pub frame: &'a Frame<'a>,
@@ -212,7 +212,7 @@ impl<J: Journal> Operation<J> for UnitTaking {
     }
 }
 
-/// A watcher of the desk's board.
+/// The request for a watcher of the desk's board.
 #[derive(Drop)]
 pub struct Watching;
 
@@ -230,7 +230,7 @@ impl<J: Journal> Question<J> for Watching {
     }
 }
 
-/// How many events there are in the journal; where they are more than 2^64 - 1, that number.
+/// The request for the number of events in the journal, or 2^64 - 1 if there are more.
 #[derive(Drop)]
 pub(crate) struct Counting;
 

@@ -9,7 +9,8 @@ use std::alloc::Global;
 use std::marker::Model;
 use tc_channel::{Journal, Settings, SettingsFault};
 
-/// A desk behind its lock, with its owner. Threads may share it: the owner is reached by `&mut` or by value alone.
+/// A desk behind its lock, with its owner. Threads may share it, since the owner can be reached only by `&mut` or by
+/// value.
 #[derive(Drop)]
 pub struct OwnedDesk<J: Journal> {
     pub(crate) desk: LockedDesk<J>,
@@ -28,7 +29,7 @@ impl<J: Journal> Model for OwnedDesk<J> {
 }
 
 impl<J: Journal> OwnedDesk<J> {
-    /// A new desk behind a lock that is free. It takes the memory of the desk, and of the lock.
+    /// Creates a desk behind a lock that is free. It requests the memory of the desk and of the lock.
     pub fn new(alloc: Global, settings: Settings) -> Result<OwnedDesk<J>, SettingsFault>
         ensures settings { IfOk result (λ owned_desk. owned_desk.own.seen.head.settings ≡ settings) }
         ensures journal { IfOk result (λ owned_desk. owned_desk.own.seen.entries ≡ []) }
@@ -39,7 +40,7 @@ impl<J: Journal> OwnedDesk<J> {
         Ok(OwnedDesk { desk, owner })
     }
 
-    /// The desk, for the calls of operators.
+    /// Returns the desk, for the calls of operators.
     pub fn desk(&self) -> &LockedDesk<J>
         ensures lock { result.now.id ≡ self.now.lock }
         ensures head { result.now.head ≡ self.now.own.seen.head }
@@ -47,7 +48,7 @@ impl<J: Journal> OwnedDesk<J> {
         &self.desk
     }
 
-    /// A new operator of the desk, which has made nothing, and has seen what the owner has seen.
+    /// Creates an operator of the desk, which has made nothing, and has seen what the owner has seen.
     pub fn operator(&mut self) -> DeskOperator
         ensures issued { self.new ≡ with_one_issued self.old }
         ensures lock { result.lock ≡ self.old.lock }

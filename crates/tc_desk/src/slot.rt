@@ -1,4 +1,4 @@
-//! Has the channel of a desk under its lock.
+//! The channel of a desk under its lock.
 
 ghost use Rattle.std.specs.Prelude.{◌≡◌, Some, IsSome};
 ghost use Rattle.crossbeam_utils.specs.Padded.{padded_value};
@@ -14,7 +14,7 @@ use std::snapshot::Snapshot;
 use tc_channel::{ChannelWith, Event, Journal};
 use tc_status::{DeskOf, Publisher, Watcher};
 
-/// Has what never changes of a desk, as clauses see it. It takes no memory, and no program can read it.
+/// The parts of a desk that never change, as contracts see them. They take no memory, and no program can read them.
 #[derive(Drop)]
 pub struct DeskHead {
     publisher: Snapshot<Publisher>,
@@ -35,7 +35,7 @@ impl Head for DeskHead {
 }
 
 impl DeskHead {
-    /// Has what never changes of this desk.
+    /// Returns the parts of this desk that never change.
     pub(crate) fn of<J: Journal>(desk: &DeskOf<J>) -> DeskHead
         ensures { result ≡ identity_of desk.now }
     {
@@ -45,7 +45,8 @@ impl DeskHead {
     }
 }
 
-/// A desk, until it is taken out, with nothing else on its cache lines: threads at other desks don't slow this one down.
+/// A desk, until it is taken out, with nothing else on its cache lines, so that threads at other desks don't slow this
+/// one down.
 #[derive(Drop)]
 pub struct DeskSlot<J: Journal> {
     pub(crate) desk: CachePadded<Option<DeskOf<J>>>,
@@ -62,7 +63,7 @@ impl<J: Journal> Logged<DeskHead, Event> for DeskSlot<J> {
 }
 
 impl<J: Journal> DeskSlot<J> {
-    /// The place of this desk, or of none.
+    /// Creates the slot of this desk, or of none.
     pub(crate) fn new(desk: Option<DeskOf<J>>) -> DeskSlot<J>
         ensures { padded_value result.desk ≡ desk }
     {
@@ -71,7 +72,7 @@ impl<J: Journal> DeskSlot<J> {
         }
     }
 
-    // The channel, out of the desk.
+    // Takes the channel out of the desk.
     pub(crate) fn into_channel(self) -> ChannelWith<J>
         requires { IsSome (padded_value self.desk) }
         ensures { (board : TableId) × (padded_value self.desk ≡ Some (record { channel = result; board = board })) }
@@ -83,7 +84,7 @@ impl<J: Journal> DeskSlot<J> {
         desk.into_channel()
     }
 
-    // The desk answers the question.
+    // Returns the desk's answer to the question.
     pub(crate) fn answer<Q: Question<J>>(&mut self, question: &Q) -> Q::Answer
         requires { IsSome (padded_value self.old.desk) }
         ensures there { IsSome (padded_value self.new.desk) }
@@ -94,7 +95,7 @@ impl<J: Journal> DeskSlot<J> {
         question.ask(desk)
     }
 
-    // The watcher meets the desk.
+    // Lets the watcher meet the desk.
     pub(crate) fn meet(&mut self, watcher: &mut Watcher)
         requires there { IsSome (padded_value self.old.desk) }
         requires board { watcher.old.board ≡ (desk_log (padded_value self.old.desk)).head.board }
@@ -106,7 +107,7 @@ impl<J: Journal> DeskSlot<J> {
     {
         let desk: &mut Option<DeskOf<J>> = &mut self.desk;
         let Some(desk) = desk else { unreachable!() };
-        // It ensures that the settings are allowed and the journal is lawful.
+        // This call is here for its contract, by which the settings are allowed and the journal is lawful.
         let _ = desk.channel().settings();
         desk.meet(watcher);
     }

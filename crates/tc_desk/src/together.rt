@@ -1,4 +1,4 @@
-//! The close of a list of desks.
+//! Closing a list of desks.
 
 ghost use Rattle.std.specs.Prelude.{◌≡◌, ◌≢◌, ◌<◌, ◌≤◌, ◌+◌, ◌-◌, ◌^◌, ◌++◌, [], All, true, min, length, map, reverse, IfOk, IfErr, MatchBool, vec_len, vec_capacity};
 ghost use Rattle.logged_lock.specs.Log.{total_made};
@@ -11,19 +11,19 @@ use crate::owned_desk::OwnedDesk;
 use std::alloc::{AllocError, Global};
 use tc_channel::{ChannelWith, Journal};
 
-/// Has an operator at each of a list of desks.
+/// A list of operators, one at each desk of a list.
 pub trait OperatorList: Drop {
     ghost use Rattle.std.specs.Prelude.{◌≡◌, List};
     ghost use Rattle.tc_desk.specs.Log.{AtLock};
 
-    // these operators, in the order of the desks
+    // the operators, in the order of the desks
     ghost at_desks: { Self → List AtLock };
 
-    /// The operators, in the order of the desks.
+    /// Returns the operators, in the order of the desks.
     fn operators(&self) -> &[DeskOperator]
         ensures { result.now ≡ at_desks self.now };
 
-    /// The same, once they have made all their events.
+    /// Returns the operators by value, once they have made all their events.
     fn into_operators(self) -> Vec<DeskOperator>
         ensures { result.items ≡ at_desks self };
 }
@@ -40,19 +40,20 @@ impl OperatorList for Vec<DeskOperator> {
     }
 }
 
-/// Why desks weren't taken out of their locks.
+/// The reason why desks weren't taken out of their locks.
 #[derive(Clone, Copy, Debug, PartialEq, Eq)]
 pub enum Refusal {
-    /// Out of memory.
+    /// Memory ran out.
     NoMemory,
-    /// A lock isn't free. No call of this crate ends with a lock taken, so whoever owns the desks doesn't come to see it.
+    /// A lock isn't free. No call of this crate returns with a lock taken, so the owner of the desks never sees this
+    /// refusal.
     InUse,
-    /// At one of the desks the operators haven't made as many events as the channel's journal has, and aren't all that its owner issued; or
-    /// they have made 2^64 - 1 or more.
+    /// The operators at one of the desks haven't made as many events as the channel's journal has, and aren't all that
+    /// the desk's owner issued, or they have made 2^64 - 1 events or more.
     Unbalanced,
 }
 
-/// Desks that weren't closed: they are given back with the operators, and work can go on.
+/// Desks that weren't closed. They are returned with the operators, and work can go on.
 #[derive(Drop)]
 pub struct LeftOpen<J: Journal, C: Drop> {
     pub owned_desks: Vec<OwnedDesk<J>>,
@@ -60,7 +61,7 @@ pub struct LeftOpen<J: Journal, C: Drop> {
     pub refusal: Refusal,
 }
 
-// Empty lists with room for so many channels, and for so many guards.
+// Creates empty lists with room for `count` channels and `count` guards.
 fn rooms<J: Journal>(
     alloc: Global,
     count: usize,
@@ -86,7 +87,7 @@ fn hold<J: Journal>(owned_desk: OwnedDesk<J>) -> Result<DeskGuard<J>, OwnedDesk<
     }
 }
 
-// Gives it back.
+// Unlocks the desk.
 fn leave<J: Journal>(guard: DeskGuard<J>) -> OwnedDesk<J>
     requires { IsFresh guard }
     ensures lock { result.lock ≡ guard.owner.lock }
@@ -97,7 +98,8 @@ fn leave<J: Journal>(guard: DeskGuard<J>) -> OwnedDesk<J>
     OwnedDesk { desk, owner }
 }
 
-// Takes the locks, beginning with the last desk, as long as they are free. The guards come in that order.
+// Takes the locks, beginning with that of the last desk, as long as they are free. The guards come in the order in
+// which the locks are taken.
 fn hold_all<J: Journal>(owned_desks: &mut Vec<OwnedDesk<J>>, guards: &mut Vec<DeskGuard<J>>) -> bool
     requires empty { guards.old.items ≡ [] }
     requires room { vec_len owned_desks.old ≤ vec_capacity guards.old }
@@ -119,7 +121,7 @@ fn hold_all<J: Journal>(owned_desks: &mut Vec<OwnedDesk<J>>, guards: &mut Vec<De
     true
 }
 
-// Gives the locks back, beginning with the one that was taken last.
+// Unlocks the desks, beginning with the one whose lock was taken last.
 fn leave_all<J: Journal>(owned_desks: &mut Vec<OwnedDesk<J>>, mut guards: Vec<DeskGuard<J>>)
     requires fresh { All IsFresh guards.items }
     requires room { vec_len owned_desks.old + vec_len guards ≤ vec_capacity owned_desks.old }
@@ -130,7 +132,8 @@ fn leave_all<J: Journal>(owned_desks: &mut Vec<OwnedDesk<J>>, mut guards: Vec<De
     }
 }
 
-// How many events the operators at the desk of this place have made in all; where they are more than 2^64 - 1, that number.
+// Returns the number of events that the operators at the desk of this place have made in all, or 2^64 - 1 if there are
+// more.
 fn count_at<C: OperatorList>(operator_lists: &[C], place: usize) -> u64
     requires { All (λ operator_list. place < length (C.at_desks operator_list)) operator_lists.now }
     ensures { result ≡ min (total_made (accounts_of (column place (map C.at_desks operator_lists.now)))) (2 ^ 64 - 1) }
@@ -142,7 +145,7 @@ fn count_at<C: OperatorList>(operator_lists: &[C], place: usize) -> u64
     total
 }
 
-// Whether the operators at each of these desks can close it.
+// Returns whether the operators at each of these desks can close it.
 fn can_close_each<J: Journal, C: OperatorList>(
     guards: &[DeskGuard<J>],
     operator_lists: &[C],
@@ -168,7 +171,7 @@ fn report_row<J: Journal>(guards: &mut [DeskGuard<J>], mut operators: Vec<DeskOp
     }
 }
 
-// The same of all lists of operators, in their order.
+// Lets the owners of the desks know what the operators of all lists have seen and made, list by list.
 fn report_rows<J: Journal, C: OperatorList>(guards: &mut [DeskGuard<J>], operator_lists: Vec<C>)
     requires { AreOurs (owners_of guards.old) (map C.at_desks operator_lists.items) }
     ensures { guards.new ≡ reported_rows guards.old (map C.at_desks operator_lists.items) }
@@ -193,7 +196,7 @@ fn take_all_out<J: Journal>(
     room
 }
 
-// Takes all locks, in the order of the desks; or none, and gives all back.
+// Takes all locks, in the order of the desks. If one of them isn't free, it takes none, and returns all desks.
 fn take_locks<J: Journal>(
     mut owned_desks: Vec<OwnedDesk<J>>,
     mut guards: Vec<DeskGuard<J>>,
@@ -213,7 +216,7 @@ fn take_locks<J: Journal>(
     Ok((owned_desks, guards))
 }
 
-// Gives all locks back, which came in the order of the desks.
+// Unlocks all desks, whose guards come in the order of the desks.
 fn give_back<J: Journal>(
     mut owned_desks: Vec<OwnedDesk<J>>,
     mut guards: Vec<DeskGuard<J>>,
@@ -228,7 +231,7 @@ fn give_back<J: Journal>(
     owned_desks
 }
 
-// Gives back desks that were not closed.
+// Returns desks that were not closed.
 fn left_open<J: Journal, C: Drop>(
     owned_desks: Vec<OwnedDesk<J>>,
     operator_lists: Vec<C>,
@@ -243,9 +246,9 @@ fn left_open<J: Journal, C: Drop>(
     }
 }
 
-/// Takes the channels out of their locks, in the order of the desks, where all events of each journal were made by the
-/// operators of that desk: so it is where they are all that were issued. Two lists are allocated, before any lock is
-/// taken; all locks are taken, and all counts compared, before any desk is taken apart.
+/// Takes the channels out of their locks, in the order of the desks, if all events of each journal were made by the
+/// operators of that desk. This is so if they are all operators that were issued. Two lists are allocated before any
+/// lock is taken. All locks are taken, and all counts are compared, before any desk is taken apart.
 pub fn close_together<J: Journal, C: OperatorList>(
     alloc: Global,
     owned_desks: Vec<OwnedDesk<J>>,
@@ -276,8 +279,9 @@ pub fn close_together<J: Journal, C: OperatorList>(
     Ok(take_all_out(guards, room))
 }
 
-/// Takes the channels out of their locks, in the order of the desks, whoever made their events: nothing is said of
-/// operators. Two lists are allocated, before any lock is taken. The refusal is `NoMemory` or `InUse`, and gives all back.
+/// Takes the channels out of their locks, in the order of the desks, whoever made their events. Nothing is promised
+/// about operators. Two lists are allocated before any lock is taken. The refusal is `NoMemory` or `InUse`, and all
+/// desks are returned with it.
 pub fn take_out_together<J: Journal>(
     alloc: Global,
     owned_desks: Vec<OwnedDesk<J>>,

@@ -1,4 +1,5 @@
--- A `&` to it can't be read: all that such a `&` has is a part of what the badge owns, which may go to another thread.
+-- A badge can't be read through a `&`. Such a `&` has only a part of what the badge owns, which may go to another
+-- thread.
 use Rattle.tc_desk.proofs.Names.{RattleType, IsSync, part_keyless, the_row}
 use Rattle.tc_desk.proofs.Sent.{resident_send}
 
