@@ -1,20 +1,20 @@
--- What a call at one desk makes of the operator's list of desks.
+-- The effect of a call at one desk on the operator's list of desks.
 use Rattle.tc_station.proofs.Names.{◌≡◌, ℕ, ◌+◌, ◌<◌, List, [], ◌∷◌, length, map, get_or, set, Option, Some, Result, Ok, Err, refl, sym, ap, ◌∙◌, subst, arith, ◌==◌, position, slice_get, slice_index, eqb-true, map-map, get_or-map, length-map, length-append, position-Some, slice_get_read, TableId, Event, Settings, Moment, Own, AtLock, count_of, IsCall, made, heads_of, locks_of, settings_of_desks, vcids_of, AtStation, IsOurs, IsPlace, KnowsTheSame, Roster, at_station, counts_of, tallied, tally, raised, raised_at, IsCallAt, IsCounted, IsErrAnd, MatchResult, OnOk, OnErr, map-set, set-get_or, looked}
 use Rattle.tc_station.proofs.Counts.{raised-is}
 
--- a list of what is read of each desk, with one desk in another's place
+-- a list of values read from desks stays if one desk is replaced by another with an equal value
 pub same-set : {A : Type 0} (f : AtLock → A) (desks : List AtLock) (place : ℕ) (there next : AtLock) → there ≡ get_or desks place there → f next ≡ f there → map f (set desks place next) ≡ map f desks
 same-set f desks place there next is same =
     map-set f desks place next
     ∙ (ap (λ x. set (map f desks) place x) (same ∙ ap f is)
     ∙ (sym (map-set f desks place (get_or desks place there)) ∙ ap (map f) (set-get_or desks place there)))
 
--- what never changes of the desk is as it was
+-- the parts of the desk that never change are as they were
 pub head-kept : {R F : Type 0} (e : Event) (ok : Moment → R → Type 0) (err : Moment → F → Type 0) (there next : AtLock) (r : Result R F) → IsCall e ok err there r next → next.own.seen.head ≡ there.own.seen.head
 head-kept e ok err there next (Ok a) c = ap (λ (o : Own). o.seen.head) c.answer.1 ∙ c.later.0
 head-kept e ok err there next (Err f) c = ap (λ (o : Own). o.seen.head) c.answer.1 ∙ c.later.0
 
--- an event more is counted, and no more
+-- one more event is counted, and no more
 count-made : (e : Event) (now : Moment) (own : Own) → count_of (made e now own) ≡ raised (count_of own)
 count-made e now own =
     let one : length (made e now own).made ≡ length own.made + 1 = length-append own.made ((length now.entries, e) ∷ []) in
@@ -29,7 +29,7 @@ counts-made e now vcids desks place vcid there next is inside at own =
     ∙ (ap (λ x. set (counts_of desks) place x) (ap count_of own ∙ (count-made e now there.own ∙ ap raised (sym here)))
     ∙ ap (λ (o : Option ℕ). raised_at o (counts_of desks)) (sym at))
 
--- as many desks as ids
+-- there are as many desks as ids
 pub as-many : (vcids : List ℕ) (desks : List AtLock) → vcids_of (settings_of_desks desks) ≡ vcids → length desks ≡ length vcids
 as-many vcids desks ids =
     sym (length-map desks (λ (o : AtLock). o.own.seen.head.settings)) ∙ (sym (length-map (settings_of_desks desks) (λ (s : Settings). s.vcid)) ∙ ap (length {A = ℕ}) ids)
@@ -45,11 +45,11 @@ id-of vcids desks place vcid there ids is at =
     let here : id there ≡ get_or vcids place 0 = ap id is ∙ (sym (get_or-map id desks place there 0 inside) ∙ ap (λ vs. get_or vs place 0) all) in
     (inside, here ∙ eqb-true (get_or vcids place 0) vcid found.1)
 
--- what is seen of a station with these owned desks
+-- the view of a station with these owned desks
 abbrev pub at_owned_desks : ℕ → List ℕ → ℕ → List AtLock → Roster
 at_owned_desks scid vcids issued owned_desks = record { scid = scid; vcids = vcids; issued = issued; locks = locks_of owned_desks; heads = heads_of owned_desks }
 
--- the operator's desk of a place, where a call is made
+-- a call at the operator's desk of a place
 module _ {R F : Type 0} (e : Event) (ok : Moment → R → Type 0) (err : Moment → F → Type 0) (station : Roster) (o : AtStation) (vcids : List ℕ) (desks : List AtLock) (place : ℕ) (there next : AtLock) (r : Result R F)
     (view : at_station vcids desks ≡ o) (ids : vcids_of (settings_of_desks desks) ≡ vcids) (ours : IsOurs station o) (is : there ≡ get_or desks place there) (c : IsCall e ok err there r next) where
   abbrev changed : AtStation
@@ -71,7 +71,7 @@ module _ {R F : Type 0} (e : Event) (ok : Moment → R → Type 0) (err : Moment
   pub heads-kept : KnowsTheSame o changed
   heads-kept = same-set (λ (d : AtLock). d.own.seen.head) desks place there next is (head-kept e ok err there next r c) ∙ ap (λ (x : AtStation). heads_of x.desks) view
 
--- the same, where the place is that of a channel
+-- a call at the operator's desk of a place, which is that of a channel
 module _ {R F : Type 0} (e : Event) (ok : Moment → R → Type 0) (err : Moment → F → Type 0) (station : Roster) (o : AtStation) (vcids : List ℕ) (desks : List AtLock) (place vcid : ℕ) (there next : AtLock) (r : Result R F)
     (view : at_station vcids desks ≡ o) (ids : vcids_of (settings_of_desks desks) ≡ vcids) (ours : IsOurs station o) (place_is : IsPlace station vcid place)
     (is : there ≡ get_or desks place there) (c : IsCall e ok err there r next) where
@@ -105,7 +105,7 @@ module _ {R F : Type 0} (e : Event) (ok : Moment → R → Type 0) (err : Moment
     knows = heads-kept e ok err station o vcids desks place there next r view ids ours is c;
   }
 
--- the operator's desk of a place and the station's have one lock
+-- the operator's desk of a place and the station's have equal locks
 pub same-lock-at : (station : Roster) (o : AtStation) (vcids owned : List ℕ) (scid issued : ℕ) (desks owned_desks : List AtLock) (place : ℕ) (there owned_desk : AtLock)
     → at_station vcids desks ≡ o → IsOurs station o → at_owned_desks scid owned issued owned_desks ≡ station → place < length desks → place < length owned_desks
     → there ≡ get_or desks place there → owned_desk ≡ get_or owned_desks place owned_desk → there.lock ≡ owned_desk.lock
@@ -116,7 +116,7 @@ same-lock-at station o vcids owned scid issued desks owned_desks place there own
     let same : locks_of desks ≡ locks_of owned_desks = ap (λ (x : AtStation). locks_of x.desks) view ∙ (ours.1 ∙ sym (ap (λ (x : Roster). x.locks) seen)) in
     ap lock is ∙ (sym mine ∙ (ap (λ (l : List TableId). get_or l place owned_desk.lock) same ∙ (theirs ∙ ap lock (sym owned_desk_is))))
 
--- the same at the place of a channel
+-- the operator's desk at the place of a channel and the station's have equal locks
 pub same-lock : (station : Roster) (o : AtStation) (vcids owned : List ℕ) (scid issued : ℕ) (desks owned_desks : List AtLock) (place vcid : ℕ) (there owned_desk : AtLock)
     → at_station vcids desks ≡ o → vcids_of (settings_of_desks desks) ≡ vcids → IsOurs station o → at_owned_desks scid owned issued owned_desks ≡ station → vcids_of (settings_of_desks owned_desks) ≡ owned → IsPlace station vcid place
     → there ≡ get_or desks place there → owned_desk ≡ get_or owned_desks place owned_desk → there.lock ≡ owned_desk.lock
@@ -125,7 +125,7 @@ same-lock station o vcids owned scid issued desks owned_desks place vcid there o
     let at_owned_desk : position (λ v. v == vcid) owned ≡ Some place = ap (λ (x : Roster). position (λ v. v == vcid) x.vcids) seen ∙ place_is in
     same-lock-at station o vcids owned scid issued desks owned_desks place there owned_desk view ours seen (id-of vcids desks place vcid there ids is at).0 (id-of owned owned_desks place vcid owned_desk owned_desk_ids owned_desk_is at_owned_desk).0 is owned_desk_is
 
--- the same call at the same moment, with another answer
+-- a call with another answer at its moment
 answered-so : {R F S G : Type 0} (place vcid : ℕ) (e : Event) (ok : Moment → R → Type 0) (err : Moment → F → Type 0) (ok2 : Moment → S → Type 0) (err2 : Moment → G → Type 0) (before after : AtStation) (r : Result R F) (r2 : Result S G)
     (c : IsCallAt place vcid e ok err before r after) → MatchResult r2 (λ a. ok2 c.call.now a × (c.next.own ≡ made e c.call.now c.there.own)) (λ f. err2 c.call.now f × (c.next.own ≡ looked c.call.now c.there.own))
     → IsCallAt place vcid e ok2 err2 before r2 after
@@ -139,7 +139,7 @@ answered-so place vcid e ok err ok2 err2 before after r r2 c answer = record {
   vcids = c.vcids;
 }
 
--- the same call, answered or refused in other words
+-- a call whose answer or refusal is stated in another way
 pub ok-call : {R F S G : Type 0} (place vcid : ℕ) (e : Event) (ok : Moment → R → Type 0) (err : Moment → F → Type 0) (ok2 : Moment → S → Type 0) (err2 : Moment → G → Type 0) (before after : AtStation) (r : Result R F) (a : R) (b : S)
     → IsCallAt place vcid e ok err before r after → r ≡ Ok a → ((m : Moment) → ok m a → ok2 m b) → IsCallAt place vcid e ok2 err2 before (Ok b) after
 ok-call place vcid e ok err ok2 err2 before after r a b c is weaker =
@@ -152,7 +152,7 @@ err-call place vcid e ok err ok2 err2 before after r f h c is weaker =
     let was : IsCallAt place vcid e ok err before (Err f) after = subst (λ x. IsCallAt place vcid e ok err before x after) is c in
     answered-so place vcid e ok err ok2 err2 before after (Err f) (Err h) was (weaker was.call.now was.call.answer.0, was.call.answer.1)
 
--- the fault in the station's words, as `?` gives it
+-- a call whose fault is stated as the station's, as `?` converts it
 pub refused-call : {R F S G : Type 0} (place vcid : ℕ) (e : Event) (ok : Moment → R → Type 0) (err : Moment → F → Type 0) (ok2 : Moment → S → Type 0) (err2 : Moment → G → Type 0) (before after : AtStation) (r : Result R F) (f : F) (words : F → G)
     (r2 : Result S G) → IsCallAt place vcid e ok err before r after → r ≡ Err f → IsErrAnd r2 (λ h. h ≡ words f) → ((m : Moment) (h : G) → h ≡ words f → err m f → err2 m h) → IsCallAt place vcid e ok2 err2 before r2 after
 refused-call place vcid e ok err ok2 err2 before after r f words (Ok b) c is said weaker = absurd said

@@ -1,4 +1,4 @@
--- A call at a desk is at its place of the journal that the station's close gives out.
+-- A call at a desk is at its place in the journal that the station's close returns.
 use Rattle.tc_station.proofs.Names.{◌≡◌, ◌<◌, ℕ, zero, suc, List, [], ◌∷◌, length, get_or, take, Ok, Some, refl, sym, ap, subst, ◌∙◌, arith, slice_get, get_or-set_same, length-append, length-set, take_at, get_or_from_slice_get, none-some, same_Some, slice_get-get_or, slice_get_within, Event, History, made, AtLock, Identity, Moment, Own, accounts_of, column, nobody, IsCallAt, IsMetAt, Roster, AtStation, operator_lists_of, Watching, slice_index_or, slice_set, IsBeginning, clcw, Link, IsClosedSince, IsItsLast, IsWordRead, IsShownIn}
 use mathlib.Core.Option.{some}
 use lib.ListN.{get_elem?}
@@ -21,7 +21,7 @@ account-there (p ∷ ops) place zero o d at there =
     ap (λ (x : AtStation). some (slice_index_or x.desks place nobody).own) (same_Some p o at) ∙ ap (λ (x : AtLock). some x.own) (get_or_from_slice_get o.desks place d nobody there)
 account-there (p ∷ ops) place (suc k) o d at there = account-there ops place k o d at there
 
--- what an operator had seen of a desk is a beginning of what was given out
+-- what an operator had seen of a desk is a beginning of the journal that was returned
 seen-in-closed : (station : Roster) (place : ℕ) (o : AtStation) (channel : History) (there : AtLock) → slice_get o.desks place ≡ Some there → IsClosedSince station place o channel
     → (head : Identity) × (head.settings ≡ channel.settings) × IsBeginning there.own.seen (record { head = head; entries = channel.journal })
 seen-in-closed station place o channel there at since =
@@ -56,7 +56,8 @@ answered stands station place vcid e ok err before after r channel c since =
     let stood = stands c.there.own now e closed begun in
     (seen.0, length now.entries, seen.1, stood.0, subst (λ (m : Moment). ok m r) stood.1 answer.0, (c.next, at, (c.there.own.made, ap (λ (o : Own). o.made) answer.1)))
 
--- a CLCW that was read before a meeting, with other reads between or none, is that of a place in what was given out
+-- a CLCW that was read before a meeting, with or without other reads in between, is that of a place in the journal that
+-- was returned
 pub shown : (station : Roster) (place vcid : ℕ) (link : Link) (early mid late met : Watching) (word : ℕ) (before after : AtStation) (channel : History)
     → IsWordRead link early word mid → board.IsEarlier mid.seen late.seen → IsMetAt place vcid late before met after → IsClosedSince station place after channel → IsShownIn channel early link word
 shown station place vcid link early mid late met word before after channel (later, of) on m since =

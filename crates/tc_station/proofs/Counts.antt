@@ -1,4 +1,4 @@
--- What one job does to the count of a channel.
+-- The effect of one job on the count of a channel.
 use Rattle.tc_station.proofs.Names.{◌≡◌, ℕ, zero, suc, ◌+◌, ◌<◌, ◌≤◌, List, ◌∷◌, length, take, get_or, set, min, cond, Bool, true, false, Option, Some, None, refl, sym, ap, ◌∙◌, subst, arith, ◌==◌, slice_index, Contains, get_or-take, get_or-set_same, get_or-set_other, length-set, length-take, Roster, raised, raised_at, is_frame_for, raised_by, max, ne_eqb, ◌&&◌, nat_lt, is_none, le-ltb, nat_tests, IsLocated, IsLocateFault}
 use Rattle.std.proofs.Common.{eq-eqb}
 use Rattle.tc_link.specs.declared.frame.FrameFault.{FrameFault}
@@ -23,7 +23,7 @@ same-header octets frame b =
 skip : (a b : ℕ) (x y : Option FrameFault) → b ≤ a → cond (nat_lt a b) x y ≡ y
 skip a b x y h = ap (λ t. cond t x y) (le-ltb a b h)
 
--- they have no fault
+-- octets that begin with a frame have no fault
 pub no-fault : (octets frame : List ℕ) → BeginsWith octets frame → fault_of octets ≡ None
 no-fault octets frame b =
     let least = b.0.least in
@@ -44,7 +44,7 @@ no-fault octets frame b =
 both : (x : Option FrameFault) (a s b u v : ℕ) → x ≡ None → a ≡ s → b ≡ u → (is_none x && (a == s && b == v)) ≡ (u == v)
 both x a s b u v p q r = (λ i. is_none (p i) && ((q i == s) && (r i == v))) ∙ ap (λ t. t && (u == v)) (eq-eqb s s refl)
 
--- octets for one channel are for another only if it is the same
+-- octets for one channel are for another only if both are the same channel
 pub for-located : (station : Roster) (octets frame : List ℕ) (u v : ℕ) → IsLocated station octets u frame → is_frame_for station v octets ≡ (u == v)
 for-located station octets frame u v l =
     let h = same-header octets frame l.0.0 in
@@ -65,7 +65,7 @@ for-nobody station octets UnknownChannel v there fault =
     let other : ((header_of octets).vcid == v) ≡ false = ne_eqb _ _ (λ e. fault.2 (subst (Contains station.vcids) (sym e ∙ ap (λ x. x.vcid) h) there)) in
     and-false (is_none (fault_of octets)) _ (and-false ((header_of octets).scid == station.scid) _ other)
 
--- one job more
+-- one more job
 pub raised-is : (c : ℕ) → raised c ≡ raised_by 1 c
 raised-is c = grind (arith, nat_tests)
 

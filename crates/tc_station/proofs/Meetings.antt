@@ -1,8 +1,8 @@
--- What a call with meetings, and a meeting alone, make of the operator's list of desks and of the watcher.
+-- The effects of a call with meetings, and of a meeting alone, on the operator's list of desks and on the watcher.
 use Rattle.tc_station.proofs.Names.{◌≡◌, ◌<◌, ℕ, List, length, get_or, Option, None, Some, Err, sym, ap, ◌∙◌, arith, ◌==◌, position, slice_get, get_or-map, get_or_from_slice_get, length-map, none-some, same_Some, slice_get_within, History, AtLock, Identity, HasMet, HasSeenNoMore, IsCall, IsMeeting, heads_of, Roster, IsPlace, Watching, Release}
 use Rattle.tc_station.specs.Moments.{IsWatcherAt, IsWatcherOf}
 
--- a meeting is a call that was refused
+-- a meeting is like a call that was refused
 pub as-call : (early : Watching) (there : AtLock) (late : Watching) (next : AtLock) → IsMeeting early there late next
     → IsCall {R = Unit {0}} {F = Unit {0}} Release (λ m done. ⊥) (λ m done. HasSeenNoMore early m) there (Err tt) next
 as-call early there late next m =
@@ -30,13 +30,13 @@ at-place station place vcid w at (head, (p, here, of), board, settings) =
     let same : p ≡ place = same_Some p place (sym here ∙ at) in
     (head, ap (λ (k : ℕ). slice_get station.heads k) (sym same) ∙ of, board, settings)
 
--- a watcher that has met the desk is of its channel
+-- a watcher that has met the desk still belongs to its channel
 pub watcher-kept : (station : Roster) (place : ℕ) (there next : AtLock) (late : Watching) → slice_get station.heads place ≡ Some there.own.seen.head → next.own.seen.head ≡ there.own.seen.head → HasMet next.own.seen late
     → IsWatcherAt station place late
 watcher-kept station place there next late known head met =
     (there.own.seen.head, known, met.0 ∙ ap (λ (h : Identity). h.board) head, ap (λ (h : History). h.settings) met.1 ∙ ap (λ (h : Identity). h.settings) head)
 
--- the channel of a watcher is there
+-- the channel of a watcher is among those of the station
 pub channel-there : (station : Roster) (vcids : List ℕ) (vcid : ℕ) (w : Watching) (place : Option ℕ) → vcids ≡ station.vcids → IsWatcherOf station vcid w → place ≡ position (λ v. v == vcid) vcids → place ≡ None → ⊥
 channel-there station vcids vcid w place whole (head, (p, here, of), board, settings) is none =
     none-some p (sym none ∙ (is ∙ (ap (λ (l : List ℕ). position (λ v. v == vcid) l) whole ∙ here)))

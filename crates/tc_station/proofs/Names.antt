@@ -1,4 +1,4 @@
--- The types and definitions that most proofs speak of, imported from one file.
+-- The types and definitions that most proofs use, imported from one file.
 pub use Rattle.logged_lock.specs.Log.{IsBeginning, total_made}
 pub use Rattle.std.proofs.Common.{All, Bool, Err, List, None, Ok, Option, Result, Some, [], ap, arith, below_more, cond, drop, eqb, false, get_or, inl, inr, length, ltb, map, max, min, ne_eqb, refl, replicate, rules, set, subst, suc, sym, take, true, true≢false, vec_capacity, vec_len, zero, ℕ, ⊎_elim, ◌*◌, ◌++◌, ◌+◌, ◌-◌, ◌<◌, ◌^◌, ◌∙◌, ◌∷◌, ◌≡◌, ◌≢◌, ◌≤◌}
 pub use Rattle.std.proofs.lemmas.Bool.{cases_eq, eq-eqb, eqb-true, le-ltb, ltb-false, ltb-true}

@@ -2,14 +2,14 @@
 use Rattle.tc_station.proofs.Names.{◌≡◌, ℕ, zero, suc, ◌+◌, ◌<◌, List, [], ◌∷◌, length, map, get_or, replicate, ◌≤◌, ◌-◌, take, drop, ◌++◌, refl, sym, ap, ◌∙◌, subst, arith, All, inl, inr, ◌==◌, position, slice_get, Some, get_or-map, length-map, length-take, take_at, All-map, All-weaker, get_or_from_slice_get, slice_get_read, slice_get_within, map-map, TableId, History, AtLock, Identity, accounts_of, with_one_issued, AreClosed, AreOurs, AreSame, HasCause, column, heads_of, locks_of, settings_of_desks, Roster, HaveIssued, IsDeskOf, vcids_of, AtStation, Tally, IsOurs, arrival, at_station, counts_of, fresh, issued_more, newcomer_at_desks, tallies, tally, IsCauseAtStation, operator_lists_of, ◌^◌, ⊎_elim, drop_more, get_or_at, map_more, map_push, replicate_more, All-push, All-replicate, All-same, issued_of, total_made}
 use Rattle.tc_station.proofs.Called.{at_owned_desks, id-of}
 
--- the settings are in the heads
+-- the settings of owned desks are those in their heads
 pub settings-heads : (owned_desks : List AtLock) → settings_of_desks owned_desks ≡ map (λ (h : Identity). h.settings) (heads_of owned_desks)
 settings-heads owned_desks = sym (map-map (λ (h : Identity). h.settings) (λ (o : AtLock). o.own.seen.head) owned_desks)
 
 pub same-settings : (old new : List AtLock) → heads_of new ≡ heads_of old → settings_of_desks new ≡ settings_of_desks old
 same-settings old new same = settings-heads new ∙ (ap (map (λ (h : Identity). h.settings)) same ∙ sym (settings-heads old))
 
--- owned desks that were given back are the station's
+-- owned desks that were returned are the station's
 pub length-same : (old new : List AtLock) → AreSame old new → length new ≡ length old
 length-same old new same = sym (length-map new (λ (o : AtLock). o.lock)) ∙ (ap (length {A = TableId}) same.0 ∙ length-map old (λ (o : AtLock). o.lock))
 
@@ -49,20 +49,20 @@ have-more n i [] have k d lt = absurd (omega (arith, lt))
 have-more n i (p ∷ ps) have zero d lt = let here = have 0 d (omega arith) in omega (arith, here)
 have-more n i (p ∷ ps) have (suc k) d lt = have-more n i ps (λ j e inside. have (suc j) e (omega (arith, inside))) k d (omega (arith, lt))
 
--- one owned desk more, which has issued as many
+-- one more owned desk that has issued as many operators
 pub have-end : (n : ℕ) (owned_desks next : List AtLock) (p : AtLock) → next ≡ owned_desks ++ p ∷ [] → HaveIssued n owned_desks → p.own.issued ≡ n → HaveIssued n next
 have-end n owned_desks next p is have one =
     All-same (λ (i : ℕ). i ≡ n) (issued_of next) (issued_of owned_desks ++ p.own.issued ∷ []) (ap issued_of is ∙ map_push (λ (o : AtLock). o.own.issued) owned_desks p)
     (All-push (λ (i : ℕ). i ≡ n) (issued_of owned_desks) p.own.issued have one)
 
--- the first owned desks have issued one operator more
+-- the first `n` owned desks have issued one more operator
 abbrev pub issued_below : ℕ → List AtLock → List AtLock
 issued_below n owned_desks = map with_one_issued (take n owned_desks) ++ drop n owned_desks
 
 pub arrives : (d o : AtLock) → o.lock ≡ d.lock → o.own.seen ≡ d.own.seen → o.own.made ≡ [] → o.own.issued ≡ 0 → o ≡ arrival d
 arrives d o lock seen made issued = λ i. record { lock = lock i; own = record { seen = seen i; made = made i; issued = issued i } }
 
--- one more has issued an operator, which has arrived
+-- one more owned desk has issued an operator, which has arrived
 pub arrival-step : (old now : List AtLock) (before after : List AtLock) (n : ℕ) (d o : AtLock) → now ≡ issued_below n old → n < length old → d ≡ get_or now n d → o ≡ arrival d → before ≡ map arrival (take n old)
     → after ≡ before ++ o ∷ [] → after ≡ map arrival (take (n + 1) old)
 arrival-step old now before after n d o is lt here one so pushed =
@@ -86,13 +86,13 @@ issue-step vcids first now after k next before operators o ids is count issued o
       pushed ∙ ((λ i. so i ++ newest i ∷ []) ∙ (replicate_more k (newcomer_at_desks vcids first) ∙ ap (λ (j : ℕ). replicate j (newcomer_at_desks vcids first)) (sym count))),
     )
 
--- operators of the station are a list of operators of its desks
+-- the operators of the station are lists of operators of its desks
 pub are-ours : (station : Roster) (owned_desks : List AtLock) (operators : List AtStation) → station.locks ≡ locks_of owned_desks → All (IsOurs station) operators → AreOurs owned_desks (operator_lists_of operators)
 are-ours station owned_desks operators locks all =
     All-map (λ (operator_list : List AtLock). locks_of operator_list ≡ locks_of owned_desks) (λ (o : AtStation). o.desks) operators
     (All-weaker (IsOurs station) (λ (o : AtStation). locks_of o.desks ≡ locks_of owned_desks) (λ o ours. ours.1 ∙ locks) operators all)
 
--- who arrives at the desks
+-- the operators that arrive at the desks
 pub arrival-settings : (owned_desks : List AtLock) → settings_of_desks (map arrival owned_desks) ≡ settings_of_desks owned_desks
 arrival-settings owned_desks = map-map _ _ owned_desks
 
@@ -112,11 +112,11 @@ issued-fresh n vcids owned_desks operators long is =
     let new : tally (newcomer_at_desks vcids owned_desks) ≡ fresh vcids = ap (λ (cs : List ℕ). record { vcids = vcids; counts = cs }) (arrival-counts owned_desks ∙ ap (λ (k : ℕ). replicate k 0) long) in
     ap tallies is ∙ (tallies-replicate n (newcomer_at_desks vcids owned_desks) ∙ ap (replicate n) new)
 
--- what is so of one is so of all
+-- a fact about one operator holds for all, if they are equal
 pub issued-all : (P : AtStation → Type 0) (n : ℕ) (o : AtStation) (operators : List AtStation) → operators ≡ replicate n o → P o → All P operators
 issued-all P n o operators is one = All-same P operators (replicate n o) is (All-replicate P n o one)
 
--- what never changes of a station's desk is that of the channel with this id
+-- the parts of a station's desk that never change are those of the channel with this id
 pub desk-of : (station : Roster) (owned_desks : List AtLock) (place vcid : ℕ) (owned_desk : AtLock) → vcids_of (settings_of_desks owned_desks) ≡ station.vcids → heads_of owned_desks ≡ station.heads → owned_desk ≡ get_or owned_desks place owned_desk → position (λ v. v == vcid) station.vcids ≡ Some place
     → (owned_desk.own.seen.head.settings.vcid ≡ vcid) × IsDeskOf station vcid owned_desk.own.seen.head
 desk-of station owned_desks place vcid owned_desk ids heads is at =
@@ -148,7 +148,7 @@ settings-each _ _ long each = absurd (omega arith)
 pub closed-settings : (owned_desks : List AtLock) (operator_lists : List (List AtLock)) (closed : List History) → AreClosed owned_desks operator_lists closed → map (λ (h : History). h.settings) closed ≡ settings_of_desks owned_desks
 closed-settings owned_desks operator_lists closed are = settings-each owned_desks closed are.as_many (λ place owned_desk channel at there. (are.each place owned_desk channel at there).settings)
 
--- the cause at one desk is the station's
+-- a cause at one desk is one at the station
 all-at : (n : ℕ) (owned_desks : List AtLock) (place : ℕ) (owned_desk : AtLock) → HaveIssued n owned_desks → slice_get owned_desks place ≡ Some owned_desk → owned_desk.own.issued ≡ n
 all-at n owned_desks place owned_desk have at =
     let inside = slice_get_within owned_desks place owned_desk at in

@@ -1,4 +1,4 @@
--- What the jobs of a list make at the desks of a station.
+-- The effects of a list's jobs at the desks of a station.
 use Rattle.tc_station.proofs.Names.{◌≡◌, ℕ, ◌+◌, ◌<◌, Bool, List, [], ◌∷◌, ◌++◌, length, map, take, get_or, Result, Ok, Err, refl, sym, ap, ◌∙◌, subst, inl, inr, take_more, get_or_from_slice_get, Event, Moment, Own, AtLock, Roster, AtStation, IsCallAt, IsCallOn, IsBringCall, IsNotReleased, IsNotTaken, IsUnitNotTaken, CanBeMade, CannotBeMade, IsTriedAt, IsTriedOn, IsJobMade, AreMade, HasMadeTheSame, Job}
 use Rattle.tc_station.specs.declared.faults.BringFault.{BringFault}
 use Rattle.tc_station.specs.declared.faults.ReleaseRefused.{ReleaseRefused}
@@ -14,7 +14,7 @@ use Rattle.tc_station.specs.declared.faults.TakeRefused.TheVariants as take_refu
 use Rattle.tc_station.specs.declared.faults.TakeUnitRefused.TheVariants as unit_refusals
 use Rattle.tc_station.specs.declared.work.Order.TheVariants as orders
 
--- a call at one desk that memory didn't refuse: its event was made where it could be
+-- a call at one desk that wasn't refused because memory ran out: its event was made if it could be
 pub tried-at : {R F : Type 0} (place vcid : ℕ) (e : Event) (ok : Moment → R → Type 0) (err : Moment → F → Type 0) (before after : AtStation) (r : Result R F) → ((m : Moment) (a : R) → ok m a → CanBeMade e m)
     → ((m : Moment) (f : F) → r ≡ Err f → err m f → CannotBeMade e m) → IsCallAt place vcid e ok err before r after → IsTriedAt place vcid e before after
 tried-at place vcid e ok err before after (Ok a) can cannot c =
@@ -22,7 +22,7 @@ tried-at place vcid e ok err before after (Ok a) can cannot c =
 tried-at place vcid e ok err before after (Err f) can cannot c =
     (Err tt, err-call place vcid e ok err (λ m _. CanBeMade e m) (λ m _. CannotBeMade e m) before after (Err f) f tt c refl (λ m p. cannot m f refl p))
 
--- the same at the desk of a channel, where the station has it
+-- such a call at the desk of a channel, if the station has the channel
 pub tried-on : {R F : Type 0} (station : Roster) (vcid : ℕ) (e : Event) (ok : Moment → R → Type 0) (err : Moment → F → Type 0) (unknown : F) (before after : AtStation) (r : Result R F) → ((m : Moment) (a : R) → ok m a → CanBeMade e m)
     → ((m : Moment) (f : F) → r ≡ Err f → err m f → CannotBeMade e m) → IsCallOn station vcid e ok err unknown before r after → IsTriedOn station vcid e before after
 tried-on station vcid e ok err unknown before after r can cannot (inl c) = inl (c.0, c.1, tried-at c.0 vcid e ok err before after r can cannot c.2)
@@ -35,7 +35,7 @@ brought station own octets ok err before after r cannot (inl c) =
     inl (c.0, c.1, c.2, c.3, tried-at c.0 c.1 (events.Frame c.2) (ok c.1 c.2) (err c.2) before after r (λ m a p. tt) (λ m f is p. cannot c.2 m f is p) c.4)
 brought station own octets ok err before after r cannot (inr c) = inr (c.0, c.1, c.3)
 
--- what the station refuses otherwise than for memory can't be made
+-- an event that the station refuses for another reason than memory can't be made
 pub not-released : (m : Moment) (said : ReleaseRefused) → (said ≡ release_refusals.NoMemory → ⊥) → IsNotReleased m said → CannotBeMade events.Release m
 not-released m said other (release_faults.Empty, is, p) = p
 not-released m said other (release_faults.NoMemory, is, p) = absurd (other is)
@@ -50,7 +50,7 @@ unit-not-taken grows map_id m said other (unit_faults.NoMap, is, p) = inl p
 unit-not-taken grows map_id m said other (unit_faults.Empty, is, p) = inr p
 unit-not-taken grows map_id m said other (unit_faults.NoMemory, is, p) = absurd (other is)
 
--- what was refused made nothing
+-- a call that was refused made nothing
 refused-at : {R F : Type 0} (place vcid : ℕ) (e : Event) (ok : Moment → R → Type 0) (err : Moment → F → Type 0) (before after : AtStation) (f : F) → IsCallAt place vcid e ok err before (Err f) after → HasMadeTheSame before after
 refused-at place vcid e ok err before after f c =
     ap (map (λ (d : AtLock). d.own.made)) c.others
@@ -67,7 +67,7 @@ not-brought station octets ok err before after r f is (inl c) =
     refused-at c.0 c.1 (events.Frame c.2) (ok c.1 c.2) (err c.2) before after f (subst (λ x. IsCallAt c.0 c.1 (events.Frame c.2) (ok c.1 c.2) (err c.2) before x after) is c.4)
 not-brought station octets ok err before after r f is (inr c) = ap (λ (o : AtStation). map (λ (d : AtLock). d.own.made) o.desks) c.3
 
--- one job more
+-- one more job
 snoc : (station : Roster) (vcid : ℕ) (jobs : List Job) (job : Job) (a b c : AtStation) → AreMade station vcid jobs a b → IsJobMade station vcid job.order b c → AreMade station vcid (jobs ++ job ∷ []) a c
 snoc station vcid [] job a b c made here = (c, subst (λ o. IsJobMade station vcid job.order o c) made here, refl)
 snoc station vcid (j ∷ js) job a b c made here = (made.0, made.1, snoc station vcid js job made.0 b c made.2 here)

@@ -1,4 +1,5 @@
--- What the calls of a station promise is what the statement asks for: an answered call stands in the journal that the close gives out.
+-- The calls of a station promise what the statement requires: an answered call is in the journal that the close
+-- returns.
 use Rattle.tc_station.proofs.Names.{◌≡◌, ◌<◌, ℕ, Bool, List, [], length, get_or, take, Result, Ok, Err, Some, refl, sym, ap, subst, ◌∙◌, arith, length-map, slice_get, slice_get-get_or, slice_get_within, Event, History, Settings, Moment, TableId, AtLock, locks_of, Roster, AtStation, IsPlace, IsBringCall, IsReplied, IsNotBrought, IsOurs, inl, inr, IsCallAt, IsCallOn, IsMetAt, Watching, append-nil, slice_set, Frame, frame_reply, Link, no_history, IsLocated, IsClosedSince, HasGoneOn, IsGivenOut, IsAnsweredAmong, IsWordRead, IsShownIn, AreClosedTogether}
 use Rattle.tc_status.specs.Board as board
 use Rattle.tc_station.specs.declared.station.Brought.{Brought}
@@ -8,7 +9,8 @@ abbrev is-ok : {R F : Type 0} → Result R F → Type 0
 is-ok (Ok r) = Unit {0}
 is-ok (Err f) = ⊥
 
--- the channel at whose desk an operator did its last is given out, where it is among those with whom the station is closed
+-- the channel at whose desk an operator made its last call is returned, if the operator is among those with which the
+-- station is closed
 given-out : (station : Roster) (place : ℕ) (before after : AtStation) (there next : AtLock) (operators : List AtStation) (closed : List History) (number : ℕ)
     → IsOurs station before → slice_get before.desks place ≡ Some there → after.desks ≡ slice_set before.desks place next
     → slice_get operators number ≡ Some after → AreClosedTogether station operators closed
@@ -38,7 +40,7 @@ called-among stands station place vcid e ok err before after r operators closed 
     let there : Moment = record { head = is.0; entries = take is.1 channel.journal } in
     (place, channel, (at, out.1), (is.1, is.3, subst (λ (s : Settings). Answers s (take is.1 channel.journal)) is.2 (says there is.4), is.5))
 
--- the same, where the call names the channel
+-- an answered call that names the channel
 pub call-among : {R F : Type 0} → Stands → (station : Roster) (vcid : ℕ) (e : Event) (ok : Moment → R → Type 0) (err : Moment → F → Type 0) (unknown : F) (before after : AtStation) (r : R) (operators : List AtStation) (closed : List History) (number : ℕ)
     (Answers : Settings → List Event → Type 0) → ((m : Moment) → ok m r → Answers m.head.settings m.entries) → IsOurs station before → IsCallOn station vcid e ok err unknown before (Ok r) after
     → slice_get operators number ≡ Some after → AreClosedTogether station operators closed → IsAnsweredAmong station vcid after closed e Answers
@@ -46,7 +48,7 @@ call-among stands station vcid e ok err unknown before after r operators closed 
     called-among stands station place vcid e ok err before after r operators closed number Answers says ours at call among together
 call-among {R = R} {F = F} stands station vcid e ok err unknown before after r operators closed number Answers says ours (inr (none, wrong, same)) among together = absurd (subst (is-ok {R = R} {F = F}) wrong tt)
 
--- the same, where the frame names it
+-- an answered call whose frame names the channel
 pub bring-among : Stands → (station : Roster) (octets : List ℕ) (grows : Bool) (before after : AtStation) (brought : Brought) (operators : List AtStation) (closed : List History) (number : ℕ)
     → IsOurs station before → IsBringCall station octets IsReplied (IsNotBrought grows) before (Ok brought) after
     → slice_get operators number ≡ Some after → AreClosedTogether station operators closed

@@ -1,11 +1,11 @@
--- How the table of the places of virtual channel ids is filled, and what it then has.
+-- The filling of the table of virtual channel ids, and its contents afterwards.
 use Rattle.tc_station.proofs.Names.{◌≡◌, ◌≢◌, ℕ, suc, ◌<◌, ◌≤◌, Bool, true, false, cond, List, [], ◌∷◌, length, get_or, replicate, Option, Some, None, refl, sym, ap, ◌∙◌, arith, ◌==◌, All, AllPairs, Contains, position, slice_index, eqb-true, get_or-map, length-map, position-Some, none-some, IsAllowed, Settings, vcids_of, true≢false, ltb, eqb, MatchOption, list_any, position_or_len, eq-eqb, ltb-false, ltb-true, Decides-eqb, length-replicate, fails_before_first, passes_at_first, HaveDistinctVcids}
 use Rattle.std.proofs.lemmas.List.Folds.{Any-from_list_any}
 use Rattle.std.proofs.lemmas.Map.Made.{IsDistinct-from_AllPairs}
 use Rattle.std.proofs.lemmas.Map.Steps.{length-le_from_distinct_below}
 use Rattle.tc_station.specs.VcidTable.{IsVcidTable, entry_place}
 
--- the entries of the first ids, of so many, have their places, and no other entry has one
+-- the entries of the first `n` ids have their places, and no other entry has one
 pub record HaveEntries (ids : List ℕ) (n : ℕ) (table : List ℕ) : Type 0 where
   pub size : length table ≡ 64
   pub here : (k : ℕ) → k < n → get_or table (get_or ids k 0) 64 ≡ k
@@ -25,7 +25,7 @@ none-entered ids table is = record {
 entry-place : (k : ℕ) → k ≢ 64 → entry_place k ≡ Some k
 entry-place k some = grind (arith, some)
 
--- once all ids have entries
+-- the table when all ids have entries
 pub table-of : (ids table : List ℕ) → length ids ≤ 64 → HaveEntries ids (length ids) table → IsVcidTable ids table
 table-of ids table few t v = by (ltb n (length ids)) refl where
   n : ℕ
@@ -42,7 +42,7 @@ table-of ids table few t v = by (ltb n (length ids)) refl where
       let none : (k : ℕ) → k < length ids → get_or ids k 0 ≢ v = λ k lt e. true≢false (sym (eq-eqb (get_or ids k 0) v e) ∙ fails_before_first (λ x. x == v) ids k 0 (omega (arith, lt, ge))) in
       sym (ap entry_place (t.apart v none))
 
--- ids that differ are no more than there are
+-- distinct ids are no more than there are possible ids
 pub few-ids : (ids : List ℕ) → AllPairs (λ x y. x ≢ y) ids → All (λ v. v ≤ 63) ids → length ids ≤ 64
 few-ids ids distinct small = length-le_from_distinct_below ids 64 (IsDistinct-from_AllPairs Decides-eqb ids distinct) below where
   below : (q : ℕ) → list_any (eqb q) ids ≡ true → q < 64
@@ -71,7 +71,7 @@ small-ids (s ∷ ss) allowed k d lt =
     let within = inside (s ∷ ss) k lt in
     let le = (allowed k s within).vcid in omega (arith, le, id-at s ss k d within)
 
--- an id without a place isn't among them
+-- an id without a place isn't among the ids
 not-there : (ids : List ℕ) (v : ℕ) → None ≡ position (λ x. x == v) ids → ¬ Contains ids v
 not-there ids v is (k, lt, e) = by (ltb n (length ids)) refl is where
   n : ℕ
@@ -83,7 +83,7 @@ not-there ids v is (k, lt, e) = by (ltb n (length ids)) refl is where
       let ge = ltb-false n (length ids) far in
       true≢false (sym (eq-eqb (get_or ids k v) v e) ∙ fails_before_first (λ x. x == v) ids k v (omega (arith, lt, ge)))
 
--- what a clause says of a place
+-- the statement of a contract about a place
 pub found-there : (ids : List ℕ) (v : ℕ) (place : Option ℕ) → place ≡ position (λ x. x == v) ids → MatchOption place (¬ Contains ids v) (λ k. (k < length ids) × (slice_index ids k ≡ v))
 found-there ids v None is = not-there ids v is
 found-there ids v (Some k) is = let at = position-Some (λ x. x == v) ids k 0 (sym is) in (at.0, eqb-true (get_or ids k 0) v at.1)

@@ -6,7 +6,7 @@ use Rattle.tc_station.specs.declared.work.Order.TheVariants.{Bring}
 use Rattle.tc_station.specs.declared.work.WorkList.{WorkList}
 use Rattle.tc_station.proofs.Counts.{Between, between-both, between-none, between-one, between-other, raised-length, raised-here, raised-else, rises, for-located, for-nobody}
 
--- one job more
+-- one more job
 snoc : (station : Roster) (vcid : ℕ) (jobs : List Job) (job : Job) (a b c : Tally) → AreDone station vcid jobs a b → IsDone station vcid job.order b c → AreDone station vcid (jobs ++ job ∷ []) a c
 snoc station vcid [] job a b c done here = (c, subst (λ t. IsDone station vcid job.order t c) done here, refl)
 snoc station vcid (j ∷ js) job a b c done here = (done.0, done.1, snoc station vcid js job done.0 b c done.2 here)
@@ -17,7 +17,7 @@ one-more station vcid jobs i job a b c lt is done here =
     let more : take (i + 1) jobs ≡ take i jobs ++ job ∷ [] = take_more jobs i job lt ∙ ap (λ x. take i jobs ++ x ∷ []) (sym is) in
     subst (λ js. AreDone station vcid js a c) (sym more) (snoc station vcid (take i jobs) job a b c done here)
 
--- two parts of the lists
+-- two parts of the lists, taken together
 lower-three : (a b c : Option ℕ) → lower a (lower b c) ≡ lower (lower a b) c
 lower-three (Some x) (Some y) (Some z) = let same : min x (min y z) ≡ min (min x y) z = omega arith in ap Some same
 lower-three _ _ _ = refl
@@ -45,7 +45,7 @@ lower-none : (a : Option ℕ) → lower a None ≡ a
 lower-none None = refl
 lower-none (Some x) = refl
 
--- one list
+-- one list alone
 pub one-worked : (station : Roster) (lists : List WorkList) (ops : List AtStation) (l : WorkList) (o z : AtStation) (line : Option ℕ) → length lists ≡ 1 → length ops ≡ 1 → l ≡ get_or lists 0 l → o ≡ get_or ops 0 o
     → IsTallyOf station (tally o) → IsOurs station z → KnowsTheSame o z → IsWorked station l line (tally o) (tally z) → IsListMade station l line o z → AreWorked station lists line ops (set ops 0 z)
 one-worked station (x ∷ []) (y ∷ []) l o z line e f p q fits ours knows worked made =
@@ -55,7 +55,7 @@ one-worked station _ _ l o z line e f p q fits ours knows worked made = absurd (
 pub moved-worked : (station : Roster) (fl gl : List WorkList) (a b : Option ℕ) (fo go : List AtStation) (z : List AtStation) → AreWorked station fl a fo z → fl ≡ gl → a ≡ b → fo ≡ go → AreWorked station gl b go z
 moved-worked station fl gl a b fo go z w p q r = (w.0, w.1 ∙ p, w.2 ∙ r, w.3, w.4, w.5 ∙ q)
 
--- what one job does to the count of a channel
+-- the effect of one job on the count of a channel
 tally-counted : (station : Roster) (u : ℕ) (a : Tally) → IsTallyOf station a → IsTallyOf station (tallied u a)
 tally-counted station u a f = record { vcids = f.vcids; counts = raised-length (position (λ w. w == u) a.vcids) a.counts ∙ f.counts }
 
@@ -96,11 +96,11 @@ other-step station u v place a f at = elim (eqb_tells u v) [
 is-there : (station : Roster) (v place : ℕ) → IsPlace station v place → Contains station.vcids v
 is-there station v place at = let s = position-Some (λ w. w == v) station.vcids place v at in (place, s.0, eqb-true (get_or station.vcids place v) v s.1)
 
--- by how much a job may raise the count of a channel
+-- the amount by which a job may raise the count of a channel
 abbrev JobRaises : Roster → ℕ → ℕ → Order → ℕ → ℕ → Type 0
 JobRaises station own v order c d = Between (cond (brings_to station v order) 1 0) (cond (is_other own v order) 1 0) c d
 
--- a job for the list's own channel may raise its count by one, and no other
+-- a job in a list may raise only the count of the list's own channel, and by no more than one
 tried-step : (station : Roster) (own : ℕ) (a b : Tally) → IsTried own a b → IsTallyOf station a → (v place : ℕ) → IsPlace station v place
     → Between 0 (cond (own == v) 1 0) (slice_index a.counts place) (slice_index b.counts place)
 tried-step station own a b (inl d) f v place at = rw d (other-step station own v place a f at)
@@ -137,7 +137,7 @@ jobs-rise station own (j ∷ js) a b done place =
     let rest = jobs-rise station own js done.0 b done.2 place in
     omega (arith, first, rest)
 
--- of one list
+-- no count falls through one list
 list-rises : (station : Roster) (list : WorkList) (line : Option ℕ) (a b : Tally) → IsWorked station list line a b → NoCountFalls a b
 list-rises station list None a b w = jobs-rise station list.vcid list.jobs a b w
 list-rises station list (Some line) a b w = jobs-rise station list.vcid (take w.0 list.jobs) a b w.5
@@ -146,7 +146,7 @@ list-raises : (station : Roster) (list : WorkList) (line : Option ℕ) (a b : Ta
 list-raises station list None a b none f w = λ v place at. let r = steps station list.vcid list.jobs a b w f v place at in (r.low, r.high)
 list-raises station list (Some line) a b none f w = absurd cc
 
--- of all lists
+-- the operators and their counts after all lists
 none-first : (a b : Option ℕ) → lower a b ≡ None → (a ≡ None) × (b ≡ None)
 none-first None b e = (refl, e)
 none-first (Some x) None e = absurd cc
@@ -197,7 +197,7 @@ shifts-know station [] all k o lt = absurd (omega arith)
 shifts-know station (s ∷ ss) all zero o lt = all.0.knows
 shifts-know station (s ∷ ss) all (suc k) o lt = shifts-know station ss all.1 k o (omega arith)
 
--- each knows its desks as before
+-- each operator knows its desks as before
 pub work-knows : (station : Roster) (lists : List WorkList) (line : Option ℕ) (os ps : List AtStation) → AreWorked station lists line os ps → (k : ℕ) (o : AtStation) → k < length lists
     → KnowsTheSame (get_or os k o) (get_or ps k o)
 work-knows station lists line os ps w k o lt =

@@ -4,11 +4,11 @@ use Rattle.std.specs.List.{sum_by}
 use Rattle.tc_channel.specs.Journal.{History, IsNumberReported}
 use Rattle.tc_station.specs.Tally.{AtStation}
 
--- how many operations on the channel at a place all operators together have counted
+-- the number of operations on the channel at a place that all operators together have counted
 abbrev pub counted_by_all : ℕ → List AtStation → ℕ
 counted_by_all place operators = sum_by (λ (o : AtStation). slice_index o.counts place) operators
 
--- the channel has the id of its place, and as many events as were counted of it
+-- the channel has the id of its place, and as many events as were counted for it
 abbrev pub IsInBalance : List ℕ → List AtStation → ℕ → History → Type 0
 IsInBalance vcids operators place channel =
     (channel.settings.vcid ≡ slice_index vcids place) × (length channel.journal ≡ counted_by_all place operators)
@@ -17,7 +17,7 @@ abbrev pub AreInBalance : List ℕ → List AtStation → List History → Type 
 AreInBalance vcids operators channels =
     (place : ℕ) (channel : History) → slice_get channels place ≡ Some channel → IsInBalance vcids operators place channel
 
--- they are in balance, and the number of each one's events is reported as it is
+-- all channels are in balance, and each of them reports the exact number of its events
 abbrev pub AreInReportedBalance : List ℕ → List AtStation → List History → Type 0
 AreInReportedBalance vcids operators channels =
     (place : ℕ) (channel : History) → slice_get channels place ≡ Some channel → IsInBalance vcids operators place channel × IsNumberReported channel

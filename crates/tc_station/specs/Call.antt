@@ -1,4 +1,4 @@
--- What the calls of operators do at the desks of a station.
+-- The effects of operators' calls at the desks of a station.
 use Rattle.std.specs.Prelude.{◌≡◌, ◌⊎◌, ℕ, Bool, false, List, Contains, OnErr, OnOk, Some, Result, Err, slice_get, slice_set}
 use Rattle.tc_channel.specs.declared.event.Event.{Event}
 use Rattle.tc_channel.specs.declared.event.Event.TheVariants.{Frame}
@@ -31,7 +31,8 @@ pub record IsCallAt {R F : Type 0} (place vcid : ℕ) (e : Event) (ok : Moment �
   pub others : after.desks ≡ slice_set before.desks place next
   pub vcids : after.vcids ≡ before.vcids
 
--- The same, and an answer is counted for that channel, and a refusal isn't. It stays the station's operator, and knows its desks as before.
+-- The operator made this call, and it was counted for that channel if it was answered. The operator stays the
+-- station's, and knows its desks as before.
 pub record IsCounted {R F : Type 0} (station : Roster) (place vcid : ℕ) (e : Event) (ok : Moment → R → Type 0) (err : Moment → F → Type 0) (before : AtStation) (result : Result R F) (after : AtStation) : Type 0 where
   pub call : IsCallAt place vcid e ok err before result after
   pub counted : OnOk result (tally after ≡ tallied vcid (tally before))
@@ -39,13 +40,14 @@ pub record IsCounted {R F : Type 0} (station : Roster) (place vcid : ℕ) (e : E
   pub ours : IsOurs station after
   pub knows : KnowsTheSame before after
 
--- A call, where a watcher met the desk before the call and behind it, all under one hold of the desk's lock: it had seen no more than
--- what was there at the moment of the call, and then it has seen all that the operator has.
+-- The operator made this call, and a watcher met the desk before and after it, all under one hold of the desk's lock.
+-- The watcher had seen no more than the journal at the moment of the call, and afterwards it has seen all that the
+-- operator has.
 pub record IsMetCallAt {R F : Type 0} (place vcid : ℕ) (e : Event) (ok : Moment → R → Type 0) (err : Moment → F → Type 0) (early : Watching) (before : AtStation) (result : Result R F) (late : Watching) (after : AtStation) : Type 0 where
   pub at : IsCallAt place vcid e (λ m r. ok m r × HasSeenNoMore early m) (λ m f. err m f × HasSeenNoMore early m) before result after
   pub met : HasMet at.next.own.seen late
 
--- A watcher met the operator's desk of this place, and nothing was made. Its other desks are as they were.
+-- A watcher met the operator's desk of this place, and nothing was made. The operator's other desks are as they were.
 pub record IsMetAt (place vcid : ℕ) (early : Watching) (before : AtStation) (late : Watching) (after : AtStation) : Type 0 where
   pub there : AtLock
   pub next : AtLock
@@ -55,36 +57,37 @@ pub record IsMetAt (place vcid : ℕ) (early : Watching) (before : AtStation) (l
   pub others : after.desks ≡ slice_set before.desks place next
   pub vcids : after.vcids ≡ before.vcids
 
--- It made this call at the desk of the channel with this id; or the station has no such channel, and nothing happened.
+-- The operator made this call at the desk of the channel with this id, or the station has no such channel and nothing
+-- happened.
 abbrev pub IsCallOn : {R F : Type 0} → Roster → ℕ → Event → (Moment → R → Type 0) → (Moment → F → Type 0) → F → AtStation → Result R F → AtStation → Type 0
 IsCallOn {R = R} {F = F} station vcid e ok err unknown before result after =
     ((place : ℕ) × IsPlace station vcid place × IsCallAt place vcid e ok err before result after)
     ⊎ (¬ Contains station.vcids vcid × (result ≡ Err unknown) × (after ≡ before))
 
--- It brought the frame at the front of the octets to the desk of the channel that the frame names; or there is no such frame or
--- channel, as the answer says, and nothing happened.
+-- The operator brought the frame at the front of the octets to the desk of the channel that the frame names, or there
+-- is no such frame or channel, as the answer says, and nothing happened.
 abbrev pub IsBringCall : {R : Type 0} → Roster → List ℕ → (ℕ → List ℕ → Moment → R → Type 0) → (List ℕ → Moment → BringFault → Type 0) → AtStation → Result R BringFault → AtStation → Type 0
 IsBringCall {R = R} station octets ok err before result after =
     ((place vcid : ℕ) × (frame : List ℕ) × IsPlaced station octets place vcid frame × IsCallAt place vcid (Frame frame) (ok vcid frame) (err frame) before result after)
     ⊎ ((f : LocateFault) × IsLocateFault station octets f × (result ≡ Err (Locate f)) × (after ≡ before))
 
--- the reply to this frame, brought to the channel with this id
+-- the frame was brought to the channel with this id, and this is the reply to it
 abbrev pub IsReplied : ℕ → List ℕ → Moment → Brought → Type 0
 IsReplied vcid frame m brought = (brought.vcid ≡ vcid) × IsFramed frame m brought.reply
 
--- the same, and a watcher of the desk's board that has seen the channel take the frame
+-- the frame was brought, with this reply, and a watcher of the desk's board has seen the channel process it
 abbrev pub IsRepliedWatched : ℕ → List ℕ → Moment → Brought × Watching → Type 0
 IsRepliedWatched vcid frame m answer = (answer.0.vcid ≡ vcid) × IsFramedWatched frame m (answer.0.reply, answer.1)
 
--- out of memory; where the journal takes none, only a Type-BD frame can be refused so
+-- memory ran out; if the journal takes none, this refuses only Type-BD frames
 abbrev pub IsNotBrought : Bool → List ℕ → Moment → BringFault → Type 0
 IsNotBrought grows frame m fault = (fault ≡ NoMemory) × (grows ≡ false → IsBypassData frame)
 
--- out of memory, for the frame or the watcher
+-- memory ran out, for the frame or for the watcher
 abbrev pub IsNotBroughtWatched : List ℕ → Moment → BringFault → Type 0
 IsNotBroughtWatched frame m fault = fault ≡ NoMemory
 
--- the desk refused, and this is how the station says it
+-- the desk refused, and this is the station's refusal for that fault
 abbrev pub IsNotReleased : Moment → ReleaseRefused → Type 0
 IsNotReleased m refused = (fault : ReleaseFault) × (refused ≡ release_refused fault) × IsReleaseFault m fault
 

@@ -1,4 +1,4 @@
--- When the calls of a station refuse, and what a close hands back.
+-- The refusals of a station's calls, and the values that a failed close returns.
 use Rattle.std.specs.Prelude.{◌≡◌, ℕ, ◌<◌, ◌≤◌, List, [], length, Contains, Some, None}
 use Rattle.tc_channel.specs.Reply.{buffered_fields, waiting_packets, waiting_units}
 use Rattle.tc_channel.specs.declared.reply.ReleaseFault.{ReleaseFault}
@@ -24,7 +24,7 @@ use Rattle.tc_station.specs.declared.faults.CloseFault.TheVariants.{Missing, NoM
 use Rattle.tc_station.specs.declared.faults.CountingCloseFault.{CountingCloseFault}
 use Rattle.tc_station.specs.declared.faults.CountingCloseFault.TheVariants as counting
 
--- what the station answers where its channel refuses
+-- the station's refusal when its channel refuses
 abbrev pub release_refused : ReleaseFault → ReleaseRefused
 release_refused release.Empty = release_refusals.Empty
 release_refused release.NoMemory = release_refusals.NoMemory
@@ -60,14 +60,14 @@ abbrev pub IsWatcherFault : Roster → ℕ → WatcherFault → Type 0
 IsWatcherFault station vcid watcher_faults.UnknownChannel = ¬ Contains station.vcids vcid
 IsWatcherFault station vcid watcher_faults.NoMemory = Contains station.vcids vcid
 
--- the first of these that applies; the channels are handed back only where the counts don't fit their journals
+-- the first of these that applies; the channels are returned only if the counts don't fit their journals
 abbrev pub IsCloseFault : Roster → List AtStation → CloseFault → Type 0
 IsCloseFault station operators (Missing s os) = (length operators < station.issued) × (s ≡ station) × (os.items ≡ operators)
 IsCloseFault station operators (NoMemory s os) = (station.issued ≤ length operators) × (s ≡ station) × (os.items ≡ operators)
 IsCloseFault station operators (Unbalanced channels os) =
     (station.issued ≤ length operators) × (os.items ≡ operators) × (length channels.items ≡ length station.vcids) × ¬ AreInBalance station.vcids operators channels.items
 
--- the same of a counting station, whose channels report the numbers of their events
+-- the first of these that applies to a counting station, whose channels report the numbers of their events
 abbrev pub IsCountingCloseFault : Roster → List AtStation → CountingCloseFault → Type 0
 IsCountingCloseFault station operators (counting.Missing s os) = (length operators < station.issued) × (s ≡ station) × (os.items ≡ operators)
 IsCountingCloseFault station operators (counting.NoMemory s os) = (station.issued ≤ length operators) × (s ≡ station) × (os.items ≡ operators)

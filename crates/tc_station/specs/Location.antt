@@ -1,4 +1,4 @@
--- Which channel of a station octets are for.
+-- The channel of a station for which octets are meant.
 use Rattle.std.specs.Prelude.{◌≡◌, ◌≢◌, ℕ, List, Contains, position, ◌==◌, Some}
 use Rattle.tc_link.specs.Frame.{BeginsWith, header_of, fault_of}
 use Rattle.tc_station.specs.Roster.{Roster}
@@ -7,7 +7,7 @@ use Rattle.tc_link.specs.declared.location.LocateFault.TheVariants.{Frame, Other
 use Rattle.tc_station.specs.declared.faults.BringFault.{BringFault}
 use Rattle.tc_station.specs.declared.faults.BringFault.TheVariants.{Locate, NoMemory}
 
--- a frame of the station's spacecraft stands at the front of the octets
+-- the octets begin with a frame of the station's spacecraft
 abbrev pub IsOurs : Roster → List ℕ → List ℕ → Type 0
 IsOurs station octets frame = BeginsWith octets frame × ((header_of frame).scid ≡ station.scid)
 
@@ -15,17 +15,17 @@ IsOurs station octets frame = BeginsWith octets frame × ((header_of frame).scid
 abbrev pub IsLocated : Roster → List ℕ → ℕ → List ℕ → Type 0
 IsLocated station octets vcid frame = IsOurs station octets frame × ((header_of frame).vcid ≡ vcid) × Contains station.vcids vcid
 
--- the same, where the channel has this place
+-- the octets begin with this frame, which is for this channel of the station, and the channel has this place
 abbrev pub IsPlaced : Roster → List ℕ → ℕ → ℕ → List ℕ → Type 0
 IsPlaced station octets place vcid frame = IsLocated station octets vcid frame × (position (λ v. v == vcid) station.vcids ≡ Some place)
 
--- why octets are for no channel of the station: the first of these that applies
+-- the reason why octets are for no channel of the station: the first of these that applies
 abbrev pub IsLocateFault : Roster → List ℕ → LocateFault → Type 0
 IsLocateFault station octets (Frame f) = fault_of octets ≡ Some f
 IsLocateFault station octets OtherSpacecraft = (frame : List ℕ) × BeginsWith octets frame × ((header_of frame).scid ≢ station.scid)
 IsLocateFault station octets UnknownChannel = (frame : List ℕ) × IsOurs station octets frame × ¬ Contains station.vcids (header_of frame).vcid
 
--- why octets were not brought: out of memory only where they are for a channel of the station
+-- the reason why octets were not brought, which is running out of memory only if they are for a channel of the station
 abbrev pub IsBringFault : Roster → List ℕ → BringFault → Type 0
 IsBringFault station octets (Locate f) = IsLocateFault station octets f
 IsBringFault station octets NoMemory = (vcid : ℕ) × (frame : List ℕ) × IsLocated station octets vcid frame

@@ -1,5 +1,5 @@
--- What the calls of a station answer: the reply at some moment of a channel with the id that was asked for. Of an operator's call,
--- `Call` says that it is a moment of the very channel behind this lock.
+-- The answers of a station's calls: the reply at some moment of a channel with the requested id. For an operator's
+-- call, `Call` states that it is a moment of the very channel behind this lock.
 use Rattle.std.specs.Prelude.{◌≡◌, ◌≢◌, [], ℕ, List, Contains, Some, slice_get}
 use Rattle.tc_channel.specs.declared.settings.Settings.{Settings}
 use Rattle.tc_channel.specs.declared.event.Event.{Event}
@@ -15,7 +15,7 @@ use Rattle.tc_desk.specs.Log.{Identity}
 use Rattle.tc_station.specs.Roster.{Roster, IsDeskOf}
 use Rattle.tc_station.specs.Location.{IsLocated}
 
--- the journal of a channel with this id at some moment
+-- `P` holds for the journal of a channel with this id at some moment
 abbrev pub AtSomeMomentOf : ℕ → (Settings → List Event → Type 0) → Type 0
 AtSomeMomentOf vcid P = (s : Settings) × (journal : List Event) × IsAllowed s × IsLawful s journal × (s.vcid ≡ vcid) × P s journal
 
@@ -24,13 +24,14 @@ abbrev pub IsBrought : Roster → List ℕ → ℕ → FrameReply → Type 0
 IsBrought station octets vcid reply =
     (frame : List ℕ) × IsLocated station octets vcid frame × AtSomeMomentOf vcid (λ s journal. reply ≡ frame_reply s journal frame)
 
--- the same, and a watcher has seen the journal with the frame at its end
+-- the octets were for this channel, this is the reply to their frame, and a watcher has seen the journal with the frame
+-- at its end
 abbrev pub IsBroughtWatched : Roster → List ℕ → ℕ → FrameReply → History → Type 0
 IsBroughtWatched station octets vcid reply seen =
     (frame : List ℕ) × IsLocated station octets vcid frame
     × AtSomeMomentOf vcid (λ s journal. (reply ≡ frame_reply s journal frame) × (seen ≡ with_event (record { settings = s; journal = journal }) (Frame frame)))
 
--- a data field waited, and this became of it
+-- a data field waited, and its release had this result
 abbrev pub IsReleasedAtStation : Roster → ℕ → Delivery → Type 0
 IsReleasedAtStation station vcid delivery =
     Contains station.vcids vcid × AtSomeMomentOf vcid (λ s journal. (buffered_fields s journal ≢ []) × (delivery ≡ release_reply s journal))

@@ -1,5 +1,5 @@
--- What a contract sees of a station: its spacecraft id, the ids of its virtual channels in order, and how many operators it has
--- issued; and of the desk of each channel its lock, and what never changes of it.
+-- The view of a station in contracts: its spacecraft id, the ids of its virtual channels in order, the number of
+-- operators that it has issued, and, for the desk of each channel, its lock and its parts that never change.
 use Rattle.std.specs.Prelude.{◌≡◌, ◌==◌, ℕ, List, All, map, position, slice_get, Some}
 use Rattle.tc_channel.specs.declared.settings.Settings.{Settings}
 use Rattle.tc_desk.specs.{TableId}
@@ -13,7 +13,7 @@ pub record Roster : Type 0 where
   pub locks : List TableId
   pub heads : List Identity
 
--- the settings of its channels
+-- the settings of the station's channels
 abbrev pub settings_in : Roster → List Settings
 settings_in station = map (λ (h : Identity). h.settings) station.heads
 
@@ -21,14 +21,14 @@ settings_in station = map (λ (h : Identity). h.settings) station.heads
 abbrev pub IsPlace : Roster → ℕ → ℕ → Type 0
 IsPlace station vcid place = position (λ v. v == vcid) station.vcids ≡ Some place
 
--- this never changes of the desk of the channel with this id
+-- these are the parts that never change of the desk of the channel with this id
 abbrev pub IsDeskOf : Roster → ℕ → Identity → Type 0
 IsDeskOf station vcid head = (place : ℕ) × IsPlace station vcid place × (slice_get station.heads place ≡ Some head)
 
--- each of these owned desks has issued so many operators
+-- each of these owned desks has issued `n` operators
 abbrev pub HaveIssued : ℕ → List AtLock → Type 0
 HaveIssued n owned_desks = All (λ (i : ℕ). i ≡ n) (issued_of owned_desks)
 
--- what the owners of its desks have seen and issued
+-- these are the owned desks of the station, which have issued its operators
 abbrev pub AreOwnedDesksOf : Roster → List AtLock → Type 0
 AreOwnedDesksOf station owned_desks = (locks_of owned_desks ≡ station.locks) × (heads_of owned_desks ≡ station.heads) × HaveIssued station.issued owned_desks

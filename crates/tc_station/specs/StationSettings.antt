@@ -1,4 +1,4 @@
--- Which settings make a station, and why others do not. The spacecraft id has 10 bits (CCSDS 232.0-B, 4.1.2.5).
+-- The settings that make a station, and the faults of others. The spacecraft id has 10 bits (CCSDS 232.0-B, 4.1.2.5).
 use Rattle.std.specs.Prelude.{◌≡◌, ◌≢◌, ℕ, ◌≤◌, List, [], All, AllPairs, Any, map, take, slice_get, Some}
 use Rattle.tc_channel.specs.declared.settings.Settings.{Settings}
 use Rattle.tc_channel.specs.declared.settings.SettingsFault.{SettingsFault}
@@ -15,7 +15,7 @@ IsScid scid = scid ≤ 1023
 abbrev pub HaveDistinctVcids : List Settings → Type 0
 HaveDistinctVcids list = AllPairs (λ (p q : Settings). p.vcid ≢ q.vcid) list
 
--- the first entry whose id stands earlier in the list has this id
+-- the first entry whose id also occurs earlier in the list has this id
 abbrev pub IsFirstDouble : List Settings → ℕ → Type 0
 IsFirstDouble list vcid =
     (i : ℕ) × (s : Settings) × (slice_get list i ≡ Some s) × (s.vcid ≡ vcid) × HaveDistinctVcids (take i list) × Any (λ (t : Settings). t.vcid ≡ vcid) (take i list)
@@ -32,7 +32,7 @@ pub record AreStationSettings (scid : ℕ) (list : List Settings) : Type 0 where
   pub distinct : HaveDistinctVcids list
   pub allowed : All IsAllowed list
 
--- why no station was made: the first of these that applies
+-- the reason why no station was created: the first of these that applies
 abbrev pub IsStationFault : ℕ → List Settings → StationFault → Type 0
 IsStationFault scid list fault.BadScid = ¬ IsScid scid
 IsStationFault scid list fault.NoChannel = IsScid scid × (list ≡ [])

@@ -1,4 +1,4 @@
--- What a contract sees of an operator: the channels of its station, a count for each, and what it has seen and made at their desks.
+-- The view of an operator in contracts: the channels of its station, a count for each, and its accounts at their desks.
 use Rattle.std.specs.Prelude.{◌≡◌, ℕ, ◌+◌, List, [], map, Option, Some, None, if◌then◌else◌, ◌==◌, nat_lt, slice_index, slice_set, position, length, replicate, option_map, All}
 use Rattle.tc_desk.specs.Log.{AtLock, count_of}
 use Rattle.tc_desk.specs.Together.{locks_of, heads_of}
@@ -20,50 +20,50 @@ tally o = record { vcids = o.vcids; counts = o.counts }
 abbrev pub tallies : List AtStation → List Tally
 tallies operators = map tally operators
 
--- how many events were made at each of these desks; 2^64 - 1 is for as many or more
+-- the number of events that were made at each of these desks, where 2^64 - 1 stands for that number or more
 abbrev pub counts_of : List AtLock → List ℕ
 counts_of desks = map (λ (d : AtLock). count_of d.own) desks
 
--- who works at these desks, by what was made there
+-- an operator at these desks, whose counts follow from the events that were made there
 abbrev pub at_station : List ℕ → List AtLock → AtStation
 at_station vcids desks = record { vcids = vcids; counts = counts_of desks; desks = desks }
 
--- who has made nothing at a desk, and has seen what its owner has
+-- an operator at a desk that has made nothing, and has seen what the desk's owner has seen
 abbrev pub arrival : AtLock → AtLock
 arrival owned_desk = record { lock = owned_desk.lock; own = record { seen = owned_desk.own.seen; made = []; issued = 0 } }
 
--- the same at each of these desks
+-- a new operator at each of these desks
 abbrev pub newcomer_at_desks : List ℕ → List AtLock → AtStation
 newcomer_at_desks vcids owned_desks = at_station vcids (map arrival owned_desks)
 
--- so many operators more were issued from each of these owned desks
+-- the owned desks after each of them has issued `n` more operators
 abbrev pub issued_more : ℕ → List AtLock → List AtLock
 issued_more n owned_desks = map (λ (p : AtLock). record { lock = p.lock; own = record { seen = p.own.seen; made = p.own.made; issued = p.own.issued + n } }) owned_desks
 
--- it works at the desks of this station
+-- the operator works at the desks of this station
 abbrev pub IsOurs : Roster → AtStation → Type 0
 IsOurs station o = (o.vcids ≡ station.vcids) × (locks_of o.desks ≡ station.locks)
 
--- what it has seen of them has their settings and boards
+-- what the operator has seen of its desks has their settings and boards
 abbrev pub KnowsDesks : Roster → AtStation → Type 0
 KnowsDesks station o = heads_of o.desks ≡ station.heads
 
--- what it knows of its desks is as before
+-- the operator knows its desks as before
 abbrev pub KnowsTheSame : AtStation → AtStation → Type 0
 KnowsTheSame before after = heads_of after.desks ≡ heads_of before.desks
 
 abbrev pub HasMadeNothing : AtStation → Type 0
 HasMadeNothing o = All (λ (d : AtLock). d.own.made ≡ []) o.desks
 
--- it has counted nothing
+-- the tally of an operator that has counted nothing
 abbrev pub fresh : List ℕ → Tally
 fresh vcids = record { vcids = vcids; counts = replicate (length vcids) 0 }
 
--- the count of a channel; None where the station has no such channel
+-- the count of a channel, or none if the station has no such channel
 abbrev pub count_in : ℕ → Tally → Option ℕ
 count_in vcid t = option_map (slice_index t.counts) (position (λ v. v == vcid) t.vcids)
 
--- one more; the largest count of 64 bits stays
+-- one more, except that the largest count of 64 bits stays
 abbrev pub raised : ℕ → ℕ
 raised n = if nat_lt n 18446744073709551615 then n + 1 else n
 
@@ -71,6 +71,6 @@ abbrev pub raised_at : Option ℕ → List ℕ → List ℕ
 raised_at (Some place) counts = slice_set counts place (raised (slice_index counts place))
 raised_at None counts = counts
 
--- one operation more on a channel
+-- the tally after one more operation on a channel
 abbrev pub tallied : ℕ → Tally → Tally
 tallied vcid t = record t { counts = raised_at (position (λ v. v == vcid) t.vcids) t.counts }

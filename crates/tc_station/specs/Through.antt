@@ -1,4 +1,4 @@
--- The calls of an operator, seen from the channel that was given out when its station was closed.
+-- The calls of an operator, seen from the channel that was returned when its station was closed.
 use Rattle.std.specs.Prelude.{◌≡◌, ◌≤◌, ℕ, List, [], ◌∷◌, ◌++◌, Some, length, slice_get, take}
 use Rattle.logged_lock.specs.Log.{IsBeginning}
 use Rattle.tc_channel.specs.declared.event.Event.{Event}
@@ -13,7 +13,7 @@ use Rattle.tc_station.specs.Roster.{Roster, IsPlace}
 use Rattle.tc_station.specs.Tally.{AtStation}
 use Rattle.tc_station.specs.Together.{AreClosedTogether}
 
--- what an operator has seen at the desk of this place goes on from what it had seen there before
+-- what an operator has seen at the desk of this place continues what it had seen there before
 pub record HasGoneOn (place : ℕ) (early late : AtStation) : Type 0 where
   pub before : AtLock
   pub after : AtLock
@@ -21,7 +21,8 @@ pub record HasGoneOn (place : ℕ) (early late : AtStation) : Type 0 where
   pub is : slice_get late.desks place ≡ Some after
   pub longer : IsBeginning before.own.seen after.own.seen
 
--- the station was closed together with its operators, of whom this is one that has gone on since; the channel is that of this place
+-- the station was closed together with its operators, one of which is this operator after it has gone on, and the
+-- channel is that of this place
 pub record IsClosedSince (station : Roster) (place : ℕ) (operator : AtStation) (channel : History) : Type 0 where
   pub operators : List AtStation
   pub closed : List History
@@ -36,20 +37,23 @@ pub record IsClosedSince (station : Roster) (place : ℕ) (operator : AtStation)
 abbrev pub IsItsLast : ℕ → AtStation → ℕ → Event → Type 0
 IsItsLast place operator n e = (desk : AtLock) × (slice_get operator.desks place ≡ Some desk) × ((earlier : List (ℕ × Event)) × (desk.own.made ≡ earlier ++ (n, e) ∷ []))
 
--- the event has a place in the channel's journal, what the events before it make was answered, and it is the last that the operator has made
+-- the event has a place in the channel's journal, its answer is the one at the events before it, and it is the last
+-- that the operator has made
 abbrev pub IsAnsweredIn : ℕ → AtStation → History → Event → (List Event → Type 0) → Type 0
 IsAnsweredIn place operator channel e Answers = (n : ℕ) × (slice_get channel.journal n ≡ Some e) × Answers (take n channel.journal) × IsItsLast place operator n e
 
--- the channel with this id, which has this place, is among those that were given out
+-- the channel with this id, which has this place, is among those that were returned
 abbrev pub IsGivenOut : Roster → ℕ → List History → ℕ → History → Type 0
 IsGivenOut station vcid closed place channel = IsPlace station vcid place × (slice_get closed place ≡ Some channel)
 
--- the same, and the event has a place in its journal, with this answer there, and is the last that the operator has made
+-- this channel was returned, the event has a place in its journal, with this answer there, and is the last that the
+-- operator has made
 abbrev pub IsAnsweredAmong : Roster → ℕ → AtStation → List History → Event → (Settings → List Event → Type 0) → Type 0
 IsAnsweredAmong station vcid operator closed e Answers =
     (place : ℕ) × (channel : History) × IsGivenOut station vcid closed place channel × IsAnsweredIn place operator channel e (Answers channel.settings)
 
--- the watcher read this CLCW, with these flags of the link, of all that it has seen then, which goes on from what it had seen
+-- the watcher read this CLCW, with these flags of the link, of the history that it has then seen, which continues what
+-- it had seen before
 abbrev pub IsWordRead : Link → Watching → ℕ → Watching → Type 0
 IsWordRead link early word late = board.IsEarlier early.seen late.seen × (word ≡ clcw late.seen.settings late.seen.journal link)
 

@@ -1,4 +1,5 @@
--- What the channels of a station are to its operators where they are closed together, and when they aren't.
+-- The relation of a station's channels to its operators when they are closed together, and the refusals when they
+-- aren't.
 use Rattle.std.specs.Prelude.{◌<◌, ◌≤◌, ◌⊎◌, ◌-◌, ◌^◌, ℕ, List, length, map}
 use Rattle.logged_lock.specs.Log.{total_made}
 use Rattle.tc_channel.specs.Journal.{History}
@@ -11,16 +12,17 @@ use Rattle.tc_station.specs.Tally.{AtStation}
 abbrev pub operator_lists_of : List AtStation → List (List AtLock)
 operator_lists_of operators = map (λ (o : AtStation). o.desks) operators
 
--- The journal of each channel is a merge of what these operators made at its desk, what each of them had seen is a beginning of it,
--- and its settings are those of the desk.
+-- The journal of each channel is a merge of what these operators made at its desk. What each of them had seen is a
+-- beginning of the journal, and the channel's settings are those of the desk.
 abbrev pub AreClosedTogether : Roster → List AtStation → List History → Type 0
 AreClosedTogether station operators closed = (owned_desks : List AtLock) × AreOwnedDesksOf station owned_desks × AreClosed owned_desks (operator_lists_of operators) closed
 
--- where counts are the reason, there were moments of the desks, all at once, at which one of them wasn't balanced
+-- the refusal to close together; if it is the counts, there were moments of the desks, all at once, at which one of
+-- them wasn't balanced
 abbrev pub IsNotClosedTogether : Roster → List AtStation → Refusal → Type 0
 IsNotClosedTogether station operators refusal = (owned_desks : List AtLock) × AreOwnedDesksOf station owned_desks × IsClosingRefusal owned_desks (operator_lists_of operators) refusal
 
--- the cause of an imbalance: not all operators that the station issued are among them, or they have made too many events of a channel
--- for a count
+-- the cause of an imbalance: not all operators that the station issued are given, or they have made too many events of
+-- a channel for a count
 abbrev pub IsCauseAtStation : Roster → List AtStation → Type 0
 IsCauseAtStation station operators = (length operators < station.issued) ⊎ ((place : ℕ) × (2 ^ 64 - 1 ≤ total_made (accounts_of (column place (operator_lists_of operators)))))

@@ -1,4 +1,4 @@
--- What a job does at the desks of a station: its event is made where it can be, and else none.
+-- The effect of a job at the desks of a station: its event is made if it can be, and otherwise no event is made.
 use Rattle.std.specs.Prelude.{◌≡◌, ◌≢◌, ◌⊎◌, ℕ, List, [], ◌∷◌, map, take, slice_get, Contains, Option, Some, None, Result}
 use Rattle.tc_channel.specs.declared.event.Event.{Event}
 use Rattle.tc_channel.specs.declared.event.Event.TheVariants as events
@@ -14,30 +14,32 @@ use Rattle.tc_station.specs.declared.work.Order.TheVariants as orders
 use Rattle.tc_station.specs.declared.work.Job.{Job}
 use Rattle.tc_station.specs.declared.work.WorkList.{WorkList}
 
--- the event can be made at this moment: a frame always, a release where a data field waits, a take where something waits to be taken
+-- the event can be made at this moment: a frame always, a release if a data field waits, and a take if something waits
+-- to be taken
 abbrev pub CanBeMade : Event → Moment → Type 0
 CanBeMade (events.Frame octets) m = Unit {0}
 CanBeMade events.Release m = buffered_fields m.head.settings m.entries ≢ []
 CanBeMade (events.Take apid) m = (packet : List ℕ) × (take_reply m.head.settings m.entries apid ≡ Some packet)
 CanBeMade (events.TakeUnit map_id) m = (unit : List ℕ) × (unit_reply m.head.settings m.entries map_id ≡ Some unit)
 
--- it can't: nothing waits
+-- the event can't be made, since nothing waits
 abbrev pub CannotBeMade : Event → Moment → Type 0
 CannotBeMade (events.Frame octets) m = ⊥
 CannotBeMade events.Release m = buffered_fields m.head.settings m.entries ≡ []
 CannotBeMade (events.Take apid) m = (waiting_packets m.head.settings m.entries apid ≡ None) ⊎ (waiting_packets m.head.settings m.entries apid ≡ Some [])
 CannotBeMade (events.TakeUnit map_id) m = (waiting_units m.head.settings m.entries map_id ≡ None) ⊎ (waiting_units m.head.settings m.entries map_id ≡ Some [])
 
--- the event was made at the desk of this place, whose channel has this id, if it could be; else nothing was made there
+-- the event was made at the desk of this place, whose channel has this id, if it could be made; otherwise nothing was
+-- made there
 abbrev pub IsTriedAt : ℕ → ℕ → Event → AtStation → AtStation → Type 0
 IsTriedAt place vcid e before after = (r : Result (Unit {0}) (Unit {0})) × IsCallAt place vcid e (λ m _. CanBeMade e m) (λ m _. CannotBeMade e m) before r after
 
--- the same at the desk of the channel with this id; or the station has no such channel, and nothing happened
+-- the event was tried at the desk of the channel with this id, or the station has no such channel and nothing happened
 abbrev pub IsTriedOn : Roster → ℕ → Event → AtStation → AtStation → Type 0
 IsTriedOn station vcid e before after =
     ((place : ℕ) × IsPlace station vcid place × IsTriedAt place vcid e before after) ⊎ (¬ Contains station.vcids vcid × (after ≡ before))
 
--- what a job of this channel's list that memory didn't refuse does at the desks
+-- the effect at the desks of a job of this channel's list that wasn't refused because memory ran out
 abbrev pub IsJobMade : Roster → ℕ → Order → AtStation → AtStation → Type 0
 IsJobMade station vcid (orders.Bring octets) before after =
     ((place v : ℕ) × (frame : List ℕ) × IsPlaced station octets place v frame × IsTriedAt place v (events.Frame frame) before after)
@@ -51,11 +53,12 @@ abbrev pub AreMade : Roster → ℕ → List Job → AtStation → AtStation →
 AreMade station vcid [] before after = after ≡ before
 AreMade station vcid (job ∷ jobs) before after = (mid : AtStation) × IsJobMade station vcid job.order before mid × AreMade station vcid jobs mid after
 
--- it has made the same as before at each desk
+-- the operator has made at each desk what it had made before, and no more
 abbrev pub HasMadeTheSame : AtStation → AtStation → Type 0
 HasMadeTheSame before after = map (λ (d : AtLock). d.own.made) after.desks ≡ map (λ (d : AtLock). d.own.made) before.desks
 
--- all jobs of the list were made; or those before the one of this line, which memory refused and which made nothing
+-- all jobs of the list were made, or those before the job of this line, which was refused because memory ran out and
+-- made nothing
 abbrev pub IsListMade : Roster → WorkList → Option ℕ → AtStation → AtStation → Type 0
 IsListMade station list None before after = AreMade station list.vcid list.jobs before after
 IsListMade station list (Some line) before after =

@@ -1,4 +1,4 @@
--- What workers do: the jobs of each list, and the counts of its operator before and after.
+-- The work of a station's workers: the jobs of each list, and the counts of its operator before and after.
 use Rattle.std.specs.Prelude.{◌≡◌, ℕ, ◌+◌, ◌≤◌, ◌==◌, ◌&&◌, ◌⊎◌, Bool, false, All, Contains, min, max, List, [], ◌∷◌, length, map, take, slice_get, slice_index, position, Option, Some, None, is_none, count_by}
 use Rattle.std.specs.List.{AllByRecursion}
 use Rattle.tc_link.specs.Frame.{header_of, fault_of}
@@ -19,7 +19,7 @@ use Rattle.tc_station.specs.declared.work.WorkList.{WorkList}
 abbrev pub IsTried : ℕ → Tally → Tally → Type 0
 IsTried vcid before after = (after ≡ tallied vcid before) ⊎ (after ≡ before)
 
--- what a job of this channel's list that memory didn't refuse does to the counts
+-- the effect on the counts of a job of this channel's list that wasn't refused because memory ran out
 abbrev pub IsDone : Roster → ℕ → Order → Tally → Tally → Type 0
 IsDone station vcid (Bring octets) before after =
     ((v : ℕ) × (frame : List ℕ) × IsLocated station octets v frame × (after ≡ tallied v before))
@@ -33,28 +33,28 @@ abbrev pub AreDone : Roster → ℕ → List Job → Tally → Tally → Type 0
 AreDone station vcid [] before after = after ≡ before
 AreDone station vcid (job ∷ jobs) before after = (mid : Tally) × IsDone station vcid job.order before mid × AreDone station vcid jobs mid after
 
--- a job of this channel's list that memory may be wanting for: what comes to no channel is passed over
+-- a job of this channel's list that may run out of memory; octets for no channel are passed over
 abbrev pub MayWantMemory : Roster → ℕ → Order → Type 0
 MayWantMemory station vcid (Bring octets) = (v : ℕ) × (frame : List ℕ) × IsLocated station octets v frame
 MayWantMemory station vcid Release = Contains station.vcids vcid
 MayWantMemory station vcid (Take apid) = Contains station.vcids vcid
 MayWantMemory station vcid (TakeUnit map_id) = Contains station.vcids vcid
 
--- all jobs of the list were done; or those before the one of this line, which was refused for memory
+-- all jobs of the list were done, or those before the job of this line, which was refused because memory ran out
 abbrev pub IsWorked : Roster → WorkList → Option ℕ → Tally → Tally → Type 0
 IsWorked station list None before after = AreDone station list.vcid list.jobs before after
 IsWorked station list (Some line) before after =
     (n : ℕ) × (job : Job) × (slice_get list.jobs n ≡ Some job) × (job.line ≡ line) × MayWantMemory station list.vcid job.order × AreDone station list.vcid (take n list.jobs) before after
 
--- what became of a list
+-- the result of working on a list
 pub record Shift : Type 0 where
   pub list : WorkList
-  -- the line that was refused for memory
+  -- the line that was refused because memory ran out
   pub refused : Option ℕ
   pub before : AtStation
   pub after : AtStation
 
--- a count for each channel of the station
+-- the tally has a count for each channel of the station
 pub record IsTallyOf (station : Roster) (t : Tally) : Type 0 where
   pub vcids : t.vcids ≡ station.vcids
   pub counts : length t.counts ≡ length t.vcids
@@ -75,7 +75,7 @@ pub record AreStaffed (station : Roster) (lists : List WorkList) (operators : Li
   pub as_many : length operators ≡ length lists
   pub ours : All (IsOurs station) operators
 
--- each list was worked by the operator of its place, and this is the lowest line that was refused
+-- the operator at each list's place worked on the list, and this is the lowest line that was refused
 abbrev pub AreWorked : Roster → List WorkList → Option ℕ → List AtStation → List AtStation → Type 0
 AreWorked station lists line befores afters =
     (shifts : List Shift) × (map (λ s. s.list) shifts ≡ lists) × (map (λ s. s.before) shifts ≡ befores) × (map (λ s. s.after) shifts ≡ afters)
@@ -94,18 +94,19 @@ brings_to station vcid Release = false
 brings_to station vcid (Take apid) = false
 brings_to station vcid (TakeUnit map_id) = false
 
--- a release or a take, of a packet or a unit, of a list for this channel
+-- the job is a release or a take, of a packet or a unit, in a list for this channel
 abbrev pub is_other : ℕ → ℕ → Order → Bool
 is_other own vcid (Bring octets) = false
 is_other own vcid Release = own == vcid
 is_other own vcid (Take apid) = own == vcid
 is_other own vcid (TakeUnit map_id) = own == vcid
 
--- so much more; the largest count of 64 bits stays
+-- `n` more, except that the largest count of 64 bits stays
 abbrev pub raised_by : ℕ → ℕ → ℕ
 raised_by n count = max count (min (count + n) 18446744073709551615)
 
--- the count of each channel rose by at least as many jobs as bring a frame to it, and at most by those and, if it is the list's, the other jobs
+-- the count of each channel rose by at least the number of jobs that bring a frame to it, and at most by those and, if
+-- it is the list's channel, the other jobs
 abbrev pub IsRaised : Roster → WorkList → Tally → Tally → Type 0
 IsRaised station list before after =
     (vcid place : ℕ) → position (λ v. v == vcid) station.vcids ≡ Some place →

@@ -1,4 +1,4 @@
-//! Whether the journals of a closed station, or the numbers of their events, are in balance with the operators' counts.
+//! The balance between the operators' counts and the journals of a closed station, or the numbers of their events.
 
 ghost use Rattle.std.specs.Prelude.{◌≡◌, ◌<◌, ◌↔◌, length, IsTrue, All};
 ghost use Rattle.tc_station.specs.Balance.{counted_by_all, IsInBalance, AreInBalance, AreInReportedBalance};
@@ -7,7 +7,7 @@ ghost use Rattle.tc_channel.specs.Journal.{IsNumberReported};
 use crate::operator::Operator;
 use tc_channel::{Channel, CountingChannel};
 
-// What all operators have counted of the channel at a place.
+// Returns the number of operations that all operators together have counted for the channel at a place.
 fn count_of_all(operators: &[Operator], place: usize) -> u128
     requires { All (λ o. place < length o.vcids) operators.now }
     ensures { result ≡ counted_by_all place operators.now }
@@ -28,7 +28,8 @@ fn is_in_balance(vcids: &[u8], operators: &[Operator], place: usize, channel: &C
         && channel.journal().len() as u128 == count_of_all(operators, place)
 }
 
-/// Whether each channel has the virtual channel id of its place, and as many events as the operators counted of it.
+/// Returns whether each channel has the virtual channel id of its place, and as many events as the operators counted
+/// for it.
 pub(crate) fn are_in_balance(vcids: &[u8], operators: &[Operator], channels: &[Channel]) -> bool
     requires as_many { length channels.now ≡ length vcids.now }
     requires ours { All (λ o. o.vcids ≡ vcids.now) operators.now }
@@ -42,7 +43,8 @@ pub(crate) fn are_in_balance(vcids: &[u8], operators: &[Operator], channels: &[C
     true
 }
 
-// The same of a channel that reports the number of its events, which the largest number of 64 bits is not.
+// Returns whether a channel is in balance and reports the number of its events, which the largest number of 64 bits is
+// not.
 fn is_in_reported_balance(
     vcids: &[u8],
     operators: &[Operator],
@@ -59,7 +61,7 @@ fn is_in_reported_balance(
         && u128::from(events) == count_of_all(operators, place)
 }
 
-/// Whether each channel reports the number of its events, and all are in balance.
+/// Returns whether each channel reports the number of its events, and all channels are in balance.
 pub(crate) fn are_in_reported_balance(
     vcids: &[u8],
     operators: &[Operator],

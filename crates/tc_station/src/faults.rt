@@ -1,4 +1,5 @@
-//! Why the calls of a station refuse. The faults of a call stand in the order in which they are tried.
+//! The reasons why calls of a station are refused. The faults of a call are listed in the order in which they are
+//! checked.
 
 use crate::operator::Operator;
 use crate::station::{CountingStation, Station};
@@ -8,24 +9,24 @@ use tc_channel::{Channel, CountingChannel, ReleaseFault, SettingsFault, TakeFaul
 use tc_link::LocateFault;
 use thiserror::Error;
 
-/// Why settings make no station.
+/// The reason why settings don't make a station.
 #[derive(Clone, Copy, Debug, PartialEq, Eq, Error)]
 pub enum StationFault {
     #[error("the spacecraft id is over 1023")]
     BadScid,
     #[error("there is no virtual channel")]
     NoChannel,
-    /// The first virtual channel id that stands earlier in the list, too.
+    /// The first virtual channel id that also occurs earlier in the list.
     #[error("virtual channel {0} is there twice")]
     DoubleVcid(u8),
-    /// The virtual channel id of the first settings that make no channel, and why they make none.
+    /// The virtual channel id of the first settings that don't make a channel, and the reason why they don't.
     #[error("virtual channel {0}: {1}")]
     Settings(u8, SettingsFault),
     #[error("no memory")]
     NoMemory,
 }
 
-/// Why octets were not brought to a channel.
+/// The reason why octets were not brought to a channel.
 #[derive(Clone, Copy, Debug, PartialEq, Eq, Error)]
 pub enum BringFault {
     #[error(transparent)]
@@ -34,7 +35,7 @@ pub enum BringFault {
     NoMemory,
 }
 
-/// Why no operators were issued.
+/// The reason why no operators were issued.
 #[derive(Clone, Copy, Debug, PartialEq, Eq, Error)]
 pub enum OperatorsFault {
     #[error("more than 65535 operators")]
@@ -43,7 +44,7 @@ pub enum OperatorsFault {
     NoMemory,
 }
 
-/// Why no watcher of a channel was made.
+/// The reason why no watcher of a channel was created.
 #[derive(Clone, Copy, Debug, PartialEq, Eq, Error)]
 pub enum WatcherFault {
     #[error("the station has no such virtual channel")]
@@ -52,7 +53,7 @@ pub enum WatcherFault {
     NoMemory,
 }
 
-/// Why a channel of the station released no data field.
+/// The reason why a channel of the station released no data field.
 #[derive(Clone, Copy, Debug, PartialEq, Eq, Error)]
 pub enum ReleaseRefused {
     #[error("the station has no such virtual channel")]
@@ -63,7 +64,7 @@ pub enum ReleaseRefused {
     NoMemory,
 }
 
-/// Why no packet was taken from a channel of the station.
+/// The reason why no packet was taken from a channel of the station.
 #[derive(Clone, Copy, Debug, PartialEq, Eq, Error)]
 pub enum TakeRefused {
     #[error("the station has no such virtual channel")]
@@ -76,7 +77,7 @@ pub enum TakeRefused {
     NoMemory,
 }
 
-/// Why no unit was taken from a channel of the station.
+/// The reason why no unit was taken from a channel of the station.
 #[derive(Clone, Copy, Debug, PartialEq, Eq, Error)]
 pub enum TakeUnitRefused {
     #[error("the station has no such virtual channel")]
@@ -89,15 +90,15 @@ pub enum TakeUnitRefused {
     NoMemory,
 }
 
-/// Why not all lists were done.
+/// The reason why not all lists were done.
 #[derive(Clone, Copy, Debug, PartialEq, Eq, Error)]
 pub enum WorkFault {
-    /// The lowest line whose job was refused for memory.
+    /// The lowest line whose job was refused because memory ran out.
     #[error("line {line}: no memory")]
     NoMemory { line: u32 },
 }
 
-/// Why a station was not closed in balance, with what is handed back.
+/// The reason why a station was not closed in balance, with the values that are returned.
 #[derive(Drop, Error)]
 pub enum CloseFault {
     /// There are fewer operators than the station issued.
@@ -105,8 +106,8 @@ pub enum CloseFault {
     Missing(Station, Vec<Operator>),
     #[error("no memory")]
     NoMemory(Station, Vec<Operator>),
-    /// The channels are out of their locks, and one of them has another virtual channel id than its place, or another
-    /// number of events than the operators counted of it.
+    /// The channels are out of their locks. One of them has another virtual channel id than its place, or another
+    /// number of events than the operators counted for it.
     #[error("the operators' counts and the journals differ")]
     Unbalanced(Vec<Channel>, Vec<Operator>),
 }
@@ -121,7 +122,7 @@ impl Debug for CloseFault {
     }
 }
 
-/// Why a counting station was not closed in balance, with what is handed back.
+/// The reason why a counting station was not closed in balance, with the values that are returned.
 #[derive(Drop, Error)]
 pub enum CountingCloseFault {
     /// There are fewer operators than the station issued.
@@ -129,8 +130,8 @@ pub enum CountingCloseFault {
     Missing(CountingStation, Vec<Operator>),
     #[error("no memory")]
     NoMemory(CountingStation, Vec<Operator>),
-    /// The channels are out of their locks, and one of them has another virtual channel id than its place, or another
-    /// number of events than the operators counted of it, or 2^64 - 1 events or more.
+    /// The channels are out of their locks. One of them has another virtual channel id than its place, or another
+    /// number of events than the operators counted for it, or 2^64 - 1 events or more.
     #[error("the operators' counts and the numbers of events differ")]
     Unbalanced(Vec<CountingChannel>, Vec<Operator>),
 }

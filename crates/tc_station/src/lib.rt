@@ -1,15 +1,16 @@
 //! The station of one spacecraft: its virtual channels, each behind a lock of its own, and the operators that bring them
 //! frames, release their data fields and take their packets and units.
 //!
-//! A contract sees a [`Desk`], which is what lies under a lock, as its channel and the board of its status word, and each call
-//! of a desk has the contract of the channel's call. Whenever the lock is free, the word is the CLCW of the channel's journal,
-//! with both link flags 0; a watcher reads it without the lock.
+//! A contract sees a [`Desk`], which lies under a lock, as its channel and the board of its status word, and each call
+//! of a desk has the contract of the channel's call. Whenever the lock is free, the word is the CLCW of the channel's
+//! journal, with both link flags 0. A watcher reads it without the lock.
 //!
-//! An operator's call is answered from this channel's own journal, at a moment that goes on from all that the operator had seen
-//! there, and [`StationOf::close_together`] gives out channels whose journals are merges of what their operators made. A call of
-//! the [`Station`] without an operator promises less: what it answers is what FARM-1 and the queues answer at some lawful journal
-//! with this channel's settings. [`Station::close`] ties the journals to the operators' counts, whosever they are.
-//! A [`CountingStation`] does the same with journals that take no memory, and its close goes by the numbers of their events.
+//! An operator's call is answered from this channel's own journal, at a moment that continues all that the operator had
+//! seen there, and [`StationOf::close_together`] returns channels whose journals are merges of what their operators
+//! made. A call of the [`Station`] without an operator promises less: its answer is the one that FARM-1 and the queues
+//! give at some lawful journal with this channel's settings. [`Station::close`] compares the journals with the
+//! operators' counts, whichever station the operators belong to. A [`CountingStation`] does this with journals that
+//! take no memory, and its close compares the numbers of their events.
 #![tactic(auto)]
 
 mod closing;

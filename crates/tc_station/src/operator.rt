@@ -1,4 +1,4 @@
-//! Operators: who makes operations on the channels of a station.
+//! The operators of a station's channels.
 
 ghost use Rattle.std.specs.Prelude.{◌≡◌, ◌==◌, ◌<◌, ◌≤◌, [], vec_capacity, length, map, position, slice_index, IfOk, MatchOption, Contains};
 ghost use Rattle.tc_desk.specs.Log.{with_one_issued};
@@ -12,12 +12,12 @@ use std::marker::Model;
 use tc_channel::Journal;
 use tc_desk::{DeskOperator, OperatorList, OwnedDesk};
 
-/// Someone who makes operations on the channels of a station, and counts those that were answered, channel by channel.
-/// One thread has it at a time.
+/// An operator of the channels of a station, with a count for each channel of the operations that were answered. One
+/// thread has it at a time.
 #[derive(Drop)]
 pub struct Operator {
     vcids: Vec<u8>,
-    // a station makes its operations by them
+    // The station runs operations through these.
     pub(crate) desks: Vec<DeskOperator>,
 }
 
@@ -47,7 +47,7 @@ impl OperatorList for Operator {
     }
 }
 
-/// The place of a virtual channel id among others.
+/// Returns the place of a virtual channel id among others.
 pub(crate) fn place_of(vcids: &[u8], vcid: u8) -> Option<usize>
     ensures place { result ≡ position (λ v. v == vcid) vcids.now }
     ensures found { MatchOption result (¬ Contains vcids.now vcid) (λ k. (k < length vcids.now) × (slice_index vcids.now k ≡ vcid)) }
@@ -63,7 +63,7 @@ pub(crate) struct Room {
 }
 
 impl Room {
-    /// Room for an operator of channels with these ids.
+    /// Creates room for an operator of channels with these ids.
     pub(crate) fn new(alloc: Global, vcids: &[u8]) -> Result<Room, AllocError>
         ensures { IfOk result (IsRoomFor vcids.now) }
     {
@@ -73,7 +73,7 @@ impl Room {
     }
 }
 
-// An operator at each of these desks, which has made nothing, in a list with room for them.
+// Creates an operator at each of these desks, which has made nothing, in a list with room for them.
 fn desk_operators<J: Journal>(
     mut operators: Vec<DeskOperator>,
     owned_desks: &mut [OwnedDesk<J>],
@@ -90,7 +90,7 @@ fn desk_operators<J: Journal>(
 }
 
 impl Operator {
-    /// An operator that has made nothing, and has seen what the owners of these desks have seen.
+    /// Creates an operator that has made nothing, and has seen what the owners of these desks have seen.
     pub(crate) fn new<J: Journal>(room: Room, owned_desks: &mut [OwnedDesk<J>]) -> Operator
         requires room { IsRoomFor (vcids_of (settings_of_desks owned_desks.old)) room }
         ensures issued { owned_desks.new ≡ map with_one_issued owned_desks.old }
@@ -101,7 +101,8 @@ impl Operator {
         Operator { vcids, desks }
     }
 
-    /// How many of its operations on this channel were answered; 2^64 - 1 is for as many or more. None: no such channel.
+    /// Returns the number of this operator's operations on this channel that were answered, where 2^64 - 1 stands for
+    /// that number or more. Returns `None` if there is no such channel.
     pub fn count(&self, vcid: u8) -> Option<u64>
         ensures { result ≡ count_in vcid (tally self.now) }
     {
@@ -109,14 +110,14 @@ impl Operator {
         Some(self.desks[place].count())
     }
 
-    /// It shows a proof that no channel lacks a count.
+    /// Does nothing. By its contract each channel has a count.
     pub(crate) fn has_a_count_for_each_channel(&self)
         ensures { length self.now.counts ≡ length self.now.vcids }
     {
         let _ = self.desks.len();
     }
 
-    /// The count of the channel at a place.
+    /// Returns the count of the channel at a place.
     pub(crate) fn count_at(&self, place: usize) -> u64
         requires { place < length self.now.vcids }
         ensures { result ≡ slice_index self.now.counts place }

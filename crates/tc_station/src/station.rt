@@ -47,7 +47,7 @@ pub struct Located<'a> {
     pub frame: Frame<'a>,
 }
 
-/// What became of octets that were brought.
+/// The result of bringing octets.
 #[derive(Clone, Copy, Debug, PartialEq, Eq)]
 pub struct Brought {
     /// The virtual channel id that the frame names.
@@ -65,14 +65,14 @@ pub struct StationOf<J: Journal> {
     desks: Vec<OwnedDesk<J>>,
 }
 
-/// A station whose channels keep their journals in memory, and give them out when it is closed.
+/// A station whose channels keep their journals in memory, and return them when it is closed.
 pub type Station = StationOf<Recorded>;
 
-/// A station whose channels' journals take no memory, for flight software and long simulations. It does what [`Station`] does,
-/// by the same proof, but for its close, which compares the numbers of events.
+/// A station whose channels' journals take no memory, for flight software and long simulations. It does what
+/// [`Station`] does, by the same proof, except for its close, which compares the numbers of events.
 pub type CountingStation = StationOf<Unrecorded>;
 
-/// A station whose channels weren't closed together: it is given back with the operators, and work can go on.
+/// A station whose channels weren't closed together. It is returned with the operators, and work can go on.
 #[derive(Drop)]
 pub struct StillOpen<J: Journal> {
     pub station: StationOf<J>,
@@ -101,8 +101,8 @@ impl<J: Journal> StationOf<J> {
     ghost use Rattle.tc_desk.specs.Log.{Moment};
     ghost use Rattle.tc_desk.specs.Call.{IsMoment};
 
-    /// A station with a new channel for each of the settings: two lists, and what each channel, its board and its lock take. On a
-    /// refusal the settings are dropped.
+    /// Creates a station with a new channel for each of the settings. It allocates two lists, and the memory of each
+    /// channel, its board and its lock. If it fails, the settings are dropped.
     pub fn new(alloc: Global, scid: u16, list: Vec<Settings>) -> Result<StationOf<J>, StationFault>
         ensures made { IfOk result (λ station. (station.scid ≡ scid) × (station.vcids ≡ vcids_of list.items) × (station.issued ≡ 0)) }
         ensures settings { IfOk result (λ station. settings_in station ≡ list.items) }
@@ -115,7 +115,7 @@ impl<J: Journal> StationOf<J> {
         Ok(station)
     }
 
-    /// The frame at the front of the octets and the channel that it is for. It takes no lock.
+    /// Returns the frame at the front of the octets, and the channel that it is for. It takes no lock.
     pub fn locate<'a>(&self, octets: &'a [u8]) -> Result<Located<'a>, LocateFault>
         ensures { MatchResult result (λ located. IsLocated self.now octets.now located.vcid located.frame) (IsLocateFault self.now octets.now) }
     {
@@ -123,7 +123,7 @@ impl<J: Journal> StationOf<J> {
         Ok(located)
     }
 
-    /// The same, with the place of the channel among the station's.
+    /// Returns what [`locate`](StationOf::locate) returns, with the place of the channel among the station's.
     pub fn place_frame<'a>(&self, octets: &'a [u8]) -> Result<(usize, Located<'a>), LocateFault>
         ensures { MatchResult result (λ placed. IsPlaced self.now octets.now placed.0 placed.1.vcid placed.1.frame) (IsLocateFault self.now octets.now) }
     {
@@ -139,15 +139,15 @@ impl<J: Journal> StationOf<J> {
         Ok((place, Located { vcid, frame }))
     }
 
-    /// The place of the channel with this id among the station's.
+    /// Returns the place of the channel with this id among the station's.
     pub fn place_of(&self, vcid: u8) -> Option<usize>
         ensures { MatchOption result (¬ Contains self.now.vcids vcid) (IsPlace self.now vcid) }
     {
         self.vcids.place_of(vcid)
     }
 
-    /// Issues operators: at most 65,535 over the station's life. Each takes a list of ids and one of its operators at the desks. All memory is
-    /// taken before the first is issued.
+    /// Issues operators, at most 65,535 over the station's life. Each needs a list of ids and one of its operators at
+    /// the desks. All memory is allocated before the first operator is issued.
     pub fn operators(&mut self, n: u16) -> Result<Vec<Operator>, OperatorsFault>
         ensures fresh { IfOk result (λ operators. map tally operators.items ≡ replicate n (fresh self.old.vcids)) }
         ensures new { IfOk result (λ operators. All HasMadeNothing operators.items) }
@@ -167,9 +167,9 @@ impl<J: Journal> StationOf<J> {
         Ok(operators)
     }
 
-    /// Brings the frame at the front of the octets to its channel, under the channel's lock. What the channel's own call takes
-    /// is all that is allocated, here and in the next three calls. So a counting station runs out of memory here only for a
-    /// frame of Type-BD, and never for a take.
+    /// Brings the frame at the front of the octets to its channel, under the channel's lock. This call and the next
+    /// three allocate only what the channel's own call allocates. So a counting station runs out of memory here only
+    /// for a frame of Type-BD, and never for a take.
     pub fn bring(
         &self,
         rt: &impl Wait,
@@ -195,7 +195,7 @@ impl<J: Journal> StationOf<J> {
         Ok(Brought { vcid, reply })
     }
 
-    /// Lets the oldest data field out of a channel's buffer, under the channel's lock.
+    /// Releases the oldest data field from a channel's buffer, under the channel's lock.
     pub fn release(
         &self,
         rt: &impl Wait,
@@ -265,7 +265,7 @@ impl<J: Journal> StationOf<J> {
         Ok(unit)
     }
 
-    /// A watcher of a channel's status, made under the channel's lock.
+    /// Creates a watcher of a channel's status, under the channel's lock.
     pub fn watcher(&self, rt: &impl Wait, vcid: u8) -> Result<Watcher, WatcherFault>
         ensures answer { MatchResult result (λ watcher. IsWatched self.now vcid watcher.seen) (IsWatcherFault self.now vcid) }
         ensures desk { IfOk result (IsWatcherOf self.now vcid) }
@@ -279,7 +279,8 @@ impl<J: Journal> StationOf<J> {
         Ok(watcher)
     }
 
-    /// The CLCW of a moment of the watcher's channel, with these link flags: one load, which takes no lock and waits for nobody.
+    /// Returns the CLCW of a moment of the watcher's channel, with these link flags. It takes one load and no lock, and
+    /// waits for no other thread.
     ///
     /// The moment is no earlier than that of the read before.
     pub fn watch(&self, watcher: &mut Watcher, link: Link) -> u32
@@ -295,8 +296,8 @@ impl<J: Journal> StationOf<J> {
         watcher.read() + u32::from(link.no_rf) * (1 << 15) + u32::from(link.no_bit_lock) * (1 << 14)
     }
 
-    /// Brings the frame at the front of the octets to its channel, and makes a watcher that has seen the channel take it,
-    /// under one hold of the channel's lock. So all that the watcher reads is of that moment or later ones.
+    /// Brings the frame at the front of the octets to its channel, and creates a watcher that has seen the channel
+    /// process it, under one hold of the channel's lock. So each read of the watcher shows that moment or a later one.
     pub fn bring_watched(
         &self,
         rt: &impl Wait,
@@ -321,8 +322,9 @@ impl<J: Journal> StationOf<J> {
         Ok((Brought { vcid, reply }, watcher))
     }
 
-    /// The operation on the channel at this place, whose watcher meets it before the operation and behind it, all under one hold of
-    /// the channel's lock. So the watcher had seen no more than what was there, and then it has seen all that the operator has.
+    /// Runs the operation on the channel at this place. The channel's watcher meets it before and after the operation,
+    /// and the channel's lock is held once for all of this. So the watcher had seen no more than the journal before the
+    /// operation, and afterwards it has seen all that the operator has.
     pub fn operate_met<O: Operation<J>, R: Wait>(
         &self,
         rt: &R,
@@ -345,8 +347,8 @@ impl<J: Journal> StationOf<J> {
         operator.desks[place].operate_met(owned_desk.desk(), rt, watcher, operation)
     }
 
-    /// The watcher meets its channel, under the channel's lock: what it had seen is a beginning of the journal at that moment, and then
-    /// it has seen all that the operator has.
+    /// Lets the watcher meet its channel, under the channel's lock. The history that the watcher had seen is a
+    /// beginning of the journal at that moment. Afterwards the watcher has seen all that the operator has.
     pub fn meet<R: Wait>(&self, rt: &R, operator: &mut Operator, watcher: &mut Watcher, vcid: u8)
         requires ours { IsOurs self.now operator.old }
         requires knows { KnowsDesks self.now operator.old }
@@ -364,7 +366,7 @@ impl<J: Journal> StationOf<J> {
         operator.desks[place].meet(owned_desk.desk(), rt, watcher);
     }
 
-    // The operation on the desk of the channel at this place, which has this id, by the operator there.
+    // Runs the operation on the desk of the channel at this place, which has this id, through the operator there.
     fn operate<O: Operation<J>, R: Wait>(
         &self,
         rt: &R,
@@ -381,7 +383,7 @@ impl<J: Journal> StationOf<J> {
         operator.desks[place].operate(desk, rt, operation)
     }
 
-    // The answer of the channel at this place, which has this id, to who has no operator.
+    // Returns the answer of the channel at this place, which has this id, for a thread that has no operator.
     fn ask<Q: Question<J>, R: Wait>(
         &self,
         rt: &R,
@@ -405,7 +407,8 @@ impl<J: Journal> StationOf<J> {
         }
     }
 
-    // The ids, and the channels out of their locks: the whole station where their lists are refused, or a lock isn't free.
+    // Returns the ids, and the channels out of their locks. Returns the whole station if memory runs out for their
+    // lists, or if a lock isn't free.
     fn into_channels(self) -> Result<(Vec<u8>, Vec<ChannelWith<J>>), StationOf<J>>
         ensures vcids { IfOk result (λ parts. parts.0.items ≡ self.vcids) }
         ensures channels { IfOk result (λ parts. vec_len parts.1 ≡ length self.vcids) }
@@ -430,10 +433,11 @@ impl<J: Journal> StationOf<J> {
         }
     }
 
-    /// Ends the station: takes the channels out of their locks, where its operators have made all events of their journals. So it is
-    /// where all that it issued come, and have made fewer than 2^64 - 1 of each channel. The journal of each channel is then a merge
-    /// of what they made, and what each of them had seen is a beginning of it. Two lists are allocated, before any lock is taken.
-    /// What follows for a sender is [`from_a_sender_to_packets`](crate::from_a_sender_to_packets).
+    /// Ends the station: takes the channels out of their locks, if these operators have made all events of their
+    /// journals. This is so if all operators that the station issued are given, and they have made fewer than 2^64 - 1
+    /// events of each channel. The journal of each channel is then a merge of what they made, and what each of them had
+    /// seen is a beginning of it. Two lists are allocated before any lock is taken. The law
+    /// [`from_a_sender_to_packets`](crate::from_a_sender_to_packets) states the consequences for a sender.
     pub fn close_together(
         self,
         operators: Vec<Operator>,
@@ -481,10 +485,11 @@ impl<J: Journal> StationOf<J> {
 impl StationOf<Recorded> {
     ghost use Rattle.tc_station.specs.Faults.{IsCloseFault};
 
-    /// Ends the station: takes the channels out of their locks and compares their journals with the operators' counts. Two lists
-    /// are allocated, before any lock is taken. Any operators with counts for these channels may come, also another station's;
-    /// of this station's own [`StationOf::close_together`] says more. A lock that isn't free would be reported as
-    /// [`CloseFault::NoMemory`]; whoever owns the station doesn't come to see that.
+    /// Ends the station: takes the channels out of their locks and compares their journals with the operators' counts.
+    /// Two lists are allocated before any lock is taken. Any operators with counts for these channels may be given,
+    /// also those of another station. For this station's own operators, [`StationOf::close_together`] promises more. A
+    /// lock that isn't free would be reported as [`CloseFault::NoMemory`], but the owner of the station never sees
+    /// that.
     pub fn close(self, operators: Vec<Operator>) -> Result<Vec<Channel>, CloseFault>
         requires ours { All (λ o. o.vcids ≡ self.vcids) operators.items }
         ensures all { IfOk result (λ _. self.issued ≤ vec_len operators) }
@@ -511,8 +516,9 @@ impl StationOf<Recorded> {
 impl StationOf<Unrecorded> {
     ghost use Rattle.tc_station.specs.Faults.{IsCountingCloseFault};
 
-    /// Ends the station: takes the channels out of their locks and compares the numbers of their events with the operators'
-    /// counts. 2^64 - 1 is for as many events or more, so it is no balance. All else is as for a [`Station`].
+    /// Ends the station: takes the channels out of their locks and compares the numbers of their events with the
+    /// operators' counts. The number 2^64 - 1 stands for that many events or more, so it is never in balance. In all
+    /// other respects it is like the close of a [`Station`].
     pub fn close(self, operators: Vec<Operator>) -> Result<Vec<CountingChannel>, CountingCloseFault>
         requires ours { All (λ o. o.vcids ≡ self.vcids) operators.items }
         ensures all { IfOk result (λ _. self.issued ≤ vec_len operators) }
@@ -537,14 +543,14 @@ impl StationOf<Unrecorded> {
     }
 }
 
-// Whether a channel has this id.
+// Returns whether a channel has this id.
 fn has_vcid(list: &[Settings], vcid: u8) -> bool
     ensures { IsTrue result ↔ Any (λ s. s.vcid ≡ vcid) list.now }
 {
     list.iter().any(|settings| settings.vcid == vcid)
 }
 
-// The first virtual channel id that stands earlier in the list, too.
+// Returns the first virtual channel id that also occurs earlier in the list.
 fn double_vcid(list: &[Settings]) -> Option<u8>
     ensures { MatchOption result (HaveDistinctVcids list.now) (IsFirstDouble list.now) }
 {
@@ -556,7 +562,8 @@ fn double_vcid(list: &[Settings]) -> Option<u8>
     None
 }
 
-// Whether each of the settings makes a channel; else which are the first that don't.
+// Checks that each of the settings makes a channel. Otherwise it returns the id and the fault of the first that
+// doesn't.
 fn check_each(list: &[Settings]) -> Result<(), (u8, SettingsFault)>
     ensures { MatchResult result (λ _. All IsAllowed list.now) (λ fault. IsFirstRefused list.now fault.0 fault.1) }
 {
@@ -568,7 +575,7 @@ fn check_each(list: &[Settings]) -> Result<(), (u8, SettingsFault)>
     Ok(())
 }
 
-// Whether a station can be made by these settings.
+// Checks whether a station can be created with these settings.
 fn check(scid: u16, list: &[Settings]) -> Result<(), StationFault>
     ensures { MatchResult result (λ _. AreStationSettings scid list.now) (IsStationFault scid list.now) }
 {
@@ -587,7 +594,7 @@ fn check(scid: u16, list: &[Settings]) -> Result<(), StationFault>
     }
 }
 
-// A station by settings that were checked.
+// Creates a station from settings that were checked.
 fn start<J: Journal>(
     alloc: Global,
     scid: u16,
@@ -615,7 +622,7 @@ fn start<J: Journal>(
     })
 }
 
-// Room for so many operators of channels with these ids.
+// Creates room for `n` operators of channels with these ids.
 fn rooms(alloc: Global, vcids: &[u8], n: u16) -> Result<Vec<Room>, AllocError>
     ensures many { IfOk result (λ rooms. vec_len rooms ≡ n) }
     ensures each { IfOk result (λ rooms. All (IsRoomFor vcids.now) rooms.items) }
@@ -627,7 +634,7 @@ fn rooms(alloc: Global, vcids: &[u8], n: u16) -> Result<Vec<Room>, AllocError>
     Ok(rooms)
 }
 
-// Operators that have made nothing: so many, or none.
+// Issues `n` operators that have made nothing, or none.
 fn issue<J: Journal>(
     alloc: Global,
     vcids: &[u8],

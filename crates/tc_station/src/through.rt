@@ -31,24 +31,28 @@ ghost use Rattle.tc_station.specs.Together.{AreClosedTogether, operator_lists_of
 use tc_channel::{what_was_passed_on_is_admitted_in_order, what_was_sent_is_given_in_order};
 use tc_desk::each_event_stands_at_its_place;
 
-/// Threads work at the channels of a station, each with an operator of its own, in any order. Then the station is closed together with
-/// these operators, and gives out its channels.
+/// If threads work at the channels of a station, each with an operator of its own, in any order, and the station is
+/// then closed together with these operators, the following holds for the channels that the close returns.
 ///
-/// - `merge`: the journal of each channel is a merge of the events that its operators made: each once, and each operator's in its order.
-/// - `frames`, `releases`, `takes`, `units`: each call that was answered is an event of that journal, and its answer is the one that the model
-///   gives at the journal before it. The event, with its number, is the last that the operator has made then. So one thread could have
-///   made all calls, in the journal's order, and got the same answers.
-/// - `words`: each CLCW that a watcher read before a meeting, however often it read on in between, is that of a place in that journal,
-///   which isn't before all that the watcher had seen.
-/// - `sent`: where the Type-AD frames of an era, which is the journal's part since a Set V(R) was last obeyed, or else all of it, are one
-///   sender's, numbered on from the V(R) with which it starts, and none came 256 or more numbers early or late, the Type-AD data fields
-///   of the era that were released are what was sent, each once, in order.
-/// - `given`: what all takes of an application gave is, in order, packets that the fields make which the channel passed on: those of the
-///   era, the Type-AD fields of earlier eras, and the Type-BD fields between them. `given_units` says the same of the units of a chosen
-///   MAP.
-/// - `whole`: where these are as many as the fields make, none is left out.
+/// - `merge`: The journal of each channel is a merge of the events that its operators made. Each event occurs once, and
+///   each operator's events keep their order.
+/// - `frames`, `releases`, `takes`, `units`: Each call that was answered is an event of that journal, and its answer is
+///   the one that the model gives at the journal before the event. The event, with its number, is the last that the
+///   operator has made at that time. So one thread could have made all calls, in the journal's order, and got the same
+///   answers.
+/// - `words`: Each CLCW that a watcher read before a meeting, however often it read again in between, is that of a
+///   place in that journal. This place isn't before all that the watcher had seen.
+/// - `sent`: An era is the journal's part since a Set V(R) was last obeyed, or else all of it. Suppose that the Type-AD
+///   frames of an era are those of one sender, numbered on from the V(R) with which the era starts, and that none came
+///   256 or more numbers early or late. Then the Type-AD data fields of the era that were released are what was sent,
+///   each once, in order.
+/// - `given`: The packets that all takes of an application returned are, in order, packets made from the data fields
+///   that the channel passed on: those of the era, the Type-AD fields of earlier eras, and the Type-BD fields between
+///   them. `given_units` states this for the units of a chosen MAP.
+/// - `whole`: If these are as many as the fields make, none is left out.
 ///
-/// Each call of an operator goes on from all that it had seen (`later` of `IsCall`), so it has gone on, too, after several.
+/// Each call of an operator continues all that the operator had seen (`later` of `IsCall`), and so do several calls
+/// together.
 pub fn from_a_sender_to_packets()
     ensures merge { (station : Roster) (operators : List AtStation) (closed : List History) (place : ℕ) (channel : History)
         → AreClosedTogether station operators closed → slice_get closed place ≡ Some channel
@@ -86,15 +90,17 @@ pub fn from_a_sender_to_packets()
     what_was_sent_is_given_in_order();
 }
 
-/// What answered calls promise is what [`from_a_sender_to_packets`] asks for: each stands in the closed journal of its channel, with its
-/// answer there. The premises are contracts and nothing else: that of the call by an operator of the station, and that of
-/// [`StationOf::close_together`](crate::StationOf::close_together) with this operator among the others.
+/// Answered calls promise what [`from_a_sender_to_packets`] requires: each is in the closed journal of its channel,
+/// with its answer there. The premises are contracts and nothing else: the contract of the call by an operator of the
+/// station, and that of [`StationOf::close_together`](crate::StationOf::close_together) with this operator among the
+/// others.
 ///
-/// - `frames`: of `bring`. `releases`, `takes` and `units`: of `release`, `take` and `take_unit`.
-/// - `words`: of `watch`, each time that a watcher read before its `meet`. In between, the watcher may have read on.
+/// - `frames` is about calls of `bring`, and `releases`, `takes` and `units` are about calls of `release`, `take` and
+///   `take_unit`.
+/// - `words` is about each read of a watcher by `watch` before its `meet`. In between, the watcher may have read on.
 ///
-/// The operator closes as the call left it. Where it called again in between, the statement asks for `HasGoneOn`, which each further call
-/// promises, too (`later` of `IsCall`).
+/// The operator comes to the close as the call left it. If it made other calls in between, the statement requires
+/// `HasGoneOn`, which each further call promises, too (`later` of `IsCall`).
 pub fn what_calls_answered_stands_in_the_closed_journals()
     ensures frames { (station : Roster) (octets : List ℕ) (grows : Bool) (before after : AtStation) (brought : Brought) (operators : List AtStation) (closed : List History) (number : ℕ)
         → IsOurs station before → IsBringCall station octets IsReplied (IsNotBrought grows) before (Ok brought) after

@@ -1,13 +1,13 @@
-//! The virtual channel ids of a station, and where each stands.
+//! The virtual channel ids of a station, and the place of each.
 
 ghost use Rattle.std.specs.Prelude.{◌≡◌, ◌≢◌, ◌==◌, ◌<◌, ◌≤◌, length, position, slice_index, All, AllPairs, Contains, MatchOption};
 
 use std::marker::Model;
 
-// How many ids there can be.
+// The number of possible ids.
 const VCIDS: usize = 64;
 
-// What the table has of an id that isn't among them.
+// The table's entry for an id that isn't in the list.
 const NOWHERE: u8 = 64;
 
 /// Virtual channel ids, with a table of their places. Contracts see the ids alone.
@@ -29,7 +29,7 @@ impl Model for Vcids {
 }
 
 impl Vcids {
-    /// These ids.
+    /// Creates the table for these ids.
     pub(crate) fn new(ids: Vec<u8>) -> Vcids
         requires distinct { AllPairs (λ a b. a ≢ b) ids.items }
         requires allowed { All (λ v. v ≤ 63) ids.items }
@@ -42,14 +42,14 @@ impl Vcids {
         Vcids { ids, table }
     }
 
-    /// The ids in order.
+    /// Returns the ids in order.
     pub(crate) fn as_slice(&self) -> &[u8]
         ensures { result.now ≡ self.now }
     {
         self.ids.as_slice()
     }
 
-    /// The ids as a `Vec`, moved.
+    /// Returns the ids as a `Vec`, without a copy.
     pub(crate) fn into_vec(self) -> Vec<u8>
         ensures { result.items ≡ self }
     {
@@ -57,7 +57,7 @@ impl Vcids {
         ids
     }
 
-    /// The place of an id.
+    /// Returns the place of an id.
     pub(crate) fn place_of(&self, vcid: u8) -> Option<usize>
         ensures place { result ≡ position (λ v. v == vcid) self.now }
         ensures found { MatchOption result (¬ Contains self.now vcid) (λ k. (k < length self.now) × (slice_index self.now k ≡ vcid)) }

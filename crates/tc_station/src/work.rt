@@ -12,7 +12,7 @@ use std::sync::Wait;
 use std::thread::{Threads, join_mut};
 use tc_channel::{Items, Journal, NoMemory, Octets};
 
-/// What each worker passes once, under the lock of its list's channel, before it does its jobs.
+/// A gate that each worker passes once, under the lock of its list's channel, before it does its jobs.
 pub trait Gate {
     fn pass(&self, vcid: u8);
 }
@@ -25,16 +25,16 @@ impl Gate for FreeGate {
     fn pass(&self, _vcid: u8) {}
 }
 
-/// An operation to make.
+/// An operation to be run.
 #[derive(Debug, Drop, PartialEq, Eq)]
 pub enum Order {
-    /// Bring these octets to the channel that their frame names.
+    /// The order to bring these octets to the channel that their frame names.
     Bring(Octets),
-    /// Release the oldest data field of the list's channel.
+    /// The order to release the oldest data field of the list's channel.
     Release,
-    /// Take the oldest packet of the list's channel with this APID.
+    /// The order to take the oldest packet of the list's channel with this APID.
     Take(u16),
-    /// Take the oldest unit of this chosen MAP of the list's channel.
+    /// The order to take the oldest unit of this chosen MAP of the list's channel.
     TakeUnit(u8),
 }
 
@@ -53,7 +53,7 @@ pub struct WorkList {
     pub jobs: Items<Job>,
 }
 
-// The locks lend what the journals are made of from thread to thread.
+// The locks lend the journals and their entries from thread to thread.
 impl<J: Journal + Send> StationOf<J>
 where
     J::Entry: Send,
@@ -61,10 +61,10 @@ where
     ghost use Rattle.tc_station.specs.Tried.{IsListMade, IsJobMade, HasMadeTheSame};
     ghost use Rattle.tc_station.specs.Work.{IsDone, MayWantMemory, IsWorked, AreStaffed, AreWorked, IsTallyOf, NoCountFalls, IsRaised, line_of_fault};
 
-    /// Does each list of jobs in a thread of its own, with the operator of its place. A refusal other than for memory is
-    /// passed over. A list whose job is refused for memory is given up there; the others are done in full, and the lowest such
-    /// line is reported. Where no further thread starts, the thread that is there works off what is left, list by list. Nothing
-    /// grows but in the operations.
+    /// Does each list of jobs in a thread of its own, with the operator at the list's place. A refusal for any reason
+    /// but memory is passed over. A list is given up at the first job that is refused because memory ran out. The other
+    /// lists are done in full, and the lowest such line is reported. If no further thread starts, the running thread
+    /// works off the remaining lists, one by one. Only the operations themselves request memory.
     pub fn work<G: Gate + Sync, R: Threads + Wait + Sync>(
         &self,
         rt: &R,
@@ -89,7 +89,7 @@ where
         }
     }
 
-    // Does the lists, and answers the lowest line that was refused for memory.
+    // Does the lists, and returns the lowest line that was refused because memory ran out.
     #[cycle(work)]
     fn work_all<G: Gate + Sync, R: Threads + Wait + Sync>(
         &self,
@@ -158,7 +158,7 @@ where
         self.do_list(rt, gate, &lists[0], &mut operators[0])
     }
 
-    // Passes the gate, and does the jobs of a list in order, up to the first that is refused for memory.
+    // Passes the gate, and does the jobs of a list in order, up to the first that is refused because memory ran out.
     fn do_list<G: Gate, R: Wait>(
         &self,
         rt: &R,
@@ -183,7 +183,7 @@ where
         None
     }
 
-    // Does a job, unless memory is refused. Any other refusal is passed over.
+    // Does a job, and returns an error only if memory ran out. Any other refusal is passed over.
     fn do_job<R: Wait>(
         &self,
         rt: &R,
@@ -222,7 +222,7 @@ where
     }
 }
 
-// The lower of two lines.
+// Returns the lower of two lines.
 fn lower_line(a: Option<u32>, b: Option<u32>) -> Option<u32>
     ensures { result ≡ lower a b }
 {
