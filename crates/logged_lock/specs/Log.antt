@@ -18,13 +18,13 @@ with_entry l e = record { head = l.head; entries = l.entries ++ e ∷ [] }
 abbrev pub IsBeginning : {D E : Type 0} → Log D E → Log D E → Type 0
 IsBeginning old new = (new.head ≡ old.head) × IsPrefix old.entries new.entries
 
--- the places that belong to an owner, each with its entry; the first place has the number `at`
+-- The places that belong to an owner, each with its entry. The first place has the number `at`.
 abbrev pub owned : {E : Type 0} → ℕ → ℕ → List ℕ → List E → List (ℕ × E)
 owned owner at [] es = []
 owned owner at (o ∷ os) [] = []
 owned owner at (o ∷ os) (e ∷ es) = if o == owner then (at, e) ∷ owned owner (suc at) os es else owned owner (suc at) os es
 
--- the entries that the k-th account has made, each with its place; there are none if there is no such account
+-- The entries that the k-th account has made, each with its place. There are none if there is no such account.
 abbrev pub made_by : {D E : Type 0} → List (Account D E) → ℕ → List (ℕ × E)
 made_by [] k = []
 made_by (a ∷ more) zero = a.made

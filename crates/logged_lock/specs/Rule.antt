@@ -14,7 +14,7 @@ pub record LockAt (D : Type 0) : Type 0 where
   pub id : TableId
   pub head : D
 
--- the words of a lock whose own word is this number; the words around it are never used
+-- The words of a lock whose own word is this number. The words around it are never used.
 abbrev pub words_of : ℕ → List ℕ
 words_of n = 0 ∷ 0 ∷ 0 ∷ 0 ∷ 0 ∷ 0 ∷ 0 ∷ 0 ∷ 0 ∷ 0 ∷ 0 ∷ 0 ∷ 0 ∷ 0 ∷ 0 ∷ 0 ∷ n ∷ 0 ∷ 0 ∷ 0 ∷ 0 ∷ 0 ∷ 0 ∷ 0 ∷ 0 ∷ 0 ∷ 0 ∷ 0 ∷ 0 ∷ 0 ∷ 0 ∷ 0 ∷ 0 ∷ []
 
@@ -65,8 +65,8 @@ unlocked_with e v = record {
   reported = v.reported;
 }
 
--- the facts about a seat: the entries that it has made are its own in the log, which begins with what it has seen; a
--- seat that has the lock has seen all of the log; and only makers have made anything
+-- The entries that a seat has made are its own in the log, which begins with the log that it has seen. A seat that has
+-- the lock has seen all of the log. Only makers have made anything.
 pub record IsSeat {D E : Type 0} (now : Log D E) (owners : List ℕ) (holder : Option ℕ) (id : ℕ) (v : View D E) : Type 0 where
   pub mine : owned (seat_tag id) 0 owners now.entries ≡ v.own.made
   pub behind : v.live ≡ true → IsBeginning v.own.seen now

@@ -13,8 +13,8 @@ is_open (suc zero) zero = false
 is_open (suc zero) (suc sleeps) = true
 is_open (suc (suc word)) sleeps = false
 
--- the word by which a thread that has slept this many times shows that it waits; from its third sleep on it requests
--- that the lock be left to threads that have slept
+-- The word by which a thread that has slept this many times shows that it waits. From its third sleep on it requests
+-- that the lock be left to threads that have slept.
 abbrev pub asking : ℕ → ℕ
 asking zero = 3
 asking (suc zero) = 3

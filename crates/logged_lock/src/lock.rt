@@ -21,8 +21,9 @@ const FREE: u64 = 0;
 
 const LEFT: u64 = 1;
 
-// The words of a taken lock. `TAKEN` says no more than that, `SLEEPERS` that a thread may sleep, and `ASKED` that a
-// thread has requested that the lock be left to threads that have slept. While the lock is taken its word only rises.
+// The words of a taken lock. `TAKEN` means no more than that. `SLEEPERS` means that a thread may sleep, and `ASKED`
+// that a thread has requested that the lock be left to threads that have slept. While the lock is taken its word only
+// rises.
 const TAKEN: u64 = 2;
 
 const SLEEPERS: u64 = 3;

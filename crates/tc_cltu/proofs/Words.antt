@@ -52,7 +52,7 @@ remainder-linear _ _ r s l = absurd (omega arith)
 pub zeros-twice : (n : ℕ) → xors (zeros n) (zeros n) ≡ zeros n
 zeros-twice n = ap (λ (m : ℕ). xors (zeros m) (zeros n)) (sym (zeros-length n)) ∙ zeros-xors (zeros n)
 
--- the remainder of a word divided by the generator; the register holds x ^ 7 times it, and x ^ 63 leaves 1
+-- The remainder of a word divided by the generator. The register holds x ^ 7 times it, and x ^ 63 leaves 1.
 unfoldable pub left : List ℕ → ℕ
 left bs = block_remainder (block_remainder 0 bs) (zeros 56)
 

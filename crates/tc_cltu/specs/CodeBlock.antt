@@ -11,7 +11,7 @@ use Rattle.tc_fecf.specs.Changes.{differences}
 use Rattle.tc_cltu.specs.declared.block.Mode.{Mode}
 use Rattle.tc_cltu.specs.declared.block.Mode.TheVariants.{Detect, Correct}
 
--- a polynomial of degree under 7, times x, modulo G; if a term in x ^ 7 arises, the other terms of G replace it
+-- A polynomial of degree under 7, times x, modulo G. If a term in x ^ 7 arises, the other terms of G replace it.
 unfoldable pub block_times_x : ℕ → ℕ
 block_times_x r = bit_xor (r * 2 % 2 ^ 7) (bit_at r 6 * (2 ^ 6 + 2 ^ 2 + 1))
 

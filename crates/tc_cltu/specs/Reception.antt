@@ -21,8 +21,8 @@ pub data Reception : Type 0 where
 abbrev pub Step : Type 0
 Step = Reception × List (List ℕ)
 
--- the step after a whole block: the octets of an accepted block are kept while there is room for them; a rejected block
--- completes a candidate frame if there were blocks before it, and a block that finds no room completes none
+-- The step after a whole block. The octets of an accepted block are kept while there is room for them. A rejected block
+-- completes a candidate frame if there were blocks before it, and a block that finds no room completes none.
 abbrev pub after_block : ℕ → List ℕ → Option (List ℕ) → Step
 after_block room frame (Some information) = if nat_lt room (length frame + 7) then (Searching 0, []) else (Decoding (frame ++ information) [], [])
 after_block room [] None = (Searching 0, [])
@@ -62,7 +62,7 @@ fate_in mode block =
     else if is_some (decoded mode block) then Corrected
     else rejected_as block
 
--- the fate of a block after octets that the CLTU carried before; a block that would be accepted may find no room
+-- The fate of a block after octets that the CLTU carried before. A block that would be accepted may find no room.
 abbrev pub fate_behind : ℕ → List ℕ → Option (List ℕ) → Fate → Fate
 fate_behind room frame None fate = fate
 fate_behind room frame (Some information) fate = if nat_lt room (length frame + 7) then Overlong else fate

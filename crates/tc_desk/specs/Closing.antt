@@ -9,8 +9,9 @@ use Rattle.tc_desk.specs.Log.{Own, AtLock, accounts_of}
 abbrev pub IsBalanced : List Own → List Event → Type 0
 IsBalanced makers journal = (total_made makers ≡ length journal) × (length journal < 2 ^ 64 - 1)
 
--- the operators can close a desk whose owner has issued this many: all that were issued are among them, or they have
--- made as many events as the journal has; and what they have made is less than the largest count of 64 bits
+-- The operators can close a desk whose owner has issued this many. Either all that were issued are among them, or they
+-- have made as many events as the journal has. In both cases they have made fewer events than the largest count of 64
+-- bits.
 abbrev pub CanClose : ℕ → List Own → List Event → Type 0
 CanClose issued makers journal = (total_made makers < 2 ^ 64 - 1) × ((issued ≤ length makers) ⊎ (total_made makers ≡ length journal))
 
@@ -19,7 +20,7 @@ abbrev pub IsCause : ℕ → List Own → Type 0
 IsCause issued makers = (length makers < issued) ⊎ (2 ^ 64 - 1 ≤ total_made makers)
 
 -- The journal of the closed channel is a merge of what these operators made, and has as many events as they have made.
--- What each of them had seen is a beginning of it, with the settings of the desk and its board.
+-- The moment that each of them had seen is a beginning of it, with the settings of the desk and its board.
 pub record IsClosed (owner : AtLock) (operators : List AtLock) (closed : History) : Type 0 where
   pub settings : closed.settings ≡ owner.own.seen.head.settings
   pub balanced : IsBalanced (accounts_of operators) closed.journal

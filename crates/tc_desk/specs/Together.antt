@@ -70,8 +70,8 @@ CannotCloseOne guard operator_lists = (place : ℕ) × (h : AtHand) × (slice_ge
 abbrev pub HasCause : List AtLock → List (List AtLock) → Type 0
 HasCause owned_desks operator_lists = (place : ℕ) × (owned_desk : AtLock) × (slice_get owned_desks place ≡ Some owned_desk) × IsCause owned_desk.own.issued (accounts_of (column place operator_lists))
 
--- the reason why the desks weren't closed; if it is the counts, there were moments of the desks, all at once, at which
--- one wasn't balanced
+-- The reason why the desks weren't closed. If it is the counts, there were moments of the desks, all at once, at which
+-- one wasn't balanced.
 abbrev pub IsClosingRefusal : List AtLock → List (List AtLock) → Refusal → Type 0
 IsClosingRefusal owned_desks operator_lists NoMemory = Unit {0}
 IsClosingRefusal owned_desks operator_lists InUse = Unit {0}

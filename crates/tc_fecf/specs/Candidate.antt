@@ -9,8 +9,8 @@ pub record IsDelimited (octets frame rest : List ℕ) : Type 0 where
   pub whole : IsWhole frame
   pub parts : octets ≡ frame ++ rest
 
--- the octets are these whole frames, one after the other, followed by this rest; there are at most `most` frames, and
--- fewer only if the rest doesn't begin with a frame
+-- The octets are these whole frames, one after the other, followed by this rest. There are at most `most` frames, and
+-- fewer only if the rest doesn't begin with a frame.
 pub record AreDelimited (most : ℕ) (octets : List ℕ) (frames : List (List ℕ)) (rest : List ℕ) : Type 0 where
   pub each : AllByRecursion IsWhole frames
   pub parts : octets ≡ concat frames ++ rest

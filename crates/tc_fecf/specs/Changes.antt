@@ -13,8 +13,8 @@ pub record SameOctets (one other : List ℕ) : Type 0 where
   pub each_other : IsOctets other
   pub length : length one ≡ length other
 
--- two lists of octets have equal bits at each place for which P holds; the first place is the most significant bit of
--- the first octet
+-- Two lists of octets have equal bits at each place for which P holds. The first place is the most significant bit of
+-- the first octet.
 abbrev pub SameBits : List ℕ → List ℕ → (ℕ → Type 0) → Type 0
 SameBits one other P = (k : ℕ) → P k → slice_index (bits_of one) k ≡ slice_index (bits_of other) k
 

@@ -5,7 +5,7 @@
 use Rattle.std.specs.Prelude.{ℕ, ◌+◌, ◌*◌, ◌%◌, ◌^◌, List, [], ◌∷◌, ◌++◌, bit_xor}
 use Rattle.tc_link.specs.Bits.{bits}
 
--- a polynomial of degree under 16, times x, modulo G; if a term in x ^ 16 arises, the other terms of G replace it
+-- A polynomial of degree under 16, times x, modulo G. If a term in x ^ 16 arises, the other terms of G replace it.
 unfoldable pub times_x : ℕ → ℕ
 times_x r = bit_xor (r * 2 % 2 ^ 16) (bits r 15 1 * (2 ^ 12 + 2 ^ 5 + 1))
 

@@ -77,7 +77,7 @@ pub record AreLimits (s : Settings) (limits : Limits) : Type 0 where
   pub by_headers : LimitsMapsByHeaders limits.maps s.segmented
   pub listed : AreListed limits s.maps
 
--- the property of limits that are free of this fault; the faults of settings are defined elsewhere
+-- The property of limits that are free of this fault. The faults of settings are defined elsewhere.
 abbrev pub IsFreeOfLimitsFault : Settings → Limits → LimitsFault → Type 0
 IsFreeOfLimitsFault s limits (faults.Settings fault) = Unit {0}
 IsFreeOfLimitsFault s limits faults.BadOthers = IsOthers limits.others s.segmented
@@ -104,7 +104,7 @@ IsLimitsFault s limits fault = IsFirstLimitsFault s limits limits_faults_in_orde
 abbrev pub of_settings : SettingsFault → LimitsFault
 of_settings fault = faults.Settings fault
 
--- the first fault is this one; the faults of the settings come before those of the limits
+-- The first fault is this one. The faults of the settings come before those of the limits.
 abbrev pub IsFaultWithLimits : Settings → Limits → LimitsFault → Type 0
 IsFaultWithLimits s limits fault = ((its : SettingsFault) × (fault ≡ of_settings its) × IsFaultOfSettings s its) ⊎ (IsAllowed s × IsLimitsFault s limits fault)
 

@@ -24,7 +24,7 @@ pub fn storage(settings: &Settings) -> u64
     storage_of_lent(settings.lent())
 }
 
-/// Returns what [`storage`] returns, for settings whose lists are lent.
+/// Returns the number that [`storage`] returns, for settings whose lists are lent.
 #[tactic(auto, unfolding(crate::specs::Storage::storage_within))]
 pub fn storage_of_lent(settings: LentSettings<'_>) -> u64
     ensures { result ≡ min (storage_of (settings_of settings.entry)) (2 ^ 64 - 1) }
@@ -41,7 +41,7 @@ pub fn storage_with_limits(settings: &Settings, limits: &Limits) -> u64
     storage_with_lent(settings.lent(), limits.lent())
 }
 
-/// Returns what [`storage_with_limits`] returns, for settings and limits whose lists are lent.
+/// Returns the number that [`storage_with_limits`] returns, for settings and limits whose lists are lent.
 #[tactic(auto, unfolding(crate::specs::Storage::storage_within))]
 pub fn storage_with_lent(settings: LentSettings<'_>, limits: LentLimits<'_>) -> u64
     ensures { result ≡ min (storage_within (settings_of settings.entry) (limits_of limits.entry)) (2 ^ 64 - 1) }

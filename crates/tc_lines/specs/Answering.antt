@@ -10,7 +10,7 @@ abbrev pub lines_after : ℕ → List (List ℕ) → List (List ℕ)
 lines_after octet [] = (octet ∷ []) ∷ []
 lines_after octet (line ∷ lines) = (octet ∷ line) ∷ lines
 
--- the lines of octets in their order, each without its line feed; octets after the last line feed are a line
+-- The lines of octets in their order, each without its line feed. Octets after the last line feed are a line.
 abbrev pub lines_of : List ℕ → List (List ℕ)
 lines_of [] = []
 lines_of (octet ∷ octets) = if octet == 10 then [] ∷ lines_of octets else lines_after octet (lines_of octets)
@@ -23,7 +23,8 @@ Writes old new Is = (text : List ℕ) × Is text × Appends old new text
 abbrev pub too_long_text : List ℕ
 too_long_text = codes "bad too long\n"
 
--- a line that is too long gets the answer for that, and changes nothing; any other line is answered as `Answers` states
+-- A line that is too long gets the answer for that, and changes nothing. Any other line is answered as `Answers`
+-- states.
 abbrev pub IsAnswered : {S : Type 0} → ℕ → (S → List ℕ → S → List ℕ → Type 0) → S → List ℕ → S → List ℕ → Type 0
 IsAnswered limit Answers old line new text =
     ((limit < length line) × (new ≡ old) × (text ≡ too_long_text)) ⊎ ((length line ≤ limit) × Answers old line new text)
@@ -35,8 +36,8 @@ AreAnswered {S} limit Answers old (line ∷ lines) new text =
     (between : S) × (first : List ℕ) × (rest : List ℕ) × IsAnswered limit Answers old line between first
     × AreAnswered limit Answers between lines new rest × (text ≡ first ++ rest)
 
--- a line that was read is answered by the octets that were kept of it, or as too long; there is no line if the input
--- ended after a line feed
+-- A line that was read is answered by the octets that were kept of it, or as too long. There is no line if the input
+-- ended after a line feed.
 abbrev pub IsReadAnswered : {S : Type 0} → (S → List ℕ → S → List ℕ → Type 0) → S → LineRead → List ℕ → S → List ℕ → Type 0
 IsReadAnswered Answers old read kept new text =
     ((read.too_long ≡ true) × (new ≡ old) × (text ≡ too_long_text))

@@ -14,8 +14,8 @@ abbrev pub feed_of : Bool → List ℕ
 feed_of true = 10 ∷ []
 feed_of false = []
 
--- a reader lost a line and its line feed, or all that it had if there was no line feed; at most `limit` octets of the
--- line are kept
+-- A reader lost a line and its line feed, or all that it had if there was no line feed. At most `limit` octets of the
+-- line are kept.
 pub record IsLineRead (limit : ℕ) (old new : Option (List ℕ)) (kept : List ℕ) (read : LineRead) : Type 0 where
   pub line : List ℕ
   pub one : IsOneLine line

@@ -13,7 +13,7 @@ use Rattle.tc_link.specs.declared.farm.Arrival.{Arrival}
 use Rattle.tc_link.specs.declared.farm.Arrival.TheVariants.{Frame, Release}
 use Rattle.tc_link.specs.Window.{place_of}
 
--- the rows of the table, of which that of a Set V(R) carries its number
+-- the rows of the table, where the row of a Set V(R) carries its number
 pub data Row : Type 0 where
   E1 : Row
   E2 : Row
@@ -108,7 +108,7 @@ accepts_at _ _ = false
 abbrev pub accepts : Row → Report → Bool
 accepts row r = accepts_at row r.state
 
--- the components after a row; if the row has no entry, this value doesn't matter
+-- The components after a row. If the row has no entry, this value doesn't matter.
 abbrev pub after : Row → Report → Report
 after row r = unwrap_or (entry row r) r
 

@@ -286,7 +286,7 @@ impl Farm {
     /// Creates a FARM-1 that continues from six components that a caller kept, with the window that they were kept
     /// with.
     ///
-    /// The FARM-B counter must be below 4, as it is in what [`Farm::report`] returns. Nothing is allocated.
+    /// The FARM-B counter must be below 4, as it is in a result of [`Farm::report`]. Nothing is allocated.
     pub fn resumed(window: Window, report: Report) -> Farm
         requires farm_b { report.farm_b < 4 }
         ensures width { result.width ≡ window }

@@ -17,8 +17,8 @@ largest_unit = largest_packet
 abbrev pub bounded : List ℕ → Option (List ℕ)
 bounded octets = if nat_le (length octets) largest_unit then Some octets else None
 
--- the octets if they are no more than the limit, or none; the largest unit as the limit leaves each run and unit of a
--- stream as it is
+-- The octets if they are no more than the limit, or none. The largest unit, as the limit, leaves each run and unit of a
+-- stream as it is.
 abbrev pub at_most : ℕ → Option (List ℕ) → Option (List ℕ)
 at_most limit None = None
 at_most limit (Some octets) = if nat_le (length octets) limit then Some octets else None
@@ -138,8 +138,8 @@ stream_place service field = place_of service (header_of field).map
 abbrev pub stream_count : ℕ
 stream_count = 128
 
--- the run and the unit with or without segment headers; without them each field is plain, is a unit by itself and
--- leaves no run
+-- The run and the unit with or without segment headers. Without them each field is plain, is a unit by itself and
+-- leaves no run.
 
 -- the run that the fields of a stream leave open
 abbrev pub run_left : Bool → List (List ℕ) → Option (List ℕ)

@@ -49,7 +49,7 @@ packets_within zero octets = []
 packets_within (suc n) octets =
     if begins octets then take (named_length octets) octets ∷ packets_within n (drop (named_length octets) octets) else []
 
--- the packets of a unit's cut, of which there are no more than the unit has octets
+-- the packets of a unit's cut, which has no more packets than the unit has octets
 abbrev pub packets_of : List ℕ → List (List ℕ)
 packets_of unit = packets_within (length unit) unit
 

@@ -28,7 +28,7 @@ first_runs zero runs = []
 first_runs (suc n) [] = None ∷ first_runs n []
 first_runs (suc n) (run ∷ runs) = run ∷ first_runs n runs
 
--- the run of each of the 128 streams; if data fields have no segment headers, there are no rooms, and no run is open
+-- The run of each of the 128 streams. If data fields have no segment headers, there are no rooms, and no run is open.
 abbrev pub of_streams : OpenRuns → OpenRuns
 of_streams opened = record { segmented = opened.segmented; runs = first_runs stream_count opened.runs }
 
@@ -57,7 +57,7 @@ ended_kind ended_kinds.Nothing run body = None
 ended_kind ended_kinds.Body run body = Some body
 ended_kind ended_kinds.Whole run body = Some run.room.octets
 
--- the run after a segment with this report; a run that completed a unit is over once the unit is delivered
+-- The run after a segment with this report. A run that completed a unit is over once the unit is delivered.
 abbrev pub behind : EndedKind → OpenRun → OpenRun
 behind ended_kinds.Nothing run = run
 behind ended_kinds.Body run = closed run

@@ -1,10 +1,11 @@
 //! Segments, reassembly and space packets of a telecommand link.
 //!
 //! A [`Room`] holds octets, up to a size. It is either a block of that size ([`FixedRoom`]) or a block that grows
-//! ([`GrowingRoom`]). [`Runs`] have a room for the open run of each stream. They report where the unit lies that a data
-//! field completes ([`Ended`]), so that it needn't be copied to be handed out. A last segment is staged behind the open
-//! run's octets. Once the unit is delivered, its run is over ([`Runs::commit`]). If memory runs out before, the runs are
-//! as they were. A [`Reassembler`] consists of such runs in rooms that grow, and returns a copy of each unit.
+//! ([`GrowingRoom`]). [`Runs`] have a room for the open run of each stream. They report the place of a unit that a data
+//! field completes ([`Ended`]), so that the unit needn't be copied to be handed out. A last segment is staged behind
+//! the open run's octets. Once the unit is delivered, its run is over ([`Runs::commit`]). If memory runs out before,
+//! the runs are as they were. A [`Reassembler`] consists of such runs in rooms that grow, and returns a copy of each
+//! unit.
 //!
 //! The rooms of the streams are a boxed slice, and so is the block of a [`FixedRoom`]. These types have no call that
 //! grows them. Rooms that are created at the start therefore request memory only when they are created, and no other

@@ -35,7 +35,7 @@ impl Model for Reassembler {
 }
 
 impl Reassembler {
-    /// Creates a reassembler with no open run. The room for all streams is allocated here. `segmented` tells whether
+    /// Creates a reassembler with no open run. The room for all streams is allocated here. `segmented` is true if
     /// data fields begin with a segment header.
     pub fn new(alloc: Global, segmented: bool) -> Result<Reassembler, NoMemory>
         ensures { IfOk result (λ r. r ≡ record { segmented = segmented; runs = replicate stream_count None }) }

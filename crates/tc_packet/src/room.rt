@@ -9,12 +9,13 @@ use std::marker::Model;
 use std::mem::replace;
 
 /// A place for the octets of one item or of one run, up to a size. Queues and reassembly are generic over it, so that
-/// they have one code for rooms that are created at the start ([`FixedRoom`]) and for rooms that grow ([`GrowingRoom`]).
+/// they have one code for rooms that are created at the start ([`FixedRoom`]) and for rooms that grow
+/// ([`GrowingRoom`]).
 pub trait Room: Drop {
     // the octets in use, and the largest number of them
     ghost contents: { Self → Contents };
 
-    // whether storing octets may request memory; if not, it never fails
+    // Whether storing octets may request memory. If not, it never fails.
     ghost grows: { Bool };
 
     /// Creates a room for `size` octets, none of them in use.
@@ -57,7 +58,7 @@ pub trait Room: Drop {
         ensures within { length result.now ≤ (contents self.now).size };
 }
 
-/// A block of octets, of which the first ones are in use. The block has no call that grows it, so only `with_size`
+/// A block of octets, whose first ones are in use. The block has no call that grows it, so only `with_size`
 /// allocates.
 #[derive(Drop)]
 pub struct FixedRoom {

@@ -294,7 +294,7 @@ fn empty_runs<R: Room>(
     Ok(runs)
 }
 
-// Creates runs of which none is open. With segment headers each stream has a room, as large as the limit of its MAP.
+// Creates runs that are all closed. With segment headers each stream has a room, as large as the limit of its MAP.
 fn with_rooms<R: Room>(
     alloc: Global,
     segmented: bool,
@@ -318,7 +318,7 @@ fn with_rooms<R: Room>(
 }
 
 impl<R: Room> Runs<R> {
-    /// Creates runs of which none is open. Units of more than `limit` octets are dropped. With segment headers the room
+    /// Creates runs that are all closed. Units of more than `limit` octets are dropped. With segment headers the room
     /// of each of the 128 streams is allocated here. Without them there are no rooms, since each data field is a unit
     /// by itself.
     pub fn new(alloc: Global, segmented: bool, limit: usize) -> Result<Runs<R>, AllocError>
@@ -330,7 +330,7 @@ impl<R: Room> Runs<R> {
         with_rooms(alloc, segmented, limit, &[limit; MAPS])
     }
 
-    /// Creates runs of which none is open, for data fields with segment headers. A MAP's units of more octets than its
+    /// Creates runs that are all closed, for data fields with segment headers. A MAP's units of more octets than its
     /// limit are dropped. `limits` holds one limit for each of the 64 MAPs. The room of each of the 128 streams is
     /// allocated here, as large as the limit of its MAP.
     pub fn by_map(alloc: Global, limits: &[usize]) -> Result<Runs<R>, AllocError>

@@ -49,7 +49,7 @@ have-more n i [] have k d lt = absurd (omega (arith, lt))
 have-more n i (p ∷ ps) have zero d lt = let here = have 0 d (omega arith) in omega (arith, here)
 have-more n i (p ∷ ps) have (suc k) d lt = have-more n i ps (λ j e inside. have (suc j) e (omega (arith, inside))) k d (omega (arith, lt))
 
--- one more owned desk that has issued as many operators
+-- one more owned desk, which has also issued `n` operators
 pub have-end : (n : ℕ) (owned_desks next : List AtLock) (p : AtLock) → next ≡ owned_desks ++ p ∷ [] → HaveIssued n owned_desks → p.own.issued ≡ n → HaveIssued n next
 have-end n owned_desks next p is have one =
     All-same (λ (i : ℕ). i ≡ n) (issued_of next) (issued_of owned_desks ++ p.own.issued ∷ []) (ap issued_of is ∙ map_push (λ (o : AtLock). o.own.issued) owned_desks p)

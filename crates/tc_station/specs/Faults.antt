@@ -60,7 +60,7 @@ abbrev pub IsWatcherFault : Roster → ℕ → WatcherFault → Type 0
 IsWatcherFault station vcid watcher_faults.UnknownChannel = ¬ Contains station.vcids vcid
 IsWatcherFault station vcid watcher_faults.NoMemory = Contains station.vcids vcid
 
--- the first of these that applies; the channels are returned only if the counts don't fit their journals
+-- The first of these that applies. The channels are returned only if the counts don't fit their journals.
 abbrev pub IsCloseFault : Roster → List AtStation → CloseFault → Type 0
 IsCloseFault station operators (Missing s os) = (length operators < station.issued) × (s ≡ station) × (os.items ≡ operators)
 IsCloseFault station operators (NoMemory s os) = (station.issued ≤ length operators) × (s ≡ station) × (os.items ≡ operators)

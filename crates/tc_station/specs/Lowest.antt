@@ -1,4 +1,4 @@
--- The lower of two lines, of which there may be none.
+-- The lower of two lines, either of which may be missing.
 use Rattle.std.specs.Prelude.{ℕ, min, Option, Some, None}
 
 abbrev pub lower : Option ℕ → Option ℕ → Option ℕ

@@ -20,7 +20,7 @@ tally o = record { vcids = o.vcids; counts = o.counts }
 abbrev pub tallies : List AtStation → List Tally
 tallies operators = map tally operators
 
--- the number of events that were made at each of these desks, where 2^64 - 1 stands for that number or more
+-- the number of events that were made at each of these desks, or 2^64 - 1 if there are more
 abbrev pub counts_of : List AtLock → List ℕ
 counts_of desks = map (λ (d : AtLock). count_of d.own) desks
 
@@ -44,7 +44,7 @@ issued_more n owned_desks = map (λ (p : AtLock). record { lock = p.lock; own = 
 abbrev pub IsOurs : Roster → AtStation → Type 0
 IsOurs station o = (o.vcids ≡ station.vcids) × (locks_of o.desks ≡ station.locks)
 
--- what the operator has seen of its desks has their settings and boards
+-- the moments that the operator has seen of its desks have their settings and boards
 abbrev pub KnowsDesks : Roster → AtStation → Type 0
 KnowsDesks station o = heads_of o.desks ≡ station.heads
 

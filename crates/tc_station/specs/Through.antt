@@ -13,7 +13,7 @@ use Rattle.tc_station.specs.Roster.{Roster, IsPlace}
 use Rattle.tc_station.specs.Tally.{AtStation}
 use Rattle.tc_station.specs.Together.{AreClosedTogether}
 
--- what an operator has seen at the desk of this place continues what it had seen there before
+-- the moment that an operator has seen at the desk of this place continues the one that it had seen there before
 pub record HasGoneOn (place : ℕ) (early late : AtStation) : Type 0 where
   pub before : AtLock
   pub after : AtLock

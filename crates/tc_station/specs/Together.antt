@@ -12,13 +12,13 @@ use Rattle.tc_station.specs.Tally.{AtStation}
 abbrev pub operator_lists_of : List AtStation → List (List AtLock)
 operator_lists_of operators = map (λ (o : AtStation). o.desks) operators
 
--- The journal of each channel is a merge of what these operators made at its desk. What each of them had seen is a
--- beginning of the journal, and the channel's settings are those of the desk.
+-- The journal of each channel is a merge of what these operators made at its desk. The moment that each of them had
+-- seen is a beginning of the journal, and the channel's settings are those of the desk.
 abbrev pub AreClosedTogether : Roster → List AtStation → List History → Type 0
 AreClosedTogether station operators closed = (owned_desks : List AtLock) × AreOwnedDesksOf station owned_desks × AreClosed owned_desks (operator_lists_of operators) closed
 
--- the refusal to close together; if it is the counts, there were moments of the desks, all at once, at which one of
--- them wasn't balanced
+-- The refusal to close together. If it is the counts, there were moments of the desks, all at once, at which one of
+-- them wasn't balanced.
 abbrev pub IsNotClosedTogether : Roster → List AtStation → Refusal → Type 0
 IsNotClosedTogether station operators refusal = (owned_desks : List AtLock) × AreOwnedDesksOf station owned_desks × IsClosingRefusal owned_desks (operator_lists_of operators) refusal
 

@@ -1,5 +1,5 @@
-//! The station of one spacecraft: its virtual channels, each behind a lock of its own, and the operators that bring them
-//! frames, release their data fields and take their packets and units.
+//! The station of one spacecraft: its virtual channels, each behind a lock of its own, and the operators that bring
+//! them frames, release their data fields and take their packets and units.
 //!
 //! A contract sees a [`Desk`], which lies under a lock, as its channel and the board of its status word, and each call
 //! of a desk has the contract of the channel's call. Whenever the lock is free, the word is the CLCW of the channel's

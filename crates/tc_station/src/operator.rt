@@ -101,8 +101,8 @@ impl Operator {
         Operator { vcids, desks }
     }
 
-    /// Returns the number of this operator's operations on this channel that were answered, where 2^64 - 1 stands for
-    /// that number or more. Returns `None` if there is no such channel.
+    /// Returns the number of this operator's operations on this channel that were answered, or 2^64 - 1 if there are
+    /// more. Returns `None` if there is no such channel.
     pub fn count(&self, vcid: u8) -> Option<u64>
         ensures { result ≡ count_in vcid (tally self.now) }
     {

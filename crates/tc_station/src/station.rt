@@ -123,7 +123,7 @@ impl<J: Journal> StationOf<J> {
         Ok(located)
     }
 
-    /// Returns what [`locate`](StationOf::locate) returns, with the place of the channel among the station's.
+    /// Returns the result of [`locate`](StationOf::locate), with the place of the channel among the station's.
     pub fn place_frame<'a>(&self, octets: &'a [u8]) -> Result<(usize, Located<'a>), LocateFault>
         ensures { MatchResult result (λ placed. IsPlaced self.now octets.now placed.0 placed.1.vcid placed.1.frame) (IsLocateFault self.now octets.now) }
     {

@@ -49,7 +49,7 @@ use tc_desk::each_event_stands_at_its_place;
 /// - `given`: The packets that all takes of an application returned are, in order, packets made from the data fields
 ///   that the channel passed on: those of the era, the Type-AD fields of earlier eras, and the Type-BD fields between
 ///   them. `given_units` states this for the units of a chosen MAP.
-/// - `whole`: If these are as many as the fields make, none is left out.
+/// - `whole`: If there are as many of these as the fields make, none is left out.
 ///
 /// Each call of an operator continues all that the operator had seen (`later` of `IsCall`), and so do several calls
 /// together.

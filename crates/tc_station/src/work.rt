@@ -38,7 +38,7 @@ pub enum Order {
     TakeUnit(u8),
 }
 
-/// An order, and the line of the script that gave it.
+/// An order, and the line of the script that contains it.
 #[derive(Debug, Drop, PartialEq, Eq)]
 pub struct Job {
     pub line: u32,

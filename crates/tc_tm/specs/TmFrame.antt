@@ -39,7 +39,7 @@ primary_header header = spelled (identifiers header) ++ header.master_count ∷ 
 abbrev pub before_sum : TmHeader → List ℕ → ℕ → List ℕ
 before_sum header control n = primary_header header ++ replicate (n - 10) 0x55 ++ control
 
--- a frame of `n` octets; its error control field (4.1.6), if it has one, covers all octets before it
+-- A frame of `n` octets. Its error control field (4.1.6), if it has one, covers all octets before it.
 abbrev pub tm_frame : ErrorControl → TmHeader → List ℕ → ℕ → List ℕ
 tm_frame Absent header control n = before_sum header control n
 tm_frame Present header control n = before_sum header control (n - 2) ++ spelled (checksum_of (before_sum header control (n - 2)))

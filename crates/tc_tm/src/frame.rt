@@ -15,8 +15,8 @@ pub enum ErrorControl {
     Present,
 }
 
-/// The fields of a primary header that tell to which channel a frame belongs, and which of its frames it is (CCSDS
-/// 132.0-B, 4.1.2).
+/// The fields of a primary header that identify a frame: its spacecraft and channel, and its place among their frames
+/// (CCSDS 132.0-B, 4.1.2).
 #[derive(Clone, Copy, Debug, PartialEq, Eq)]
 pub struct TmHeader {
     /// The spacecraft id, 0 to 1,023.

@@ -17,7 +17,7 @@ Carries (Some segment) field octets = (header_of field ≡ segment) × (body_of 
 abbrev pub IsMadeFrame : List ℕ → Header → Option Segment → List ℕ → Type 0
 IsMadeFrame frame header segment octets = IsFrame frame header (drop 5 frame) × Carries segment (drop 5 frame) octets
 
--- the header of the frame that comes `place` places after another; the N(S) of Type-AD frames counts up modulo 256
+-- The header of the frame that comes `place` places after another. The N(S) of Type-AD frames counts up modulo 256.
 abbrev pub header_later : Header → ℕ → Header
 header_later header place = record header { ns = if header.bypass then header.ns else (header.ns + place) % 256 }
 

@@ -4,7 +4,7 @@ use Rattle.tc_packet.specs.declared.segment.Part.{Part}
 use Rattle.tc_packet.specs.declared.segment.Part.TheVariants.{First, Continuing, Last, Unsegmented}
 use Rattle.tc_packet.specs.declared.segment.Segment.{Segment}
 
--- the number of segments of `size` octets that carry `n` octets; the last of them may be shorter
+-- The number of segments of `size` octets that carry `n` octets. The last of them may be shorter.
 abbrev pub segments_needed : ℕ → ℕ → ℕ
 segments_needed size n = (n + size - 1) / size
 
