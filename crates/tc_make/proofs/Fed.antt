@@ -9,7 +9,7 @@ use Rattle.tc_cltu.specs.declared.block.Mode.{Mode}
 use Rattle.tc_make.specs.Decoders.{IsFed, IsPieceSaid, candidates_text, blocks_text}
 use Rattle.tc_make.proofs.Written.{joined}
 
--- the candidate frames that were written, and then those that are to come, are all of them
+-- the candidate frames that were written, followed by those that are to come, are all candidate frames
 abbrev pub IsSoFar : Mode → List ℕ → List ℕ → Reception → Reception → Option (List ℕ) → Option (List ℕ) → Type 0
 IsSoFar mode rest os first state a b =
     (given : List (List ℕ)) × Appends a b (candidates_text given) × (given ++ frames_of mode 1029 state rest ≡ frames_of mode 1029 first os)
@@ -24,7 +24,7 @@ some-fed mode was rest now os first state next more a b c same is (given, before
       ∙ ap (λ (x : List (List ℕ)). given ++ x) (subst (λ (m : Mode). more ++ frames_of m 1029 next now ≡ frames_of m 1029 state rest) same is) ∙ h,
 )
 
--- all octets were taken
+-- once all octets are taken, the whole answer is written
 pub all-fed : (mode : Mode) (corrected rejected overlong : ℕ) (os : List ℕ) (first state : Reception) (a b c : Option (List ℕ)) → IsSoFar mode [] os first state a b
     → corrected ≡ corrected_in mode 1029 first os → rejected ≡ rejected_in mode 1029 first os → overlong ≡ overlong_in mode 1029 first os → Appends b c (blocks_text corrected rejected overlong)
     → Appends a c (candidates_text (frames_of mode 1029 first os) ++ blocks_text (corrected_in mode 1029 first os) (rejected_in mode 1029 first os) (overlong_in mode 1029 first os))
@@ -35,7 +35,7 @@ all-fed mode corrected rejected overlong os first state a b c (given, before, h)
     (subst (λ (x : ℕ). Appends b c (blocks_text (corrected_in mode 1029 first os) (rejected_in mode 1029 first os) x)) k
     (subst (λ (x : ℕ). Appends b c (blocks_text (corrected_in mode 1029 first os) x overlong)) f (subst (λ (x : ℕ). Appends b c (blocks_text x rejected overlong)) e now)))
 
--- the decoder of a stream does what is asked of it
+-- if `Is` holds of the decoder of a stream, before and after, it holds of the place of this stream among all decoders
 pub slot-done : (Is : Option Receiver → Option Receiver → List ℕ → Type 0) (old items : List (Option Receiver)) (id at : ℕ) (was slot : Option Receiver) (a b : Option (List ℕ))
     → items ≡ old → at ≡ id → slice_get items at ≡ Some was → Writes a b (Is was slot)
     → Writes a b (λ text. (s : Option Receiver) × (slice_set items at slot ≡ slice_set old id s) × Is (slice_index_or old id None) s text)

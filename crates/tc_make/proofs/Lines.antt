@@ -1,4 +1,4 @@
--- What a line is answered, and what it does.
+-- The answer to a line, and its effect.
 use Rattle.tc_make.proofs.Names.{Appends, List, Option, Reason, Writes, ap, bad_text, inl, inr, refl, subst, sym, ℕ, ◌≡◌, ◌⊎◌}
 use Rattle.std.specs.Prelude.{Result, Ok, Err}
 use Rattle.tc_make.specs.Answer.{OrNoMemory, IsExplained, IsSaid, IsKept, IsReadingSaid, IsAnswer}

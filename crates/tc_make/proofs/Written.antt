@@ -1,4 +1,4 @@
--- What was written, one text after the other.
+-- Texts that were written one after the other.
 use Rattle.std.proofs.Common.{◌≡◌, Bool, ◌⊎◌, inl, inr, ℕ, suc, ◌+◌, ◌<◌, ◌≤◌, List, [], ◌∷◌, ◌++◌, length, Option, Some, None, refl, sym, ap, subst, ◌∙◌, append_assoc, append-nil, arith, length-append}
 use Rattle.std.specs.Prelude.{unwrap_or, codes, IsSome}
 use Rattle.tc_make.proofs.Names.{Appends, Parting, Reason, Writes, flat_map-append}
@@ -27,7 +27,7 @@ use Rattle.std.specs.Prelude.{true, false}
 pub joined : (a b c : Option (List ℕ)) (xs ys : List ℕ) → Appends a b xs → Appends b c ys → Appends a c (xs ++ ys)
 joined a b c xs ys p q = Appends-trans a b c xs ys p q
 
--- what was made, and then what became of it
+-- if something is made, and there is no reason against it, the text about it is the answer
 pub made-on : (a b : Option (List ℕ)) (o : Option Reason) (Is : List ℕ → Type 0) (Then : List ℕ → List ℕ → Type 0) (made : List ℕ)
     → o ≡ None → Is made → Writes a b (OrNoMemory (Then made)) → Writes a b (OrNoMemory (Unless o (λ text. (x : List ℕ) × Is x × Then x text)))
 made-on a b o Is Then made none is (text, inl p, w) =
@@ -60,7 +60,7 @@ unit-end : (unit : List ℕ) → packets_of unit ≡ [] → rest_of unit ≡ uni
 unit-end unit e f =
     ap (λ ps. flat_map packet_text ps ++ some_text (codes "rest") (rest_of unit)) e ∙ ap (λ r. some_text (codes "rest") r) f
 
--- one more packet was written
+-- after one more packet, the text that was written and the text to come are still those of the whole unit
 pub packet-on : (a b c : Option (List ℕ)) (p : Packet) (unit rest after done : List ℕ) → HasFields p
     → packets_of rest ≡ p.octets.now ∷ packets_of after → rest_of rest ≡ rest_of after
     → Appends a b done → done ++ unit_packets_text rest ≡ unit_packets_text unit → Appends b c (printed_text p)
@@ -73,7 +73,7 @@ packet-on a b c p unit rest after done has e f was so_far now = (
       ∙ so_far,
 )
 
--- no packet is left
+-- if no packet is left, the text of the whole unit is written with the octets that are left
 pub packets-end : (a b c : Option (List ℕ)) (unit rest done : List ℕ) → packets_of rest ≡ [] → rest_of rest ≡ rest
     → Appends a b done → done ++ unit_packets_text rest ≡ unit_packets_text unit → Appends b c (some_text (codes "rest") rest) → Appends a c (unit_packets_text unit)
 packets-end a b c unit rest done e f was so_far now =
@@ -90,14 +90,14 @@ frames-more : (frames : List (List ℕ)) (sent : List ℕ) → frames_text (fram
 frames-more frames sent =
     flat_map-append (named_text (codes "frame")) frames (sent ∷ []) ∙ ap (λ t. frames_text frames ++ t) (append-nil (named_text (codes "frame") sent))
 
--- what was written before the frame at a place: those before it
+-- the lines that were written before the frame at a place are those of the frames before it
 abbrev pub Before : Ending → Parting → ℕ → Option (List ℕ) → Option (List ℕ) → Type 0
 Before ending p place a b = (frames : List (List ℕ)) × AreSent ending p 0 frames × (length frames ≡ place) × Appends a b (frames_text frames)
 
 pub none-before : (ending : Ending) (p : Parting) (a : Option (List ℕ)) → Before ending p 0 a a
 none-before ending p a = ([], tt, refl, Appends-nil a)
 
--- the frame at a place was written
+-- once the frame at a place is written, the frames before the next place are
 frame-sent : (ending : Ending) (p : Parting) (place : ℕ) (a b c : Option (List ℕ)) → Before ending p place a b
     → Writes b c (IsPartSaid true ending p place) → Before ending p (place + 1) a c
 frame-sent ending p place a b c (frames, all, count, was) (text, (sent, is, spelled), now) = (
@@ -107,7 +107,7 @@ frame-sent ending p place a b c (frames, all, count, was) (text, (sent, is, spel
   subst (Appends a c) (sym (frames-more frames sent)) (joined a b c (frames_text frames) _ was (subst (Appends b c) spelled now)),
 )
 
--- the frame at a place isn't made
+-- if the frame at a place isn't made, the answer ends with the reason
 frames-stopped : (ending : Ending) (p : Parting) (place : ℕ) (a b c : Option (List ℕ)) → place < parts_of p → Before ending p place a b
     → Writes b c (IsPartSaid false ending p place) → Writes a c (IsFramesSaid ending p)
 frames-stopped ending p place a b c below (frames, all, count, was) (text, (reason, stops, spelled), now) = (
@@ -125,7 +125,7 @@ pub frames-stop : (made : Bool) (ending : Ending) (p : Parting) (place : ℕ) (a
 frames-stop made ending p place a b c e below before now =
     frames-stopped ending p place a b c below before (subst (λ m. Writes b c (IsPartSaid m ending p place)) e now)
 
--- a unit that is parted, and one that isn't
+-- the answer for a unit that is parted, and for one that isn't
 pub unit-parted : (ending : Ending) (stream : Stream) (sizing : Sizing) (unit : List ℕ) (p : Parting) (a b : Option (List ℕ)) → IsPartingOf stream sizing unit p
     → parting_reason_of p ≡ None → Writes a b (IsFramesSaid ending p) → Writes a b (OrNoMemory (IsUnitSaid ending stream sizing unit))
 unit-parted ending stream sizing unit p a b is none (text, said, w) =
@@ -137,7 +137,7 @@ pub unit-refused : (ending : Ending) (stream : Stream) (sizing : Sizing) (unit :
 unit-refused ending stream sizing unit p reason a b is e w =
     (bad_text reason, inl (p, is, subst (λ o. Unless o (IsFramesSaid ending p) (bad_text reason)) (sym e) refl), w)
 
--- ---- what octets say
+-- ---- explanations of octets
 
 field-fault : (o : Option FieldFault) (fault : FieldFault) → fault ≡ unwrap_or o fields.NoMemory → (o ≡ Some fault) ⊎ (fault ≡ fields.NoMemory)
 field-fault None fault e = inr e
@@ -166,7 +166,7 @@ unexplained ending octets shown fault a b is e w =
 pub is-fault : (rest : List ℕ) (fault : FrameFault) → fault_of rest ≡ Some fault → IsSome (fault_of rest)
 is-fault rest fault e = subst IsSome (sym e) refl
 
--- those that were written, and what follows them
+-- the frames that were found and written, and the octets that follow them
 abbrev pub Found : List ℕ → ℕ → List ℕ → Option (List ℕ) → Option (List ℕ) → Type 0
 Found octets count rest a b =
     (frames : List (List ℕ)) × AllByRecursion IsWhole frames × (octets ≡ concat frames ++ rest) × (length frames ≡ count) × Appends a b (frames_text frames)

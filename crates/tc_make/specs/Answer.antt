@@ -1,4 +1,4 @@
--- What a line is answered.
+-- The answers to lines.
 use Rattle.std.specs.Prelude.{◌≡◌, ◌⊎◌, ℕ, suc, ◌<◌, ◌==◌, if◌then◌else◌, Bool, true, false, List, [], ◌∷◌, ◌++◌, length, codes, Option, Some, None, Result, Ok, Err}
 use Rattle.std.specs.Int.{from_be_bytes, w32}
 use Rattle.std.specs.List.{flat_map}
@@ -38,7 +38,7 @@ abbrev pub IsMadePacketSaid : ℕ → ℕ → List ℕ → List ℕ → Type 0
 IsMadePacketSaid apid count octets =
     Unless (packet_reason_of apid count octets) (λ text. (packet : List ℕ) × IsMadePacket packet apid count octets × (text ≡ named_text (codes "packet") packet))
 
--- a frame as it ends
+-- the line of a frame with this ending, or the reason why it can't be made
 abbrev pub IsEnded : Ending → List ℕ → List ℕ → Type 0
 IsEnded ending frame = Unless (ending_reason_of ending frame) (λ text. text ≡ named_text (codes "frame") (ended ending frame))
 
@@ -50,11 +50,11 @@ abbrev pub IsCommandSaid : Ending → ℕ → ℕ → Command → List ℕ → T
 IsCommandSaid ending scid vcid command =
     Unless (command_reason_of scid vcid) (λ text. (frame : List ℕ) × IsCommandFrame frame scid vcid command × IsEnded ending frame text)
 
--- the frame at a place of a unit, as it ends
+-- the frame at a place of a unit, with this ending
 abbrev pub IsSentAt : Ending → Parting → ℕ → List ℕ → Type 0
 IsSentAt ending p place sent = (frame : List ℕ) × IsFrameAt p place frame × (ending_reason_of ending frame ≡ None) × (sent ≡ ended ending frame)
 
--- why the frame at a place isn't made
+-- a reason for which the frame at a place isn't made
 abbrev pub IsStopAt : Ending → Parting → ℕ → Reason → Type 0
 IsStopAt ending p place reason = (reason ≡ NoMemory) ⊎ ((frame : List ℕ) × IsFrameAt p place frame × (ending_reason_of ending frame ≡ Some reason))
 
@@ -63,7 +63,7 @@ abbrev pub AreSent : Ending → Parting → ℕ → List (List ℕ) → Type 0
 AreSent ending p place [] = Unit {0}
 AreSent ending p place (sent ∷ later) = IsSentAt ending p place sent × AreSent ending p (suc place) later
 
--- one frame, or why there is none
+-- the line of one frame, or the reason why there is none
 abbrev pub IsPartSaid : Bool → Ending → Parting → ℕ → List ℕ → Type 0
 IsPartSaid true ending p place text = (sent : List ℕ) × IsSentAt ending p place sent × (text ≡ named_text (codes "frame") sent)
 IsPartSaid false ending p place text = (reason : Reason) × IsStopAt ending p place reason × (text ≡ bad_text reason)
@@ -71,14 +71,14 @@ IsPartSaid false ending p place text = (reason : Reason) × IsStopAt ending p pl
 abbrev pub parts_of : Parting → ℕ
 parts_of p = segments_needed p.size (length p.unit.now)
 
--- all frames of a unit, or those before one that isn't made, and why it isn't
+-- the lines of all frames of a unit; or of those before a frame that isn't made, and the reason why it isn't
 abbrev pub IsFramesSaid : Ending → Parting → List ℕ → Type 0
 IsFramesSaid ending p text =
     (frames : List (List ℕ)) × AreSent ending p 0 frames
     × (((length frames ≡ parts_of p) × (text ≡ frames_text frames))
     ⊎ ((length frames < parts_of p) × ((reason : Reason) × IsStopAt ending p (length frames) reason × (text ≡ frames_text frames ++ bad_text reason))))
 
--- the unit of a line, as it is sent
+-- the parting of the unit of a line
 pub record IsPartingOf (stream : Stream) (sizing : Sizing) (unit : List ℕ) (p : Parting) : Type 0 where
   pub scid : p.scid ≡ stream.scid
   pub vcid : p.vcid ≡ stream.vcid
@@ -90,11 +90,11 @@ pub record IsPartingOf (stream : Stream) (sizing : Sizing) (unit : List ℕ) (p 
 abbrev pub IsUnitSaid : Ending → Stream → Sizing → List ℕ → List ℕ → Type 0
 IsUnitSaid ending stream sizing unit text = (p : Parting) × IsPartingOf stream sizing unit p × Unless (parting_reason_of p) (IsFramesSaid ending p) text
 
--- a whole frame, which this follows
+-- the explanation of a whole frame, and of the octets that follow it
 abbrev pub IsWholeSaid : List ℕ → List ℕ → List ℕ → Type 0
 IsWholeSaid frame rest text = (e : Explanation) × Explains frame rest e × (text ≡ explanation_text e)
 
--- what is written where no frame error control field is taken off
+-- the text that is written if no frame error control field is taken off
 abbrev pub field_fault_text : FieldFault → List ℕ
 field_fault_text (fields.NoFrame fault) = refused_text (frame_fault_text fault)
 field_fault_text fields.Fill = refused_text (codes "fill")
@@ -103,33 +103,33 @@ field_fault_text fields.TooShort = refused_text (codes "check")
 field_fault_text fields.WrongSum = refused_text (codes "check")
 field_fault_text fields.NoMemory = bad_text NoMemory
 
--- a frame as it ends: as it is, or without its frame error control field
+-- the explanation of a frame with this ending: as it is, or without its frame error control field
 abbrev pub IsEndedSaid : Ending → List ℕ → List ℕ → List ℕ → Type 0
 IsEndedSaid DataField frame rest text = IsWholeSaid frame rest text
 IsEndedSaid ErrorControl frame rest text =
     ((plain : List ℕ) × (frame ≡ frame_with_field plain) × (taking_fault_of frame ≡ None) × IsWholeSaid plain rest text)
     ⊎ ((fault : FieldFault) × (taking_fault_of frame ≡ Some fault) × (text ≡ field_fault_text fault))
 
--- octets as a frame of its own length, or why they begin with none
+-- the explanation of the frame with which octets begin, or the reason why they begin with none
 abbrev pub IsExplained : Ending → List ℕ → List ℕ → Type 0
 IsExplained ending octets text =
     ((frame : List ℕ) × (rest : List ℕ) × IsDelimited octets frame rest × IsEndedSaid ending frame rest text)
     ⊎ ((fault : FrameFault) × (fault_of octets ≡ Some fault) × (text ≡ refused_text (frame_fault_text fault)))
 
--- the frames that a CLTU carried, at most so many, and what follows them
+-- the lines of the frames that a CLTU carried, at most `most`, and of the octets that follow them
 abbrev pub AreFramesSaid : ℕ → List ℕ → List ℕ → Type 0
 AreFramesSaid most octets text =
     (frames : List (List ℕ)) × (rest : List ℕ) × AreDelimited most octets frames rest × (text ≡ frames_text frames ++ rest_text rest)
 
--- a word as a CLCW
+-- the explanation of a word as a CLCW, or its refusal
 abbrev pub IsWordSaid : ℕ → List ℕ → Type 0
 IsWordSaid word text = (IsClcw word × (text ≡ clcw_text (fields_of word))) ⊎ ((IsClcw word → ⊥) × (text ≡ refused_text (codes "clcw")))
 
--- four octets are a word, the most significant first
+-- the explanation of octets as a CLCW: four octets are a word, the most significant first
 abbrev pub IsClcwSaid : List ℕ → List ℕ → Type 0
 IsClcwSaid octets = Unless (if length octets == 4 then None else Some BadClcw) (IsWordSaid (from_be_bytes w32 octets))
 
--- what a line that says this is answered, and what it does to the counts and the decoders
+-- the answer to a line that was parsed so, and its effect on the counts and the decoders
 abbrev pub IsSaid : Maker → Line → Maker → List ℕ → Type 0
 IsSaid old Blank new = OrNoMemory (λ text. text ≡ [])
 IsSaid old (Packet apid count octets) new = OrNoMemory (IsMadePacketSaid apid count octets)
@@ -147,7 +147,8 @@ IsSaid old (Piece id octets) new = IsPieceSaid old.decoders id octets new.decode
 IsSaid old (Search id) new = IsSearchSaid old.decoders id new.decoders
 IsSaid old (Frames most octets) new = OrNoMemory (AreFramesSaid most octets)
 
--- what a line leaves as it was: the counts but for a telemetry frame, the decoders but for those of streams, and all else
+-- the part of the state that a line doesn't change: only a line for a telemetry frame changes the counts, only one for
+-- the decoder of a stream changes the decoders, and no line changes anything else
 abbrev pub IsKept : Maker → Line → Maker → Type 0
 IsKept old (Tm order) new = new ≡ record old { counts = new.counts }
 IsKept old (Decoder id mode) new = new ≡ record old { decoders = new.decoders }
@@ -155,7 +156,7 @@ IsKept old (Piece id octets) new = new ≡ record old { decoders = new.decoders 
 IsKept old (Search id) new = new ≡ record old { decoders = new.decoders }
 IsKept old line new = new ≡ old
 
--- what a line is answered: by what it says, or why it says nothing
+-- the answer to a line that can be parsed, or to one that can't
 abbrev pub IsReadingSaid : Maker → Result Line Reason → Maker → List ℕ → Type 0
 IsReadingSaid old (Ok line) new text = IsSaid old line new text × IsKept old line new
 IsReadingSaid old (Err reason) new text = (text ≡ bad_text reason) × (new ≡ old)

@@ -1,4 +1,4 @@
--- How frames end.
+-- The ending of frames.
 use Rattle.std.specs.Prelude.{ℕ, List, length, Option, Some, None, nat_lt, if◌then◌else◌}
 use Rattle.tc_fecf.specs.FrameWithField.{frame_with_field}
 use Rattle.tc_make.specs.declared.ending.Ending.{Ending}
@@ -6,12 +6,12 @@ use Rattle.tc_make.specs.declared.ending.Ending.TheVariants.{DataField, ErrorCon
 use Rattle.tc_make.specs.declared.fault.Reason.{Reason}
 use Rattle.tc_make.specs.declared.fault.Reason.TheVariants.{TooMuchData}
 
--- a frame as it ends so
+-- a frame with this ending
 abbrev pub ended : Ending → List ℕ → List ℕ
 ended DataField frame = frame
 ended ErrorControl frame = frame_with_field frame
 
--- the field takes two octets of the 1,024
+-- the reason for which a frame can't have this ending: the field takes two of the 1,024 octets
 abbrev pub ending_reason_of : Ending → List ℕ → Option Reason
 ending_reason_of DataField frame = None
 ending_reason_of ErrorControl frame = if nat_lt 1022 (length frame) then Some TooMuchData else None

@@ -1,10 +1,10 @@
--- What a frame says.
+-- The explanation of a frame.
 use Rattle.std.specs.Prelude.{◌≡◌, ℕ, List, length, drop}
 use Rattle.tc_link.specs.Frame.{header_of}
 use Rattle.tc_link.specs.Command.{kind_of}
 use Rattle.tc_make.specs.declared.explaining.Explanation.{Explanation}
 
--- the explanation is that of this frame, which this follows
+-- the explanation is that of this frame, and of the octets behind it
 pub record Explains (frame behind : List ℕ) (e : Explanation) : Type 0 where
   pub header : e.header ≡ header_of frame
   pub kind : e.kind ≡ kind_of (header_of frame) (drop 5 frame)

@@ -1,4 +1,4 @@
--- Why a frame isn't made (CCSDS 232.0-B, 4.1).
+-- The reasons for which a frame isn't made (CCSDS 232.0-B, 4.1).
 use Rattle.std.specs.Prelude.{ℕ, ◌+◌, Bool, false, List, length, Option, Some, None, nat_lt, if◌then◌else◌}
 use Rattle.tc_link.specs.declared.frame.Header.{Header}
 use Rattle.tc_packet.specs.declared.segment.Segment.{Segment}
@@ -6,7 +6,7 @@ pub use Rattle.tc_write.specs.Frames.{IsMadeFrame, IsCommandFrame}
 use Rattle.tc_make.specs.declared.fault.Reason.{Reason}
 use Rattle.tc_make.specs.declared.fault.Reason.TheVariants.{BadScid, BadVcid, BadMap, NoData, TooMuchData}
 
--- how many octets of data field carry so many
+-- the number of octets of a data field that carries `n` octets
 abbrev pub field_length : Option Segment → ℕ → ℕ
 field_length None n = n
 field_length (Some segment) n = n + 1

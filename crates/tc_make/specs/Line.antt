@@ -1,4 +1,4 @@
--- What a line asks for, by its words.
+-- The meaning of a line, by its words.
 use Rattle.std.specs.Prelude.{ℕ, Bool, true, false, Option, ◌==◌, ◌&&◌, ◌||◌, List, [], ◌∷◌, length, codes, slice_index, Some, None, Result, Ok, Err, if◌then◌else◌}
 use Rattle.hex.specs.Hex.{decode_of}
 use Rattle.tc_cltu.specs.declared.block.Mode.{Mode}
@@ -31,7 +31,7 @@ abbrev pub alone_of : Form → Words → Result (List ℕ) Reason
 alone_of form (word ∷ []) = elim (decode_of word) [ Ok octets ↦ Ok octets | Err fault ↦ Err BadHex ]
 alone_of form _ = Err (WordCount form)
 
--- what is said by as many words as a form takes
+-- the meaning of the words of a form, by `says`, if there are neither more nor fewer
 abbrev pub with_one : Form → Words → (List ℕ → Said) → Said
 with_one form (a ∷ []) says = says a
 with_one form _ says = Err (WordCount form)
@@ -56,21 +56,21 @@ abbrev pub with_six : Form → Words → (List ℕ → List ℕ → List ℕ →
 with_six form (a ∷ b ∷ c ∷ d ∷ e ∷ f ∷ []) says = says a b c d e f
 with_six form _ says = Err (WordCount form)
 
--- what follows where a word is a number within its bound
+-- the result of `next` for the number that a word spells, if it is within its bound
 abbrev pub if_number : Number → ℕ → List ℕ → (ℕ → Said) → Said
 if_number name most word next = elim (word_number most word) [ None ↦ Err (BadNumber name) | Some number ↦ next number ]
 
--- what follows where a word is octets in hexadecimal digits
+-- the result of `next` for the octets that a word spells in hexadecimal digits
 abbrev pub with_octets : List ℕ → (List ℕ → Said) → Said
 with_octets word next = elim (decode_of word) [ Ok octets ↦ next octets | Err fault ↦ Err BadHex ]
 
--- `plain` is for no segment header, and a number the MAP id of an unsegmented one
+-- the segment header that a word names: none for `plain`, and for a number an unsegmented one with this MAP id
 abbrev pub segment_word : List ℕ → Result (Option Segment) Reason
 segment_word word =
     if is word (codes "plain") then Ok None
     else elim (word_number 255 word) [ None ↦ Err (BadNumber numbers.Map) | Some map ↦ Ok (Some (record { part = Unsegmented; map = map })) ]
 
--- a spacecraft, a virtual channel of it and an N(S)
+-- a spacecraft, one of its virtual channels, and an N(S)
 abbrev pub stream_of : List ℕ → List ℕ → List ℕ → Result Stream Reason
 stream_of s v n =
     elim (word_number 65535 s) [
@@ -84,7 +84,7 @@ stream_of s v n =
       ]
     ]
 
--- a MAP and how many octets its segments carry
+-- a MAP, and the number of octets that its segments carry
 abbrev pub sizing_of : List ℕ → List ℕ → Result Sizing Reason
 sizing_of m z =
     elim (word_number 255 m) [
@@ -106,7 +106,7 @@ abbrev pub packet_of : Words → Said
 packet_of words = with_three forms.Packet words (λ a c o. if_number numbers.Apid 65535 a (λ apid. if_number numbers.Count 65535 c (λ count. with_octets o (λ octets.
     Ok (Packet apid count octets)))))
 
--- a frame that carries the octets of a word
+-- a frame that carries the octets that a word spells
 abbrev pub framed_of : Header → Option Segment → List ℕ → Said
 framed_of header segment word = with_octets word (λ octets. Ok (Frame header segment octets))
 
@@ -124,7 +124,7 @@ abbrev pub setvr_of : Words → Said
 setvr_of words = with_three forms.SetVr words (λ s v x. if_number numbers.Scid 65535 s (λ scid. if_number numbers.Vcid 255 v (λ vcid. if_number numbers.Vr 255 x (λ vr.
     Ok (Command scid vcid (SetVr vr))))))
 
--- the segments of the unit of a word
+-- the segments of the unit that a word spells
 abbrev pub parted_of : Stream → Sizing → List ℕ → Said
 parted_of stream sizing word = with_octets word (λ unit. Ok (Segments stream sizing unit))
 
@@ -169,7 +169,7 @@ decoder_of words = with_two forms.Decoder words (λ i m. if_number numbers.Id 25
 abbrev pub piece_of : Words → Said
 piece_of words = with_two forms.Octets words (λ i o. if_number numbers.Id 255 i (λ id. with_octets o (λ octets. Ok (Piece id octets))))
 
--- the word begins with the byte order mark of UTF-8 or UTF-16
+-- whether the word begins with the byte order mark of UTF-8 or UTF-16
 abbrev pub is_marked : List ℕ → Bool
 is_marked word =
     (slice_index word 0 == 239 && slice_index word 1 == 187 && slice_index word 2 == 191)
@@ -182,7 +182,7 @@ search_of words = with_one forms.Search words (λ i. if_number numbers.Id 255 i 
 abbrev pub frames_of : Words → Said
 frames_of words = with_two forms.Frames words (λ m o. if_number numbers.Most 255 m (λ most. with_octets o (λ octets. Ok (Frames most octets))))
 
--- what a line about the link asks for: its CLTUs and its telemetry frames
+-- the meaning of a line about the link, that is, about CLTUs or telemetry frames
 unfoldable pub link_line_of : List ℕ → Words → Said
 link_line_of command arguments =
     if is command (codes "cltu") then cltu_of arguments
@@ -196,7 +196,7 @@ link_line_of command arguments =
     else if is_marked command then Err Marked
     else Err UnknownCommand
 
--- what the words of a line ask for, or the first of the reasons why they ask for nothing
+-- the meaning of the words of a line, or the first of the reasons for which they have none
 unfoldable pub maker_line_of : Words → Said
 maker_line_of [] = Ok Blank
 maker_line_of (command ∷ arguments) =

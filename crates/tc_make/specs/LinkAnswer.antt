@@ -1,4 +1,4 @@
--- What lines about the link are answered: CLTUs, and telemetry frames.
+-- The answers to lines about the link: CLTUs and telemetry frames.
 use Rattle.std.specs.Prelude.{◌≡◌, ◌⊎◌, ℕ, ◌==◌, ◌||◌, if◌then◌else◌, List, length, codes, nat_lt, Option, Some, None, unwrap_or}
 use Rattle.tc_cltu.specs.Cltu.{cltu, most_octets}
 use Rattle.tc_cltu.specs.Randomiser.{randomised}
@@ -32,7 +32,7 @@ abbrev pub telemetry_ending : Ending → ErrorControl
 telemetry_ending endings.DataField = Absent
 telemetry_ending endings.ErrorControl = Present
 
--- octets as a telemetry frame, or why they are none
+-- the explanation of octets as a telemetry frame, or the reason why they aren't one
 abbrev pub IsTelemetrySaid : Ending → List ℕ → List ℕ → Type 0
 IsTelemetrySaid ending octets text =
     ((read_fault_of (telemetry_ending ending) octets ≡ None) × (text ≡ tm_text (tm_fields_of (telemetry_ending ending) octets)))
@@ -46,7 +46,8 @@ tm_reason_of ending order =
     else if nat_lt order.size (least_length (telemetry_ending ending)) || nat_lt most_length order.size then Some BadSize
     else None
 
--- the next frame of a virtual channel, by the counts; or why it isn't made, and they don't go on
+-- the line of the next frame of a virtual channel, with its counts; or the reason why it isn't made, with unchanged
+-- counts
 abbrev pub IsTmSaid : Ending → Counted → TmOrder → Counted → List ℕ → Type 0
 IsTmSaid ending old order new text =
     ((tm_reason_of ending order ≡ None) × (new ≡ frame_counted old order.scid order.vcid)

@@ -5,7 +5,7 @@ use Rattle.tc_write.specs.Packets.{IsPacketOf}
 use Rattle.tc_make.specs.declared.fault.Reason.{Reason}
 use Rattle.tc_make.specs.declared.fault.Reason.TheVariants.{BadApid, BadCount, NoData, TooMuchData}
 
--- a packet of telecommand without a secondary header, unsegmented, of this application, with this count
+-- the header of an unsegmented telecommand packet of this application, with this count and without a secondary header
 abbrev pub made_header : ℕ → ℕ → PacketHeader
 made_header apid count = record { telecommand = true; secondary = false; apid = apid; flags = 3; count = count }
 

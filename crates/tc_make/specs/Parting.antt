@@ -7,7 +7,7 @@ use Rattle.tc_make.specs.declared.parting.Parting.{Parting}
 use Rattle.tc_make.specs.declared.fault.Reason.{Reason}
 use Rattle.tc_make.specs.declared.fault.Reason.TheVariants.{BadScid, BadVcid, BadMap, BadSize, NoData, TooMuchData}
 
--- a Type-AD frame, whose N(S) counts up modulo 256 from the first
+-- the header of the Type-AD frame at a place, whose N(S) counts up modulo 256 from the first
 abbrev pub header_at : Parting → ℕ → Header
 header_at p place = record { bypass = false; control = false; scid = p.scid; vcid = p.vcid; ns = (p.ns + place) % 256 }
 

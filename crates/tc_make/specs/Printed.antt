@@ -1,4 +1,4 @@
--- What lines are answered, as text: docs/reference/tcmake.md shows it.
+-- The texts of answers, which docs/reference/tcmake.md shows.
 use Rattle.std.specs.Prelude.{◌≡◌, ◌⊎◌, ℕ, Bool, true, false, ◌==◌, if◌then◌else◌, List, [], ◌∷◌, ◌++◌, length, codes, decimal, slice_index, nat_lt, Option, Some, None}
 use Rattle.std.specs.List.{flat_map}
 use Rattle.tc_fecf.specs.Candidate.{is_fill}
@@ -28,7 +28,7 @@ use Rattle.tc_make.specs.declared.form.Form.TheVariants as forms
 use Rattle.tc_make.specs.declared.form.Number.{Number}
 use Rattle.tc_make.specs.declared.form.Number.TheVariants as numbers
 
--- why nothing is made of a line, with which its answer begins
+-- the reason for which nothing is made of a line, with which its answer begins
 abbrev pub unmade_text : Reason → List ℕ
 unmade_text UnknownCommand = codes "bad unknown command"
 unmade_text Marked = codes "bad unknown command"
@@ -67,7 +67,7 @@ form_text forms.Octets = codes "octets ID HEX"
 form_text forms.Search = codes "search ID"
 form_text forms.Frames = codes "frames MOST HEX"
 
--- what is said of the octets with which a form ends; four end with none
+-- the note on the octets with which a form ends; four forms end with none
 abbrev pub note_text : Form → List ℕ
 note_text forms.Unlock = []
 note_text forms.SetVr = []
@@ -88,11 +88,11 @@ bounds_text numbers.Vr = codes "X is 0 to 255"
 bounds_text numbers.Id = codes "ID is 0 to 255"
 bounds_text numbers.Most = codes "MOST is 0 to 255"
 
--- what follows a reason for which a number is bad
+-- the text that follows a reason for which a number is bad
 abbrev pub within_text : Number → List ℕ
 within_text number = codes ": " ++ bounds_text number ++ codes "\n"
 
--- what follows a reason: what to write, where that is known, and the end of the line
+-- the text that follows a reason: what to write, if that is known, and the end of the line
 abbrev pub hint_text : Reason → List ℕ
 hint_text UnknownCommand = codes ": use packet, ad, bd, unlock, setvr, segments, explain, clcw, cltu, random, tm, telemetry, decoder, octets, search or frames\n"
 hint_text Marked = codes ": the line begins with a byte order mark, save the text without it\n"
@@ -117,7 +117,7 @@ bad_text reason = unmade_text reason ++ hint_text reason
 abbrev pub named_text : List ℕ → List ℕ → List ℕ
 named_text word octets = word ++ codes " " ++ octets_text octets ++ codes "\n"
 
--- the same, or nothing where there are no octets
+-- a line of a word and octets, or nothing if there are no octets
 abbrev pub some_text : List ℕ → List ℕ → List ℕ
 some_text word octets = if length octets == 0 then [] else named_text word octets
 
@@ -125,7 +125,7 @@ some_text word octets = if length octets == 0 then [] else named_text word octet
 abbrev pub refused_text : List ℕ → List ℕ
 refused_text why = codes "refused " ++ why ++ codes "\n"
 
--- why octets are no frame
+-- the reason why octets aren't a frame
 abbrev pub frame_fault_text : FrameFault → List ℕ
 frame_fault_text Short = codes "short"
 frame_fault_text Version = codes "version"
@@ -140,13 +140,13 @@ kind_text true false = codes "BD"
 kind_text true true = codes "BC"
 kind_text false true = codes "AC"
 
--- the front of the line `header ..`: what the header says
+-- the front of the line `header ..`: the fields of the header
 abbrev pub fields_text : Header → List ℕ
 fields_text header =
     codes "header " ++ kind_text header.bypass header.control ++ codes " scid " ++ decimal header.scid ++ codes " vc " ++ decimal header.vcid
     ++ codes " ns " ++ decimal header.ns
 
--- its end: how many octets the frame has, and how many follow it
+-- the end of the line `header ..`: the number of octets of the frame, and of those that follow it
 abbrev pub lengths_text : ℕ → ℕ → List ℕ
 lengths_text n fill = codes " octets " ++ decimal n ++ codes " fill " ++ decimal fill ++ codes "\n"
 
@@ -159,7 +159,7 @@ part_text Continuing = codes "continuing"
 part_text Last = codes "last"
 part_text Unsegmented = codes "unsegmented"
 
--- the line `segment ..`: a segment header, and how many octets follow it
+-- the line `segment ..`: a segment header, and the number of octets that follow it
 abbrev pub segment_text : Segment → ℕ → List ℕ
 segment_text segment n =
     codes "segment " ++ part_text segment.part ++ codes " map " ++ decimal segment.map ++ codes " octets " ++ decimal n ++ codes "\n"
@@ -173,7 +173,7 @@ abbrev pub holds_text : Bool → ℕ → ℕ → ℕ → List ℕ
 holds_text telecommand apid count flags =
     codes "holds " ++ type_text telecommand ++ codes " apid " ++ decimal apid ++ codes " count " ++ decimal count ++ codes " flags " ++ decimal flags
 
--- its end: the secondary header flag, and the whole packet
+-- the end of the line `holds ..`: the secondary header flag, and the whole packet
 abbrev pub whole_text : Bool → List ℕ → List ℕ
 whole_text secondary octets = codes " secondary " ++ flag_text secondary ++ codes " " ++ octets_text octets ++ codes "\n"
 
@@ -191,19 +191,19 @@ packet_text octets =
 abbrev pub unit_packets_text : List ℕ → List ℕ
 unit_packets_text unit = flat_map packet_text (packets_of unit) ++ some_text (codes "rest") (rest_of unit)
 
--- what follows a segment header: a whole unit, or a part of one
+-- the lines of what follows a segment header: a whole unit, or a part of one
 abbrev pub body_text : Part → List ℕ → List ℕ
 body_text First body = some_text (codes "body") body
 body_text Continuing body = some_text (codes "body") body
 body_text Last body = some_text (codes "body") body
 body_text Unsegmented body = unit_packets_text body
 
--- a data field that begins with a segment header
+-- the lines of a data field that begins with a segment header
 abbrev pub carried_text : List ℕ → List ℕ
 carried_text [] = []
 carried_text (octet ∷ body) = segment_text (segment_of octet) (length body) ++ body_text (segment_of octet).part body
 
--- a data field, by the kind of its frame
+-- the lines of a data field, by the kind of its frame
 abbrev pub field_text : Kind → List ℕ → List ℕ
 field_text (Ad ns) field = carried_text field
 field_text Bd field = carried_text field
@@ -211,18 +211,18 @@ field_text (Bc Unlock) field = codes "command unlock\n"
 field_text (Bc (SetVr vr)) field = codes "command setvr " ++ decimal vr ++ codes "\n"
 field_text Invalid field = named_text (codes "invalid") field
 
--- what a frame says: what its header and its data field do
+-- the explanation of a frame: of its header, and of its data field
 unfoldable pub frame_text : Explanation → List ℕ
 frame_text e = header_text e.header e.length (length e.rest.now) ++ field_text e.kind e.field.now
 
--- what follows a frame, where it isn't fill
+-- the line of the octets that follow a frame, unless they are fill
 unfoldable pub more_text : List ℕ → List ℕ
 more_text rest = if is_fill rest then [] else named_text (codes "more") rest
 
 abbrev pub explanation_text : Explanation → List ℕ
 explanation_text e = frame_text e ++ more_text e.rest.now
 
--- the frames that a CLTU carried, and how much fill follows them; or what does that isn't fill
+-- the lines of the frames that a CLTU carried, and of the fill, or of other octets, that follow them
 abbrev pub frames_text : List (List ℕ) → List ℕ
 frames_text frames = flat_map (named_text (codes "frame")) frames
 
@@ -242,42 +242,43 @@ clcw_front_text f =
 abbrev pub flags_text : ClcwFields → List ℕ
 flags_text f = codes " lockout " ++ flag_text f.lockout ++ codes " wait " ++ flag_text f.wait ++ codes " retransmit " ++ flag_text f.retransmit
 
--- the numbers that it reports
+-- the numbers that FARM-1 reports
 abbrev pub numbers_text : ClcwFields → List ℕ
 numbers_text f = codes " farmb " ++ decimal f.farm_b ++ codes " vr " ++ decimal f.vr ++ codes "\n"
 
 abbrev pub clcw_text : ClcwFields → List ℕ
 clcw_text f = clcw_front_text f ++ (flags_text f ++ numbers_text f)
 
--- why octets are no telemetry frame
+-- the reason why octets aren't a telemetry frame
 abbrev pub tm_fault_text : TmReadFault → List ℕ
 tm_fault_text telemetry.Short = codes "short"
 tm_fault_text telemetry.Version = codes "version"
 tm_fault_text telemetry.NoControl = codes "control"
 tm_fault_text telemetry.WrongSum = codes "check"
 
--- the front of the line `tm ..`: whose frame it is, and its counts
+-- the front of the line `tm ..`: the spacecraft and the virtual channel of the frame, and its counts
 abbrev pub tm_front_text : TmFields → List ℕ
 tm_front_text f =
     codes "tm scid " ++ decimal f.header.scid ++ codes " vc " ++ decimal f.header.vcid ++ codes " master " ++ decimal f.header.master_count
     ++ codes " channel " ++ decimal f.header.channel_count
 
--- what an operational control field is by its first bit: a Type-1 report, the CLCW, or a Type-2 report (CCSDS 132.0-B, 4.1.5)
+-- the kind of an operational control field, by its first bit: a Type-1 report, the CLCW, or a Type-2 report
+-- (CCSDS 132.0-B, 4.1.5)
 abbrev pub control_text : List ℕ → List ℕ
 control_text control = if nat_lt 127 (slice_index control 0) then codes "report" else codes "clcw"
 
--- its end: the first header pointer and the operational control field
+-- the end of the line `tm ..`: the first header pointer and the operational control field
 abbrev pub tm_end_text : TmFields → List ℕ
 tm_end_text f = codes " pointer " ++ decimal f.pointer ++ codes " " ++ control_text f.control ++ codes " " ++ octets_text f.control ++ codes "\n"
 
 abbrev pub tm_text : TmFields → List ℕ
 tm_text f = tm_front_text f ++ tm_end_text f
 
--- such a text, or that memory ran out
+-- a text of this kind, or the answer that memory ran out
 abbrev pub OrNoMemory : (List ℕ → Type 0) → List ℕ → Type 0
 OrNoMemory Is text = Is text ⊎ (text ≡ bad_text NoMemory)
 
--- why nothing is made, where there is a reason; such a text, where there is none
+-- the reason why nothing is made, if there is one, or else a text of this kind
 abbrev pub Unless : Option Reason → (List ℕ → Type 0) → List ℕ → Type 0
 Unless (Some reason) Is text = text ≡ bad_text reason
 Unless None Is text = Is text

@@ -1,4 +1,4 @@
-//! What lines are answered.
+//! The answers to lines.
 
 ghost use Rattle.std.specs.Prelude.{◌≡◌, ◌<◌, None, codes, length, IfOk, OnOk};
 ghost use Rattle.tc_lines.specs.Answering.{Writes};
@@ -28,10 +28,10 @@ use tc_cltu::Mode;
 use tc_link::{Command, Header};
 use tc_packet::Segment;
 
-/// Does a line, which is given without its line feed, and writes its answer: no line, one or more.
+/// Carries out a line, which is given without its line feed, and writes its answer of no, one or more lines.
 ///
-/// A line of which nothing can be made is answered `bad` and why. Where memory runs out, `bad no memory` is in the place of
-/// what was to come; amid the frames of a unit, the frames before were written.
+/// If nothing can be made of a line, the answer is `bad` and the reason. If memory runs out, `bad no memory` takes the
+/// place of the rest of the answer. Frames of a unit that were made before have then been written.
 pub fn answer_line<W: Write>(
     alloc: Global,
     maker: &mut Maker,
@@ -86,7 +86,7 @@ fn answer<W: Write>(alloc: Global, maker: &mut Maker, line: &Line, writer: &mut 
     }
 }
 
-// A stream gets a new decoder, which has no answer.
+// Gives a stream a new decoder. This has no answer, unless memory runs out.
 fn begin<W: Write>(
     alloc: Global,
     decoders: &mut Decoders,
@@ -149,7 +149,7 @@ fn write_command<W: Write>(
     }
 }
 
-// A frame as it ends.
+// Writes a frame with this ending, or the reason why it can't be made.
 fn write_ended<W: Write>(
     alloc: Global,
     ending: Ending,
@@ -189,7 +189,7 @@ fn write_segments<W: Write>(
     }
 }
 
-// The frames of a parting, up to the first that can't be made. They are equally long, but for the last.
+// Writes the frames of a parting, up to the first that can't be made. All but the last have the same length.
 fn write_parts<W: Write>(
     alloc: Global,
     ending: Ending,
@@ -209,7 +209,7 @@ fn write_parts<W: Write>(
     Ok(())
 }
 
-// The frame at a place, or why it can't be made; and whether it was.
+// Writes the frame at a place, or the reason why it can't be made, and returns whether it was made.
 fn write_part<W: Write>(
     alloc: Global,
     ending: Ending,

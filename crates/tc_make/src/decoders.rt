@@ -15,10 +15,10 @@ use std::io::Write;
 use std::marker::Model;
 use tc_cltu::{Blocks, Decoder, Mode};
 
-// How many streams there may be at a time: their ids are octets.
+// The number of streams that there may be at a time, since a stream's id is an octet.
 const STREAMS: usize = 256;
 
-/// The decoders of streams, by the ids of these: 0 to 255.
+/// The decoders of streams, by the streams' ids, 0 to 255.
 #[derive(Drop)]
 pub struct Decoders {
     slots: Vec<Option<Decoder>>,
@@ -40,7 +40,7 @@ impl Decoders {
     ghost use Rattle.tc_lines.specs.Answering.{Writes};
     ghost use Rattle.tc_make.specs.Decoders.{no_decoders, with_new_decoder, IsPieceSaid, IsSearchSaid};
 
-    /// No decoder yet. This asks for memory, for as many as there may be.
+    /// Creates the table, in which no stream has a decoder yet. A slot for each stream is allocated.
     #[tactic(auto, unfolding(crate::specs::Decoders::no_decoders))]
     pub fn new(alloc: Global) -> Result<Decoders, AllocError>
         ensures { IfOk result (λ decoders. decoders ≡ no_decoders) }
@@ -52,7 +52,8 @@ impl Decoders {
         Ok(Decoders { slots })
     }
 
-    /// Gives a stream a new decoder, which searches, in place of one that it may have had. The decoder takes memory.
+    /// Gives a stream a new decoder, which looks for a start sequence, in place of any that it had. The decoder is
+    /// allocated.
     pub fn begin(&mut self, alloc: Global, id: u8, mode: Mode) -> Result<(), AllocError>
         ensures begun { OnOk result (self.new ≡ with_new_decoder self.old id mode) }
         ensures unchanged { OnErr result (self.new ≡ self.old) }
@@ -62,8 +63,9 @@ impl Decoders {
         Ok(())
     }
 
-    /// Gives the decoder of a stream its next octets, and writes the candidate frames that end in them, how many code blocks were
-    /// corrected and rejected, and how many CLTUs carried too much. It asks for no memory. At `Err` some first octets were taken.
+    /// Gives the decoder of a stream its next octets, and writes the candidate frames that end in them, how many code
+    /// blocks were corrected and rejected, and how many CLTUs carried too much. This requests no memory. At `Err` the
+    /// decoder has taken some of the octets, from the first one on.
     pub fn write_piece<W: Write>(&mut self, id: u8, octets: &[u8], writer: &mut W) -> io::Result<()>
         ensures { OnOk result (Writes (W.contents writer.old) (W.contents writer.new) (IsPieceSaid self.old id octets.now self.new)) }
     {
@@ -71,7 +73,8 @@ impl Decoders {
         feed(slot, octets, writer)
     }
 
-    /// Has the decoder of a stream look for a start sequence anew, as after a loss of bit lock, and writes whether that cut a CLTU short.
+    /// Makes the decoder of a stream look for a start sequence again, as after a loss of bit lock, and writes whether
+    /// that cut a CLTU short.
     pub fn write_search<W: Write>(&mut self, id: u8, writer: &mut W) -> io::Result<()>
         ensures { OnOk result (Writes (W.contents writer.old) (W.contents writer.new) (IsSearchSaid self.old id self.new)) }
     {
@@ -139,7 +142,7 @@ fn write_blocks<W: Write>(blocks: Blocks, writer: &mut W) -> io::Result<()>
     )
 }
 
-// Writes the candidate frame that the last octet ended.
+// Writes the candidate frame, if the last octet ended one.
 fn write_ended<W: Write>(decoder: &Decoder, ended: bool, writer: &mut W) -> io::Result<()>
     ensures { OnOk result (Appends (W.contents writer.old) (W.contents writer.new) (candidates_text (if ended then decoder.now.carried ∷ [] else []))) }
 {

@@ -1,15 +1,15 @@
-//! How frames end.
+//! The ending of frames, with or without a frame error control field.
 
 use crate::fault::Reason;
 use std::alloc::Global;
 use tc_fecf::{FieldFault, with_field};
 
-/// How the frames end that are made and explained.
+/// The ending of the frames that are made and explained.
 #[derive(Clone, Copy, Debug, PartialEq, Eq)]
 pub enum Ending {
-    /// With their data field.
+    /// The end of the data field.
     DataField,
-    /// With a frame error control field after it (CCSDS 232.0-B, 4.1.4).
+    /// A frame error control field after the data field (CCSDS 232.0-B, 4.1.4).
     ErrorControl,
 }
 
@@ -19,7 +19,7 @@ impl Ending {
     ghost use Rattle.tc_make.specs.Ending.{ended, ending_reason_of};
     ghost use Rattle.std.specs.Prelude.{None, OnOk, unwrap_or};
 
-    /// The frame as it ends so: as it is, or with its frame error control field.
+    /// Returns the frame with this ending: unchanged, or with its frame error control field appended.
     pub fn end(self, alloc: Global, frame: Vec<u8>) -> Result<Vec<u8>, Reason>
         requires { IsWhole frame.items }
         ensures frame { IfOk result (λ made. made.items ≡ ended self frame.items) }

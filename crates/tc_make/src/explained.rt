@@ -1,4 +1,4 @@
-//! What octets say as a frame or as a CLCW, as lines.
+//! Explanations of octets as a frame or as a CLCW, in lines.
 
 ghost use Rattle.std.specs.Prelude.{◌≡◌, ◌++◌, OnOk};
 ghost use Rattle.std.specs.Io.KnownBytes.{Appends};
@@ -22,8 +22,8 @@ use tc_link::{
 };
 use tc_packet::{Packet, Part, Segment, next_packet, read_segment};
 
-/// What octets say as a frame, which is as long as its length field says, and what follows it. Where frames end with an error control
-/// field, it is taken off before.
+/// Writes the explanation of the frame at the front of the octets, which is as long as its length field says, and of
+/// the octets that follow it. If frames end with a frame error control field, this field is taken off first.
 pub(crate) fn write_explained<W: Write>(
     alloc: Global,
     ending: Ending,
@@ -38,7 +38,7 @@ pub(crate) fn write_explained<W: Write>(
     }
 }
 
-// What a frame says, as it ends.
+// Writes the explanation of a frame with this ending.
 fn write_ended<W: Write>(
     alloc: Global,
     ending: Ending,
@@ -58,7 +58,7 @@ fn write_ended<W: Write>(
     }
 }
 
-// Why no frame error control field is taken off.
+// Writes the reason why no frame error control field is taken off.
 fn write_field_fault<W: Write>(fault: FieldFault, writer: &mut W) -> io::Result<()>
     ensures { OnOk result (Appends (W.contents writer.old) (W.contents writer.new) (field_fault_text fault)) }
 {
@@ -72,7 +72,7 @@ fn write_field_fault<W: Write>(fault: FieldFault, writer: &mut W) -> io::Result<
     }
 }
 
-// What a whole frame says.
+// Writes the explanation of a whole frame.
 fn write_whole_frame<W: Write>(frame: &[u8], rest: &[u8], writer: &mut W) -> io::Result<()>
     requires { IsWhole frame.now }
     ensures { OnOk result (Writes (W.contents writer.old) (W.contents writer.new) (IsWholeSaid frame.now rest.now)) }
@@ -81,7 +81,7 @@ fn write_whole_frame<W: Write>(frame: &[u8], rest: &[u8], writer: &mut W) -> io:
     write_explanation(&explain(&read, rest), writer)
 }
 
-// Octets that are one whole frame.
+// Reads octets that are one whole frame.
 fn read_whole(octets: &[u8]) -> Frame<'_>
     requires { IsWhole octets.now }
     ensures { result ≡ octets.now }
@@ -127,7 +127,7 @@ fn write_said<W: Write>(explanation: &Explanation<'_>, writer: &mut W) -> io::Re
     write_field(explanation.kind, explanation.field, writer)
 }
 
-// What follows a frame, where it isn't fill.
+// Writes the octets that follow a frame, unless they are fill.
 #[tactic(auto, unfolding(crate::specs::Printed::more_text))]
 fn write_more<W: Write>(rest: &[u8], writer: &mut W) -> io::Result<()>
     ensures { OnOk result (Appends (W.contents writer.old) (W.contents writer.new) (more_text rest.now)) }
@@ -138,7 +138,7 @@ fn write_more<W: Write>(rest: &[u8], writer: &mut W) -> io::Result<()>
     write_named("more", rest, writer)
 }
 
-/// The frames that a CLTU carried, one after the other and at most so many, and what follows them.
+/// Writes the frames that a CLTU carried, one after the other and at most `most`, and the octets that follow them.
 pub(crate) fn write_frames<W: Write>(most: u8, octets: &[u8], writer: &mut W) -> io::Result<()>
     ensures { OnOk result (Writes (W.contents writer.old) (W.contents writer.new) (AreFramesSaid most octets.now)) }
 {
@@ -207,7 +207,7 @@ fn write_lengths<W: Write>(length: usize, fill: usize, writer: &mut W) -> io::Re
     writeln!(writer, " octets {length} fill {fill}")
 }
 
-// What the data field says, by the kind of the frame.
+// Writes the explanation of the data field, which depends on the kind of the frame.
 fn write_field<W: Write>(kind: Kind, field: &[u8], writer: &mut W) -> io::Result<()>
     ensures { OnOk result (Appends (W.contents writer.old) (W.contents writer.new) (field_text kind field.now)) }
 {
@@ -220,7 +220,7 @@ fn write_field<W: Write>(kind: Kind, field: &[u8], writer: &mut W) -> io::Result
     }
 }
 
-// The segment header of a data field, and what follows it.
+// Writes the segment header of a data field, and what follows it.
 #[tactic(auto, using(crate::proofs::Written::joined))]
 fn write_carried<W: Write>(field: &[u8], writer: &mut W) -> io::Result<()>
     ensures { OnOk result (Appends (W.contents writer.old) (W.contents writer.new) (carried_text field.now)) }
@@ -252,7 +252,7 @@ fn write_segment<W: Write>(segment: Segment, length: usize, writer: &mut W) -> i
     writeln!(writer, "segment {part} map {map} octets {length}")
 }
 
-// What follows a segment header: the packets of a whole unit, or a part of one.
+// Writes what follows a segment header: the packets of a whole unit, or a part of a unit.
 fn write_body<W: Write>(part: Part, body: &[u8], writer: &mut W) -> io::Result<()>
     ensures { OnOk result (Appends (W.contents writer.old) (W.contents writer.new) (body_text part body.now)) }
 {
@@ -264,7 +264,7 @@ fn write_body<W: Write>(part: Part, body: &[u8], writer: &mut W) -> io::Result<(
     }
 }
 
-// The packets of a unit in their order, and what is left.
+// Writes the packets of a unit in order, and the octets that are left.
 fn write_unit<W: Write>(unit: &[u8], writer: &mut W) -> io::Result<()>
     ensures { OnOk result (Appends (W.contents writer.old) (W.contents writer.new) (unit_packets_text unit.now)) }
 {
@@ -312,7 +312,7 @@ fn write_whole<W: Write>(secondary: bool, octets: &[u8], writer: &mut W) -> io::
     writeln!(writer, " secondary {secondary} {digits}")
 }
 
-/// What octets say as a CLCW.
+/// Writes the explanation of octets as a CLCW.
 pub(crate) fn write_clcw<W: Write>(octets: &[u8], writer: &mut W) -> io::Result<()>
     ensures { OnOk result (Writes (W.contents writer.old) (W.contents writer.new) (OrNoMemory (IsClcwSaid octets.now))) }
 {

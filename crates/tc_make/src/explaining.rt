@@ -1,23 +1,23 @@
-//! What a frame says.
+//! The explanation of a frame.
 
 ghost use Rattle.tc_make.specs.Explanation.{Explains};
 
 use tc_link::{Frame, Header, Kind, kind};
 
-/// A frame, field by field, and what follows it.
+/// The fields of a frame, and the octets that follow it.
 #[derive(Clone, Copy, Debug, PartialEq, Eq)]
 pub struct Explanation<'a> {
     pub header: Header,
     pub kind: Kind,
     /// The data field.
     pub field: &'a [u8],
-    /// How many octets the frame has.
+    /// The number of octets of the frame.
     pub length: usize,
-    /// What follows the frame.
+    /// The octets that follow the frame.
     pub rest: &'a [u8],
 }
 
-/// Says what a frame says, which these octets follow. It allocates nothing.
+/// Explains a frame that is followed by the octets `rest`. This allocates nothing.
 pub fn explain<'a>(frame: &Frame<'a>, rest: &'a [u8]) -> Explanation<'a>
     ensures { Explains frame.now rest.now result }
 {

@@ -1,4 +1,4 @@
-//! Why a line is bad.
+//! The reasons for which a line is bad.
 
 ghost use Rattle.std.specs.Prelude.{◌≡◌, Some};
 ghost use Rattle.tc_make.specs.Printed.{unmade_text};
@@ -7,23 +7,24 @@ use crate::form::{Form, Number};
 use std::error::Error;
 use std::fmt;
 
-/// Why nothing is made of a line. Where several apply, the first of this list is reported; but being out of memory is reported as soon
-/// as it is met, and a frame that has no room for its frame error control field is reported last.
+/// A reason for which nothing is made of a line. If several apply, the first in this list is reported, with two
+/// exceptions: `NoMemory` is reported as soon as memory runs out, and a frame without room for its frame error control
+/// field is reported last (as `TooMuchData`).
 #[derive(Clone, Copy, Debug, PartialEq, Eq)]
 pub enum Reason {
-    /// The first word is no command.
+    /// The first word isn't a command.
     UnknownCommand,
-    /// Nor is it one that begins with a byte order mark.
+    /// The first word isn't a command, and begins with a byte order mark.
     Marked,
-    /// The command takes another number of words, those of its form.
+    /// The line has more or fewer words than the form of its command.
     WordCount(Form),
-    /// A number isn't 1 to 5 decimal digits, or is over its type's bound.
+    /// A number doesn't consist of 1 to 5 decimal digits, or is over the bound of its type.
     BadNumber(Number),
-    /// Octets aren't an even number of hexadecimal digits.
+    /// Octets aren't given as an even number of hexadecimal digits.
     BadHex,
-    /// A decoder neither detects nor corrects.
+    /// The mode of a decoder is neither `detect` nor `correct`.
     BadMode,
-    /// A CLCW isn't of 4 octets.
+    /// A CLCW doesn't have 4 octets.
     BadClcw,
     /// The spacecraft id is over 1,023.
     BadScid,
@@ -35,20 +36,20 @@ pub enum Reason {
     BadApid,
     /// The sequence count is over 16,383.
     BadCount,
-    /// Segments aren't to carry 1 to 1,018 octets, or a telemetry frame isn't to have 11 to 2,048.
+    /// The size of segments isn't 1 to 1,018 octets, or that of a telemetry frame isn't 11 to 2,048.
     BadSize,
-    /// There are no octets to be carried.
+    /// There are no octets to carry.
     NoData,
     /// There are more octets than a frame, a packet, a unit or a CLTU has room for.
     TooMuchData,
     /// No decoder has the id.
     NoDecoder,
-    /// Memory was wanting for what the line needs.
+    /// Memory for something that the line needs ran out.
     NoMemory,
 }
 
 impl Reason {
-    /// The words of the reason, with which the answer begins.
+    /// Returns the words of the reason, with which the answer begins.
     pub fn as_str(&self) -> &'static str
         ensures { result.now ≡ unmade_text self.now }
     {

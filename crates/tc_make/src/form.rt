@@ -1,4 +1,4 @@
-//! How commands are written.
+//! The forms of commands.
 
 ghost use Rattle.std.specs.Prelude.{◌≡◌};
 ghost use Rattle.tc_make.specs.Printed.{bounds_text, form_text, note_text};
@@ -25,7 +25,7 @@ pub enum Form {
 }
 
 impl Form {
-    /// The command and the names of its words, as `tcmake --help` lists them.
+    /// Returns the command and the names of its words, as `tcmake --help` lists them.
     pub fn as_str(&self) -> &'static str
         ensures { result.now ≡ form_text self.now }
     {
@@ -49,7 +49,7 @@ impl Form {
         }
     }
 
-    /// What is said behind it of the octets that are its last word.
+    /// Returns the note that follows the form, on the octets that are its last word. It is empty if there are none.
     pub(crate) fn note(&self) -> &'static str
         ensures { result.now ≡ note_text self.now }
     {
@@ -79,7 +79,7 @@ pub enum Number {
 }
 
 impl Number {
-    /// Its name in forms, and its bounds.
+    /// Returns the name of the number in forms, and its bounds.
     pub fn as_str(&self) -> &'static str
         ensures { result.now ≡ bounds_text self.now }
     {

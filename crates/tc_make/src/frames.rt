@@ -1,4 +1,4 @@
-//! Frames that carry octets, and frames that command.
+//! Frames that carry octets, and frames that carry a control command.
 
 ghost use Rattle.std.specs.Prelude.{◌≡◌, ◌<◌, ◌≤◌, None, length, unwrap_or, IfOk, IfErr, OnOk};
 ghost use Rattle.tc_link.specs.Frame.{IsFrame};
@@ -11,11 +11,11 @@ use tc_link::{Command, Header, WriteFault, write_frame};
 use tc_packet::Segment;
 use tc_write::segment_octet;
 
-/// The frame with this header whose data field carries the octets, behind a segment header if one is given
+/// Makes the frame with this header whose data field carries the octets, behind a segment header if one is given
 /// (CCSDS 232.0-B, 4.1.2 and 4.1.3).
 ///
-/// There is to be at least one octet of data field, and at most 1,019, the segment header among them. The only allocations
-/// are the data field and the frame.
+/// The data field, including the segment header, needs to have 1 to 1,019 octets. Only the data field and the frame are
+/// allocated.
 pub fn make_frame(
     alloc: Global,
     header: &Header,
@@ -38,7 +38,7 @@ pub fn make_frame(
     }
 }
 
-// The frame whose data field is a segment.
+// Makes the frame whose data field is a segment.
 fn segmented(
     alloc: Global,
     header: &Header,
@@ -63,7 +63,7 @@ fn segmented(
     framed(alloc, header, &field)
 }
 
-// The frame with this data field.
+// Makes the frame with this data field.
 fn framed(alloc: Global, header: &Header, field: &[u8]) -> Result<Vec<u8>, Reason>
     requires scid { header.now.scid < 1024 }
     requires vcid { header.now.vcid < 64 }
@@ -80,9 +80,9 @@ fn framed(alloc: Global, header: &Header, field: &[u8]) -> Result<Vec<u8>, Reaso
     }
 }
 
-/// The Type-BC frame with this control command (CCSDS 232.0-B, 4.1.3.3). Its N(S) is 0.
+/// Makes the Type-BC frame with this control command (CCSDS 232.0-B, 4.1.3.3). Its N(S) is 0.
 ///
-/// The only allocation is the frame itself.
+/// Only the frame itself is allocated.
 pub fn make_command(alloc: Global, scid: u16, vcid: u8, command: Command) -> Result<Vec<u8>, Reason>
     ensures frame { IfOk result (λ frame. IsCommandFrame frame.items scid vcid command) }
     ensures made { OnOk result (command_reason_of scid vcid ≡ None) }

@@ -1,8 +1,8 @@
-//! Frames and packets of one's own, for the bench: what a line of text asks for is made or explained, and answered in lines.
+//! Frames and packets of your own for the bench. Lines of text say what to make or explain, and are answered in lines.
 //!
-//! [`serve`] does the lines of standard input, [`answer_lines`] those of any reader, and [`answer_line`] one. [`parse_line`] says what
-//! a line asks for. What is made is made by [`make_packet`], [`make_frame`], [`make_command`], [`Parting::frame`] and [`Ending::end`],
-//! and what is explained is read by [`explain`].
+//! [`serve`] answers the lines of standard input, [`answer_lines`] the lines of any reader, and [`answer_line`] one
+//! line. [`parse_line`] parses a line. [`make_packet`], [`make_frame`], [`make_command`], [`Parting::frame`] and
+//! [`Ending::end`] make packets and frames, and [`explain`] reads a frame.
 #![tactic(auto)]
 
 mod answer;

@@ -1,4 +1,4 @@
-//! Lines, and what they ask for.
+//! Lines and their meanings.
 
 ghost use Rattle.std.specs.Prelude.{◌≡◌, ◌⊎◌, Some, None, map, IfOk, IfErr, IsErr, MatchResult};
 ghost use Rattle.hex.specs.Hex.{decode_of};
@@ -17,7 +17,7 @@ use tc_lines::{is_separator, large_number, small_number};
 use tc_link::{Command, Header};
 use tc_packet::{Part, Segment};
 
-/// Where Type-AD frames go, and the N(S) of the first.
+/// The virtual channel of Type-AD frames, and the N(S) of the first.
 #[derive(Clone, Copy, Debug, PartialEq, Eq)]
 pub struct Stream {
     pub scid: u16,
@@ -25,14 +25,14 @@ pub struct Stream {
     pub ns: u8,
 }
 
-/// The MAP of segments, and how many octets each carries.
+/// The MAP of segments, and the number of octets that each carries.
 #[derive(Clone, Copy, Debug, PartialEq, Eq)]
 pub struct Sizing {
     pub map: u8,
     pub size: u16,
 }
 
-/// A telemetry frame that is asked for: of which spacecraft and virtual channel, how many octets it has, and its CLCW.
+/// An order for a telemetry frame: its spacecraft and virtual channel, its number of octets, and its CLCW.
 #[derive(Clone, Copy, Debug, PartialEq, Eq)]
 pub struct TmOrder {
     pub scid: u16,
@@ -41,10 +41,10 @@ pub struct TmOrder {
     pub control: [u8; 4],
 }
 
-/// What a line asks for.
+/// A parsed line.
 #[derive(Debug, Drop)]
 pub enum Line {
-    /// Nothing: no words, or a comment.
+    /// A line without words, or a comment.
     Blank,
     /// A packet with this APID, sequence count and data field.
     Packet {
@@ -64,7 +64,7 @@ pub enum Line {
         vcid: u8,
         command: Command,
     },
-    /// A unit in segments, by Type-AD frames.
+    /// A unit that is sent in segments, in Type-AD frames.
     Segments {
         stream: Stream,
         sizing: Sizing,
@@ -92,16 +92,16 @@ pub enum Line {
         id: u8,
         octets: Octets,
     },
-    /// The decoder of the stream with this id is to look for a start sequence anew.
+    /// An order to the decoder of the stream with this id to look for a start sequence again.
     Search(u8),
-    /// What a CLTU carried, of which so many frames are to be taken at most.
+    /// Octets that a CLTU carried, from which at most `most` frames are to be taken.
     Frames {
         most: u8,
         octets: Octets,
     },
 }
 
-/// Reads a line, which is given without its line feed. Its words and its octets take memory.
+/// Parses a line, which is given without its line feed. Its words and its octets are allocated.
 #[tactic(auto, unfolding(crate::specs::Line::maker_line_of))]
 pub fn parse_line(alloc: Global, octets: &[u8]) -> Result<Line, Reason>
     ensures line { IfOk result (λ line. maker_line_of (words_of octets.now) ≡ Ok line) }
@@ -134,7 +134,7 @@ pub fn parse_line(alloc: Global, octets: &[u8]) -> Result<Line, Reason>
     }
 }
 
-// A line that is about the link: its CLTUs and its telemetry frames.
+// Parses a line about the link, that is, about CLTUs or telemetry frames.
 #[tactic(auto, unfolding(crate::specs::Line::link_line_of))]
 fn link_line(alloc: Global, command: &[u8], arguments: &[&[u8]]) -> Result<Line, Reason>
     ensures line { IfOk result (λ line. link_line_of command.now (map (λ word. word.now) arguments.now) ≡ Ok line) }
@@ -163,7 +163,7 @@ fn link_line(alloc: Global, command: &[u8], arguments: &[&[u8]]) -> Result<Line,
     }
 }
 
-// Whether a word begins with the byte order mark of UTF-8 or UTF-16.
+// Returns whether a word begins with the byte order mark of UTF-8 or UTF-16.
 fn begins_with_mark(word: &[u8]) -> bool
     ensures { result ≡ is_marked word.now }
 {
@@ -173,7 +173,7 @@ fn begins_with_mark(word: &[u8]) -> bool
     )
 }
 
-// The words of a line, in order.
+// Returns the words of a line, in order.
 fn words(alloc: Global, line: &[u8]) -> Result<Vec<&[u8]>, AllocError>
     ensures { IfOk result (λ words. map (λ word. word.now) words.items ≡ words_of line.now) }
 {
@@ -280,7 +280,7 @@ fn segments(alloc: Global, words: &[&[u8]]) -> Result<Line, Reason>
     sized(alloc, stream, map, size, digits)
 }
 
-// A frame that carries the octets that digits spell.
+// Returns the line of a frame that carries the octets that `digits` spells.
 fn frame(
     alloc: Global,
     header: Header,
@@ -297,7 +297,7 @@ fn frame(
     })
 }
 
-// The segments, of this MAP and size, of the unit that digits spell.
+// Returns the line of the segments, of this MAP and size, of the unit that `digits` spells.
 fn sized(
     alloc: Global,
     stream: Stream,
@@ -312,7 +312,7 @@ fn sized(
     parted(alloc, stream, sizing, digits)
 }
 
-// The segments of the unit that digits spell.
+// Returns the line of the segments of the unit that `digits` spells.
 fn parted(alloc: Global, stream: Stream, sizing: Sizing, digits: &[u8]) -> Result<Line, Reason>
     ensures line { IfOk result (λ line. parted_of stream sizing digits.now ≡ Ok line) }
     ensures reason { IfErr result (λ reason. (reason ≡ Reason.NoMemory) ⊎ (parted_of stream sizing digits.now ≡ Err reason)) }
@@ -324,7 +324,7 @@ fn parted(alloc: Global, stream: Stream, sizing: Sizing, digits: &[u8]) -> Resul
     })
 }
 
-// The octets that are the one word of a form.
+// Returns the octets that the only word of a form spells.
 fn alone(alloc: Global, form: Form, words: &[&[u8]]) -> Result<Octets, Reason>
     ensures octets { IfOk result (λ octets. alone_of form (map (λ word. word.now) words.now) ≡ Ok octets) }
     ensures reason { IfErr result (λ reason. (reason ≡ Reason.NoMemory) ⊎ (alone_of form (map (λ word. word.now) words.now) ≡ Err reason)) }
@@ -399,7 +399,7 @@ fn frames(alloc: Global, words: &[&[u8]]) -> Result<Line, Reason>
     })
 }
 
-// The number of at most 255 that a word is.
+// Returns the number of at most 255 that a word spells.
 fn small(number: Number, word: &[u8]) -> Result<u8, Reason>
     ensures { MatchResult result
         (λ n. word_number 255 word.now ≡ Some n)
@@ -408,7 +408,7 @@ fn small(number: Number, word: &[u8]) -> Result<u8, Reason>
     small_number(word).map_err(|_| Reason::BadNumber(number))
 }
 
-// The number of at most 65,535 that a word is.
+// Returns the number of at most 65,535 that a word spells.
 fn large(number: Number, word: &[u8]) -> Result<u16, Reason>
     ensures { MatchResult result
         (λ n. word_number 65535 word.now ≡ Some n)
@@ -417,7 +417,7 @@ fn large(number: Number, word: &[u8]) -> Result<u16, Reason>
     large_number(word).map_err(|_| Reason::BadNumber(number))
 }
 
-// The Type-AD frames that three words name.
+// Returns the stream of Type-AD frames that three words name.
 fn read_stream(scid: &[u8], vcid: &[u8], ns: &[u8]) -> Result<Stream, Reason>
     ensures { MatchResult result
         (λ stream. stream_of scid.now vcid.now ns.now ≡ Ok stream)
@@ -430,7 +430,7 @@ fn read_stream(scid: &[u8], vcid: &[u8], ns: &[u8]) -> Result<Stream, Reason>
     })
 }
 
-// The MAP and the size of segments that two words name.
+// Returns the MAP and the size of segments that two words name.
 fn read_sizing(map: &[u8], size: &[u8]) -> Result<Sizing, Reason>
     ensures { MatchResult result
         (λ sizing. sizing_of map.now size.now ≡ Ok sizing)
@@ -442,7 +442,7 @@ fn read_sizing(map: &[u8], size: &[u8]) -> Result<Sizing, Reason>
     })
 }
 
-// The segment header that a word names: none, or an unsegmented one with a MAP id.
+// Returns the segment header that a word names: none, or an unsegmented one with a MAP id.
 fn segment(word: &[u8]) -> Result<Option<Segment>, Reason>
     ensures { MatchResult result
         (λ segment. segment_word word.now ≡ Ok segment)
@@ -457,7 +457,7 @@ fn segment(word: &[u8]) -> Result<Option<Segment>, Reason>
     }))
 }
 
-// The octets that hexadecimal digits spell.
+// Returns the octets that hexadecimal digits spell.
 fn octets(alloc: Global, digits: &[u8]) -> Result<Octets, Reason>
     ensures octets { IfOk result (λ octets. decode_of digits.now ≡ Ok octets) }
     ensures reason { IfErr result (λ reason. (reason ≡ Reason.NoMemory) ⊎ ((reason ≡ Reason.BadHex) × IsErr (decode_of digits.now))) }
@@ -469,7 +469,7 @@ fn octets(alloc: Global, digits: &[u8]) -> Result<Octets, Reason>
     }
 }
 
-// The four octets that hexadecimal digits spell.
+// Returns the four octets that hexadecimal digits spell.
 fn four(alloc: Global, digits: &[u8]) -> Result<[u8; 4], Reason>
     ensures octets { IfOk result (λ octets. four_of digits.now ≡ Ok octets) }
     ensures reason { IfErr result (λ reason. (reason ≡ Reason.NoMemory) ⊎ (four_of digits.now ≡ Err reason)) }
@@ -481,7 +481,7 @@ fn four(alloc: Global, digits: &[u8]) -> Result<[u8; 4], Reason>
     Ok([*a, *b, *c, *d])
 }
 
-// How code blocks are decoded, as a word names it.
+// Returns the mode of decoding code blocks that a word names.
 fn read_mode(word: &[u8]) -> Result<Mode, Reason>
     ensures { MatchResult result
         (λ mode. mode_word word.now ≡ Ok mode)

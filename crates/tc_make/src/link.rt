@@ -22,7 +22,7 @@ use tc_cltu::{CltuFault, randomise, write_cltu};
 use tc_lines::Digits;
 use tc_tm::{Counts, ErrorControl, TmFault, TmFields, TmReadFault, read_tm};
 
-/// The CLTU that carries the octets.
+/// Writes the CLTU that carries the octets.
 pub(crate) fn write_coded<W: Write>(alloc: Global, octets: &[u8], writer: &mut W) -> io::Result<()>
     ensures { OnOk result (Writes (W.contents writer.old) (W.contents writer.new) (OrNoMemory (IsCltuSaid octets.now))) }
 {
@@ -45,7 +45,7 @@ fn coded(alloc: Global, octets: &[u8]) -> Result<Vec<u8>, Reason>
     }
 }
 
-/// The octets with the random sequence added.
+/// Writes the octets with the random sequence added.
 pub(crate) fn write_random<W: Write>(alloc: Global, octets: &[u8], writer: &mut W) -> io::Result<()>
     ensures { OnOk result (Writes (W.contents writer.old) (W.contents writer.new) (OrNoMemory (IsRandomSaid octets.now))) }
 {
@@ -63,7 +63,7 @@ fn with_random(alloc: Global, octets: &[u8]) -> Result<Vec<u8>, AllocError>
     Ok(made)
 }
 
-/// What octets say as a telemetry frame.
+/// Writes the explanation of octets as a telemetry frame.
 pub(crate) fn write_telemetry<W: Write>(
     ending: Ending,
     octets: &[u8],
@@ -127,7 +127,7 @@ fn write_end<W: Write>(fields: &TmFields, writer: &mut W) -> io::Result<()>
     writeln!(writer, " pointer {pointer} {kind} {digits}")
 }
 
-// What an operational control field is.
+// Returns the kind of an operational control field: `report` or `clcw`.
 fn control_word(control: &[u8]) -> &'static str
     requires { length control.now ≡ 4 }
     ensures { result.now ≡ control_text control.now }
@@ -135,7 +135,7 @@ fn control_word(control: &[u8]) -> &'static str
     if control[0] > 127 { "report" } else { "clcw" }
 }
 
-/// The next telemetry frame of a virtual channel.
+/// Writes the next telemetry frame of a virtual channel.
 pub(crate) fn write_tm<W: Write>(
     alloc: Global,
     ending: Ending,

@@ -1,11 +1,12 @@
-//! What answers lines.
+//! The state on which answers to lines depend.
 
 use crate::decoders::Decoders;
 use crate::ending::Ending;
 use std::alloc::{AllocError, Global};
 use tc_tm::Counts;
 
-/// What answers lines: how frames end, how many telemetry frames there were, and the decoders of streams.
+/// The state on which answers to lines depend: the ending of frames, the counts of telemetry frames, and the decoders
+/// of streams.
 #[derive(Drop)]
 pub struct Maker {
     pub ending: Ending,
@@ -17,7 +18,7 @@ impl Maker {
     ghost use Rattle.std.specs.Prelude.{◌≡◌, IfOk};
     ghost use Rattle.tc_make.specs.Making.{new_maker};
 
-    /// No telemetry frame was made, and no stream has a decoder. This asks for memory.
+    /// Creates the state in which no telemetry frame was made and no stream has a decoder. This requests memory.
     pub fn new(alloc: Global, ending: Ending) -> Result<Maker, AllocError>
         ensures { IfOk result (λ maker. maker ≡ new_maker ending) }
     {

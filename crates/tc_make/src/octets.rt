@@ -2,7 +2,7 @@
 
 use std::marker::Model;
 
-/// A `Vec` of octets, of which contracts see the octets alone, so that a line is plain data in a clause.
+/// A `Vec` of octets. Contracts see nothing of it but the octets, so that a line is plain data in a clause.
 #[derive(Debug, Drop)]
 pub struct Octets {
     items: Vec<u8>,
@@ -19,7 +19,7 @@ impl Model for Octets {
 impl Octets {
     ghost use Rattle.std.specs.Prelude.{◌≡◌};
 
-    /// The octets, the first one first.
+    /// Returns the octets in order.
     pub fn as_slice(&self) -> &[u8]
         ensures { result.now ≡ self.now }
     {

@@ -7,7 +7,7 @@ use tc_link::Header;
 use tc_packet::LARGEST_UNIT;
 use tc_write::{piece, segment_count, segment_header};
 
-/// A unit that is to be sent in segments, by Type-AD frames of one virtual channel.
+/// A unit that is to be sent in segments, in Type-AD frames of one virtual channel.
 #[derive(Clone, Copy, Debug, PartialEq, Eq)]
 pub struct Parting<'a> {
     pub scid: u16,
@@ -15,7 +15,7 @@ pub struct Parting<'a> {
     /// The N(S) of the first frame.
     pub ns: u8,
     pub map: u8,
-    /// How many octets of the unit a segment carries; the last one carries what is left.
+    /// The number of octets of the unit that a segment carries. The last segment carries the octets that are left.
     pub size: u16,
     pub unit: &'a [u8],
 }
@@ -25,9 +25,9 @@ impl<'a> Parting<'a> {
     ghost use Rattle.tc_write.specs.Parts.{segments_needed};
     ghost use Rattle.tc_make.specs.Parting.{IsFrameAt, parting_reason_of};
 
-    /// How many frames the unit is parted into.
+    /// Returns the number of frames that the unit is parted into.
     ///
-    /// A segment is to carry 1 to 1,018 octets, and a unit has 1 to 65,542.
+    /// A segment carries 1 to 1,018 octets, and a unit has 1 to 65,542.
     pub fn count(&self) -> Result<usize, Reason>
         ensures count { IfOk result (λ count. count ≡ segments_needed self.now.size (length self.now.unit.now)) }
         ensures parted { OnOk result (parting_reason_of self.now ≡ None) }
@@ -54,9 +54,9 @@ impl<'a> Parting<'a> {
         Ok(segment_count(usize::from(self.size), self.unit.len()))
     }
 
-    /// The frame at this place, from 0 on, of those that [`Parting::count`] has counted.
+    /// Makes the frame at this place, counted from 0, of those that [`Parting::count`] counts.
     ///
-    /// The only allocations are its data field and the frame.
+    /// Only its data field and the frame are allocated.
     pub fn frame(&self, alloc: Global, place: usize) -> Result<Vec<u8>, Reason>
         requires parted { parting_reason_of self.now ≡ None }
         requires there { place < segments_needed self.now.size (length self.now.unit.now) }

@@ -1,4 +1,4 @@
-//! A bench: lines in, lines out.
+//! The bench, which reads lines and writes their answers.
 
 ghost use Rattle.std.specs.Prelude.{◌≡◌, IfErr, IfSome, OnOk};
 ghost use Rattle.tc_make.specs.Serving.{AreWritten, IsMakingCutShort};
@@ -13,8 +13,8 @@ use std::io::{BufRead, BufReader, BufWriter, Write};
 use tc_lines::{LineAnswerer, ServingFault};
 use thiserror::Error;
 
-/// How many octets a line may have, its line feed among them. The longest line that says something, a unit of 65,542
-/// octets, fits.
+/// The number of octets that a line may have, including its line feed. The longest line that has a meaning, that of a
+/// unit of 65,542 octets, fits.
 pub const MAX_LINE: usize = 262_144;
 
 impl LineAnswerer for Maker {
@@ -34,9 +34,9 @@ impl LineAnswerer for Maker {
 
 /// Answers lines until there are no more, and flushes after each answer.
 ///
-/// A line that is longer than a line may be is answered `bad too long`. Octets after the last line feed are a line.
-/// Where the octets of the reader are known, the answers of all its lines are written, or as many as it gave before it
-/// failed.
+/// The answer to a line that is longer than a line may be is `bad too long`. Octets after the last line feed are a
+/// line. If the octets of the reader are known, the answers to all its lines are written, or to those that it gave
+/// before it failed.
 pub fn answer_lines<R: BufRead, W: Write>(
     alloc: Global,
     ending: Ending,
@@ -52,7 +52,7 @@ pub fn answer_lines<R: BufRead, W: Write>(
     tc_lines::answer_lines(alloc, MAX_LINE - 1, &mut maker, reader, writer)
 }
 
-/// Why `tcmake` answers no more lines.
+/// A fault after which `tcmake` answers no more lines.
 #[derive(Clone, Copy, Debug, PartialEq, Eq, Error)]
 pub enum MakingFault {
     #[error("{0}")]
@@ -61,7 +61,8 @@ pub enum MakingFault {
     BadLine,
 }
 
-/// Answers the lines of standard input on standard output, as [`answer_lines`] does; if it is strict, no line after the first bad one.
+/// Answers the lines of standard input on standard output, as [`answer_lines`] does. If `strict` is set, no line after
+/// the first bad one is answered.
 pub fn serve<R: AllocGlobal + Input + Print>(
     rt: &R,
     ending: Ending,

@@ -3,14 +3,14 @@
 use std::io;
 use std::io::{ErrorKind, Write};
 
-// With what the answer to a bad line begins.
+// The text with which the answer to a bad line begins.
 const BAD: &[u8] = b"bad ";
 
-/// Writes answers on, and fails once one has begun with `bad` and was flushed.
+/// A writer that passes answers on, and fails once an answer that begins with `bad` was flushed.
 #[derive(Drop)]
 pub(crate) struct Strict<W: Write + Drop> {
     writer: W,
-    // How many octets of the line so far are those of `bad`, as long as all are.
+    // The number of octets of the line so far, as long as `BAD` begins with all of them, and then `None`.
     alike: Option<usize>,
     has_bad: bool,
 }
@@ -24,7 +24,7 @@ impl<W: Write + Drop> Strict<W> {
         }
     }
 
-    /// Whether a line was bad.
+    /// Returns whether a line was bad.
     pub(crate) fn has_bad(&self) -> bool {
         self.has_bad
     }

@@ -1,11 +1,11 @@
--- The first line, by a search for its line feed.
+-- The first line, found by a search for its line feed.
 use Rattle.std.proofs.Common.{◌≡◌, ◌≢◌, ◌<◌, ℕ, Some, None, List, [], ◌∷◌, ◌++◌, suc, ◌+◌, length, length-drop, length-take-le, take, drop, get_or, get_or-take, drop-cons, take-append-drop, All, inl, inr, refl, sym, ap, ◌∙◌, subst, arith}
 use Rattle.std.proofs.lemmas.Bool.{eqb-true, eq-eqb}
 use Rattle.std.proofs.lemmas.List.Elements.{All-from_get_or}
 use Rattle.memchr.specs.Find.{IsFirstByte, is_byte}
 use Rattle.tc_text.specs.Reading.{IsFirstLine}
 
--- a line feed was found
+-- if a line feed was found, the octets before it are the first line
 pub line-to-feed : (octets line rest after : List ℕ) (end : ℕ) → IsFirstByte (is_byte 10) octets (Some end) → line ≡ take end octets → rest ≡ drop end octets
     → after ≡ drop 1 rest → IsFirstLine octets line after
 line-to-feed octets line rest after end found is left follows =
@@ -24,7 +24,7 @@ line-to-feed octets line rest after end found is left follows =
       shorter = omega (arith, ap length last, length-drop (suc end) octets, first.high);
     }
 
--- there is none
+-- if there is no line feed, all octets are the first line
 pub last-line : (octets after : List ℕ) → IsFirstByte (is_byte 10) octets None → 0 < length octets → after ≡ [] → IsFirstLine octets octets after
 last-line octets after none some no-more = record {
   one = All-from_get_or (λ octet. octet ≢ 10) octets 0 (λ k lt is-feed. none k (omega arith) lt (eq-eqb _ _ is-feed));

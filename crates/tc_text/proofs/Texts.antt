@@ -4,7 +4,7 @@ use Rattle.std.proofs.lemmas.List.{ext_get_or}
 use Rattle.std.proofs.lemmas.Slice.Eq.{bytes_eq-Decides}
 use Rattle.tc_lines.specs.Word.{is}
 
--- all octets are alike
+-- if a word and a text have the same length and the same octets, the word is the text
 pub is-text : (word text : List ℕ) → length word ≡ length text → ((place : ℕ) → place < length text → get_or word place 0 ≡ get_or text place 0)
     → true ≡ is word text
 is-text word text size same =

@@ -1,4 +1,4 @@
--- Says what a line asks for, by its words.
+-- The meaning of a line of a script, by its words.
 use Rattle.std.specs.Prelude.{ℕ, Bool, true, false, Option, ◌==◌, List, [], ◌∷◌, codes, Some, None, Result, Ok, Err, if◌then◌else◌}
 use Rattle.hex.specs.Hex.{decode_of}
 use Rattle.hex.specs.declared.FromHexError.{FromHexError}
@@ -9,7 +9,7 @@ use Rattle.tc_text.specs.declared.fault.Reason.TheVariants.{UnknownCommand, Word
 use Rattle.tc_text.specs.declared.line.Line.{Line}
 use Rattle.tc_text.specs.declared.line.Line.TheVariants.{Blank, Channel, Queue, Map, Frame, Release, Take, Unit as TakeUnit, Clcw}
 
--- the word that is left, if one is; more than one are too many
+-- the word that is left, if there is one; more than one are too many
 abbrev pub last_of : List (List ℕ) → Result (Option (List ℕ)) Reason
 last_of [] = Ok None
 last_of (word ∷ []) = Ok (Some word)
@@ -30,11 +30,11 @@ three_of (first ∷ second ∷ []) = Err WordCount
 three_of (first ∷ second ∷ third ∷ []) = Ok (first, second, third)
 three_of (first ∷ second ∷ third ∷ more ∷ rest) = Err WordCount
 
--- what follows where a word is a number within its bound
+-- the result of `next` for the number that a word spells, if it is within its bound
 abbrev pub with_number : ℕ → List ℕ → (ℕ → Result Line Reason) → Result Line Reason
 with_number most word next = elim (word_number most word) [ None ↦ Err BadNumber | Some number ↦ next number ]
 
--- whether data fields begin with a segment header: they do where the line has no option, and `plain` says that they don't
+-- whether data fields begin with a segment header: they do if the line has no option, and don't if it is `plain`
 abbrev pub segmented_of : Option (List ℕ) → Result Bool Reason
 segmented_of None = Ok true
 segmented_of (Some option) = if is option (codes "plain") then Ok false else Err BadOption
@@ -91,7 +91,7 @@ clcw_command [] = Err WordCount
 clcw_command (v ∷ []) = with_number 255 v (λ vcid. Ok (Clcw vcid))
 clcw_command (v ∷ more ∷ rest) = Err WordCount
 
--- what the words of a line say, or the first of the reasons why they say nothing
+-- the meaning of the words of a line, or the first of the reasons for which they have none
 unfoldable pub line_of : List (List ℕ) → Result Line Reason
 line_of [] = Ok Blank
 line_of (command ∷ arguments) =

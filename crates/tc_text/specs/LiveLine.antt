@@ -1,4 +1,4 @@
--- Says what a line asks a live receiver for, by its words.
+-- The meaning of a line for a live receiver, by its words.
 use Rattle.std.specs.Prelude.{ℕ, Bool, true, false, ◌==◌, List, [], ◌∷◌, codes, Some, None, Result, Ok, Err, if◌then◌else◌}
 use Rattle.tc_text.specs.Line.{line_of, three_of}
 use Rattle.tc_lines.specs.Number.{word_number}
@@ -15,7 +15,7 @@ use Rattle.tc_text.specs.declared.live.LiveLine.TheVariants.{Script, Link as Lin
 abbrev pub small_of : List ℕ → Result ℕ Reason
 small_of word = elim (word_number 255 word) [ None ↦ Err BadNumber | Some number ↦ Ok number ]
 
--- the flag that a number is
+-- the flag that a number stands for
 abbrev pub flag_for : ℕ → Result Bool Reason
 flag_for number = if number == 0 then Ok false else if number == 1 then Ok true else Err BadNumber
 
@@ -55,7 +55,8 @@ candidate_command (digits ∷ more ∷ rest) = Err WordCount
 abbrev pub scripted : Result Line Reason → Result LiveLine Reason
 scripted said = after_ok said (λ line. Ok (Script line))
 
--- what the words of a line say: `link`, `report`, `deliver`, `collect` and `candidate` are for a live receiver alone
+-- the meaning of the words of a line: `link`, `report`, `deliver`, `collect` and `candidate` are for a live receiver
+-- alone
 unfoldable pub live_line_of : List (List ℕ) → Result LiveLine Reason
 live_line_of [] = Ok (Script Blank)
 live_line_of (command ∷ arguments) =

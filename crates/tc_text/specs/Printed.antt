@@ -1,4 +1,4 @@
--- Answers, reasons and faults as text: docs/reference/scripts.md shows them, under "Answers" and "Faults".
+-- The texts of answers, reasons and faults, which docs/reference/scripts.md shows under "Answers" and "Faults".
 use Rattle.std.specs.Prelude.{ℕ, ◌==◌, if◌then◌else◌, List, ◌++◌, length, codes, decimal}
 use Rattle.std.specs.Int.{to_be_bytes, w32}
 use Rattle.tc_channel.specs.declared.reply.Delivery.{Delivery}
@@ -8,20 +8,20 @@ use Rattle.tc_text.specs.declared.fault.Reason.TheVariants.{UnknownCommand, Word
 use Rattle.tc_text.specs.declared.fault.ScriptFault.{ScriptFault}
 use Rattle.tc_text.specs.declared.fault.ScriptFault.TheVariants as faults
 
--- a unit: its octets, or a mark of its own where it has none
+-- the octets of a unit, or a mark of its own if it has none
 abbrev pub unit_text : List ℕ → List ℕ
 unit_text octets = if length octets == 0 then codes "-" else octets_text octets
 
--- a control word: its four octets, the most significant first
+-- the four octets of a control word, the most significant first
 abbrev pub word_text : ℕ → List ℕ
 word_text word = octets_text (to_be_bytes w32 word)
 
--- what became of a unit: `queued Q dropped D rest R`
+-- the text of a delivery: `queued Q dropped D rest R`
 abbrev pub delivery_text : Delivery → List ℕ
 delivery_text delivery =
     codes "queued " ++ decimal delivery.queued ++ codes " dropped " ++ decimal delivery.dropped ++ codes " rest " ++ flag_text delivery.rest
 
--- why a line is bad
+-- the text of a reason for which a line is bad
 abbrev pub reason_text : Reason → List ℕ
 reason_text UnknownCommand = codes "unknown command"
 reason_text WordCount = codes "wrong number of words"
@@ -44,7 +44,7 @@ reason_text DoubleMap = codes "double map"
 reason_text BadUnits = codes "bad units"
 reason_text PlainMap = codes "map on plain channel"
 
--- why a script ended early: `line N: ` and the reason, where the whole script has the number 0
+-- the text of a fault that ended a script early: `line N: ` and the reason, with the number 0 for the whole script
 abbrev pub fault_text : ScriptFault → List ℕ
 fault_text (faults.Line number reason) = codes "line " ++ decimal number ++ codes ": " ++ reason_text reason
 fault_text faults.Read = codes "line 0: cannot read"

@@ -1,4 +1,4 @@
--- Why no channel can have the settings of a line.
+-- The reasons for which no channel can have the settings of a line.
 use Rattle.tc_channel.specs.declared.settings.SettingsFault.{SettingsFault}
 use Rattle.tc_channel.specs.declared.settings.SettingsFault.TheVariants as faults
 use Rattle.tc_text.specs.declared.fault.Reason.{Reason}

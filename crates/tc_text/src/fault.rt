@@ -1,4 +1,4 @@
-//! Why a script ends early.
+//! The reasons for which a script ends early.
 
 ghost use Rattle.std.specs.Prelude.{◌≡◌, Some};
 ghost use Rattle.tc_text.specs.Printed.{reason_text, fault_text};
@@ -9,54 +9,54 @@ use std::fmt;
 use tc_channel::SettingsFault;
 use tc_lines::BadNumber;
 
-/// Why a line is bad. Where several apply, the first of this list is reported; but a bad option comes right before
-/// what is too late, and out of memory is reported as soon as it is met.
+/// A reason for which a line is bad. If several apply, the first in this list is reported, with two exceptions:
+/// `BadOption` comes right before `TooLate`, and `NoMemory` is reported as soon as memory runs out.
 #[derive(Clone, Copy, Debug, PartialEq, Eq)]
 pub enum Reason {
     /// The first word is no command.
     UnknownCommand,
-    /// The command takes another number of words.
+    /// The line has more or fewer words than its command takes.
     WordCount,
-    /// A number isn't 1 to 5 decimal digits, or is over its bound.
+    /// A number doesn't consist of 1 to 5 decimal digits, or is over its bound.
     BadNumber,
-    /// A frame isn't an even number of hexadecimal digits.
+    /// A frame isn't given as an even number of hexadecimal digits.
     BadHex,
     /// A channel, a queue or a chosen MAP is set up after an operation.
     TooLate,
-    /// An operation stands before any channel.
+    /// An operation comes before any channel is set up.
     NoChannel,
-    /// There is a channel with this virtual channel id already.
+    /// A channel with this virtual channel id is already set up.
     DoubleChannel,
-    /// A queue or a chosen MAP is for a channel that isn't there.
+    /// A queue or a chosen MAP is for a channel that isn't set up.
     UnknownChannel,
     /// The virtual channel id is over 63.
     BadVcid,
     /// The window's width is odd, 0 or 255.
     BadWindow,
-    /// The buffer isn't of 1 to 64 data fields.
+    /// The buffer doesn't hold 1 to 64 data fields.
     BadBuffer,
     /// A queue's APID is over 2,046.
     BadApid,
-    /// The channel has a queue for this APID already.
+    /// The channel already has a queue for this APID.
     DoubleApid,
-    /// A queue isn't of 1 to 256 packets.
+    /// A queue doesn't hold 1 to 256 packets.
     BadCapacity,
-    /// Memory ran out at what the line needs.
+    /// Memory for something that the line needs ran out.
     NoMemory,
-    /// The word after a channel's numbers is no option.
+    /// The word after a channel's numbers isn't an option.
     BadOption,
     /// A chosen MAP is over 63.
     BadMap,
-    /// The channel has chosen this MAP already.
+    /// The channel has already chosen this MAP.
     DoubleMap,
-    /// The queue of a chosen MAP isn't of 1 to 256 units.
+    /// The queue of a chosen MAP doesn't hold 1 to 256 units.
     BadUnits,
-    /// A MAP is chosen on a channel without segment headers, which alone name MAPs.
+    /// A MAP is chosen on a channel without segment headers. Only a segment header names a MAP.
     PlainMap,
 }
 
 impl Reason {
-    /// The words of the reason.
+    /// Returns the words of the reason.
     pub fn as_str(&self) -> &'static str
         ensures { result.now ≡ reason_text self.now }
     {
@@ -125,15 +125,16 @@ impl From<SettingsFault> for Reason {
     }
 }
 
-/// Why a script ended early. Lines are numbered from 1; the whole script has the number 0.
+/// A fault that ended a script early. Lines are numbered from 1, and the number 0 is for the whole script.
 #[derive(Clone, Copy, Debug, PartialEq, Eq)]
 pub enum ScriptFault {
-    /// The line is bad, and nothing of it was done; or memory ran out there: at 0 for the script as it was read, at the
-    /// number of lines for its end. `run_script` has answered the lines before it, `parallel_script` has written nothing.
+    /// The line is bad and had no effect, or memory ran out at it. If memory ran out while the script was read, the
+    /// number is 0. If it ran out at the end of the script, the number is that of the last line. `run_script` has
+    /// answered the lines before this one, and `parallel_script` has written nothing.
     Line { line: u32, reason: Reason },
-    /// The reader failed. No line was done.
+    /// The reader failed. No line was carried out.
     Read,
-    /// The script has more octets than a script may have. No line was done.
+    /// The script has more octets than a script may have. No line was carried out.
     TooLong,
     /// The writer failed.
     Write,

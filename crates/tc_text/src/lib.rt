@@ -1,6 +1,6 @@
-//! Scripts as text: their octets are read and taken apart into lines, and a line into its words, which say what is to be done.
+//! Scripts as text. The octets of a script are read and split into lines, and a line is split into words and parsed.
 //!
-//! `read_whole` reads a script, `next_line` takes its first line off, and `parse_line` says what a line says.
+//! `read_whole` reads a script, `next_line` splits off its first line, and `parse_line` parses a line.
 #![tactic(auto)]
 
 mod fault;

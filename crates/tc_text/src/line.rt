@@ -11,13 +11,13 @@ use std::alloc::Global;
 use tc_channel::Octets;
 use tc_lines::{large_number, next_word, small_number};
 
-/// Says what a line asks for.
+/// A parsed line of a script.
 #[derive(Debug, Drop, PartialEq, Eq)]
 pub enum Line {
-    /// Nothing: no words, or a comment.
+    /// A line without words, or a comment.
     Blank,
-    /// A virtual channel with its window's width, the number of data fields that its buffer takes,
-    /// the first V(R), and whether data fields begin with a segment header.
+    /// A virtual channel with its window's width, the number of data fields that its buffer holds,
+    /// the first V(R), and a flag that is set if data fields begin with a segment header.
     Channel {
         vcid: u8,
         width: u8,
@@ -25,31 +25,31 @@ pub enum Line {
         first: u8,
         segmented: bool,
     },
-    /// A packet queue of a virtual channel, with its APID and the number of packets that it takes.
+    /// A packet queue of a virtual channel, with its APID and the number of packets that it holds.
     Queue {
         vcid: u8,
         apid: u16,
         capacity: u16,
     },
-    /// A chosen MAP of a virtual channel, with the number of units that its queue takes.
+    /// A chosen MAP of a virtual channel, with the number of units that its queue holds.
     Map {
         vcid: u8,
         map: u8,
         capacity: u16,
     },
-    /// Octets that arrive.
+    /// Octets that arrive at the receiver.
     Frame(Octets),
-    /// Lets the oldest data field out of the buffer of a virtual channel.
+    /// A release of the oldest data field in the buffer of a virtual channel.
     Release(u8),
-    /// Takes the oldest packet of a virtual channel with an APID.
+    /// A take of the oldest packet that waits for an APID, with the virtual channel and the APID.
     Take(u8, u16),
-    /// Takes the oldest unit of a virtual channel with a MAP.
+    /// A take of the oldest unit that waits for a MAP, with the virtual channel and the MAP.
     Unit(u8, u8),
-    /// Asks for the CLCW of a virtual channel.
+    /// A request for the CLCW of a virtual channel.
     Clcw(u8),
 }
 
-/// Reads a line, which is given without its line feed. Only a frame's octets take memory.
+/// Parses a line, which is given without its line feed. Memory is allocated only for the octets of a frame.
 #[tactic(auto, unfolding(crate::specs::Line::line_of))]
 pub fn parse_line(alloc: Global, octets: &[u8]) -> Result<Line, Reason>
     ensures line { IfOk result (λ line. line_of (words octets.now) ≡ Ok line) }
@@ -106,7 +106,7 @@ fn channel(arguments: &[u8]) -> Result<Line, Reason>
     })
 }
 
-// Whether data fields begin with a segment header, by the option of a channel line.
+// Returns whether the option of a channel line says that data fields begin with a segment header.
 fn is_segmented(option: Option<&[u8]>) -> Result<bool, Reason>
     ensures { MatchResult result
         (λ segmented. segmented_of (option_map (λ word. word.now) option.entry) ≡ Ok segmented)

@@ -1,4 +1,4 @@
-//! Lines of a live receiver: those of a script, and five more.
+//! Lines for a live receiver: the lines of a script, and five more.
 
 ghost use Rattle.std.specs.Prelude.{◌≡◌, ◌⊎◌, IfOk, IfErr, MatchResult};
 ghost use Rattle.tc_lines.specs.Word.{words};
@@ -13,24 +13,26 @@ use tc_channel::Octets;
 use tc_lines::{next_word, small_number};
 use tc_link::Link;
 
-/// Says what a line asks a live receiver for.
+/// A parsed line for a live receiver.
 #[derive(Debug, Drop, PartialEq, Eq)]
 pub enum LiveLine {
     /// A line of a script.
     Script(Line),
-    /// The flags of the link from now on, for a virtual channel.
+    /// The flags of the link that a virtual channel reports from now on.
     Link { vcid: u8, link: Link },
-    /// Asks what a virtual channel has come to.
+    /// A request for a report on a virtual channel.
     Report(u8),
-    /// Lets the oldest data field out of the buffer of a virtual channel, and hands on all that waits in its queues.
+    /// A release of the oldest data field in the buffer of a virtual channel, followed by takes of all that waits in
+    /// its queues.
     Deliver(u8),
-    /// Hands on all that waits in the queues of a virtual channel.
+    /// Takes of all that waits in the queues of a virtual channel.
     Collect(u8),
-    /// A candidate, which a CLTU carried: a frame, and fill behind it.
+    /// A candidate frame, which is what a CLTU carried: a frame, and the fill behind it.
     Candidate(Octets),
 }
 
-/// Reads a line, which is given without its line feed. Only the octets of a frame or a candidate take memory.
+/// Parses a line, which is given without its line feed. Memory is allocated only for the octets of a frame or a
+/// candidate.
 #[tactic(auto, unfolding(crate::specs::LiveLine::live_line_of))]
 pub fn parse_live_line(alloc: Global, octets: &[u8]) -> Result<LiveLine, Reason>
     ensures line { IfOk result (λ line. live_line_of (words octets.now) ≡ Ok line) }
@@ -108,7 +110,7 @@ fn candidate(alloc: Global, arguments: &[u8]) -> Result<LiveLine, Reason>
     }
 }
 
-// The flag that a word is: 0 or 1.
+// Parses a word that is a flag: 0 or 1.
 fn flag(word: &[u8]) -> Result<bool, Reason>
     ensures { MatchResult result (λ flag. flag_word word.now ≡ Ok flag) (λ reason. flag_word word.now ≡ Err reason) }
 {

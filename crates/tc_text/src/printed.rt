@@ -1,4 +1,4 @@
-//! Writes the parts of answers as text.
+//! The parts of answers as text.
 
 ghost use Rattle.std.specs.Prelude.{Some};
 ghost use Rattle.tc_text.specs.Printed.{unit_text, word_text, delivery_text};
@@ -7,7 +7,7 @@ use std::fmt;
 use tc_channel::Delivery;
 use tc_lines::Digits;
 
-/// A unit: its digits, or `-` where it has no octets.
+/// The hexadecimal digits of a unit, or `-` if it has no octets.
 #[derive(Clone, Copy, Debug)]
 pub struct UnitDigits<'a>(pub &'a [u8]);
 
@@ -23,7 +23,7 @@ impl fmt::Display for UnitDigits<'_> {
     }
 }
 
-/// A control word: the eight digits of its four octets.
+/// The eight hexadecimal digits of a control word of four octets.
 #[derive(Clone, Copy, Debug)]
 pub struct WordDigits(pub u32);
 
@@ -38,7 +38,8 @@ impl fmt::Display for WordDigits {
     }
 }
 
-/// Writes what became of a unit: how many of its packets were queued and how many dropped, and whether octets were left.
+/// The text of a delivery: how many packets of a unit were queued and how many dropped, and whether octets were left
+/// over.
 #[derive(Clone, Copy, Debug)]
 pub struct Delivered(pub Delivery);
 

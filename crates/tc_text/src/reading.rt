@@ -1,4 +1,4 @@
-//! Reading a script, and taking it apart into lines.
+//! Reading a script, and splitting it into lines.
 
 ghost use Rattle.std.specs.Prelude.{◌≡◌, ◌≤◌, [], vec_len, IfOk, IfErr, IfSome, MatchOption};
 ghost use Rattle.tc_text.specs.Reading.{IsFirstLine, IsReadFault};
@@ -8,13 +8,13 @@ use memchr::memchr;
 use std::alloc::Global;
 use std::io::Read;
 
-/// How many octets a script may have.
+/// The number of octets that a script may have.
 pub const MAX_OCTETS: usize = 1_048_576;
 
 const CHUNK: usize = 8192;
 
-/// The whole script, by reads until one gives no octets. Each read before gives at least one, so
-/// there are at most `MAX_OCTETS + 1`.
+/// Reads the whole script, up to a read that gives no octets. Each read before that one gives at least one octet, so
+/// there are at most `MAX_OCTETS + 1` reads.
 pub fn read_whole<R: Read>(alloc: Global, reader: &mut R) -> Result<Vec<u8>, ScriptFault>
     ensures within { IfOk result (λ script. vec_len script ≤ MAX_OCTETS) }
     ensures whole { IfOk result (λ script. IfSome (R.remaining reader.old) (λ octets. script.items ≡ octets)) }
@@ -40,7 +40,7 @@ pub fn read_whole<R: Read>(alloc: Global, reader: &mut R) -> Result<Vec<u8>, Scr
     Err(ScriptFault::TooLong)
 }
 
-/// The first line, and what follows its line feed. Octets after the last line feed are a line.
+/// Returns the first line, and the octets after its line feed. Octets after the last line feed are a line, too.
 pub fn next_line(octets: &[u8]) -> Option<(&[u8], &[u8])>
     ensures { MatchOption result (octets.now ≡ []) (λ parts. IsFirstLine octets.now parts.0.now parts.1.now) }
 {

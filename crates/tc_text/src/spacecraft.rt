@@ -13,7 +13,7 @@ pub struct SpacecraftId {
 }
 
 impl SpacecraftId {
-    /// The spacecraft id that a number is, if it is one.
+    /// Creates the spacecraft id with this number, or returns `None` if it is too large.
     pub fn new(number: u16) -> Option<SpacecraftId>
         ensures { MatchOption result (1023 < number) (λ id. id.number ≡ number) }
     {

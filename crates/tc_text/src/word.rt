@@ -7,7 +7,7 @@ ghost use Rattle.tc_text.specs.Line.{last_of, two_of, three_of};
 use crate::fault::Reason;
 use tc_lines::next_word;
 
-/// The next of the words that a command takes.
+/// Returns the next of the words that a command takes, and the octets after it.
 pub(crate) fn next_argument(octets: &[u8]) -> Result<(&[u8], &[u8]), Reason>
     ensures { MatchResult result
         (λ parts. words octets.now ≡ parts.0.now ∷ words parts.1.now)
@@ -19,7 +19,7 @@ pub(crate) fn next_argument(octets: &[u8]) -> Result<(&[u8], &[u8]), Reason>
     }
 }
 
-/// The word that is left, if one is.
+/// Returns the last word, if one is left.
 pub(crate) fn last_argument(octets: &[u8]) -> Result<Option<&[u8]>, Reason>
     ensures { MatchResult result
         (λ last. last_of (words octets.now) ≡ Ok (option_map (λ word. word.now) last))
@@ -34,7 +34,7 @@ pub(crate) fn last_argument(octets: &[u8]) -> Result<Option<&[u8]>, Reason>
     }
 }
 
-/// The words of a command that takes two.
+/// Returns the words of a command that takes two.
 pub(crate) fn two_arguments(octets: &[u8]) -> Result<(&[u8], &[u8]), Reason>
     ensures { MatchResult result
         (λ parts. two_of (words octets.now) ≡ Ok (parts.0.now, parts.1.now))
@@ -46,7 +46,7 @@ pub(crate) fn two_arguments(octets: &[u8]) -> Result<(&[u8], &[u8]), Reason>
     Ok((first, second))
 }
 
-/// The words of a command that takes three.
+/// Returns the words of a command that takes three.
 pub(crate) fn three_arguments(octets: &[u8]) -> Result<(&[u8], &[u8], &[u8]), Reason>
     ensures { MatchResult result
         (λ parts. three_of (words octets.now) ≡ Ok (parts.0.now, parts.1.now, parts.2.now))
@@ -59,7 +59,7 @@ pub(crate) fn three_arguments(octets: &[u8]) -> Result<(&[u8], &[u8], &[u8]), Re
     Ok((first, second, third))
 }
 
-/// That a command has no more words.
+/// Checks that a command has no more words.
 pub(crate) fn no_more(octets: &[u8]) -> Result<(), Reason>
     ensures none { OnOk result (words octets.now ≡ []) }
     ensures some { IfErr result (λ reason. (reason ≡ Reason.WordCount) × (words octets.now ≢ [])) }
@@ -70,7 +70,8 @@ pub(crate) fn no_more(octets: &[u8]) -> Result<(), Reason>
     }
 }
 
-/// Whether a word is this text. The first octet that differs decides: most commands differ from a word there.
+/// Returns whether a word is this text. The comparison stops at the first octet that differs, since most of the
+/// commands that a word is compared with differ from it in their first octet.
 #[inline(always)]
 pub(crate) fn is_text(word: &[u8], text: &[u8]) -> bool
     ensures { result ≡ is word.now text.now }
