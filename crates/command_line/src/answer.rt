@@ -1,4 +1,4 @@
-//! What is printed in place of what a program does, and the exit status.
+//! The texts that are printed instead of running a program, and the exit status.
 
 ghost use Rattle.std.specs.Prelude.{◌≡◌, ◌≤◌, IfErr};
 ghost use Rattle.std.specs.Process.{exit_status};
@@ -15,7 +15,8 @@ use strsim::{jaro, osa_distance};
 /// The exit status of a bad command line.
 pub(crate) const BAD_COMMAND_LINE: u8 = 2;
 
-/// The words that a program was started with, its name first. Where they are of no use, standard error says why.
+/// Returns the words with which a program was started, its name first. If they can't be used, the reason goes to
+/// standard error.
 pub(crate) fn words_of<R: Env + AllocGlobal + Eprint>(
     rt: &R,
     program: &str,
@@ -31,8 +32,8 @@ pub(crate) fn words_of<R: Env + AllocGlobal + Eprint>(
     }
 }
 
-/// Prints help, the version, or why the words are refused, and gives the exit status. What can't be written to standard output is
-/// written to standard error.
+/// Prints help, the version, or the reason why the words are refused, and returns the exit status. A failure to write
+/// to standard output is reported on standard error.
 pub(crate) fn print<R: AllocGlobal + Print + Eprint>(
     rt: &R,
     program: &Program,
@@ -60,12 +61,13 @@ pub(crate) fn print<R: AllocGlobal + Print + Eprint>(
     }
 }
 
-// How many slips a word may have that was meant to be a command, and up to which likeness of the two the table of words names none.
+// The largest number of slips with which a word is still taken for a misspelt command, and the largest likeness of the
+// two words for which `clap` suggests no command itself.
 const SLIPS: usize = 2;
 
 const UNALIKE: f64 = 0.7;
 
-// Names the command that the first word was perhaps meant to be, where the table of words hasn't.
+// Names the command that the first word was perhaps meant to be, if `clap` hasn't suggested it.
 fn suggest<R: AllocGlobal + Eprint>(rt: &R, program: &Program, words: &[String]) {
     let Some(word) = words.get(1) else {
         return;

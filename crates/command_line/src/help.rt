@@ -1,9 +1,10 @@
-//! What help prints beside the commands and options.
+//! The texts that help prints besides the commands and options.
 
-/// The version of each program, which is that of CHANGELOG.md's newest heading; `checks/launcher` compares each place that says it.
+/// The version of each program, which is that of the newest heading in CHANGELOG.md. `checks/launcher` compares all
+/// places that name it.
 pub(crate) const VERSION: &str = "0.3.0";
 
-/// Of `tcrx`: the lines of a script with their limits, the statuses, and an example.
+/// The end of the help of `tcrx`: the lines of a script with their limits, the exit statuses, and an example.
 pub(crate) const SCRIPTS: &str = "Lines of a script, those that set up first:
   channel VC WIDTH BUFFER VR [plain]  sets up a virtual channel: its id (0 to 63), the width of its window (even, 2 to 254),
                                       how many data fields its buffer holds (1 to 64), its first V(R) (0 to 255);
@@ -27,15 +28,15 @@ Example:
   printf 'channel 1 10 1 0\\nframe 002a040c00c01005c0000000aa\\n' | tcrx run --scid 42
 ";
 
-/// Where the lines of a script are listed.
+/// A pointer to the list of the lines of a script.
 pub(crate) const POINTER: &str =
     "The script comes on standard input. tcrx --help lists the lines of a script.";
 
-/// What is said of a word too many, which is often the name of a file.
+/// The hint after a word too many, which is often the name of a file.
 pub(crate) const INPUT: &str =
     "tcrx: a script comes on standard input, as in: tcrx run --scid 42 < FILE";
 
-/// Of `tclive`: the lines with their limits, the statuses, and an example.
+/// The end of the help of `tclive`: the lines with their limits, the exit statuses, and an example.
 pub(crate) const LIVE_LINES: &str =
     "Each line is answered before the next is read. Lines are those of a script of tcrx, which tcrx --help lists, and five more:
   link VC RF BL  No RF Available and No Bit Lock, 0 or 1 each, that the CLCWs of a channel have from now on
@@ -55,7 +56,7 @@ Example:
   printf 'channel 1 10 1 0\\nframe 002a040c00c01005c0000000aa\\n' | tclive --scid 42
 ";
 
-/// Of `tcmake`: the lines with their limits, the statuses, and an example.
+/// The end of the help of `tcmake`: the lines with their limits, the exit statuses, and an example.
 pub(crate) const MAKER_LINES: &str = "Lines, each of which is answered before the next is read:
   packet APID COUNT HEX                makes a packet of an application (0 to 2047): its sequence count (0 to 16383) and its
                                        packet data field (1 to 65536 octets)

@@ -1,7 +1,7 @@
-//! The command lines of the programs: the words that they are started with, and what these ask for.
+//! The command lines of the programs: the words with which they are started, and the meaning of these words.
 //!
-//! A program calls the function with its name. Where its words ask for help or the version, or are refused, that is printed, and
-//! nothing is left to the program but to end with the exit status that it gets.
+//! Each program calls the function that has its name. If the words ask for help or the version, or are refused, this
+//! function prints the text and returns an exit status, with which the program then exits.
 #![tactic(auto)]
 
 mod answer;

@@ -1,4 +1,4 @@
-//! What a program was asked for, by a table of its words.
+//! The meaning of the words with which a program is started, by a table of the words that it takes.
 
 ghost use Rattle.std.specs.Prelude.{◌≡◌, ◌≤◌, IfOk, IfErr};
 ghost use Rattle.std.specs.Process.{exit_status};
@@ -14,7 +14,7 @@ use std::process::ExitCode;
 /// The largest spacecraft id (CCSDS 232.0-B, 4.1.2.5: ten bits).
 const MAX_SCID: u16 = 1023;
 
-/// How a script is run.
+/// The way in which a script is run.
 #[derive(Clone, Copy, Debug, PartialEq, Eq)]
 pub enum Way {
     /// Line by line.
@@ -23,23 +23,23 @@ pub enum Way {
     Parallel,
 }
 
-/// The words of a program, and what help says of it.
+/// The words that a program takes, and its texts of help.
 pub(crate) struct Program {
     pub(crate) name: &'static str,
     pub(crate) about: &'static str,
-    /// What help ends with.
+    /// The text with which help ends.
     pub(crate) end: &'static str,
-    /// Whether `--scid` names the spacecraft.
+    /// A flag that is set if `--scid` names the spacecraft.
     pub(crate) scid: bool,
-    /// What `--fecf` asks for, if it is an option.
+    /// The help on `--fecf`, if it is an option of the program.
     pub(crate) fecf: Option<&'static str>,
-    /// What `--strict` asks for, likewise.
+    /// The help on `--strict`, if it is an option of the program.
     pub(crate) strict: Option<&'static str>,
-    /// The commands, each of which runs a script for a spacecraft, with what help says of it.
+    /// The commands, each of which runs a script for a spacecraft, with the help on each.
     pub(crate) commands: &'static [(&'static str, &'static str)],
 }
 
-/// What a program was asked for. What it has no word for is left out.
+/// The meaning of the words with which a program was started. An option that the program doesn't have is absent.
 #[derive(Clone, Copy)]
 pub(crate) struct Asked {
     pub(crate) way: Way,
@@ -48,7 +48,8 @@ pub(crate) struct Asked {
     pub(crate) strict: bool,
 }
 
-/// What the words that a program was started with ask for; or else the exit status, after all is printed.
+/// Returns the meaning of the words with which a program was started, or the exit status if help, the version or a
+/// fault was printed instead.
 pub(crate) fn ask<R: Env + AllocGlobal + Print + Eprint>(
     rt: &R,
     program: &Program,
@@ -62,7 +63,7 @@ pub(crate) fn ask<R: Env + AllocGlobal + Print + Eprint>(
     }
 }
 
-/// The spacecraft id that was asked for. The words of a program that calls this give one.
+/// Returns the spacecraft id among the words. Each program that calls this requires one.
 pub(crate) fn spacecraft_of<R: Eprint>(rt: &R, asked: Asked) -> Result<u16, ExitCode>
     ensures id { IfOk result (λ scid. scid ≤ MAX_SCID) }
     ensures status { IfErr result (λ status. exit_status status ≡ BAD_COMMAND_LINE) }
@@ -76,7 +77,8 @@ pub(crate) fn spacecraft_of<R: Eprint>(rt: &R, asked: Asked) -> Result<u16, Exit
     }
 }
 
-// What the words ask for, the program's name first. An error is what to print: help, the version, or why the words are refused.
+// Returns the meaning of the words, of which the program's name is the first. An error is a text to print: help, the
+// version, or the reason why the words are refused.
 fn judge<'a, S: AsStr>(alloc: Global, program: &Program, words: &'a [S]) -> Result<Asked, Error> {
     let command = command(alloc, program)?
         .version(VERSION)

@@ -56,21 +56,23 @@ pub struct ScriptRun {
     pub way: Way,
 }
 
-/// For which spacecraft frames are received, and whether each must end with its frame error control field.
+/// The spacecraft whose frames are received, and whether each frame must end with its frame error control field.
 #[derive(Clone, Copy, Debug, PartialEq, Eq)]
 pub struct Reception {
     pub scid: u16,
     pub fecf: bool,
 }
 
-/// How frames are made: whether each is to end with its frame error control field, and whether the first bad line ends it all.
+/// The way in which frames are made: whether each ends with its frame error control field, and whether the program
+/// exits after the first bad line.
 #[derive(Clone, Copy, Debug, PartialEq, Eq)]
 pub struct Making {
     pub fecf: bool,
     pub strict: bool,
 }
 
-/// What `tcrx` is to do, by the words that it was started with; or else the exit status, after all is printed.
+/// Returns the run that the words of `tcrx` ask for, or the exit status if help, the version or a fault was printed
+/// instead.
 pub fn asked_of_tcrx<R: Env + AllocGlobal + Print + Eprint>(rt: &R) -> Result<ScriptRun, ExitCode>
     ensures spacecraft { IfOk result (λ run. run.scid ≤ 1023) }
     ensures status { IfErr result (λ status. exit_status status ≤ 2) }
@@ -81,7 +83,8 @@ pub fn asked_of_tcrx<R: Env + AllocGlobal + Print + Eprint>(rt: &R) -> Result<Sc
     Ok(ScriptRun { scid, way })
 }
 
-/// What `tclive` is to do, likewise.
+/// Returns the reception that the words of `tclive` ask for, or the exit status if help, the version or a fault was
+/// printed instead.
 pub fn asked_of_tclive<R: Env + AllocGlobal + Print + Eprint>(rt: &R) -> Result<Reception, ExitCode>
     ensures spacecraft { IfOk result (λ reception. reception.scid ≤ 1023) }
     ensures status { IfErr result (λ status. exit_status status ≤ 2) }
@@ -92,7 +95,8 @@ pub fn asked_of_tclive<R: Env + AllocGlobal + Print + Eprint>(rt: &R) -> Result<
     Ok(Reception { scid, fecf })
 }
 
-/// What `tcmake` is to do, likewise.
+/// Returns the way of making frames that the words of `tcmake` ask for, or the exit status if help, the version or a
+/// fault was printed instead.
 pub fn asked_of_tcmake<R: Env + AllocGlobal + Print + Eprint>(rt: &R) -> Result<Making, ExitCode>
     ensures { IfErr result (λ status. exit_status status ≤ 2) }
 {

@@ -1,19 +1,19 @@
-//! The words that a program is started with.
+//! The words with which a program is started.
 
 use std::alloc::AllocError;
 use std::env::{Env, FillError};
 use std::fmt;
 
-/// Why the words of the command line are of no use.
+/// A fault for which the words of the command line can't be used.
 #[derive(Debug, Drop)]
 pub(crate) enum WordsFault {
     /// The first word that isn't UTF-8, with its place after the program's name.
     NotText { place: usize, octets: Vec<u8> },
-    /// A growth was refused.
+    /// Memory for the words ran out.
     NoMemory,
 }
 
-/// The words, the program's name first.
+/// Returns the words of the command line, the program's name first.
 pub(crate) fn read_words<R: Env + AllocGlobal>(rt: &R) -> Result<Vec<String>, WordsFault> {
     let mut words = Vec::new(rt.alloc());
     for place in 0..usize::MAX {
@@ -34,10 +34,10 @@ pub(crate) fn read_words<R: Env + AllocGlobal>(rt: &R) -> Result<Vec<String>, Wo
     Ok(words)
 }
 
-// A word is first given room for so many octets.
+// The number of octets for which a word has room at first.
 const FIRST_ROOM: usize = 256;
 
-// The octets of the word at a place, if there is one.
+// Returns the octets of the word at a place, if there is one.
 fn octets_of_word<R: Env + AllocGlobal>(
     rt: &R,
     place: usize,

@@ -1,4 +1,4 @@
--- A candidate carries more than a frame and its fill, or is run as the frame that it carries.
+-- A candidate carries more than a frame and its fill, or is carried out as the frame that it carries.
 use Rattle.tc_live.proofs.Names.{◌≡◌, ◌⊎◌, ℕ, Bool, true, false, List, Option, Some, inl, inr, refl, sym, subst, ap, ◌∙◌, arith, IsTrue, ◌↔◌, not, MatchOption, true≢false, Racked, Stage, instruction_of, IsBad, phase_of, Receiving, IsCandidateDone, IsPassedDone, IsBadCandidate, LiveAnswer, FrameCheck, FrameEnds}
 use Rattle.tc_fecf.specs.Candidate.{IsDelimited, is_fill}
 use Rattle.tc_fecf.proofs.Delimiting.{one-frame}
@@ -20,7 +20,7 @@ carried r octets frame rest found e = (
   λ other. is-more r rest e (ap is_fill (one-frame frame other.0 rest other.1 found.whole other.2.whole (sym found.parts ∙ other.2.parts)).1 ∙ other.3),
 )
 
--- a candidate that carries no more is done as the line that passed
+-- a candidate that carries no more is carried out as the line that passed
 pub passed-done : (old new : Receiving) (check : FrameCheck) (ends : FrameEnds) (scid : ℕ) (stage : Stage Racked) (octets shown : List ℕ) (r : Bool) (o : Option Line) (passed : Line) (answer : LiveAnswer)
     → ◌≡◌ {A = Receiving} (record { check = check; ends = ends; scid = scid; stage = stage }) old → shown ≡ octets → IsTrue r ↔ CarriesMore shown → r ≡ false
     → MatchOption o (FailsCandidate check octets) (IsCandidatePassed check octets) → o ≡ Some passed → IsPassedDone old passed new answer → IsCandidateDone old octets new answer

@@ -16,7 +16,7 @@ all-written (Ok ends) receiver last None a b c answered report same = tt
 all-written (Ok ends) receiver last (Some octets) a b c (answers, is, before) (channels, all, rising, more) same =
     (last, answers, channels, is, same, all, rising, Appends-trans a b c answers _ before more)
 
--- there is no report, or not the whole of it
+-- if there is no report, or only a part of it, the reception was cut short
 pub not-reported : {T : Type 0} (closed : Result T ServingFault) (receiver last : Receiving) (known a b c : Option (List ℕ))
     → IfSome known (λ octets. lines.AreAllWritten line_limit IsLineSaid receiver octets last a b)
     → IfErr closed (IsClosingFault last) → IfErr closed (λ fault. (fault ≡ Write) ⊎ Keeps b c)
@@ -30,7 +30,7 @@ not-reported (Err fault) receiver last (Some octets) a b c (answers, is, before)
 not-reported (Err fault) receiver last (Some octets) a b c (answers, is, before) (inr (inr (unbalanced, unreported))) (inr kept) =
     subst (IsReceptionCutShort receiver octets a c) (sym unbalanced) (last, (answers, is, Appends-kept a b c answers before kept), unreported)
 
--- no more lines are answered
+-- if no more lines are answered, the reception was cut short
 pub lines-cut : (fault : AnsweringFault) (receiver last : Receiving) (known a b : Option (List ℕ))
     → IfSome known (λ octets. lines.IsCutShort line_limit IsLineSaid receiver octets last a b fault)
     → IfSome known (λ octets. IsReceptionCutShort receiver octets a b (fault_at_lines fault))
@@ -39,7 +39,7 @@ lines-cut answering.Read receiver last (Some octets) a b cut = (last, cut)
 lines-cut answering.Write receiver last (Some octets) a b cut = tt
 lines-cut answering.NoMemory receiver last (Some octets) a b cut = inl cut.1
 
--- the channels of a receiver, in another order, aren't all reported
+-- if not all channels report their numbers in one order, not all channels of the receiver do
 pub is-number-unreported : (receiver : Receiving) (reported : Bool) (shown before after : List History) → IsTrue reported ↔ All IsNumberReported shown → reported ≡ false
     → shown ≡ after → IsPermutation before after → before ≡ histories (rack_at receiver) → IsNumberUnreported receiver
 is-number-unreported receiver reported shown before after just not same shuffled is all =

@@ -1,4 +1,4 @@
--- An answer is followed by what is handed on.
+-- An answer is followed by the answers for what is handed on.
 use Rattle.tc_live.proofs.Names.{ℕ, true, false, List, ◌++◌, Option, Some, None, refl, inl, inr, Appends-trans, Appends, AreAnswersWritten, reported_lines, Script, Link as LinkOf, Report, Deliver, Collect, Candidate, live_text, Receiving, IsLiveLineAnswered, IsLineDone, IsReady, IsFollowedBy, IsLineSaid, IsReported, LiveAnswer}
 use Rattle.tc_lines.specs.Answering.{Writes}
 use Rattle.tc_text.specs.declared.live.LiveLine.{LiveLine}
@@ -28,11 +28,11 @@ line-ready old new (Candidate octets) answer (inr (less, inr (fails, is, same)))
 pub ready : (old new : Receiving) (octets : List ℕ) (answer : LiveAnswer) → IsLiveLineAnswered old octets new answer → IsReady answer new
 ready old new octets answer (said, is, done) = line-ready old new said answer done
 
--- what follows is written behind the answer
+-- the answers that follow are written behind the first one
 pub followed : (answer : LiveAnswer) (old new : Receiving) (a b c : Option (List ℕ)) → Appends a b (live_text answer) → AreAnswersWritten b c (IsFollowedBy answer old new) → Writes a c (IsReported answer old new)
 followed answer old new a b c first (answers, follow, rest) = (live_text answer ++ reported_lines answers, (answers, follow, refl), Appends-trans a b c _ _ first rest)
 
--- an answer and what follows it are those of the line
+-- an answer and the answers that follow it are those of the line
 pub said : (old between new : Receiving) (octets : List ℕ) (answer : LiveAnswer) (a b : Option (List ℕ)) → IsLiveLineAnswered old octets between answer
     → Writes a b (IsReported answer between new) → Writes a b (IsLineSaid old octets new)
 said old between new octets answer a b answered (text, is, written) = (text, inl (answer, between, answered, is), written)

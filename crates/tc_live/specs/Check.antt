@@ -1,4 +1,4 @@
--- Says what frames must pass before they are brought.
+-- The check that frames must pass before they are brought to a channel.
 use Rattle.std.specs.Prelude.{◌≡◌, ◌≢◌, ◌⊎◌, ℕ, false, List, None}
 use Rattle.tc_link.specs.Frame.{IsWhole, fault_of}
 use Rattle.tc_fecf.specs.Candidate.{IsDelimited, is_fill}
@@ -8,7 +8,7 @@ use Rattle.tc_text.specs.declared.line.Line.TheVariants.{Frame}
 use Rattle.tc_live.specs.declared.check.FrameCheck.{FrameCheck}
 use Rattle.tc_live.specs.declared.check.FrameCheck.TheVariants.{Nothing, ErrorControl}
 
--- the line of the one frame that becomes these octets with its field
+-- the line of the frame that becomes these octets when its field is appended
 abbrev pub IsFieldOff : List ℕ → Line → Type 0
 IsFieldOff octets passed = (plain : List ℕ) × IsWhole plain × (octets ≡ frame_with_field plain) × (passed ≡ Frame plain)
 
@@ -16,7 +16,8 @@ IsFieldOff octets passed = (plain : List ℕ) × IsWhole plain × (octets ≡ fr
 abbrev pub HasWrongField : List ℕ → Type 0
 HasWrongField octets = taking_fault_of octets ≢ None
 
--- a frame is brought without its field, where frames have one; any other line passes as it is
+-- the line that is carried out for one that passes: a frame without its field, if frames have one, and any other line
+-- as it is
 abbrev pub IsPassed : FrameCheck → Line → Line → Type 0
 IsPassed Nothing line passed = passed ≡ line
 IsPassed ErrorControl (Frame octets) passed = IsFieldOff octets passed
@@ -30,8 +31,9 @@ FailsCheck _ line = ⊥
 abbrev pub CarriesMore : List ℕ → Type 0
 CarriesMore octets = (frame : List ℕ) × (rest : List ℕ) × IsDelimited octets frame rest × (is_fill rest ≡ false)
 
--- the frame at the front is taken off by its length field, and brought without its field, where frames have one; else octets are brought
--- as they are, since what follows a frame is fill to a channel
+-- the line that is carried out for a candidate that passes: if frames have a field, the frame at the front, which is as
+-- long as its length field says, without its field, and else all octets, since a channel ignores the octets behind a
+-- frame
 abbrev pub IsCandidatePassed : FrameCheck → List ℕ → Line → Type 0
 IsCandidatePassed Nothing octets passed = passed ≡ Frame octets
 IsCandidatePassed ErrorControl octets passed = (frame : List ℕ) × (rest : List ℕ) × IsDelimited octets frame rest × IsFieldOff frame passed

@@ -1,4 +1,4 @@
--- How frames ended that nothing checks.
+-- The ends of frames that nothing checks.
 use Rattle.std.specs.Prelude.{Bool, true, false, ℕ, List, Some, None, if◌then◌else◌}
 use Rattle.tc_fecf.specs.FrameWithField.{taking_fault_of}
 use Rattle.tc_text.specs.declared.line.Line.{Line}
@@ -8,16 +8,16 @@ use Rattle.tc_live.specs.declared.check.FrameCheck.TheVariants.{Nothing}
 use Rattle.tc_live.specs.declared.ends.FrameEnds.{FrameEnds}
 use Rattle.tc_live.specs.declared.ends.FrameEnds.TheVariants.{EachWithField, OneWithout}
 
--- octets are one frame with the right field at its end
+-- whether octets are one frame with the right field at its end
 abbrev pub has_field : List ℕ → Bool
 has_field octets = elim (taking_fault_of octets) [ None ↦ true | Some fault ↦ false ]
 
--- after one more frame: once one had no field, that stays
+-- the ends after one more frame, where one frame without a field decides for all
 abbrev pub ends_after : FrameEnds → List ℕ → FrameEnds
 ends_after OneWithout octets = OneWithout
 ends_after _ octets = if has_field octets then EachWithField else OneWithout
 
--- after a line that was done: a frame is looked at where nothing checks it
+-- the ends after a line that was carried out: a frame is looked at if nothing checks it
 abbrev pub ends_behind : FrameCheck → FrameEnds → Line → FrameEnds
 ends_behind Nothing ends (Frame octets) = ends_after ends octets
 ends_behind check ends line = ends

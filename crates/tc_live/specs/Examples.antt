@@ -11,6 +11,6 @@ use Rattle.tc_live.specs.declared.ends.FrameEnds.TheVariants.{NoFrame}
 abbrev pub plain_channel : Settings
 plain_channel = record { vcid = 1; width = 10; buffer = 1; first = 0; segmented = false; queues = []; maps = [] }
 
--- the receiver with that channel, which nothing was brought to, and these flags of its link
+-- the receiver with this channel, to which nothing was brought, and these flags of its link
 abbrev pub receiver_with : Link → Receiving
 receiver_with link = record { check = Nothing; ends = NoFrame; scid = 42; stage = Operating (record { scid = 42; channels = record { history = record { settings = plain_channel; journal = [] }; link = link } ∷ [] }) }

@@ -1,4 +1,4 @@
--- Answers to bad lines: docs/reference/tclive.md shows it, under "Output".
+-- The answers to bad lines, which docs/reference/tclive.md shows under "Output".
 use Rattle.std.specs.Prelude.{ℕ, Bool, true, false, ◌==◌, ◌||◌, ◌&&◌, Option, Some, None, List, [], ◌∷◌, codes, nat_le, slice_index, if◌then◌else◌}
 use Rattle.tc_lines.specs.Number.{word_number}
 use Rattle.tc_lines.specs.Word.{is}
@@ -21,7 +21,7 @@ bad_word_text BadMap = []
 bad_word_text BadUnits = []
 bad_word_text _ = codes "bad "
 
--- the word begins with the byte order mark of UTF-8 or UTF-16
+-- whether the word begins with the byte order mark of UTF-8 or UTF-16
 abbrev pub is_marked : List ℕ → Bool
 is_marked word =
     (slice_index word 0 == 239 && slice_index word 1 == 187 && slice_index word 2 == 191)
@@ -31,13 +31,13 @@ is_marked word =
 abbrev pub commands_text : List ℕ
 commands_text = codes ": use channel, queue, map, frame, release, take, unit, clcw, link, report, deliver, collect or candidate"
 
--- which commands there are; or that a mark hides the one of the line
+-- the text of which commands there are, or that a byte order mark hides the command of the line
 abbrev pub unknown_text : List (List ℕ) → List ℕ
 unknown_text [] = commands_text
 unknown_text (command ∷ arguments) =
     if is_marked command then codes ": the line begins with a byte order mark, save the text without it" else commands_text
 
--- how the command is written that the words begin with
+-- the form of the command with which the words begin
 unfoldable pub command_form_text : List (List ℕ) → List ℕ
 command_form_text [] = []
 command_form_text (command ∷ arguments) =
@@ -68,7 +68,7 @@ bounds_text Map = codes ": MAP is 0 to 63"
 bounds_text NoRf = codes ": RF is 0 or 1"
 bounds_text NoBitLock = codes ": BL is 0 or 1"
 
--- up to which number a line is read
+-- the largest value with which a line can be parsed
 abbrev pub most_of : Number → ℕ
 most_of Apid = 65535
 most_of Capacity = 65535
@@ -76,7 +76,7 @@ most_of NoRf = 1
 most_of NoBitLock = 1
 most_of _ = 255
 
--- the line is read with this word in the place of the number
+-- whether the line can be parsed with this word in the place of the number
 abbrev pub takes_word : Number → List ℕ → Bool
 takes_word number word = elim (word_number 65535 word) [ None ↦ false | Some n ↦ nat_le n (most_of number) ]
 
@@ -91,7 +91,7 @@ numbers_behind command =
     else if is command (codes "link") then Vcid ∷ NoRf ∷ NoBitLock ∷ []
     else Vcid ∷ []
 
--- the first of the numbers whose word the line isn't read with
+-- the first of the numbers whose word can't be parsed
 abbrev pub first_misfit : List Number → List (List ℕ) → Option Number
 first_misfit [] arguments = None
 first_misfit (number ∷ numbers) [] = None
@@ -101,13 +101,13 @@ abbrev pub misfit_text : Option Number → List ℕ
 misfit_text None = []
 misfit_text (Some number) = bounds_text number
 
--- what the first word may be that the line isn't read with
+-- the bounds of the first number whose word can't be parsed, if there is one
 abbrev pub number_hint_text : List (List ℕ) → List ℕ
 number_hint_text [] = []
 number_hint_text (command ∷ arguments) = misfit_text (first_misfit (numbers_behind command) arguments)
 
--- what to write instead, by the words of the line: which commands there are, how its command is written, or what its wrong word may be;
--- nothing for any other reason
+-- the text of what to write instead, by the words of the line: which commands there are, how its command is written, or
+-- what its wrong word may be, and nothing for any other reason
 abbrev pub line_hint_text : List (List ℕ) → Reason → List ℕ
 line_hint_text line UnknownCommand = unknown_text line
 line_hint_text line WordCount = command_form_text line

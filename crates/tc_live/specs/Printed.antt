@@ -1,4 +1,4 @@
--- Answers to lines, as text: docs/reference/tclive.md shows it, under "Input" and "Output".
+-- The texts of answers to lines, which docs/reference/tclive.md shows under "Input" and "Output".
 use Rattle.std.specs.Prelude.{ℕ, List, [], ◌++◌, codes, decimal}
 use Rattle.std.specs.List.{flat_map}
 use Rattle.tc_link.specs.declared.clcw.Link.{Link}
@@ -24,13 +24,13 @@ abbrev pub link_text : ℕ → Link → List ℕ
 link_text vcid link =
     codes "link " ++ decimal vcid ++ codes " " ++ flag_text link.no_rf ++ codes " " ++ flag_text link.no_bit_lock ++ codes "\n"
 
--- FARM-1 of a channel but for its FARM-B counter: state, V(R), Lockout and Wait
+-- the front of a report, on FARM-1: state, V(R), Lockout and Wait
 unfoldable pub farm_text : ℕ → Holding → List ℕ
 farm_text vcid holding =
     codes "report " ++ decimal vcid ++ codes " state " ++ state_text holding.report.state ++ codes " vr " ++ decimal holding.report.vr
     ++ codes " lockout " ++ flag_text holding.report.lockout ++ codes " wait " ++ flag_text holding.report.wait
 
--- Retransmit, the FARM-B counter, and how many data fields wait in the buffer
+-- the next part of a report: Retransmit, the FARM-B counter, and the number of data fields that wait in the buffer
 unfoldable pub rest_text : Holding → List ℕ
 rest_text holding =
     codes " retransmit " ++ flag_text holding.report.retransmit ++ codes " farm-b " ++ decimal holding.report.farm_b
@@ -50,12 +50,12 @@ map_text chosen = codes " map " ++ decimal chosen.map ++ codes " " ++ decimal ch
 abbrev pub maps_text : List MapHolding → List ℕ
 maps_text maps = flat_map map_text maps
 
--- what a channel has come to
+-- the report on a channel
 unfoldable pub holding_text : ℕ → Holding → List ℕ
 holding_text vcid holding =
     farm_text vcid holding ++ rest_text holding ++ queues_text holding.queues ++ maps_text holding.maps ++ codes "\n"
 
--- what a line is answered
+-- the text of an answer to a line
 abbrev pub live_text : LiveAnswer → List ℕ
 live_text Nothing = []
 live_text (Operation answer) = answer_text answer ++ codes "\n"
@@ -67,6 +67,6 @@ live_text (LinkOf vcid link) = link_text vcid link
 live_text (Report vcid holding) = holding_text vcid holding
 live_text UnknownChannel = codes "refused channel\n"
 
--- what a bad line of these words is answered: why, and what to write instead
+-- the answer to a bad line of these words: the reason, and what to write instead
 abbrev pub bad_line_text : List (List ℕ) → Reason → List ℕ
 bad_line_text line reason = bad_word_text reason ++ reason_text reason ++ line_hint_text line reason ++ codes "\n"

@@ -1,4 +1,4 @@
--- A receiver that does lines: what a line does to it and is answered, and why a line is bad.
+-- A receiver that carries out lines: the effect and the answer of a line, and the reasons for which a line is bad.
 use Rattle.std.specs.Prelude.{◌≡◌, ◌⊎◌, Bool, true, false, ℕ, List, [], Option, Some, None, Ok, Err}
 use Rattle.tc_link.specs.declared.clcw.Link.{Link}
 use Rattle.tc_text.specs.Word.{words}
@@ -31,14 +31,15 @@ use Rattle.tc_live.specs.declared.ends.FrameEnds.{FrameEnds}
 use Rattle.tc_live.specs.declared.ends.FrameEnds.TheVariants.{NoFrame}
 use Rattle.tc_live.specs.Ends.{ends_behind}
 
--- what octets must pass, how frames ended that nothing checked, the spacecraft's id, and the channels: set up so far, or in operation
+-- the state of a receiver: the check that octets must pass, the ends of frames that nothing checked, the spacecraft's
+-- id, and the channels, set up so far or in operation
 pub record Receiving : Type 0 where
   pub check : FrameCheck
   pub ends : FrameEnds
   pub scid : ℕ
   pub stage : Stage Racked
 
--- one for which nothing is set up
+-- a receiver for which nothing is set up
 abbrev pub new_receiver : FrameCheck → ℕ → Receiving
 new_receiver check scid = record { check = check; ends = NoFrame; scid = scid; stage = SettingUp [] }
 
@@ -46,49 +47,49 @@ new_receiver check scid = record { check = check; ends = NoFrame; scid = scid; s
 abbrev pub rack_at : Receiving → Racked
 rack_at receiver = rack_for receiver.scid receiver.stage
 
--- the channels are these from now on, and all else is as before
+-- the receiver with these channels, and otherwise as before
 abbrev pub with_rack : Racked → Receiving → Receiving
 with_rack rack receiver = record receiver { stage = Operating rack }
 
--- after an operation that changes no channel
+-- the receiver after an operation that changes no channel
 abbrev pub begun : Receiving → Receiving
 begun receiver = with_rack (rack_at receiver) receiver
 
--- an operation's answer is reported, and nothing where there is none
+-- the report of an operation's answer, or no text if there is no answer
 abbrev pub script_answer : Option Answer → LiveAnswer
 script_answer None = reported.Nothing
 script_answer (Some answer) = reported.Operation answer
 
--- what a line of a script is answered, by what it asks for, and that is reported. All but the channels is as before
+-- the effect and the answer of an instruction of a script: its answer is reported, and nothing but the channels changes
 abbrev pub IsInstructed : Receiving → Instruction → Receiving → LiveAnswer → Type 0
 IsInstructed old instruction new answer =
     (a : Option Answer) × IsInstructionAnswered (IsPerformed old.scid) old.stage instruction new.stage a
     × (answer ≡ script_answer a) × (new ≡ record old { stage = new.stage })
 
--- the receiver does what a line of a script says that passed
+-- the receiver carries out a line of a script that passed the check
 abbrev pub IsPassedDone : Receiving → Line → Receiving → LiveAnswer → Type 0
 IsPassedDone old passed new answer =
     IsInstructed old (instruction_of passed) new answer × Does (phase_of old.stage) (instruction_of passed) (phase_of new.stage)
 
--- a line that passes is done, and how its frame ended is noted
+-- a line that passes is carried out, and the end of its frame is noted
 abbrev pub IsNoted : Receiving → Line → Line → Receiving → LiveAnswer → Type 0
 IsNoted old line passed new answer =
     (done : Receiving) × IsPassedDone old passed done answer × (new ≡ record done { ends = ends_behind old.check old.ends line })
 
--- a line that passes is done; one that doesn't changes nothing
+-- a line that passes is carried out, and one that doesn't pass changes nothing
 abbrev pub IsScriptDone : Receiving → Line → Receiving → LiveAnswer → Type 0
 IsScriptDone old line new answer =
     ((passed : Line) × IsPassed old.check line passed × IsNoted old line passed new answer)
     ⊎ (FailsCheck old.check line × (answer ≡ reported.Unchecked) × (new ≡ old))
 
--- a candidate that carries more than one frame and its fill changes nothing; else it is done where it passes
+-- a candidate that carries more than one frame and its fill changes nothing, and any other is carried out if it passes
 abbrev pub IsCandidateDone : Receiving → List ℕ → Receiving → LiveAnswer → Type 0
 IsCandidateDone old octets new answer =
     (CarriesMore octets × (answer ≡ reported.More) × (new ≡ old))
     ⊎ ((¬ CarriesMore octets) × (((passed : Line) × IsCandidatePassed old.check octets passed × IsPassedDone old passed new answer)
     ⊎ (FailsCandidate old.check octets × (answer ≡ reported.Unchecked) × (new ≡ old))))
 
--- what a refused line leaves: all as it was, or where memory ran out the channels made for it
+-- the receiver after a refused line: as it was, or, if memory ran out, with the channels that were created for the line
 abbrev pub IsReceiverLeft : Reason → Receiving → Receiving → Type 0
 IsReceiverLeft reason old new = (new ≡ old) ⊎ ((reason ≡ NoMemory) × (new ≡ begun old))
 
@@ -96,7 +97,7 @@ abbrev pub link_answer : Bool → ℕ → Link → LiveAnswer
 link_answer true vcid link = reported.Link vcid link
 link_answer false vcid link = reported.UnknownChannel
 
--- the flags of a channel's link are others from now on, if there is such a channel
+-- the flags of a channel's link are set, if there is such a channel
 abbrev pub IsLinked : Receiving → ℕ → Link → Receiving → LiveAnswer → Type 0
 IsLinked old vcid link new answer =
     (known : Bool) × (rack : Racked) × IsLinkSet (rack_at old) vcid link known rack
@@ -106,7 +107,7 @@ abbrev pub report_answer : ℕ → Option Holding → LiveAnswer
 report_answer vcid None = reported.UnknownChannel
 report_answer vcid (Some holding) = reported.Report vcid holding
 
--- what a channel has come to is reported, if there is such a channel
+-- the state of a channel is reported, if there is such a channel
 abbrev pub IsReportDone : Receiving → ℕ → Receiving → LiveAnswer → Type 0
 IsReportDone old vcid new answer =
     (found : Option Holding) × IsReported (rack_at old) vcid found × (answer ≡ report_answer vcid found) × (new ≡ begun old)
@@ -117,7 +118,7 @@ IsDeliveryBegun old vcid new answer =
     (a : Answer) × (rack : Racked) × IsAnswerOf (operations.Release vcid) (rack_at old) a rack
     × (answer ≡ reported.Delivery vcid a) × (new ≡ with_rack rack old)
 
--- a collection begins where there is such a channel, which has a CLCW
+-- a collection begins if there is such a channel, which then has a CLCW
 abbrev pub collection_answer : ℕ → Answer → LiveAnswer
 collection_answer vcid (Refused refusal) = reported.UnknownChannel
 collection_answer vcid _ = reported.Collection vcid
@@ -126,11 +127,11 @@ abbrev pub IsCollectionBegun : Receiving → ℕ → Receiving → LiveAnswer �
 IsCollectionBegun old vcid new answer =
     (a : Answer) × IsClcwAnswer vcid (rack_at old) a × (answer ≡ collection_answer vcid a) × (new ≡ begun old)
 
--- then all that waits in the channel is handed on, and these are the answers
+-- all that waits in the channel is handed on, and these are the answers
 abbrev pub IsDeliveryDone : Receiving → ℕ → Receiving → List Answer → Type 0
 IsDeliveryDone old vcid new answers = (rack : Racked) × IsDeliveryEnded vcid (rack_at old) answers rack × (new ≡ with_rack rack old)
 
--- what a good line does, and is answered
+-- the effect and the answer of a good line
 abbrev pub IsLineDone : Receiving → LiveLine → Receiving → LiveAnswer → Type 0
 IsLineDone old (Script line) new answer = IsScriptDone old line new answer
 IsLineDone old (LinkOf vcid link) new answer = IsLinked old vcid link new answer × Operates (phase_of old.stage) (phase_of new.stage)
@@ -139,19 +140,19 @@ IsLineDone old (Deliver vcid) new answer = IsDeliveryBegun old vcid new answer �
 IsLineDone old (Collect vcid) new answer = IsCollectionBegun old vcid new answer × Operates (phase_of old.stage) (phase_of new.stage)
 IsLineDone old (Candidate octets) new answer = IsCandidateDone old octets new answer
 
--- what a line is answered that says something
+-- the effect and the answer of a line that can be parsed
 abbrev pub IsLiveLineAnswered : Receiving → List ℕ → Receiving → LiveAnswer → Type 0
 IsLiveLineAnswered old octets new answer = (said : LiveLine) × (live_line_of (words octets) ≡ Ok said) × IsLineDone old said new answer
 
--- why a line of a script is bad that passed
+-- a reason for which a line of a script that passed is bad
 abbrev pub IsBadScript : Receiving → Line → Reason → Type 0
 IsBadScript old line reason = (passed : Line) × IsPassed old.check line passed × IsBad (phase_of old.stage) (instruction_of passed) reason
 
--- why a candidate is bad that passed
+-- a reason for which a candidate that passed is bad
 abbrev pub IsBadCandidate : Receiving → List ℕ → Reason → Type 0
 IsBadCandidate old octets reason = (passed : Line) × IsCandidatePassed old.check octets passed × IsBad (phase_of old.stage) (instruction_of passed) reason
 
--- why a line is bad, by what it says, memory aside
+-- a reason, other than memory, for which a parsed line is bad
 abbrev pub IsBadSaying : Receiving → LiveLine → Reason → Type 0
 IsBadSaying old (Script line) reason = IsBadScript old line reason
 IsBadSaying old (Candidate octets) reason = IsBadCandidate old octets reason

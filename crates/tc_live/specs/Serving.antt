@@ -1,4 +1,4 @@
--- Says what is written of lines and at the end, and why a live receiver ends without a report.
+-- The text that is written for lines and at the end, and the faults for which a live receiver ends without a report.
 use Rattle.std.specs.Prelude.{◌≡◌, ◌⊎◌, ◌++◌, ℕ, List, [], Option, All, IsPermutation}
 use Rattle.std.specs.Io.KnownBytes.{Appends, Keeps}
 use Rattle.tc_lines.specs.Answering as lines
@@ -24,33 +24,34 @@ use Rattle.tc_live.specs.declared.serving.ServingFault.TheVariants.{Read, Write,
 abbrev pub IsNumberUnreported : Receiving → Type 0
 IsNumberUnreported receiver = ¬ All IsNumberReported (histories (rack_at receiver))
 
--- why there is no final report, or not the whole of it
+-- a fault for which there is no final report, or only a part of it
 abbrev pub IsClosingFault : Receiving → ServingFault → Type 0
 IsClosingFault receiver fault = (fault ≡ Write) ⊎ (fault ≡ NoMemory) ⊎ ((fault ≡ Unbalanced) × IsNumberUnreported receiver)
 
--- what follows the answer of a line: of a delivery or a collection the answers of what is handed on, of any other line nothing
+-- the answers that follow the answer of a line: for a delivery or a collection those of what is handed on, and none for
+-- any other line
 abbrev pub IsFollowedBy : LiveAnswer → Receiving → Receiving → List Answer → Type 0
 IsFollowedBy (reported.Delivery vcid a) old new answers = IsDeliveryDone old vcid new answers
 IsFollowedBy (reported.Collection vcid) old new answers = IsDeliveryDone old vcid new answers
 IsFollowedBy _ old new answers = (answers ≡ []) × (new ≡ old)
 
--- an answer is reported, and then what follows it
+-- an answer is reported, and then the answers that follow it
 abbrev pub IsReported : LiveAnswer → Receiving → Receiving → List ℕ → Type 0
 IsReported answer old new text =
     (answers : List Answer) × IsFollowedBy answer old new answers × (text ≡ live_text answer ++ reported_lines answers)
 
--- a line is done, and answered by the text of its answer and of what follows it
+-- a line is carried out, and answered with the text of its answer and of the answers that follow it
 abbrev pub IsAnswerSaid : Receiving → List ℕ → Receiving → List ℕ → Type 0
 IsAnswerSaid old octets new text =
     (answer : LiveAnswer) × (between : Receiving) × IsLiveLineAnswered old octets between answer × IsReported answer between new text
 
--- a line is refused, and answered by why and what to write instead
+-- a line is refused, and answered with the reason and what to write instead
 abbrev pub IsReasonSaid : Receiving → List ℕ → Receiving → List ℕ → Type 0
 IsReasonSaid old octets new text =
     (reason : Reason) × ((reason ≡ reasons.NoMemory) ⊎ IsBadLiveLine old octets reason) × IsReceiverLeft reason old new
     × (text ≡ bad_line_text (words octets) reason)
 
--- what a line does to the receiver, and by what text it is answered
+-- the effect of a line on the receiver, and the text of its answer
 abbrev pub IsLineSaid : Receiving → List ℕ → Receiving → List ℕ → Type 0
 IsLineSaid old octets new text = IsAnswerSaid old octets new text ⊎ IsReasonSaid old octets new text
 
@@ -60,12 +61,12 @@ IsReportWritten receiver before after =
     (channels : List History) × IsPermutation (histories (rack_at receiver)) channels × AreRising channels
     × Appends before after (report_text channels)
 
--- how many octets a line may have, without its line feed
+-- the number of octets that a line may have, without its line feed
 abbrev pub line_limit : ℕ
 line_limit = 8192
 
--- the answers of all lines of these octets were written, in their order, each once, and then the final report of the channels that they left;
--- and how frames ended is what the lines left noted
+-- the answers to all lines of these octets were written, in order and each once, and then the final report of the
+-- channels that the lines left, and the ends of frames are those that the lines left noted
 abbrev pub IsReceptionWritten : Receiving → List ℕ → Option (List ℕ) → Option (List ℕ) → FrameEnds → Type 0
 IsReceptionWritten receiver octets before after ends =
     (last : Receiving) × (answers : List ℕ) × (channels : List History) × lines.AreAnswered line_limit IsLineSaid receiver (lines.lines_of octets) last answers
@@ -75,7 +76,7 @@ IsReceptionWritten receiver octets before after ends =
 abbrev pub IsReportMissing : Receiving → List ℕ → Option (List ℕ) → Option (List ℕ) → Type 0
 IsReportMissing receiver octets before after = (last : Receiving) × lines.AreAllWritten line_limit IsLineSaid receiver octets last before after
 
--- what was written where it ended early: nothing of what failed to be written is known
+-- the text that was written before an early end, of which nothing is known if writing failed
 abbrev pub IsReceptionCutShort : Receiving → List ℕ → Option (List ℕ) → Option (List ℕ) → ServingFault → Type 0
 IsReceptionCutShort receiver octets before after Read = (last : Receiving) × lines.AreFirstWritten line_limit IsLineSaid receiver octets last before after
 IsReceptionCutShort receiver octets before after Write = Unit {0}
@@ -83,7 +84,7 @@ IsReceptionCutShort receiver octets before after NoMemory = Keeps before after �
 IsReceptionCutShort receiver octets before after Unbalanced =
     (last : Receiving) × lines.AreAllWritten line_limit IsLineSaid receiver octets last before after × IsNumberUnreported last
 
--- the same fault, met at the lines
+-- the receiver's fault for a fault that was met while lines were answered
 abbrev pub fault_at_lines : AnsweringFault → ServingFault
 fault_at_lines answering.Read = Read
 fault_at_lines answering.Write = Write

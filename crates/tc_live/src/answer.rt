@@ -1,4 +1,4 @@
-//! Answers a line.
+//! The answers to lines.
 
 ghost use Rattle.std.specs.Prelude.{◌≡◌, Some};
 ghost use Rattle.std.specs.Fmt.{WritesOnOk};
@@ -10,26 +10,27 @@ use tc_channel::{Holding, MapHolding, QueueHolding};
 use tc_link::{Link, State};
 use tc_rack::Answer;
 
-/// Answers a good line.
+/// The answer to a good line.
 #[derive(Debug, Drop)]
 pub enum LiveAnswer {
-    /// Nothing: it set up, or had no words.
+    /// No text, since the line set something up, had no words, or was a comment.
     Nothing,
     /// The answer to an operation of a script.
     Operation(Answer),
     /// The answer to the release that a delivery begins with. [`Receiver::hand_on`](crate::Receiver::hand_on) ends the delivery.
     Delivery { vcid: u8, answer: Answer },
-    /// All that waits is to be handed on without a release, which [`Receiver::hand_on`](crate::Receiver::hand_on) does.
+    /// A collection: all that waits is to be handed on without a release, which
+    /// [`Receiver::hand_on`](crate::Receiver::hand_on) does.
     Collection { vcid: u8 },
-    /// Octets that are no frame with the right frame error control field.
+    /// A refusal of octets that aren't a frame with the right frame error control field.
     Unchecked,
-    /// A candidate that carries more than a frame and its fill.
+    /// A refusal of a candidate that carries more than a frame and its fill.
     More,
     /// The flags of the link that a channel's CLCWs report from now on.
     Link { vcid: u8, link: Link },
     /// The state of a channel and of its queues.
     Report { vcid: u8, holding: Holding },
-    /// There is no such channel.
+    /// A refusal of a line for a channel that doesn't exist.
     UnknownChannel,
 }
 
@@ -44,7 +45,8 @@ impl LiveAnswer {
         }
     }
 
-    /// That what waits in a channel is handed on, if there is such a channel, by what is answered when its CLCW is asked for.
+    /// Returns the answer that begins a collection, or a refusal if there is no such channel. `clcw` is the answer to a
+    /// request for the channel's CLCW, which shows whether the channel exists.
     pub(crate) fn of_collection(vcid: u8, clcw: &Answer) -> LiveAnswer
         ensures { result ≡ collection_answer vcid clcw.now }
     {
@@ -54,7 +56,7 @@ impl LiveAnswer {
         }
     }
 
-    /// The flags of the link of a channel, which is known or not.
+    /// Returns the answer with the flags of the link of a channel, or a refusal if the channel isn't known.
     pub(crate) fn of_link(known: bool, vcid: u8, link: Link) -> LiveAnswer
         ensures { result ≡ link_answer known vcid link }
     {
@@ -65,7 +67,7 @@ impl LiveAnswer {
         }
     }
 
-    /// Reports a channel, if there is such a channel.
+    /// Returns the report on a channel, or a refusal if there is no such channel.
     pub(crate) fn of_report(vcid: u8, found: Option<Holding>) -> LiveAnswer
         ensures { result ≡ report_answer vcid found }
     {

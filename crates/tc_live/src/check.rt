@@ -1,4 +1,4 @@
-//! Checks frames before they are brought.
+//! The check of frames before they are brought to a channel.
 
 ghost use Rattle.std.specs.Prelude.{◌≡◌, ◌↔◌, IfOk, IfErr, IsTrue, MatchOption};
 ghost use Rattle.tc_live.specs.Check.{IsPassed, FailsCheck, IsFieldOff, HasWrongField, IsCandidatePassed, FailsCandidate, CarriesMore};
@@ -8,17 +8,19 @@ use tc_channel::Octets;
 use tc_fecf::{FieldFault, delimit, is_fill, without_field};
 use tc_text::{Line, Reason};
 
-/// Whether frames end with a frame error control field.
+/// The check that octets must pass, by the end that frames have.
 #[derive(Clone, Copy, Debug, PartialEq, Eq)]
 pub enum FrameCheck {
-    /// They don't. All octets are brought.
+    /// No check, since frames have no frame error control field. All octets are brought.
     Nothing,
-    /// They do (CCSDS 232.0-B, 4.1.4). Octets that aren't one whole frame with the right field are no event.
+    /// A check of the frame error control field at the end of each frame (CCSDS 232.0-B, 4.1.4). Octets that aren't one
+    /// whole frame with the right field are no event.
     ErrorControl,
 }
 
 impl FrameCheck {
-    /// The line that is done, if it passes: a frame without its field, which is a new list, and any other line as it is.
+    /// Returns the line to carry out, or `None` if it doesn't pass. A frame is copied without its field to a new list,
+    /// and any other line is returned as it is.
     pub fn pass(self, alloc: Global, line: Line) -> Result<Option<Line>, Reason>
         ensures passed { IfOk result (λ passed. MatchOption passed (FailsCheck self line) (IsPassed self line)) }
         ensures reason { IfErr result (λ reason. reason ≡ Reason.NoMemory) }
@@ -32,8 +34,8 @@ impl FrameCheck {
         }
     }
 
-    /// The line that is done for what a CLTU carried, if it passes: its frame is as long as its length field says, and goes without its
-    /// field, which is a new list.
+    /// Returns the line to carry out for what a CLTU carried, or `None` if it doesn't pass. If frames are checked, the
+    /// frame is as long as its length field says, and is copied without its frame error control field to a new list.
     pub fn pass_candidate(self, alloc: Global, octets: Octets) -> Result<Option<Line>, Reason>
         ensures passed { IfOk result (λ passed. MatchOption passed (FailsCandidate self octets) (IsCandidatePassed self octets)) }
         ensures reason { IfErr result (λ reason. reason ≡ Reason.NoMemory) }
@@ -45,7 +47,7 @@ impl FrameCheck {
     }
 }
 
-/// Whether more follows the frame at the front of what a CLTU carried than can be fill. It allocates nothing.
+/// Returns whether more follows the frame at the front of what a CLTU carried than can be fill. This allocates nothing.
 pub fn carries_more(octets: &[u8]) -> bool
     ensures { IsTrue result ↔ CarriesMore octets.now }
 {
@@ -55,7 +57,7 @@ pub fn carries_more(octets: &[u8]) -> bool
     }
 }
 
-// The line of the frame at the front without its field, if that is right.
+// Returns the line of the frame at the front without its field, if the field is right.
 fn take_frame_off(alloc: Global, octets: &[u8]) -> Result<Option<Line>, Reason>
     ensures passed { IfOk result (λ passed. MatchOption passed (FailsCandidate FrameCheck.ErrorControl octets.now) (IsCandidatePassed FrameCheck.ErrorControl octets.now)) }
     ensures reason { IfErr result (λ reason. reason ≡ Reason.NoMemory) }
@@ -66,7 +68,7 @@ fn take_frame_off(alloc: Global, octets: &[u8]) -> Result<Option<Line>, Reason>
     }
 }
 
-// The line of a frame without its field, if that is right.
+// Returns the line of a frame without its field, if the field is right.
 fn take_field_off(alloc: Global, octets: &[u8]) -> Result<Option<Line>, Reason>
     ensures passed { IfOk result (λ passed. MatchOption passed (HasWrongField octets.now) (IsFieldOff octets.now)) }
     ensures reason { IfErr result (λ reason. reason ≡ Reason.NoMemory) }

@@ -1,4 +1,4 @@
-//! Whether frames that no check was asked for end with their frame error control fields.
+//! The ends of frames that aren't checked: they may have frame error control fields all the same.
 
 ghost use Rattle.std.specs.Prelude.{◌≡◌};
 ghost use Rattle.tc_live.specs.Ends.{ends_after, has_field};
@@ -6,19 +6,19 @@ ghost use Rattle.tc_live.specs.Ends.{ends_after, has_field};
 use tc_fecf::passes;
 use tc_link::read_frame;
 
-/// How the frames of lines ended, where nothing takes their fields off. It is for a hint to a user.
+/// The ends of the frames of all lines so far, if nothing takes fields off. This is for a hint to the user.
 #[derive(Clone, Copy, Debug, PartialEq, Eq)]
 pub enum FrameEnds {
-    /// There was no frame.
+    /// No frame came yet.
     NoFrame,
-    /// Each was whole and ended with its field.
+    /// Each frame was whole and ended with its field.
     EachWithField,
-    /// One wasn't, or didn't.
+    /// At least one frame wasn't whole, or didn't end with its field.
     OneWithout,
 }
 
 impl FrameEnds {
-    // After these octets were brought. Once one frame had no field, no other is looked at.
+    // Returns the ends after these octets were brought, too. Once a frame had no field, no later frame is looked at.
     pub(crate) fn after(self, octets: &[u8]) -> FrameEnds
         ensures { result ≡ ends_after self octets.now }
     {
@@ -30,7 +30,7 @@ impl FrameEnds {
     }
 }
 
-// Whether the octets are one frame with the right field at its end.
+// Returns whether the octets are one frame with the right field at its end.
 fn ends_with_field(octets: &[u8]) -> bool
     ensures { result ≡ has_field octets.now }
 {

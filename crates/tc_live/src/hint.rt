@@ -1,4 +1,4 @@
-//! Answers a bad line: why it is bad, and what to write instead.
+//! The answers to bad lines: the reason, and what to write instead.
 
 ghost use Rattle.std.specs.Prelude.{◌≡◌};
 ghost use Rattle.tc_lines.specs.Word.{words};
@@ -7,7 +7,7 @@ ghost use Rattle.tc_live.specs.Hint.{bad_word_text, bounds_text, command_form_te
 use tc_lines::{large_number, next_word};
 use tc_text::Reason;
 
-/// The word before a reason: `bad`, unless the reason begins with it.
+/// Returns the word before a reason: `bad`, unless the reason begins with it.
 pub(crate) fn word_before(reason: Reason) -> &'static str
     ensures { result.now ≡ bad_word_text reason }
 {
@@ -26,8 +26,8 @@ pub(crate) fn word_before(reason: Reason) -> &'static str
     }
 }
 
-/// Says what to write instead: which commands there are, how the line's command is written, or what its wrong word may be. Nothing follows
-/// any other reason.
+/// Returns what to write instead: which commands there are, how the line's command is written, or what its wrong word
+/// may be. The text is empty for any other reason.
 pub(crate) fn hint_for(octets: &[u8], reason: Reason) -> &'static str
     ensures { result.now ≡ line_hint_text (words octets.now) reason }
 {
@@ -48,7 +48,7 @@ pub(crate) fn hint_for(octets: &[u8], reason: Reason) -> &'static str
     }
 }
 
-// Which commands there are; or that a mark hides the one of the line.
+// Returns the text of which commands there are, or that a byte order mark hides the command of the line.
 fn unknown(octets: &[u8]) -> &'static str
     ensures { result.now ≡ unknown_text (words octets.now) }
 {
@@ -62,7 +62,7 @@ fn unknown(octets: &[u8]) -> &'static str
     }
 }
 
-// Whether a word begins with the byte order mark of UTF-8 or UTF-16.
+// Returns whether a word begins with the byte order mark of UTF-8 or UTF-16.
 fn begins_with_mark(word: &[u8]) -> bool
     ensures { result ≡ is_marked word.now }
 {
@@ -72,7 +72,7 @@ fn begins_with_mark(word: &[u8]) -> bool
     )
 }
 
-// How the command is written that a line begins with.
+// Returns the form of the command with which a line begins.
 #[tactic(auto, unfolding(crate::specs::Hint::command_form_text))]
 fn form(octets: &[u8]) -> &'static str
     ensures { result.now ≡ command_form_text (words octets.now) }
@@ -126,7 +126,7 @@ pub(crate) enum Number {
 }
 
 impl Number {
-    // Its name, as the form of the command has it, and its bounds.
+    // Returns the name of the number, as the form of the command has it, and its bounds.
     fn bounds(self) -> &'static str
         ensures { result.now ≡ bounds_text self }
     {
@@ -143,7 +143,7 @@ impl Number {
         }
     }
 
-    // Up to which number its line is read.
+    // Returns the largest value with which the line can be parsed. The bounds may be narrower.
     fn most(self) -> u16
         ensures { result ≡ most_of self }
     {
@@ -156,7 +156,7 @@ impl Number {
         }
     }
 
-    // Whether the line is read with this word in its place.
+    // Returns whether the line can be parsed with this word in the place of the number.
     fn takes(self, word: &[u8]) -> bool
         ensures { result ≡ takes_word self word.now }
     {
@@ -167,7 +167,7 @@ impl Number {
     }
 }
 
-// Says what the first word may be that the line isn't read with.
+// Returns the bounds of the first number whose word can't be parsed, or an empty text if there is none.
 fn number_hint(octets: &[u8]) -> &'static str
     ensures { result.now ≡ number_hint_text (words octets.now) }
 {
@@ -180,7 +180,7 @@ fn number_hint(octets: &[u8]) -> &'static str
     }
 }
 
-// The numbers behind a command, in order.
+// Returns the numbers behind a command, in order.
 #[tactic(auto, unfolding(crate::specs::Hint::numbers_behind))]
 fn numbers(command: &[u8]) -> &'static [Number]
     ensures { result.now ≡ numbers_behind command.now }
@@ -202,7 +202,7 @@ fn numbers(command: &[u8]) -> &'static [Number]
     }
 }
 
-// The first of the numbers whose word the line isn't read with.
+// Returns the first of the numbers whose word can't be parsed.
 #[tactic(auto, using(crate::proofs::Hints::none_left))]
 fn misfit(numbers: &[Number], arguments: &[u8]) -> Option<Number>
     ensures { result ≡ first_misfit numbers.now (words arguments.now) }

@@ -1,4 +1,4 @@
-//! Says what the definitions answer to some lines.
+//! A law on the answers that the definitions give to some lines.
 
 ghost use Rattle.std.specs.Prelude.{◌++◌, true, false, codes};
 ghost use Rattle.tc_lines.specs.Answering.{AreAnswered, lines_of};
@@ -8,8 +8,9 @@ ghost use Rattle.tc_live.specs.Receiver.{new_receiver};
 ghost use Rattle.tc_live.specs.Serving.{IsLineSaid, line_limit};
 ghost use Rattle.tc_live.specs.declared.check.FrameCheck.TheVariants.{Nothing};
 
-/// Lines and their answers, worked out by hand: a plain channel is set up, which is answered by nothing; its link has no radio frequency
-/// signal from then on, which is the first flag; and its CLCW has just this flag set.
+/// States the answers to three lines, which were worked out by hand. The first line sets up a plain channel, and has no
+/// answer. The second one sets the first flag of its link: there is no radio frequency signal. The third one requests
+/// its CLCW, in which this flag alone is set.
 pub fn lines_are_answered_so()
     ensures { AreAnswered line_limit IsLineSaid (new_receiver Nothing 42) (lines_of (codes "channel 1 10 1 0 plain\nlink 1 1 0\nclcw 1\n")) (example.receiver_with (record { no_rf = true; no_bit_lock = false })) (codes "link 1 1 0\nclcw 1 " ++ word_text 0x01048000 ++ codes "\n") }
 {}

@@ -1,7 +1,7 @@
-//! A live receiver: lines in, and each is answered before the next is read.
+//! A live receiver, which answers each line before it reads the next.
 //!
-//! [`answer_lines`] does lines until there are no more, and then writes the final report; [`serve`] does so with those of standard
-//! input. [`Receiver::do_line`] does one, and says what it is answered.
+//! [`answer_lines`] answers lines until there are no more, and then writes the final report. [`serve`] does so with the
+//! lines of standard input. [`Receiver::do_line`] carries out one line, and returns its answer.
 #![tactic(auto)]
 
 mod answer;

@@ -1,4 +1,4 @@
-//! A receiver that does lines.
+//! A receiver that carries out lines.
 
 ghost use Rattle.std.specs.Prelude.{◌≡◌, ◌≢◌, ◌⊎◌, ◌↔◌, [], All, IsPermutation, IsTrue, IfOk, IfErr, OnOk, OnErr};
 ghost use Rattle.std.specs.Io.KnownBytes.{Keeps};
@@ -27,9 +27,10 @@ use tc_rack::{Operation, Rack, RackBackend, Stage, begin, perform, write_report}
 use tc_setup::{Configuration, Instruction};
 use tc_text::{Line, LiveLine, Reason, SpacecraftId, parse_live_line};
 
-/// The channels of a spacecraft, set up so far or in operation, and what octets must pass before they are brought to one.
+/// The channels of a spacecraft, set up so far or in operation, and the check that octets must pass before they are
+/// brought to one of the channels.
 ///
-/// A contract sees each channel with its journal and the flags of its link, and all else.
+/// A contract sees all of it, with each channel's journal and the flags of its link.
 #[derive(Drop)]
 pub struct Receiver {
     check: FrameCheck,
@@ -47,7 +48,7 @@ impl Model for Receiver {
 }
 
 impl Receiver {
-    /// A receiver for which nothing is set up.
+    /// Creates a receiver for which nothing is set up.
     pub fn new(alloc: Global, spacecraft: SpacecraftId, check: FrameCheck) -> Receiver
         ensures { result ≡ new_receiver check spacecraft.number }
     {
@@ -59,9 +60,9 @@ impl Receiver {
         }
     }
 
-    /// Runs a line, which is given without its line feed, and answers it. A bad line leaves the receiver as it is. Where
-    /// memory runs out, the line can be run again; at the first operation the channels may have been made. A delivery or a collection
-    /// is begun; [`hand_on`](Receiver::hand_on) ends it.
+    /// Carries out a line, which is given without its line feed, and returns its answer. A bad line leaves the receiver
+    /// as it is. If memory runs out, the line can be tried again. At the first operation, the channels may have been
+    /// created by then. A delivery or a collection is only begun, and [`hand_on`](Receiver::hand_on) ends it.
     pub fn do_line(&mut self, alloc: Global, octets: &[u8]) -> Result<LiveAnswer, Reason>
         ensures answer { IfOk result (IsLiveLineAnswered self.old octets.now self.new) }
         ensures reason { IfErr result (λ reason. (reason ≡ Reason.NoMemory) ⊎ IsBadLiveLine self.old octets.now reason) }
@@ -93,7 +94,8 @@ impl Receiver {
         }
     }
 
-    // Takes the frame out of what a CLTU carried, and does what is asked for then. Where more follows it than fill, nothing is done.
+    // Takes the frame out of what a CLTU carried, and brings it to its channel. If more than fill follows the frame,
+    // nothing is done.
     fn candidate(&mut self, alloc: Global, octets: Octets) -> Result<LiveAnswer, Reason>
         ensures answer { IfOk result (IsCandidateDone self.old octets self.new) }
         ensures reason { IfErr result (λ reason. (reason ≡ Reason.NoMemory) ⊎ IsBadCandidate self.old octets reason) }
@@ -108,7 +110,7 @@ impl Receiver {
         }
     }
 
-    // How frames have ended once a line is done.
+    // Returns the ends of frames once a line is carried out.
     fn ends_behind(&self, line: &Line) -> FrameEnds
         ensures { result ≡ ends_behind self.now.check self.now.ends line.now }
     {
@@ -118,14 +120,14 @@ impl Receiver {
         }
     }
 
-    /// How the frames of the lines ended that were done, where nothing checks that.
+    /// Returns the ends of the frames of all lines that were carried out, if nothing checks them.
     pub fn ends(&self) -> FrameEnds
         ensures { result ≡ self.now.ends }
     {
         self.ends
     }
 
-    // Runs a line that passed the check.
+    // Carries out a line that passed the check.
     fn perform_passed(&mut self, alloc: Global, passed: Line) -> Result<LiveAnswer, Reason>
         ensures answer { IfOk result (IsPassedDone self.old passed self.new) }
         ensures reason { IfErr result (λ reason. (reason ≡ Reason.NoMemory) ⊎ IsBad (phase_of self.old.stage) (instruction_of passed) reason) }
@@ -195,7 +197,7 @@ impl Receiver {
         }
     }
 
-    // Looks whether there is such a channel, whose queues are handed on.
+    // Begins a collection: looks up whether there is such a channel.
     fn begin_collection(&mut self, alloc: Global, vcid: u8) -> Result<LiveAnswer, Reason>
         ensures done { OnOk result (Operates (phase_of self.old.stage) (phase_of self.new.stage)) }
         ensures answer { IfOk result (IsCollectionBegun self.old vcid self.new) }
@@ -212,8 +214,9 @@ impl Receiver {
         }
     }
 
-    /// Ends a delivery or a collection that was begun: takes all that waits in the queues of the channel, as [`Rack::hand_on`] does, and writes the
-    /// answers, the last of which is the CLCW. Where there is no such channel, nothing is written. Nothing is allocated.
+    /// Ends a delivery or a collection that was begun: takes all that waits in the queues of the channel, as
+    /// [`Rack::hand_on`] does, and writes the answers, the last of which is the CLCW. If there is no such channel,
+    /// nothing is written. Nothing is allocated.
     pub fn hand_on<W: Write>(&mut self, vcid: u8, writer: &mut W) -> io::Result<()>
         requires { phase_of self.old.stage ≡ InOperation }
         ensures { OnOk result (AreAnswersWritten (W.contents writer.old) (W.contents writer.new) (IsDeliveryDone self.old vcid self.new)) }
@@ -224,7 +227,8 @@ impl Receiver {
         }
     }
 
-    // Makes the channels, where no operation came before: by a copy of what was set up, which stays where memory is refused.
+    // Creates the channels from a copy of what was set up, if no operation came before. If memory runs out, what was
+    // set up stays.
     fn begin(&mut self, alloc: Global) -> Result<(), Reason>
         ensures begun { OnOk result (self.new ≡ begun self.old) }
         ensures some { OnOk result (phase_of self.old.stage ≢ Setup []) }
@@ -235,15 +239,15 @@ impl Receiver {
         begin(&backend, alloc, &mut self.stage)
     }
 
-    // Makes its channels.
+    // Returns the backend that creates the channels.
     fn backend(&self) -> RackBackend
         ensures { result.scid ≡ self.now.scid }
     {
         RackBackend { scid: self.scid }
     }
 
-    /// Ends the reception, and writes the final report of the channels, with both link flags 0. Where no
-    /// report can be made, nothing is written.
+    /// Ends the reception, and writes the final report of the channels, with both link flags 0. If no report can be
+    /// made, nothing is written.
     pub fn close<W: Write>(self, alloc: Global, writer: &mut W) -> Result<(), ServingFault>
         ensures written { OnOk result (IsReportWritten self (W.contents writer.old) (W.contents writer.new)) }
         ensures fault { IfErr result (IsClosingFault self) }
@@ -253,7 +257,7 @@ impl Receiver {
         write_report(&channels, writer).map_err(|_| ServingFault::Write)
     }
 
-    // The channels in rising order of their ids, as an operation would find them.
+    // Returns the channels in rising order of their ids, as an operation would find them.
     fn into_channels(self, alloc: Global) -> Result<Vec<CountingChannel>, ServingFault>
         ensures channels { IfOk result (λ channels. IsPermutation (histories (rack_at self)) channels.items) }
         ensures rising { IfOk result (λ channels. AreRising channels.items) }
@@ -291,7 +295,7 @@ impl Receiver {
     }
 }
 
-// Whether each channel reports the number of its events as it is.
+// Returns whether each channel reports the true number of its events.
 fn are_reported(channels: &[CountingChannel]) -> bool
     ensures { IsTrue result ↔ All IsNumberReported channels.now }
 {

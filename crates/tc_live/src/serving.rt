@@ -1,4 +1,4 @@
-//! Lines in, lines out.
+//! Reading lines, and writing their answers.
 
 ghost use Rattle.std.specs.Io.KnownBytes.{Appends, Keeps};
 ghost use Rattle.std.specs.Prelude.{◌≡◌, ◌⊎◌, IfErr, IfOk, IfSome, OnOk};
@@ -21,10 +21,11 @@ use tc_lines::LineAnswerer;
 use tc_text::{Reason, SpacecraftId};
 use thiserror::Error;
 
-/// How many octets a line may have, without its line feed. A frame of 1,024 octets fits three times over.
+/// The number of octets that a line may have, without its line feed. The digits of a frame of 1,024 octets take a
+/// quarter of it.
 pub const MAX_LINE: usize = 8_192;
 
-/// Why lines are no longer answered.
+/// A fault after which lines are no longer answered.
 #[derive(Clone, Copy, Debug, PartialEq, Eq, Error)]
 pub enum ServingFault {
     /// The reader failed.
@@ -42,7 +43,7 @@ pub enum ServingFault {
 }
 
 impl ServingFault {
-    // Why the lines were answered no longer.
+    // Returns the fault of the receiver for a fault that was met while lines were answered.
     fn of(fault: tc_lines::ServingFault) -> ServingFault
         ensures { result ≡ fault_at_lines fault }
     {
@@ -69,7 +70,8 @@ impl LineAnswerer for Receiver {
     }
 }
 
-/// Answers the lines of standard input on standard output, as [`answer_lines`] does, by a receiver for which nothing is set up.
+/// Answers the lines of standard input on standard output, as [`answer_lines`] does, with a receiver for which nothing
+/// is set up.
 pub fn serve<R: AllocGlobal + Input + Print>(
     rt: &R,
     spacecraft: SpacecraftId,
@@ -85,12 +87,13 @@ pub fn serve<R: AllocGlobal + Input + Print>(
     answer_lines(rt.alloc(), receiver, &mut reader, &mut writer)
 }
 
-/// Answers lines until there are no more, and flushes after each answer; then writes the final report, and says how frames ended that
-/// nothing checked.
+/// Answers lines until there are no more, and flushes after each answer. Then it writes the final report, and returns
+/// the ends of the frames that nothing checked.
 ///
-/// A bad line is answered `bad` and why, and where that helps, behind a colon, what to write instead. A line that is longer than a
-/// line may be is answered `bad too long`, and isn't kept. Octets after the last line feed are a line. Where the octets of the reader
-/// are known, the answers of all its lines are written, or as many as it gave before it failed.
+/// The answer to a bad line is `bad` and the reason, and, if that helps, a colon and what to write instead. The answer
+/// to a line that is longer than a line may be is `bad too long`, and the line isn't kept. Octets after the last line
+/// feed are a line. If the octets of the reader are known, the answers to all its lines are written, or to those that
+/// it gave before it failed.
 pub fn answer_lines<R: BufRead, W: Write>(
     alloc: Global,
     receiver: Receiver,
@@ -107,7 +110,8 @@ pub fn answer_lines<R: BufRead, W: Write>(
     }
 }
 
-// Runs a line, and writes just the text of its answer and of what follows it, or `bad`, why, and what to write instead.
+// Carries out a line, and writes exactly the text of its answer and of the answers that follow it, or `bad`, the
+// reason, and what to write instead.
 fn answer_line<W: Write>(
     alloc: Global,
     receiver: &mut Receiver,
@@ -122,7 +126,7 @@ fn answer_line<W: Write>(
     }
 }
 
-// Writes an answer, and what follows it.
+// Writes an answer, and the answers that follow it.
 fn report<W: Write>(receiver: &mut Receiver, answer: &LiveAnswer, writer: &mut W) -> io::Result<()>
     requires { IsReady answer.now receiver.old }
     ensures { OnOk result (Writes (W.contents writer.old) (W.contents writer.new) (IsReported answer.now receiver.old receiver.new)) }
@@ -157,7 +161,7 @@ fn write_bad<W: Write>(octets: &[u8], reason: Reason, writer: &mut W) -> io::Res
     writeln!(writer, "{bad}{reason}{hint}")
 }
 
-// The final report.
+// Writes the final report.
 fn close<W: Write>(
     alloc: Global,
     receiver: Receiver,

@@ -11,6 +11,8 @@ fn main(rt: HostRuntime) -> ExitCode {
     start(&rt)
 }
 
+/// Runs `tclive`, and returns its exit status. It isn't private because portable/programs.rt.in joins the three
+/// programs into one, in which this file is a module.
 pub(crate) fn start<R: Env + AllocGlobal + Input + Print + Eprint>(rt: &R) -> ExitCode {
     match asked_of_tclive(rt) {
         Ok(asked) => {
@@ -29,8 +31,8 @@ fn check_of(asked: Reception) -> FrameCheck {
     }
 }
 
-// Reports on standard error why no more lines were answered, or else if each frame ended with its frame error control field, on which
-// no answer depends; and gives the exit status.
+// Reports on standard error why no more lines were answered, and returns the exit status. If all lines were answered,
+// and each frame ended with its frame error control field, a hint says so. No answer depends on that.
 fn report<R: Eprint>(rt: &R, served: Result<FrameEnds, ServingFault>) -> ExitCode {
     match served {
         Ok(ends) => {

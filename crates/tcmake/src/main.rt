@@ -10,6 +10,8 @@ fn main(rt: HostRuntime) -> ExitCode {
     start(&rt)
 }
 
+/// Runs `tcmake`, and returns its exit status. It isn't private because portable/programs.rt.in joins the three
+/// programs into one, in which this file is a module.
 pub(crate) fn start<R: Env + AllocGlobal + Input + Print + Eprint>(rt: &R) -> ExitCode {
     match asked_of_tcmake(rt) {
         Ok(asked) => report(rt, serve(rt, ending_of(asked), asked.strict)),
@@ -25,7 +27,7 @@ fn ending_of(asked: Making) -> Ending {
     }
 }
 
-// The exit status. Why no more lines were answered goes to standard error.
+// Reports on standard error why no more lines were answered, and returns the exit status.
 fn report<R: Eprint>(rt: &R, served: Result<(), MakingFault>) -> ExitCode {
     match served {
         Ok(()) => ExitCode::SUCCESS,

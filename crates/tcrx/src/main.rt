@@ -14,6 +14,8 @@ fn main(rt: HostRuntime) -> ExitCode {
     start(&rt)
 }
 
+/// Runs `tcrx`, and returns its exit status. It isn't private because portable/programs.rt.in joins the three programs
+/// into one, in which this file is a module.
 pub(crate) fn start<R: Env + AllocGlobal + Input + Print + Eprint + Threads + Wait + Sync>(
     rt: &R,
 ) -> ExitCode {
@@ -35,8 +37,8 @@ fn obey<R: AllocGlobal + Input + Print + Threads + Wait + Sync>(
     }
 }
 
-// Reports on standard error why a script ended early, or else, if so, that each of its frames ends with its field, on which no answer
-// depends; and gives the exit status.
+// Reports on standard error why a script ended early, and returns the exit status. If it didn't end early, and each of
+// its frames ends with a frame error control field, a hint says so. No answer depends on that.
 fn report<R: Eprint>(rt: &R, done: Result<bool, ScriptFault>) -> ExitCode {
     match done {
         Ok(has_fields) => {
