@@ -1,5 +1,5 @@
--- Where the operator of a station has made all events of its desks, each of its answers is what the lines before it make it. And so is what its
--- watchers read, each of which has seen just what the operator has in the end.
+-- If the operator of a station has made all events of its desks, each of its answers follows from the lines before it.
+-- So does each CLCW that its watchers read, if each watcher has seen exactly what the operator has seen in the end.
 use Rattle.std.proofs.Common.{◌≡◌, ◌<◌, ℕ, zero, suc, List, [], ◌∷◌, ◌++◌, Some, Err, All, map, length, get_or, set, slice_get, inl, inr, refl, sym, ap, ◌∙◌, subst, arith, ◌==◌, Contains, slice_index}
 use Rattle.tc_cli.proofs.Names.{All-head, All-tail, AllHaveMet, Answer, AreClosedTogether, AtLock, AtStation, Changes, Event, HasChannel, HasMadeAll, HasMetAt, HasSeenItsOwn, HasSeenNoMore, HaveMet, History, Identity, IsAnswerOf, IsAnsweredAt, IsBeginning, IsBringAnswer, IsChannelAnswer, IsClcwAnswer, IsClosed, IsDeskAnswer, IsFrameAnswer, IsFrameAnswered, IsMergeOf, IsPlace, IsRackLocateFault, IsReleaseAnswered, IsTakeAnswered, IsUnitAnswered, IsWordAnswer, KnowsDesks, Linked, LocateFault, Staffed, Moment, Operation, Own, Racked, Roster, Settings, Watching, clcw, eqb-true, eqb_tells, get_or_from_slice_get, header_of, heads_of, histories, history_of, length-map, length-set, linked, looked, made, map-map, new_linked, new_rack, no_flag, nobody, position-Some, same_Some, settings_in, slice_get-get_or, slice_get_within, reported_word, vcid_of}
 use Rattle.std.proofs.lemmas.List.{map-set}
@@ -21,7 +21,7 @@ use Rattle.tc_rack.specs.declared.answer.Answer.TheVariants.{Clcw, Refused}
 use Rattle.tc_rack.specs.declared.answer.Refusal.TheVariants.{UnknownChannel}
 use Rattle.tc_rack.specs.declared.operation.Operation.TheVariants as operations
 
--- the laws of a desk that this rests on
+-- the laws of a desk on which these proofs rest
 pub record AloneLaws : Type 0 where
   pub event : (before : Own) (now : Moment) (e : Event) → HasSeenItsOwn before → IsBeginning before.seen now → HasMadeAll (made e now before) → HasMadeAll before × (now ≡ before.seen)
   pub look : (before : Own) (now : Moment) → HasSeenItsOwn before → IsBeginning before.seen now → HasMadeAll (looked now before) → HasMadeAll before × (now ≡ before.seen)
@@ -36,15 +36,15 @@ channel_at d = linked d.own.seen
 abbrev pub rack_of : Staffed → Racked
 rack_of m = record { scid = m.station.scid; channels = map channel_at m.operator.desks }
 
--- it has seen of each desk at least what it has made
+-- the operator has seen of each desk at least the events that it has made
 abbrev pub AreSeen : List AtLock → Type 0
 AreSeen desks = All (λ (d : AtLock). HasSeenItsOwn d.own) desks
 
--- it has made all that it has seen
+-- the operator has made all events that it has seen
 abbrev pub AreAlone : List AtLock → Type 0
 AreAlone desks = All (λ (d : AtLock). HasMadeAll d.own) desks
 
--- where the operator has made all that it has seen, the watcher has seen it, too
+-- if the operator has made all events that it has seen, the watcher has seen them, too
 abbrev pub IsAhead : AtLock → History → Type 0
 IsAhead d seen = HasMadeAll d.own → board.IsEarlier (history_of d.own.seen) seen
 
@@ -54,11 +54,12 @@ pub record IsSound (m : Staffed) : Type 0 where
   pub seen : AreSeen m.operator.desks
   pub ahead : AreEach IsAhead m.operator.desks m.watchers
 
--- it has made all that it has seen, and each watcher has seen just that
+-- the operator has made all events that it has seen, and each watcher has seen exactly these
 abbrev pub IsAlone : Staffed → Type 0
 IsAlone m = AreAlone m.operator.desks × AreEach IsLevel m.operator.desks m.watchers
 
--- a step from the one to the other keeps what is sound; and where the operator is alone in the end, it was before, and this is so
+-- a step from the first station to the second keeps it sound; and if the operator is alone after the step, it was
+-- before, and `Holds` holds
 abbrev pub Follows : Staffed → Staffed → Type 0 → Type 0
 Follows m new Holds = IsSound new × (IsAlone new → IsAlone m × Holds)
 
@@ -71,7 +72,7 @@ module _ (laws : AloneLaws) (Answers : Linked → Answer → Linked → Type 0) 
   owned : HasSeenItsOwn a.there.own
   owned = was-there (λ (d : AtLock). HasSeenItsOwn d.own) m.operator.desks place a.there a.was sound.seen
 
-  -- what is sound stays so
+  -- a sound station stays sound
   still-sound : IsSound new
   still-sound =
       let desks = m.operator.desks in
@@ -91,8 +92,8 @@ module _ (laws : AloneLaws) (Answers : Linked → Answer → Linked → Type 0) 
             (λ made. subst (board.IsEarlier (history_of a.next.own.seen)) (sym a.met.1) (beginning-self (history_of a.next.own.seen)));
       }
 
-  -- where it has made all events in the end, it had before this answer, which is that of what it had seen; and where each watcher has
-  -- seen just what the operator has in the end, it had before
+  -- if the operator has made all events in the end, it had before this answer, which is the answer of the channel that
+  -- it had seen; and if each watcher has seen exactly what the operator has in the end, it had before
   changed : IsAlone new → IsAlone m × Changes (rack_of m) vcid (λ before after. Answers before answer after) (rack_of new)
   changed alone =
       let desks = m.operator.desks in
@@ -119,7 +120,7 @@ module _ (laws : AloneLaws) (Answers : Linked → Answer → Linked → Type 0) 
         (place, channel_at a.there, channel_at a.next, (mapped-at channel_at desks place a.there a.was, id), answered, λ i. record { scid = (a.station i).scid; channels = channels i }),
       )
 
--- ---- what each operation is answered
+-- ---- the answer of each operation
 
 -- the ids of the channels
 ids : (m : Staffed) → IsSound m → map vcid_of (map channel_at m.operator.desks) ≡ m.station.vcids
@@ -241,7 +242,7 @@ module _ (laws : AloneLaws) where
       let late = met-alone n mid met last early.0 in
       (late.0, λ alone. let one = late.1 alone in let two = early.1 one.0 in (two.0, one.1 ∙ two.1))
 
-  -- who has met has seen just what the operator has
+  -- a watcher that has met its desk has seen exactly what the operator has
   level-so-far : (n : ℕ) (m met : Staffed) → HaveMet n m met → (k : ℕ) (d : AtLock) (w : Watching) → k < n → slice_get met.operator.desks k ≡ Some d → slice_get met.watchers k ≡ Some w → IsLevel d w.seen
   level-so-far zero m met same k d w lt at here = absurd (omega (arith, lt))
   level-so-far (suc n) m met (mid, first, last) k d w lt at here =
@@ -267,7 +268,7 @@ module _ (laws : AloneLaws) where
 
 -- ---- a new station
 
--- its channels have no event
+-- the channels of a new station have no event
 new-channels : (desks : List AtLock) → AreAlone desks → All (λ (d : AtLock). d.own.made ≡ []) desks → map channel_at desks ≡ map new_linked (map (λ (h : Identity). h.settings) (heads_of desks))
 new-channels [] alone nothing = refl
 new-channels (d ∷ ds) alone nothing =
@@ -305,7 +306,7 @@ module _ (laws : AloneLaws) where
       let whole = laws.whole d.own c.journal own (refl, behind.1) closed.merge in
       (whole.0, λ i. record { settings = (closed.settings ∙ ap (λ (h : Identity). h.settings) behind.0) i; journal = sym whole.1 i })
 
-  -- it has made all events, and its channels are those that it has seen
+  -- the operator has made all events, and the channels are those that it has seen
   pub closed-alone : (m : Staffed) (closed : List History) → AreSeen m.operator.desks → locks_of m.operator.desks ≡ m.station.locks → AreClosedTogether m.station (m.operator ∷ []) closed
       → AreAlone m.operator.desks × (closed ≡ histories (rack_of m))
   closed-alone m closed seen locks (owned_desks, owned, all) =

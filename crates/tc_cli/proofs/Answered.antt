@@ -1,4 +1,4 @@
--- What an operator's call at a desk is, as the answer of a script's line.
+-- An operator's call at a desk, as the answer of a script's line.
 use Rattle.std.proofs.Common.{◌≡◌, ◌⊎◌, ℕ, Bool, List, Result, Ok, Err, inl, inr, refl, sym, ap, ◌∙◌}
 use Rattle.tc_cli.proofs.Names.{Answer, AtLock, Empty, Event, HasSeenNoMore, Identity, IsAnsweredAt, IsBringAnswer, IsCall, IsDeskAnswer, IsFrameAnswered, IsLocated, IsStaffedCall, IsPlace, IsReleaseAnswered, IsTakeAnswered, IsUnitAnswered, Linked, Staffed, Moment, NoMap, NoQueue, Watching, linked, looked, made}
 use Rattle.logged_lock.specs.Log.{with_entry}
@@ -11,7 +11,7 @@ use Rattle.tc_channel.specs.declared.reply.TakeUnitFault.TheVariants as unit_fau
 use Rattle.tc_desk.specs.Call as at_desk
 use Rattle.tc_rack.specs.declared.answer.Answer.TheVariants.{Frame, Release, Take, Unit as TakeUnit, Refused}
 
--- a call that was answered, or refused, and what the channel answered then
+-- a call that succeeded or failed, and the answer of the channel at that moment
 abbrev IsReported : {R F : Type 0} → ℕ → Event → (Moment → R → Type 0) → (Moment → F → Type 0) → (Linked → Answer → Linked → Type 0) → Answer → Result R F → Type 0
 IsReported vcid e ok err Answers answer (Ok a) = (m : Moment) → m.head.settings.vcid ≡ vcid → ok m a → Answers (linked m) answer (linked (with_entry m e))
 IsReported vcid e ok err Answers answer (Err f) = (m : Moment) → m.head.settings.vcid ≡ vcid → err m f → Answers (linked m) answer (linked m)
@@ -81,7 +81,7 @@ release-empty m after vcid call =
 
 -- ---- takes
 
--- what was taken is of a type with octets that are known
+-- the packet that was taken has a type whose octets are known
 abbrev pub IsPacket : {P : Type 0} → (P → List ℕ) → ℕ → Moment → P → Type 0
 IsPacket octets_of apid now p = at_desk.IsOldestPacket apid now (octets_of p)
 

@@ -1,4 +1,4 @@
--- Histories that are beginnings of each other, and lists of desks and of what their watchers have seen.
+-- Histories that are beginnings of each other, and lists of desks with the histories that their watchers have seen.
 use Rattle.std.proofs.Common.{◌≡◌, ℕ, List, [], ◌∷◌, ◌++◌, Some, length, inl, inr, refl, sym, ap, ◌∙◌, subst, arith, slice_get, slice_set}
 use Rattle.tc_cli.proofs.Names.{AtLock, Event, HasMadeAll, History, IsEarlier, Own, Watching, eqb_tells, history_of, length-append, nil_from_length, same_Some}
 use Rattle.std.proofs.lemmas.List.{append-nil}
@@ -6,7 +6,7 @@ use mathlib.Core.List.{IsPrefix}
 use Rattle.tc_desk.specs.Alone.{with_places}
 use Rattle.tc_cli.proofs.Lists.{set-at, set-else, set-elsewhere, set-there}
 
--- what begin each other are the same
+-- lists that are beginnings of each other are equal
 prefix-same : (es fs : List Event) → IsPrefix es fs → IsPrefix fs es → es ≡ fs
 prefix-same es fs p q =
     let none : p.0 ≡ [] =
@@ -19,18 +19,18 @@ beginning-same a b p q =
     let journals = prefix-same a.journal b.journal p.1 q.1 in
     λ i. record { settings = q.0 i; journal = journals i }
 
--- this is so of each desk and of what its watcher has seen
+-- `P` holds of each desk and of the history that its watcher has seen
 abbrev pub AreEach : (AtLock → History → Type 0) → List AtLock → List Watching → Type 0
 AreEach P desks watchers = (k : ℕ) (d : AtLock) (w : Watching) → slice_get desks k ≡ Some d → slice_get watchers k ≡ Some w → P d w.seen
 
--- the watcher has seen just what the operator has
+-- the watcher has seen exactly what the operator has
 abbrev pub IsLevel : AtLock → History → Type 0
 IsLevel d seen = seen ≡ history_of d.own.seen
 
 same-each : (P : AtLock → History → Type 0) (there d : AtLock) (early w : Watching) → there ≡ d → early ≡ w → P there early.seen → P d w.seen
 same-each P there d early w desk watcher one = subst (λ (x : AtLock × Watching). P x.0 x.1.seen) (λ i. (desk i, watcher i)) one
 
--- one desk, and its watcher, in another's place
+-- lists in which one desk and its watcher are replaced
 module _ (P : AtLock → History → Type 0) (desks more : List AtLock) (watchers read : List Watching) (place : ℕ) (there next : AtLock) (early late : Watching)
     (desk : more ≡ slice_set desks place next) (watched : read ≡ slice_set watchers place late) (was : slice_get desks place ≡ Some there) (seat : slice_get watchers place ≡ Some early) where
   pub each-set : AreEach P desks watchers → P next late.seen → AreEach P more read
@@ -39,7 +39,7 @@ module _ (P : AtLock → History → Type 0) (desks more : List AtLock) (watcher
     | inr h ↦ all k d w (set-else desks more place k next d desk h.1 at) (set-else watchers read place k late w watched h.1 here)
   ]
 
-  -- the same of the desk and the watcher that were in that place
+  -- if `P` holds of the new lists, and of the desk and the watcher that were replaced, it holds of the old lists
   pub each-back : AreEach P more read → P there early.seen → AreEach P desks watchers
   each-back all one k d w at here = elim (eqb_tells k place) [
     | inl h ↦ same-each P there d early w (same_Some there d (sym was ∙ (ap (slice_get desks) (sym h.1) ∙ at))) (same_Some early w (sym seat ∙ (ap (slice_get watchers) (sym h.1) ∙ here))) one
@@ -48,12 +48,12 @@ module _ (P : AtLock → History → Type 0) (desks more : List AtLock) (watcher
         (ap (λ (l : List Watching). slice_get l k) watched ∙ (set-elsewhere watchers place k late h.1 ∙ here))
   ]
 
-  -- what is so of the desk and the watcher in that place then
+  -- if `P` holds of the new lists, it holds of the new desk and the new watcher
   pub each-there : AreEach P more read → P next late.seen
   each-there all =
       all place next late (ap (λ (l : List AtLock). slice_get l place) desk ∙ set-there desks place there next was) (ap (λ (l : List Watching). slice_get l place) watched ∙ set-there watchers place early late seat)
 
--- who has made all that it has seen, and nothing, has seen no event
+-- an operator that has made all that it has seen, and has made nothing, has seen no event
 pub no-event : (own : Own) → HasMadeAll own → own.made ≡ [] → own.seen.entries ≡ []
 no-event own all none = none-placed own.seen.entries (sym all ∙ none) where
   none-placed : (es : List Event) → with_places 0 es ≡ [] → es ≡ []

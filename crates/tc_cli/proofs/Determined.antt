@@ -1,4 +1,4 @@
--- What a script does is a function of its lines.
+-- The effect of a script is a function of its lines.
 use Rattle.std.proofs.Common.{◌≡◌, ◌<◌, ℕ, List, [], ◌∷◌, ◌++◌, ◌⊎◌, Ok, Option, None, Some, map, length, set, slice_get, inl, inr, refl, sym, ap, ◌∙◌, subst, arith, ◌≢◌, All, Contains, IsPermutation}
 use Rattle.tc_cli.proofs.Names.{Add, All-head, All-tail, Answer, AreAnswers, BeginsWith, Changes, Channel, Clcw, Does, Empty, Frame, HasChannel, History, Instruction, IsAnswerOf, IsChannelAnswer, IsClcwAnswer, IsDoneSo, IsFirstLine, IsFrameAnswer, IsFrameAnswered, IsInstructionAnswered, IsLineAnswered, IsPerformed, IsRackLocateFault, IsReleaseAnswered, IsReportOf, IsScriptReport, IsTakeAnswered, IsUnitAnswered, Linked, LocateFault, NoMap, NoQueue, Nothing, Operating, Operation, Progress, Racked, Release, SettingUp, Settings, Setup, Take, TakeUnit, Unlocated, at_first, cases_lt, header_of, histories, instruction_of, later, map-map, new_linked, nil_from_length, no-fault, none-some, one_more, option_and_then, phase_of, rack_for, report_text, same_Some, slice_get-get_or, reported_word, vcid_of, waiting_packets, waiting_units}
 use Rattle.std.proofs.lemmas.List.{length_push, map_push}
@@ -56,17 +56,17 @@ same-line octets line after other rest one two = same-parts octets line after ot
 
 -- ---- no two channels have one id
 
--- each id stands at one place
+-- each id stands at one place only
 abbrev pub AreApart : List ℕ → Type 0
 AreApart ids = (one other vcid : ℕ) → slice_get ids one ≡ Some vcid → slice_get ids other ≡ Some vcid → one ≡ other
 
--- an element at its place, by its id
+-- two elements with the same id are at the same place, and equal
 pub same-at : {X : Type 0} (id : X → ℕ) (xs : List X) → AreApart (map id xs) → (vcid one other : ℕ) (x y : X) → slice_get xs one ≡ Some x → id x ≡ vcid → slice_get xs other ≡ Some y → id y ≡ vcid → (one ≡ other) × (x ≡ y)
 same-at id xs apart vcid one other x y at is to too =
     let place = apart one other vcid (mapped-at id xs one x at ∙ ap (λ (z : ℕ). Some z) is) (mapped-at id xs other y to ∙ ap (λ (z : ℕ). Some z) too) in
     (place, same_Some x y (sym at ∙ (ap (slice_get xs) place ∙ to)))
 
--- one id more, which is that of no other
+-- ids stay apart if one more is added that none of them is
 apart-push : (ids : List ℕ) (new : ℕ) → AreApart ids → ((place : ℕ) → slice_get ids place ≡ Some new → ⊥) → AreApart (ids ++ new ∷ [])
 apart-push ids new apart none one other vcid at to =
     let first = push-cases ids new vcid one at in
@@ -82,13 +82,13 @@ pub rack-ids : (scid : ℕ) (progress : Progress) → map vcid_of (rack_for scid
 rack-ids scid (SettingUp list) = map-map vcid_of new_linked list
 rack-ids scid (Operating rack) = refl
 
--- ---- what a channel is answered, and what becomes of it
+-- ---- the answer and the effect of an operation on a channel
 
--- a channel has one answer, and one thing becomes of it
+-- a channel has only one answer, and only one state after it
 abbrev pub IsDetermined : (Linked → Answer → Linked → Type 0) → Type 0
 IsDetermined Answers = (old new other : Linked) (answer another : Answer) → Answers old answer new → Answers old another other → (answer ≡ another) × (new ≡ other)
 
--- it keeps its id
+-- the channel keeps its id
 abbrev pub IsIdKept : (Linked → Answer → Linked → Type 0) → Type 0
 IsIdKept Answers = (old new : Linked) (answer : Answer) → Answers old answer new → vcid_of new ≡ vcid_of old
 
@@ -98,11 +98,11 @@ frame-determined frame old new other answer another (is, next) (too, then) = (is
 pub release-determined : IsDetermined IsReleaseAnswered
 release-determined old new other answer another one two = grind arith
 
--- nothing waits: there is no queue, or it is empty
+-- nothing waits, since there is no queue, or it is empty
 abbrev IsNoneThere : Option (List (List ℕ)) → Answer → Answer → Type 0
 IsNoneThere waiting without answer = ((waiting ≡ None) × (answer ≡ without)) ⊎ ((waiting ≡ Some []) × (answer ≡ answers.Refused Empty))
 
--- the oldest of what waits is taken, where there is any
+-- the oldest item that waits is taken, if there is any
 abbrev IsOldestTaken : Option (List (List ℕ)) → (List ℕ → Answer) → Answer → Linked → Linked → Answer → Linked → Type 0
 IsOldestTaken waiting reported without next old answer new =
     ((item : List ℕ) × (option_and_then (λ items. slice_get items 0) waiting ≡ Some item) × (answer ≡ reported item) × (new ≡ next))
@@ -134,7 +134,7 @@ take-kept apid old new answer a = grind arith
 pub unit-kept : (map_id : ℕ) → IsIdKept (IsUnitAnswered map_id)
 unit-kept map_id old new answer a = grind arith
 
--- ---- what an operation is answered, and what it leaves
+-- ---- the answer and the effect of an operation
 
 pub change-determined : (Answers : Linked → Answer → Linked → Type 0) → IsDetermined Answers → (vcid : ℕ) (old new other : Racked) (answer another : Answer) → AreApart (map vcid_of old.channels)
     → Changes old vcid (λ before after. Answers before answer after) new → Changes old vcid (λ before after. Answers before another after) other → (answer ≡ another) × (new ≡ other)
@@ -188,7 +188,7 @@ word-determined vcid rack answer another apart (inr (none, is)) (inr (nothing, t
 -- ---- octets that begin with a frame, and octets that don't
 
 module _ (only : IsOneAtMost) where
-  -- octets that a channel is brought are not refused
+  -- octets that are brought to a channel aren't refused
   not-located : (octets frame : List ℕ) (rack : Racked) (fault : LocateFault) → BeginsWith octets frame → (header_of frame).scid ≡ rack.scid
       → ((¬ HasChannel rack.channels (header_of frame).vcid) → ⊥) → IsRackLocateFault rack octets fault → ⊥
   not-located octets frame rack (faults.Frame f) begins ours here why = none-some f (sym (no-fault octets frame begins) ∙ why)
@@ -237,7 +237,7 @@ module _ (only : IsOneAtMost) where
   operation-determined (operations.Clcw vcid) old new other answer another apart (read, still) (again, rests) =
       (word-determined vcid old answer another apart read again, still ∙ sym rests)
 
--- ---- what a line is answered, and what it leaves
+-- ---- the answer and the effect of a line
 
 same-setup : (progress : Progress) (list other : List Settings) → phase_of progress ≡ Setup list → phase_of progress ≡ Setup other → other ≡ list
 same-setup progress list other is too = cc
@@ -317,7 +317,7 @@ module _ (only : IsOneAtMost) (scid : ℕ) where
 
   -- ---- all lines
 
-  -- the same line, from the same progress
+  -- a line, from the same progress, has only one answer and one effect
   next-determined : (line : List ℕ) (old new other : Progress) (answer another : Option Answer) → AreApart (ids_of old) → IsLineAnswered (IsPerformed scid) old line new answer
       → IsLineAnswered (IsPerformed scid) old line other another → (new ≡ other) × (answer ≡ another)
   next-determined line old new other answer another apart (said, is, does, a) (again, too, did, b) =
@@ -325,7 +325,7 @@ module _ (only : IsOneAtMost) (scid : ℕ) where
       let moved = subst (λ (s : Said). Does (phase_of old) (instruction_of s) (phase_of other) × IsInstructionAnswered (IsPerformed scid) old (instruction_of s) other another) same (did, b) in
       line-determined (instruction_of said) old new other answer another apart does a moved.0 moved.1
 
-  -- two ways through as many lines
+  -- two ways through the same number of lines are the same
   same-way : (script : List ℕ) (answers others : List (Option Answer)) (progress other : Progress) (rest left : List ℕ) → AreAnswers (IsPerformed scid) script answers progress rest
       → AreAnswers (IsPerformed scid) script others other left → length answers ≡ length others → (rest ≡ left) × (progress ≡ other) × (answers ≡ others)
   same-way script answers others progress other rest left at_first at_first long = (refl, refl, refl)
@@ -344,7 +344,7 @@ module _ (only : IsOneAtMost) (scid : ℕ) where
       let both = next-determined line old progress other answer another (all-apart script before old from leads) answered reported_here in
       (parts.1, both.0, λ i. one.2 i ++ both.1 i ∷ [])
 
-  -- a way through fewer lines, after which a line follows
+  -- a way through lines begins with one through fewer lines, after which a line follows
   shorter-way : (script : List ℕ) (answers : List (Option Answer)) (progress : Progress) (rest : List ℕ) (count : ℕ) → AreAnswers (IsPerformed scid) script answers progress rest → count < length answers
       → (first : List (Option Answer)) × (old : Progress) × (from : List ℕ) × (line : List ℕ) × (after : List ℕ)
       × AreAnswers (IsPerformed scid) script first old from × IsFirstLine from line after × (length first ≡ count)

@@ -1,4 +1,4 @@
--- What the jobs of one channel make of its journal, and what the worker of its list made of them.
+-- The journal that results from the jobs of one channel, and the events that the worker of its list made.
 use Rattle.std.proofs.Common.{◌≡◌, ℕ, List, [], ◌∷◌, ◌++◌, ◌⊎◌, Result, Ok, Err, get_or, inl, inr, refl, sym, ap, ◌∙◌, subst, ◌≢◌, ◌==◌, Contains, slice_index_or, arith}
 use Rattle.tc_cli.proofs.Names.{AtLock, AtStation, BeginsWith, Event, HasMadeAll, HasSeenItsOwn, IsBeginning, IsCall, IsLocateFault, IsMergeOf, IsPlace, Job, LocateFault, Moment, Order, Own, Roster, Settings, eqb-true, get_or_from_slice_get, header_of, looked, made, made_by, no-fault, nobody, none-some, position-Some, same_Some, slice_get_within, Identity}
 use Rattle.std.proofs.lemmas.List.{get_or-set_other, get_or-set_same}
@@ -29,11 +29,11 @@ no-locate-fault only station octets frame UnknownChannel begins ours there (othe
 abbrev pub moment : Settings → List Event → Moment
 moment s journal = record { head = record { settings = s; board = nowhere.board }; entries = journal }
 
--- the event is the next of the journal if it can be made, and else the journal stays
+-- if the event can be made, it is the next one of the journal, and otherwise the journal stays
 abbrev pub IsTriedNext : Settings → Event → List Event → List Event → Type 0
 IsTriedNext s e old new = (CanBeMade e (moment s old) × (new ≡ old ++ e ∷ [])) ⊎ (CannotBeMade e (moment s old) × (new ≡ old))
 
--- what a job makes of the journal of its channel
+-- the journal of its channel before and after a job
 abbrev pub Happens : ℕ → ℕ → Settings → Order → List Event → List Event → Type 0
 Happens scid vcid s (orders.Bring octets) old new =
     (frame : List ℕ) × BeginsWith octets frame × ((header_of frame).scid ≡ scid) × ((header_of frame).vcid ≡ vcid) × IsTriedNext s (events.Frame frame) old new
@@ -41,7 +41,7 @@ Happens scid vcid s orders.Release old new = IsTriedNext s events.Release old ne
 Happens scid vcid s (orders.Take apid) old new = IsTriedNext s (events.Take apid) old new
 Happens scid vcid s (orders.TakeUnit map_id) old new = IsTriedNext s (events.TakeUnit map_id) old new
 
--- what one job after the other makes of it
+-- the journal of a channel before and after a list of jobs
 abbrev pub AllHappen : ℕ → ℕ → Settings → List Job → List Event → List Event → Type 0
 AllHappen scid vcid s [] old new = new ≡ old
 AllHappen scid vcid s (job ∷ jobs) old new = (mid : List Event) × Happens scid vcid s job.order old mid × AllHappen scid vcid s jobs mid new
@@ -54,7 +54,7 @@ one-more-happens scid vcid s (first ∷ jobs) job old mid new (next, happens, re
 not-both : (e : Event) (m : Moment) → CanBeMade e m → CannotBeMade e m → ⊥
 not-both e m can cannot = grind arith
 
--- what can be made depends on the settings and the journal alone
+-- whether an event can be made depends on the settings and the journal alone
 moved-can : (e : Event) (m : Moment) (s : Settings) (j : List Event) → m.head.settings ≡ s → m.entries ≡ j → CanBeMade e m → CanBeMade e (moment s j)
 moved-can (events.Frame octets) m s j p q can = tt
 moved-can e m s j p q can = subst (λ (x : Settings × List Event). CanBeMade e (moment x.0 x.1)) (λ i. (p i, q i)) can
@@ -63,7 +63,7 @@ moved-cannot : (e : Event) (m : Moment) (s : Settings) (j : List Event) → m.he
 moved-cannot (events.Frame octets) m s j p q cannot = cannot
 moved-cannot e m s j p q cannot = subst (λ (x : Settings × List Event). CannotBeMade e (moment x.0 x.1)) (λ i. (p i, q i)) cannot
 
--- so there is one journal that comes next
+-- only one journal can come next
 next-can : (e : Event) (m : Moment) (s : Settings) (old new : List Event) → m.head.settings ≡ s → m.entries ≡ old → CanBeMade e m → IsTriedNext s e old new → new ≡ old ++ e ∷ []
 next-can e m s old new p q can (inl (there, is)) = is
 next-can e m s old new p q can (inr (none, is)) = absurd (not-both e (moment s old) (moved-can e m s old p q can) none)
@@ -72,9 +72,9 @@ next-cannot : (e : Event) (m : Moment) (s : Settings) (old new : List Event) →
 next-cannot e m s old new p q cannot (inl (there, is)) = absurd (not-both e (moment s old) there (moved-cannot e m s old p q cannot))
 next-cannot e m s old new p q cannot (inr (none, is)) = is
 
--- ---- what a worker makes
+-- ---- the events that a worker makes
 
--- the laws that this rests on
+-- the laws on which these proofs rest
 pub record WorkLaws : Type 0 where
   pub frame : IsOneAtMost
   pub event : (before : Own) (now : Moment) (e : Event) → HasSeenItsOwn before → IsBeginning before.seen now → HasMadeAll (made e now before) → HasMadeAll before × (now ≡ before.seen)
@@ -83,20 +83,21 @@ pub record WorkLaws : Type 0 where
   pub maker : (makers : List Own) (k : ℕ) (own : Own) (journal : List Event) → made_by makers k ≡ own.made → ((j : ℕ) → j ≢ k → made_by makers j ≡ []) → HasSeenItsOwn own
       → IsBeginning own.seen (record { head = own.seen.head; entries = journal }) → IsMergeOf journal makers → HasMadeAll own × (own.seen.entries ≡ journal)
 
--- what an operator has seen and made at the desk of this place
+-- the events that an operator has seen and made at the desk of this place
 abbrev pub desk_at : ℕ → AtStation → AtLock
 desk_at place o = slice_index_or o.desks place nobody
 
--- it has seen these settings and this journal there
+-- the operator has seen these settings and this journal there
 abbrev pub HasSeen : Settings → List Event → AtLock → Type 0
 HasSeen s journal d = (d.own.seen.head.settings ≡ s) × (d.own.seen.entries ≡ journal)
 
--- at one desk: where the worker has made all that it has seen there after, it had before, and the journal grew so
+-- at one desk, if the worker has afterwards made all events that it has seen there, it had before, and the journal grew
+-- so
 abbrev IsMadeOf : Settings → List Event → List Event → AtLock → AtLock → Type 0
 IsMadeOf s old new before after =
     HasSeenItsOwn before.own → HasSeenItsOwn after.own × (HasMadeAll after.own → HasMadeAll before.own × (HasSeen s old before → HasSeen s new after))
 
--- a worker made nothing elsewhere, and this at the desk of its list
+-- a worker made nothing elsewhere, and made these events at the desk of its list
 pub record IsWorkedAt (s : Settings) (place : ℕ) (old new : List Event) (before after : AtStation) : Type 0 where
   pub elsewhere : (other : ℕ) → other ≢ place → (desk_at other after).own.made ≡ (desk_at other before).own.made
   pub here : IsMadeOf s old new (desk_at place before) (desk_at place after)
@@ -121,7 +122,7 @@ worked-more s place old mid new before between after first second = record {
       );
 }
 
--- what an operator has of a desk, by what it has then
+-- the journal of a desk grew so, if these facts hold of the events that the operator has then seen and made
 desk-grown : (there next : AtLock) (now : Moment) (o : Own) (s : Settings) (old new : List Event) → next.own ≡ o → o.seen.head ≡ now.head → (HasSeenItsOwn there.own → HasSeenItsOwn o)
     → (HasSeenItsOwn there.own → HasMadeAll o → HasMadeAll there.own × (now ≡ there.own.seen)) → (now.head.settings ≡ s → now.entries ≡ old → o.seen.entries ≡ new) → IsMadeOf s old new there next
 desk-grown there next now o s old new is head its law journal = λ own. (
@@ -137,7 +138,7 @@ desk-grown there next now o s old new is head its law journal = λ own. (
 )
 
 module _ (laws : WorkLaws) where
-  -- one try at a desk
+  -- one attempt to make an event at a desk
   tried-desk : (e : Event) (there next : AtLock) (r : Result (Unit {0}) (Unit {0})) (s : Settings) (old new : List Event)
       → IsCall e (λ m _. CanBeMade e m) (λ m _. CannotBeMade e m) there r next → IsTriedNext s e old new → IsMadeOf s old new there next
   tried-desk e there next (Ok u) s old new call tried =
@@ -190,7 +191,7 @@ module _ (laws : WorkLaws) where
   job-worked station place vcid (orders.TakeUnit map_id) s old new before after here happens made =
       tried-on station place vcid (events.TakeUnit map_id) s old new before after here made happens
 
-  -- the jobs of a list, one after the other
+  -- the jobs of a list, carried out one after the other
   pub list-worked : (station : Roster) (place vcid : ℕ) (jobs : List Job) (s : Settings) (old new : List Event) (before after : AtStation)
       → IsPlace station vcid place → AllHappen station.scid vcid s jobs old new → AreMade station vcid jobs before after → IsWorkedAt s place old new before after
   list-worked station place vcid [] s old new before after here happen made = worked-none s place old new before after happen made

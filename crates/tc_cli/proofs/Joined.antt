@@ -1,4 +1,5 @@
--- The channels of a closed station whose lists were worked side by side: they are those of the lines in order, and so is their report.
+-- The channels of a closed station whose lists were worked on side by side. They are those of the lines in order, and
+-- so is their report.
 use Rattle.std.proofs.Common.{◌≡◌, ◌<◌, ℕ, zero, suc, ◌+◌, List, [], ◌∷◌, Bool, true, false, Option, None, Some, All, map, length, get_or, cond, inl, inr, refl, sym, ap, ◌∙◌, subst, arith, eq-eqb, ne_eqb, not, ◌≢◌, ◌==◌, AllPairs, IsPermutation, nat_lt, slice_get, slice_index_or}
 use Rattle.tc_cli.proofs.Names.{Answer, AreAnswers, AreClosedTogether, AreWorkedChannels, AtLock, AtStation, Event, HasMadeNothing, HasSeenItsOwn, History, Identity, IsBeginning, IsClosed, IsPerformed, IsPlace, IsReportOf, IsScriptReport, IsWorkedOut, KnowsDesks, Linked, Parted, Progress, Racked, Roster, Settings, WorkList, column, operator_lists_of, get_or_from_slice_get, heads_of, histories, length-map, lower, made_by, nobody, none-some, rack_for, report_text, same_Some, settings_in, slice_get_within, vcid_of, cases_lt}
 use mathlib.Core.Option.{some}
@@ -25,7 +26,7 @@ first-place (x ∷ vs) (suc k) v at apart =
     ap (λ (b : Bool). cond (not b) (1 + position_or_len (λ y. y == v) vs) 0) e
     ∙ omega (arith, first-place vs k v at (λ j lt. apart (suc j) (omega (arith, lt))))
 
--- where no two ids are the same, each id has its place
+-- if no two ids are the same, each id has its place
 pub place-of : (station : Roster) (k v : ℕ) → AllPairs (λ (a b : ℕ). a ≢ b) station.vcids → slice_get station.vcids k ≡ Some v → IsPlace station v k
 place-of station k v distinct at =
     let vs = station.vcids in
@@ -35,9 +36,9 @@ place-of station k v distinct at =
     let within : nat_lt (position_or_len (λ x. x == v) vs) (length vs) ≡ true = lt-ltb _ _ (omega (arith, first, inside)) in
     ap (λ (b : Bool). cond b (Some (position_or_len (λ x. x == v) vs)) None) within ∙ ap (λ (n : ℕ). Some n) first
 
--- ---- what each worker has made
+-- ---- the events that each worker has made
 
--- no list was refused, so each was made in full
+-- if the lower of two lines is absent, both are absent
 first-none : (a b : Option ℕ) → lower a b ≡ None → (a ≡ None) × (b ≡ None)
 first-none a b is = grind arith
 
@@ -50,7 +51,7 @@ all-made station (s ∷ shifts) each none zero x at =
     subst (λ (y : Shift). AreMade station y.list.vcid y.list.jobs y.before y.after) (same_Some s x at) made
 all-made station (s ∷ shifts) each none (suc k) x at = all-made station shifts each.1 (first-none s.refused (lowest shifts) none).1 k x at
 
--- the k-th of the operators, as a maker of what was made at one desk
+-- the events that the k-th of the operators has made at one desk
 maker-at : (ops : List AtStation) (place k : ℕ) (o : AtStation) → slice_get ops k ≡ Some o → made_by (accounts_of (column place (operator_lists_of ops))) k ≡ (desk_at place o).own.made
 maker-at [] place k o at = absurd (none-some o at)
 maker-at (p ∷ ops) place zero o at = ap (λ (x : AtStation). (desk_at place x).own.made) (same_Some p o at)
@@ -73,14 +74,14 @@ desk-settings [] k s at = absurd (none-some s at)
 desk-settings (d ∷ desks) zero s at = same_Some d.own.seen.head.settings s at
 desk-settings (d ∷ desks) (suc k) s at = desk-settings desks k s at
 
--- who has made nothing has made nothing at each desk
+-- an operator that has made nothing has made nothing at any desk
 nothing-at : (o : AtStation) (place : ℕ) → HasMadeNothing o → (desk_at place o).own.made ≡ []
 nothing-at o place nothing = elim (cases_lt place (length o.desks)) [
   | inl inside ↦ nothing place nobody inside
   | inr past ↦ ap (λ (d : AtLock). d.own.made) (get_or_past o.desks place nobody past)
 ]
 
--- ---- a plan that was worked out
+-- ---- a plan that was carried out
 
 -- a station that has issued operators has the same plan
 issued-planned : (parted : Parted) (station : Roster) (n : ℕ) (rack : Racked) → station ≡ record parted.station { issued = n } → IsPlanned parted rack → IsPlanned (record parted { station = station }) rack
@@ -89,7 +90,7 @@ issued-planned parted station n rack issued planned =
     (record { spacecraft = planned.spacecraft; ids = planned.ids; lists = planned.lists; settings = planned.settings; distinct = planned.distinct; jobs = planned.jobs })
 
 module _ (laws : WorkLaws) (station : Roster) (lists : List WorkList) (rack : Racked) (planned : IsPlanned (record { station = station; lists = lists }) rack) where
-  -- as many workers as channels
+  -- there are as many workers as channels
   long-shifts : (shifts : List Shift) → map (λ (s : Shift). s.list) shifts ≡ lists → length shifts ≡ length rack.channels
   long-shifts shifts same =
       sym (length-map shifts (λ (s : Shift). s.list)) ∙ (ap (length {A = WorkList}) same
@@ -99,7 +100,7 @@ module _ (laws : WorkLaws) (station : Roster) (lists : List WorkList) (rack : Ra
   settings-at : (k : ℕ) (c : Linked) → slice_get rack.channels k ≡ Some c → slice_get (settings_in station) k ≡ Some c.history.settings
   settings-at k c at = ap (λ (l : List Settings). slice_get l k) (sym planned.settings) ∙ mapped-at (λ (y : Linked). y.history.settings) rack.channels k c at
 
-  -- a worker and its list
+  -- a worker has made the journal of the channel of its list
   shift-worked : (shifts : List Shift) → map (λ (s : Shift). s.list) shifts ≡ lists → AllByRecursion (IsShift station) shifts → lowest shifts ≡ None → (k : ℕ) (x : Shift) (c : Linked)
       → slice_get shifts k ≡ Some x → slice_get rack.channels k ≡ Some c → IsWorkedAt c.history.settings k [] c.history.journal x.before x.after
   shift-worked shifts same each none k x c at here =
@@ -108,7 +109,7 @@ module _ (laws : WorkLaws) (station : Roster) (lists : List WorkList) (rack : Ra
       list-worked laws station k x.list.vcid x.list.jobs c.history.settings [] c.history.journal x.before x.after
       (place-of station k x.list.vcid planned.distinct id) (planned.jobs k x.list c list here) (all-made station shifts each none k x at)
 
-  -- the channel of a list, once it is closed
+  -- the channel of a list once the station is closed
   one-closed : (shifts : List Shift) (befores ops : List AtStation) → map (λ (s : Shift). s.list) shifts ≡ lists → map (λ (s : Shift). s.before) shifts ≡ befores → map (λ (s : Shift). s.after) shifts ≡ ops
       → AllByRecursion (IsShift station) shifts → lowest shifts ≡ None → All HasMadeNothing befores → All (KnowsDesks station) befores
       → (k : ℕ) (c : Linked) (x : Shift) (owned_desk : AtLock) (h : History) → slice_get rack.channels k ≡ Some c → slice_get shifts k ≡ Some x
@@ -175,7 +176,7 @@ worked-channels laws parted rack channels planned out =
     let same = all-closed laws out.station parted.lists rack issued out.befores out.operators out.closed.there out.nothing out.knows out.worked out.closed.closed in
     subst (λ (l : List History). IsPermutation l channels) same out.closed.all
 
--- their report is that of the script
+-- the report on the channels that workers have made is that of the script
 pub worked-report : WorkLaws → (scid : ℕ) (script : List ℕ) (channels : List History) (text : List ℕ) → AreWorkedChannels scid script channels → IsReportOf channels text
     → (answers : List (Option Answer)) × (progress : Progress) × AreAnswers (IsPerformed scid) script answers progress [] × IsScriptReport scid progress text
 worked-report laws scid script channels text (count, plan, parted, inl (none, empty)) of =

@@ -1,4 +1,4 @@
--- What stands at a place of a list: once one element stands in another's place, one more comes last, or each is mapped.
+-- The element at a place of a list, after one element is replaced, one more is appended, or each is mapped.
 use Rattle.std.proofs.Common.{◌≡◌, ℕ, zero, suc, ◌<◌, List, [], ◌∷◌, ◌++◌, ◌⊎◌, Some, All, map, length, inl, inr, refl, sym, ap, ◌∙◌, subst, arith, ◌≢◌, Any, Contains, slice_get, slice_set}
 use Rattle.std.specs.Option.{option_map}
 use Rattle.std.proofs.lemmas.List.{get_or-map, length-map, map-set, set-get_or, set-set}
@@ -21,7 +21,7 @@ unmapped f [] k y at = absurd (none-some y at)
 unmapped f (x ∷ xs) zero y at = (x, refl, same_Some (f x) y at)
 unmapped f (x ∷ xs) (suc k) y at = unmapped f xs k y at
 
--- what two lists have at a place that are mapped to one
+-- the elements at a place of two lists that are mapped to the same list
 pub same-at : {X Y Z : Type 0} (f : X → Z) (g : Y → Z) (xs : List X) (ys : List Y) (k : ℕ) (x : X) (y : Y) → map f xs ≡ map g ys → slice_get xs k ≡ Some x → slice_get ys k ≡ Some y → f x ≡ g y
 same-at {X} {Y} {Z} f g xs ys k x y same at here = same_Some (f x) (g y) (sym (mapped-at f xs k x at) ∙ (ap (λ (l : List Z). slice_get l k) same ∙ mapped-at g ys k y here))
 
@@ -35,7 +35,7 @@ same-mapped f (x ∷ xs) (y ∷ ys) long each =
     λ i. first i ∷ rest i
 same-mapped f _ _ long each = absurd (omega arith)
 
--- ---- one element in another's place
+-- ---- one element is replaced
 
 pub set-same : {X : Type 0} (xs : List X) (k : ℕ) (x : X) → slice_get xs k ≡ Some x → slice_set xs k x ≡ xs
 set-same xs k x at = ap (slice_set xs k) (sym (get_or_from_slice_get xs k x x at)) ∙ set-get_or xs k x
@@ -53,14 +53,14 @@ set-elsewhere (z ∷ xs) zero zero y apart = absurd (apart refl)
 set-elsewhere (z ∷ xs) (suc k) (suc j) y apart = set-elsewhere xs k j y (λ e. apart (ap suc e))
 set-elsewhere _ _ _ y apart = refl
 
--- what is at the place then, and at another
+-- the element at the place then, and the element at another place
 pub set-at : {X : Type 0} (xs more : List X) (place k : ℕ) (x y z : X) → more ≡ slice_set xs place y → slice_get xs place ≡ Some x → k ≡ place → slice_get more k ≡ Some z → y ≡ z
 set-at {X} xs more place k x y z is was here at = same_Some y z (sym (set-there xs place x y was) ∙ ((λ i. slice_get (sym is i) (sym here i)) ∙ at))
 
 pub set-else : {X : Type 0} (xs more : List X) (place k : ℕ) (y z : X) → more ≡ slice_set xs place y → k ≢ place → slice_get more k ≡ Some z → slice_get xs k ≡ Some z
 set-else {X} xs more place k y z is apart at = sym (set-elsewhere xs place k y apart) ∙ (ap (λ (l : List X). slice_get l k) (sym is) ∙ at)
 
--- ---- one element more
+-- ---- one element is appended
 
 pub push-cases : {X : Type 0} (xs : List X) (x y : X) (k : ℕ) → slice_get (xs ++ x ∷ []) k ≡ Some y → (slice_get xs k ≡ Some y) ⊎ ((k ≡ length xs) × (x ≡ y))
 push-cases [] x y zero at = inr (refl, same_Some x y at)
@@ -71,7 +71,7 @@ push-cases (z ∷ xs) x y (suc k) at = elim (push-cases xs x y k at) [
   | inr h ↦ inr (ap suc h.0, h.1)
 ]
 
--- ---- what is so of an element, and of all
+-- ---- properties of one element, and of all
 
 pub any-here : {X : Type 0} (P : X → Type 0) (xs : List X) (k : ℕ) (x : X) → slice_get xs k ≡ Some x → P x → Any P xs
 any-here P xs k x at holds = (k, x, slice_get_within xs k x at, get_or_from_slice_get xs k x x at, holds)
@@ -88,6 +88,6 @@ any-mapped {X} f xs k v at = let there = unmapped f xs k v at in any-here (λ (x
 pub was-there : {X : Type 0} (P : X → Type 0) (xs : List X) (k : ℕ) (x : X) → slice_get xs k ≡ Some x → All P xs → P x
 was-there P xs k x at all = subst P (get_or_from_slice_get xs k x x at) (all k x (slice_get_within xs k x at))
 
--- what is so of a list with one element in another's place, and of that other
+-- if all elements have a property after one is replaced, and the old one had it, all elements had it before
 pub all-back : {X : Type 0} (P : X → Type 0) (xs : List X) (k : ℕ) (x y : X) → slice_get xs k ≡ Some x → P x → All P (slice_set xs k y) → All P xs
 all-back P xs k x y at here all = subst (All P) (set-set xs k y x ∙ set-same xs k x at) (All-set P (slice_set xs k y) k x here all)

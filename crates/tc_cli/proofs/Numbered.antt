@@ -1,4 +1,4 @@
--- Jobs have the numbers of lines of their script, so where memory runs out at one of them a line was reached.
+-- Jobs have the numbers of lines of their script, so if memory runs out for one of them, its line was reached.
 use Rattle.std.proofs.Common.{◌≡◌, ◌≤◌, ℕ, suc, ◌+◌, List, [], ◌∷◌, ◌⊎◌, Option, None, Some, map, length, inl, inr, refl, sym, ap, ◌∙◌, subst, arith, Any, slice_get, slice_set}
 use Rattle.tc_cli.proofs.Names.{Add, AreParted, ArePartedFor, AtStation, Channel, Clcw, Does, Frame, GivesToFound, Instruction, IsFrameGiven, IsGiven, IsJobLine, IsParted, IsScriptFault, Job, Nothing, Operating, Parted, Plan, Release, Roster, ScriptFault, SettingUp, Settings, Take, TakeUnit, WorkList, empty_list, eqb_tells, instruction_of, lower, none-some, none_parted, one_parted, phase_of, same_Some, script_limit, with_job}
 use Rattle.std.specs.List.{AllByRecursion}
@@ -10,7 +10,7 @@ use Rattle.tc_cli.specs.Parting.{IsWorkFault}
 use Rattle.tc_cli.proofs.Lists.{any-at, any-here, push-cases, set-at, set-else, unmapped}
 use Rattle.tc_cli.proofs.Scripts.{first-good, parted-leads, set-up}
 
--- ---- a job that was refused for memory
+-- ---- a job for which memory ran out
 
 lower-either : (a b : Option ℕ) (n : ℕ) → lower a b ≡ Some n → (a ≡ Some n) ⊎ (b ≡ Some n)
 lower-either a b n is = grind arith
@@ -29,7 +29,7 @@ shift-line station (s ∷ ss) n all is = elim (lower-either s.refused (lowest ss
   | inr there ↦ let later = shift-line station ss n all.1 there in (suc later.0, later.1, omega (arith, later.2), later.3, later.4)
 ]
 
--- the line that workers name is one of their jobs'
+-- the line that workers report is that of one of their jobs
 pub refused-line : (station : Roster) (lists : List WorkList) (line : Option ℕ) (n : ℕ) (befores afters : List AtStation)
     → AreWorked station lists line befores afters → line ≡ Some n → IsJobLine lists n
 refused-line station lists line n befores afters (shifts, are, before, after, all, least) is =
@@ -118,7 +118,7 @@ job-within count lists line numbered job =
     let one = any-at (λ (j : Job). j.line ≡ line) list.1.jobs list.3 in
     omega (arith, numbered list.0 one.0 list.1 one.1 list.2 one.2, one.3)
 
--- why the jobs of a good script aren't all done
+-- a fault of workers is a fault of the script
 pub work-fault : (scid : ℕ) (script : List ℕ) (count : ℕ) (plan : Plan) (found : Parted) (fault : ScriptFault) → AreParted scid script count plan [] → ArePartedFor scid plan found
     → length script ≤ script_limit → IsWorkFault count found fault → IsScriptFault script fault
 work-fault scid script count plan found fault parted for within (inl (unbalanced, cause)) =
@@ -129,7 +129,7 @@ work-fault scid script count plan found fault parted for within (inr (inr (line,
     let le = job-within count found.lists line (found-numbered scid count plan found (all-numbered scid script count plan [] parted) for) job in
     subst (IsScriptFault script) (sym memory) (inl (refl, inl (first-good script count (phase_of plan) [] line (parted-leads scid script count plan [] parted) le)))
 
--- out of balance, they have a cause
+-- if workers leave the station out of balance, there is a cause
 pub work-cause : (scid : ℕ) (script : List ℕ) (count : ℕ) (plan : Plan) (found : Parted) (fault : ScriptFault) → AreParted scid script count plan [] → ArePartedFor scid plan found
     → IsWorkFault count found fault → HasCause scid script fault
 work-cause scid script count plan found fault parted for (inl (unbalanced, cause)) =

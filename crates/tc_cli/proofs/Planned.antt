@@ -1,5 +1,5 @@
--- The jobs of a script, parted by their channels, and how far its lines alone have come: each list has just the jobs that make the
--- journal of its channel.
+-- The jobs of a script, sorted by their channels, and its progress by its lines alone: each list has exactly the jobs
+-- that make the journal of its channel.
 use Rattle.std.proofs.Common.{◌≡◌, ℕ, zero, suc, ◌+◌, List, [], ◌∷◌, ◌++◌, ◌⊎◌, Option, None, Some, map, length, inl, inr, refl, sym, ap, ◌∙◌, subst, arith, ◌≢◌, AllPairs, Contains, slice_get, slice_set}
 use Rattle.tc_cli.proofs.Names.{Add, Answer, AreAnswers, AreParted, ArePartedFor, Channel, Clcw, Does, Empty, Event, Frame, GivesToFound, HasChannel, Instruction, IsAnswerOf, IsChannelAnswer, IsClcwAnswer, IsDoneSo, IsFrameAnswer, IsFrameAnswered, IsFrameGiven, IsGiven, IsInstructionAnswered, IsParted, IsPerformed, IsRackLocateFault, IsReleaseAnswered, IsTakeAnswered, IsUnitAnswered, Job, Linked, LocateFault, NoMap, NoQueue, Nothing, Operating, Operation, Order, Parted, Phase, Plan, Progress, Racked, Release, SettingUp, Settings, Take, TakeUnit, Unlocated, WorkList, at_first, buffered_fields, empty_list, eqb_tells, header_of, instruction_of, later, length-map, map-map, new_linked, new_rack, none_parted, one_more, one_parted, option_and_then, phase_of, rack-found, rack_for, settings_in, slice_get-get_or, slice_get_within, reported_word, vcid_of, waiting_packets, waiting_units, with_job}
 use Rattle.std.proofs.lemmas.List.{map-id}
@@ -24,7 +24,7 @@ nil-or-not : {X : Type 0} (xs : List X) → (xs ≡ []) ⊎ (xs ≢ [])
 nil-or-not [] = inl refl
 nil-or-not (x ∷ xs) = inr (λ e. absurd cc)
 
--- the first of what waits, or nothing waits
+-- the first item that waits, if there is one
 abbrev first_waiting : Option (List (List ℕ)) → Option (List ℕ)
 first_waiting o = option_and_then (λ items. slice_get items 0) o
 
@@ -48,7 +48,7 @@ as-many-lists : (parted : Parted) (rack : Racked) → IsPlanned parted rack → 
 as-many-lists parted rack planned =
     sym (length-map rack.channels vcid_of) ∙ (ap (length {A = ℕ}) (planned.ids ∙ sym planned.lists) ∙ length-map parted.lists (λ (l : WorkList). l.vcid))
 
--- a new plan has no job, and its channels no event
+-- a new plan has no job, and its channels have no event
 new-planned : (scid : ℕ) (list : List Settings) (found : Parted) → IsNewlyParted scid list found → IsPlanned found (new_rack scid list)
 new-planned scid list found new =
     let vcids = new.0.vcids in
@@ -66,7 +66,7 @@ new-planned scid list found new =
           subst (λ (x : List Job × List Event). AllHappen found.station.scid l.vcid c.history.settings x.0 [] x.1) (λ i. (sym no-jobs i, sym no-events i)) refl;
     }
 
--- a job, and what the channel of its list comes to
+-- one more job in a list, and the channel of this list after the job
 moved-planned : (found : Parted) (rack : Racked) (place : ℕ) (l : WorkList) (c new : Linked) (job : Job) → IsPlanned found rack
     → slice_get found.lists place ≡ Some l → slice_get rack.channels place ≡ Some c → new.history.settings ≡ c.history.settings
     → Happens found.station.scid l.vcid c.history.settings job.order c.history.journal new.history.journal
@@ -91,13 +91,13 @@ moved-planned found rack place l c new job planned at here same happens = record
   ];
 }
 
--- the channel answers so, and comes to what the job makes of its journal
+-- the channel has such an answer, after which its journal is the one that the job makes
 abbrev CanAnswer : (Linked → Answer → Linked → Type 0) → ℕ → Order → Linked → Type 0
 CanAnswer Answers scid order c =
     (answer : Answer) × (new : Linked) × Answers c answer new × (new.history.settings ≡ c.history.settings)
     × Happens scid (vcid_of c) c.history.settings order c.history.journal new.history.journal
 
--- no list is for the id, so no channel has it
+-- if no list is for the id, no channel has it
 no-channel : (parted : Parted) (rack : Racked) (vcid : ℕ) → IsPlanned parted rack → ¬ Contains parted.station.vcids vcid → ¬ HasChannel rack.channels vcid
 no-channel parted rack vcid planned none there = none (subst (λ (l : List ℕ). Contains l vcid) planned.ids (any-contains vcid_of rack.channels vcid there))
 
@@ -125,7 +125,7 @@ given-planned vcid job Answers found parted rack planned (inr (none, is)) can = 
   subst (λ (p : Parted). IsPlanned p rack) (sym is) planned,
 )
 
--- ---- what each operation is answered
+-- ---- the answer of each operation
 
 release-can : (scid : ℕ) (c : Linked) → CanAnswer IsReleaseAnswered scid orders.Release c
 release-can scid c = elim (nil-or-not (buffered_fields c.history.settings c.history.journal)) [
@@ -151,7 +151,7 @@ unit-can scid map_id c = elim (waits-or-not (waiting_units c.history.settings c.
   ]
 ]
 
--- an operation that these channels answer so, and the plan with its job
+-- an operation that has such an answer from these channels, and the plan with its job
 abbrev IsAnsweredSo : (Racked → Answer → Racked → Type 0) → Parted → Racked → Type 0
 IsAnsweredSo Answers parted rack = (answer : Answer) × (new : Racked) × Answers rack answer new × IsPlanned parted new
 
@@ -203,7 +203,7 @@ not-first : (c : Linked) (xs : List Linked) (vcid : ℕ) → vcid_of c ≢ vcid 
 not-first c xs vcid apart none (zero, x, lt, is, id) = apart (ap vcid_of is ∙ id)
 not-first c xs vcid apart none (suc k, x, lt, is, id) = none (k, x, omega (arith, lt), is, id)
 
--- a channel has the id, or none has
+-- either a channel has the id, or none has
 there-or-not : (channels : List Linked) (vcid : ℕ) → ((place : ℕ) × (c : Linked) × IsChannelAt channels vcid place c) ⊎ ¬ HasChannel channels vcid
 there-or-not [] vcid = inr (λ there. absurd (omega (arith, there.2)))
 there-or-not (c ∷ xs) vcid = elim (eqb_tells (vcid_of c) vcid) [
@@ -281,7 +281,7 @@ line-planned scid number (TakeUnit vcid map_id) plan new progress matched does p
 line-planned scid number (Clcw vcid) plan new progress matched does parts =
     parts-planned scid (operations.Clcw vcid) (λ before after. after ≡ before) plan new progress matched parts (word-planned vcid)
 
--- lines whose jobs are parted have answers, and come as far where they are done in order
+-- lines whose jobs are sorted have answers, and come as far when they are carried out in order
 pub all-planned : (scid : ℕ) (script : List ℕ) (count : ℕ) (plan : Plan) (rest : List ℕ) → AreParted scid script count plan rest
     → (answers : List (Option Answer)) × (progress : Progress) × AreAnswers (IsPerformed scid) script answers progress rest × AreMatched plan progress
 all-planned scid script count plan rest none_parted = ([], SettingUp [], at_first, refl)

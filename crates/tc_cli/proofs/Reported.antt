@@ -1,4 +1,4 @@
--- Channels in rising id have one order, where each id is that of one channel.
+-- Channels in rising order of ids have only one order, if each id is that of one channel.
 use Rattle.std.proofs.Common.{◌≡◌, ◌<◌, ◌≤◌, ℕ, zero, suc, ◌+◌, cond, Bool, List, [], ◌∷◌, Some, map, length, drop, get_or, slice_get, inl, inr, refl, sym, ap, ◌∙◌, subst, arith, eq-eqb, ◌==◌, Contains, IsPermutation}
 use Rattle.tc_cli.proofs.Names.{AreRising, History, eqb_tells, get_or_from_slice_get, same_Some, slice_get_within}
 use Rattle.std.specs.List.{sum_by}
@@ -10,14 +10,14 @@ use Rattle.tc_rack.specs.Report.{vcid_of}
 abbrev one_of : ℕ → History → ℕ
 one_of vcid c = cond (vcid_of c == vcid) 1 0
 
--- how many of these channels have this id
+-- the number of these channels that have this id
 abbrev count : ℕ → List History → ℕ
 count vcid channels = sum_by (one_of vcid) channels
 
 count-own : (c : History) (cs : List History) → count (vcid_of c) (c ∷ cs) ≡ 1 + count (vcid_of c) cs
 count-own c cs = sum_by-cons (one_of (vcid_of c)) c cs ∙ ap (λ (b : Bool). cond b 1 0 + count (vcid_of c) cs) (eq-eqb (vcid_of c) (vcid_of c) refl)
 
--- where there are some, there is one at a place
+-- if some channels have this id, there is one at a place
 placed : (vcid : ℕ) (cs : List History) → 0 < count vcid cs → (place : ℕ) × (c : History) × (slice_get cs place ≡ Some c) × (vcid_of c ≡ vcid)
 placed vcid [] some = absurd (omega (arith, some))
 placed vcid (c ∷ cs) some = elim (eqb_tells (vcid_of c) vcid) [
@@ -29,7 +29,7 @@ placed vcid (c ∷ cs) some = elim (eqb_tells (vcid_of c) vcid) [
       (suc one.0, one.1, one.2, one.3)
 ]
 
--- the first has the least id
+-- the first channel has the least id
 least : (c : History) (cs : List History) (place : ℕ) (d : History) → AreRising (c ∷ cs) → slice_get (c ∷ cs) place ≡ Some d → vcid_of c ≤ vcid_of d
 least c cs zero d rising at = omega (arith, ap (λ (x : History). vcid_of x) (same_Some c d at))
 least c cs (suc place) d rising at =
@@ -65,7 +65,7 @@ same-ids (c ∷ cs) (d ∷ ds) rising rises same =
     let rest = same-ids cs ds (rising-rest c cs rising) (rising-rest d ds rises) (rest-counts c cs d ds head same) in
     λ i. head i ∷ rest i
 
--- where the channels of both are among some of which no two have one id
+-- two lists with the same ids are equal, if channels of both lists with the same id are equal
 same-channels : (cs ds : List History) → ((c d : History) (i j : ℕ) → slice_get cs i ≡ Some c → slice_get ds j ≡ Some d → vcid_of c ≡ vcid_of d → c ≡ d) → map vcid_of cs ≡ map vcid_of ds → cs ≡ ds
 same-channels [] [] keyed is = refl
 same-channels [] (d ∷ ds) keyed is = let l = ap (length {A = ℕ}) is in absurd (omega (arith, l))
@@ -76,7 +76,7 @@ same-channels (c ∷ cs) (d ∷ ds) keyed is =
     let rest = same-channels cs ds (λ x y i j at here. keyed x y (suc i) (suc j) at here) (ap (λ (l : List ℕ). drop 1 l) is) in
     λ i. first i ∷ rest i
 
--- in rising id channels have one order
+-- channels have only one rising order
 pub one-order : (all cs ds : List History) → ((c d : History) → Contains all c → Contains all d → vcid_of c ≡ vcid_of d → c ≡ d) → IsPermutation all cs → IsPermutation all ds → AreRising cs → AreRising ds → cs ≡ ds
 one-order all cs ds keyed one other rising rises =
     let counts : (vcid : ℕ) → count vcid cs ≡ count vcid ds = λ vcid.

@@ -5,12 +5,12 @@ use Rattle.tc_rack.specs.declared.stage.Stage.{Stage}
 use Rattle.tc_cli.specs.Parallel.{HasCause}
 use Rattle.tc_cli.specs.Script.{AreFirstGood, IsReached, IsFirstBad, IsGood}
 
--- while channels are set up nothing operates
+-- while channels are set up, no operation is carried out
 pub set-up : {O : Type 0} (stage : Stage O) (list : List Settings) → phase_of stage ≡ Setup list → stage ≡ SettingUp list
 set-up (SettingUp settings) list is = cc
 set-up (Operating there) list is = absurd cc
 
--- a bad line after good ones is the first bad one; out of memory, the lines before are good
+-- a bad line after good ones is the first bad one; if memory ran out at it, the lines before it are good
 pub first-bad : (script rest line after : List ℕ) (before : ℕ) (phase : Phase) (reason : Reason)
     → (reason ≡ NoMemory) ⊎ IsBadLine phase line reason → Leads script before phase rest → IsFirstLine rest line after → length script ≤ script_limit
     → ((reason ≡ NoMemory) × IsReached script (before + 1)) ⊎ ((length script ≤ script_limit) × IsFirstBad script (before + 1) reason)
@@ -18,13 +18,13 @@ first-bad script rest line after before phase reason (inl memory) leads next wit
 first-bad script rest line after before phase reason (inr bad) leads next within =
     inr (within, record { before = before; phase = phase; rest = rest; line = line; after = after; leads = leads; next = next; number_is = refl; bad = bad })
 
--- where nothing is left each line is good, whatever comes of the report
+-- if no octets are left, each line is good, whatever becomes of the report
 pub good-end : (reported : Result (Unit {0}) ScriptFault) (script rest : List ℕ) (count : ℕ) (phase : Phase) → Leads script count phase rest → rest ≡ []
     → OnOk reported (IsGood script)
 good-end (Ok done) script rest count phase leads end = (count, phase, rw end at leads)
 good-end (Err fault) script rest count phase leads end = tt
 
--- where nothing is left, and no report comes of it, this is why
+-- if no octets are left, a fault of the report is a fault of the script
 pub end-fault : (reported : Result (Unit {0}) ScriptFault) (scid : ℕ) (session : Session) (script rest : List ℕ) (count : ℕ) (phase : Phase) → Leads script count phase rest → rest ≡ [] → length script ≤ script_limit
     → IfErr reported (IsReportFault scid session count) → IfErr reported (IsScriptFault script)
 end-fault (Ok done) scid session script rest count phase leads end within why = tt
@@ -43,7 +43,7 @@ parted-leads scid script count plan rest (one_parted {count = before} {plan = ol
 pub parted-reached : (scid : ℕ) (script : List ℕ) (count : ℕ) (plan : Plan) → AreParted scid script count plan [] → IsReached script count
 parted-reached scid script count plan parted = inl (phase_of plan, [], parted-leads scid script count plan [] parted)
 
--- why a script isn't read: no line comes before that
+-- a fault of reading is a fault of the script, before its first line
 pub read-fault : (known : Option (List ℕ)) (fault : ScriptFault) → IsReadFault known fault → IfSome known (λ script. IsScriptFault script fault)
 read-fault None fault why = tt
 read-fault (Some script) Read why = tt
@@ -61,7 +61,7 @@ read-cause scid (Some script) TooLong why = tt
 read-cause scid (Some script) (Line number reason) why = tt
 read-cause scid (Some script) Write why = tt
 
--- of good first lines, the first of them are good
+-- if lines are good, the first of them are
 pub first-good : (script : List ℕ) (count : ℕ) (phase : Phase) (rest : List ℕ) (less : ℕ) → Leads script count phase rest → less ≤ count → AreFirstGood script less
 first-good script count phase rest less starts le =
     let none : 0 ≡ less = omega (arith, le) in
@@ -75,7 +75,7 @@ first-good script count phase rest less (goes_on {count = before} {phase = old} 
         let all : before + 1 ≡ less = omega (arith, ge, le) in
         (phase, rest, subst (λ n. Leads script n phase rest) all (goes_on leads next done))
 
--- the lines before the one at which memory ran out
+-- the lines before the one at which memory ran out are good
 pub good-before : (script : List ℕ) (number count : ℕ) → IsScriptFault script (Line number NoMemory) → count < number → AreFirstGood script count
 good-before script number count (inl (memory, inl (phase, rest, leads))) lt = first-good script number phase rest count leads (omega (arith, lt))
 good-before script number count (inl (memory, inr (before, phase, rest, line, after, leads, next, is))) lt =

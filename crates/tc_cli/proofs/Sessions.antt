@@ -1,4 +1,4 @@
--- A session whose station was closed together with its one operator: its answers are what the lines before them make them.
+-- A session whose station was closed together with its one operator: its answers follow from the lines before them.
 use Rattle.std.proofs.Common.{◌≡◌, ◌<◌, ℕ, List, [], Option, All, length, get_or, inl, inr, refl, sym, ap, ◌∙◌, subst, arith, IsPermutation}
 use Rattle.tc_cli.proofs.Names.{Add, Answer, AreAnswers, AreClosedTogether, AtStation, Channel, Clcw, Does, Frame, History, Instruction, IsAnswerOf, IsClosed, IsDoneSo, IsInstructionAnswered, IsStaffedFound, IsStaffedOperated, IsNumberReported, IsPerformed, IsScriptReport, Staffed, Nothing, Operating, Operation, Phase, Progress, Racked, Release, Roster, Session, SettingUp, Take, TakeUnit, at_first, column, operator_lists_of, histories, instruction_of, nobody, one_more, phase_of, rack-found, rack_for, slice_get-get_or}
 use Rattle.tc_cli.specs.Written.{IsSessionReport}
@@ -6,7 +6,7 @@ use Rattle.tc_rack.specs.declared.operation.Operation.TheVariants as operations
 use Rattle.tc_cli.proofs.Scripts.{set-up}
 use Rattle.tc_cli.proofs.Alone.{AloneLaws, IsAlone, IsSound, all-level, all-met-alone, answered-alone, closed-alone, new-rack, new-sound, rack_of}
 
--- how far the session has come, by the lines alone
+-- the progress of the session, by the lines alone
 abbrev pub progress_of : Session → Progress
 progress_of (SettingUp list) = SettingUp list
 progress_of (Operating m) = Operating (rack_of m)
@@ -23,7 +23,8 @@ phase-of : (s : Session) → phase_of s ≡ phase_of (progress_of s)
 phase-of (SettingUp list) = refl
 phase-of (Operating m) = refl
 
--- a step from the one to the other keeps what is sound; and where the operator is alone in the end, it was before, and this is so
+-- a step from the first session to the second keeps it sound; and if the operator is alone after the step, it was
+-- before, and `Holds` holds
 abbrev GoesOn : Session → Session → Type 0 → Type 0
 GoesOn s new Holds = IsSoundSession new × (IsAloneSession new → IsAloneSession s × Holds)
 

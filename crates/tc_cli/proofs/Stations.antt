@@ -1,4 +1,5 @@
--- A configuration has none of the faults that settings of a station may have, but that it is empty. What is known of a new station.
+-- A configuration has none of the faults that the settings of a station may have, except that it may be empty. Facts on
+-- a new station.
 use Rattle.std.proofs.Common.{◌≡◌, ℕ, ◌<◌, List, length, get_or, sym, ap, ◌∙◌, subst, arith, All}
 use Rattle.tc_cli.proofs.Names.{Roster, Settings, get_or_from_slice_get, length-map, slice_get_within}
 use Rattle.std.proofs.lemmas.List.{get_or-map, get_or-take, get_or_default, length-take}
@@ -17,12 +18,12 @@ no-double list vcid distinct (i, s, at, v, before, (k, t, kt, is, tv)) =
     let there : get_or list k s ≡ t = get_or_default list k s t (omega arith) ∙ (sym (get_or-take i list k t ki) ∙ is) in
     distinct k i s ki il (ap (λ (u : Settings). u.vcid) there ∙ (tv ∙ (sym v ∙ sym (ap (λ (u : Settings). u.vcid) (get_or_from_slice_get list i s s at)))))
 
--- where allowed settings have no fault, a list of them has no first refused entry
+-- if allowed settings have no fault, a list of them has no first refused entry
 pub no-refusal : (no_fault : (s : Settings) (f : SettingsFault) → IsAllowed s → IsFault s f → ⊥) (list : List Settings) (vcid : ℕ) (f : SettingsFault) → All IsAllowed list → IsFirstRefused list vcid f → ⊥
 no-refusal no_fault list vcid f allowed (i, s, at, v, fault, before) =
     no_fault s f (subst IsAllowed (get_or_from_slice_get list i s s at) (allowed i s (slice_get_within list i s at))) fault
 
--- a new station has the ids of its settings, no two the same
+-- a new station has the ids of its settings, all of them different
 pub new-ordered : (scid : ℕ) (list : List Settings) (station : Roster) → IsNewStation scid list station → IsOrdered station
 new-ordered scid list station new = record {
   named = ap vcids_of new.settings ∙ sym new.vcids;

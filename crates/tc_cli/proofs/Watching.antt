@@ -1,4 +1,4 @@
--- The watchers of a script's channels, each of the desk at its place.
+-- The watchers of a script's channels, each of which watches the desk at its place.
 use Rattle.std.proofs.Common.{◌≡◌, ◌<◌, ◌+◌, ℕ, List, [], ◌∷◌, ◌++◌, Some, length, map, get_or, inl, inr, refl, sym, ap, ◌∙◌, subst, arith, ◌==◌, slice_get, slice_set, add-one}
 use Rattle.tc_cli.proofs.Names.{AtStation, HasMetAt, HaveMet, Identity, IsEarlier, IsPlace, IsWordAnswer, Staffed, Roster, Settings, Watching, clcw, eqb_tells, length-map, length-set, no_flag, position-Some, same_Some, slice_get-get_or}
 use Rattle.std.proofs.lemmas.Option.{slice_get_read}
@@ -11,14 +11,14 @@ use Rattle.tc_rack.specs.declared.answer.Answer.TheVariants.{Clcw}
 use Rattle.tc_cli.proofs.Joined.{place-of}
 use Rattle.tc_cli.proofs.Lists.{push-cases, set-at, set-else}
 
--- as many desks as ids
+-- there are as many desks as ids
 pub as-many : (station : Roster) → IsOrdered station → length station.heads ≡ length station.vcids
 as-many station ordered =
     let settings : Identity → Settings = λ h. h.settings in
     sym (length-map station.heads settings)
     ∙ (sym (length-map (map settings station.heads) (λ (s : Settings). s.vcid)) ∙ ap (length {A = ℕ}) ordered.named)
 
--- another watcher of the same desk in its place
+-- a watcher is replaced by another one of the same desk
 pub watcher-set : (station : Roster) (watchers : List Watching) (place : ℕ) (early late : Watching) → AreWatchersOf station watchers → slice_get watchers place ≡ Some early → IsWatcherAt station place late
     → AreWatchersOf station (slice_set watchers place late)
 watcher-set station watchers place early late all was one = (
@@ -31,7 +31,7 @@ watcher-set station watchers place early late all was one = (
   ],
 )
 
--- one watcher more
+-- one more watcher is appended
 pub one-watcher-more : (station : Roster) (vcids : List ℕ) (items next : List Watching) (w : Watching) (i vcid : ℕ) → IsOrdered station → vcids ≡ station.vcids → next ≡ items ++ w ∷ [] → length items ≡ i → i < length vcids
     → vcid ≡ get_or vcids i vcid → AreWatching station items → IsWatcherOf station vcid w → AreWatching station next
 one-watcher-more station vcids items next w i vcid ordered whole is many inside at all of = λ k x here.
@@ -47,7 +47,7 @@ one-watcher-more station vcids items next w i vcid ordered whole is many inside 
 
 -- ---- the watcher at a place meets its desk
 
--- the watcher at a place is of the channel there
+-- the watcher at a place watches the channel there
 pub meets-at : (station : Roster) (items : List Watching) (vcids : List ℕ) (place vcid : ℕ) (w : Watching) → IsOrdered station → vcids ≡ station.vcids → AreWatchersOf station items → place < length items
     → vcid ≡ get_or vcids place vcid → w ≡ get_or items place w → IsPlace station vcid place × (slice_get items place ≡ Some w) × IsWatcherOf station vcid w
 meets-at station items vcids place vcid w ordered whole all inside id is =
@@ -59,14 +59,14 @@ meets-at station items vcids place vcid w ordered whole all inside id is =
     let one = all.1 place w seat in
     (here, seat, (one.0, (place, here, one.1), one.2, one.3))
 
--- the place of a channel is one of a watcher
+-- the place of a channel is also that of a watcher
 pub watched-place : (station : Roster) (items : List Watching) (place vcid : ℕ) → IsOrdered station → AreWatchersOf station items → IsPlace station vcid place → place < length items
 watched-place station items place vcid ordered all here =
     let found = position-Some (λ v. v == vcid) station.vcids place 0 here in
     let within = found.0 in
     omega (arith, within, all.0, as-many station ordered)
 
--- the watcher there is of the desk there
+-- the watcher there watches the desk there
 pub meets-of : (station : Roster) (items : List Watching) (place vcid : ℕ) (w : Watching) → IsOrdered station → AreWatchersOf station items → IsPlace station vcid place → w ≡ get_or items place w
     → (slice_get items place ≡ Some w) × IsWatcherAt station place w
 meets-of station items place vcid w ordered all here is =
@@ -80,11 +80,11 @@ has-met station operator next items place vcid early late here seat (p, there, m
     let same : p ≡ place = same_Some p place (sym there ∙ here) in
     record { vcid = vcid; early = early; late = late; watched = seat; meeting = subst (λ (k : ℕ). IsMetAt k vcid early operator late next) same met; watchers = refl; station = refl }
 
--- what a watcher read is of its desk
+-- the history that a watcher read is that of its desk
 pub read-of : (station : Roster) (place : ℕ) (early late : Watching) → IsWatcherAt station place early → late.board ≡ early.board → IsEarlier early.seen late.seen → IsWatcherAt station place late
 read-of station place early late (head, at, board, settings) same later = (head, at, same ∙ board, later.0 ∙ settings)
 
--- the answer of a line that asks for a CLCW
+-- the answer of a line that requests a CLCW
 pub word-answered : (station : Roster) (operator : AtStation) (items : List Watching) (place vcid word : ℕ) (early late : Watching) → IsPlace station vcid place → slice_get items place ≡ Some early
     → IsWatcherAt station place early → IsEarlier early.seen late.seen → IsLawful late.seen.settings late.seen.journal → word ≡ clcw late.seen.settings late.seen.journal no_flag
     → IsWordAnswer vcid (record { station = station; operator = operator; watchers = items }) (Clcw vcid word) (record { station = station; operator = operator; watchers = slice_set items place late })
@@ -95,6 +95,6 @@ word-answered station operator items place vcid word early late here seat (head,
       record { head = head; early = early; late = late; desk = (place, here, at); watched = seat; later = later; settings = later.0 ∙ settings; lawful = lawful; word = ap (λ (w : ℕ). Clcw vcid w) of; change = refl },
     )
 
--- one meeting more
+-- one more watcher met its desk
 pub one-more-met : (n : ℕ) (m mid met : Staffed) → HaveMet n m mid → HasMetAt n mid met → HaveMet (n + 1) m met
 one-more-met n m mid met have at = rw add-one (mid, have, at)

@@ -1,4 +1,4 @@
--- What a script writes, line by line.
+-- The text that a script writes, line by line.
 use Rattle.std.proofs.Common.{◌≡◌, ℕ, ◌+◌, List, [], ◌∷◌, ◌++◌, ◌⊎◌, Option, None, Some, Result, Ok, Err, IfSome, All, inl, inr, length, refl, sym, ap, ◌∙◌, subst, OnOk, IfErr, is_ok}
 use Rattle.tc_cli.proofs.Names.{AllHaveMet, Answer, AreAnswers, AreRising, AreWorkedChannels, AtStation, History, IsBadLine, IsClosedReport, IsFirstLine, IsLawfulHistory, IsLineAnswered, IsStaffedFound, IsStaffedOperated, IsNumberReported, IsPerformed, IsReadFault, IsReportFault, IsReportOf, IsScriptCloseFault, IsScriptReport, Leads, Line, Staffed, NoMemory, Progress, Read, Reason, Roster, ScriptFault, Session, TooLong, Unbalanced, Write, at_first, goes_on, one_more, phase_of, report_text, starts}
 use Rattle.std.proofs.lemmas.List.{flat_map_more, length_push}
@@ -13,14 +13,14 @@ use Rattle.tc_cli.specs.Written.{IsSessionReportWritten, IsScriptUnreported, IsS
 use Rattle.tc_cli.proofs.Alone.{AloneLaws}
 use Rattle.tc_cli.proofs.Sessions.{progress_of, reported-alone}
 
--- what holds where one result is Ok holds where another is that is Ok just then
+-- if two results are Ok at the same time, a fact that holds if the one is Ok holds if the other is
 pub on-ok-same : {T U E F : Type 0} (r : Result T E) (s : Result U F) (A : Type 0) → is_ok s ≡ is_ok r → OnOk r A → OnOk s A
 on-ok-same (Ok x) (Ok y) A same holds = holds
 on-ok-same (Ok x) (Err f) A same holds = tt
 on-ok-same (Err e) (Ok y) A same holds = let no : ⊥ = cc in absurd no
 on-ok-same (Err e) (Err f) A same holds = tt
 
--- two facts that hold where a result is Ok
+-- a fact follows from two others, all of which hold if a result is Ok
 pub on-ok-both : {T E : Type 0} (r : Result T E) (A B C : Type 0) → (A → B → C) → OnOk r A → OnOk r B → OnOk r C
 on-ok-both (Ok x) A B C follows a b = follows a b
 on-ok-both (Err e) A B C follows a b = tt
@@ -33,7 +33,7 @@ answered-leads scid script answers session rest (one_more {answers = before} {st
     let good = answered-leads scid script before old _ leads in
     subst (λ n. Leads script n (phase_of session) rest) (sym (length_push before answer)) (goes_on good next (answered.0, answered.1, answered.2))
 
--- so many first lines were answered, and their answers written
+-- the first `count` lines were answered, and their answers were written
 abbrev pub IsSoFar : ℕ → List ℕ → ℕ → Session → List ℕ → Option (List ℕ) → Option (List ℕ) → Type 0
 IsSoFar scid script count session rest old new =
     (answers : List (Option Answer)) × AreAnswers (IsStaffedOperated scid) script answers session rest × (count ≡ length answers) × Appends old new (answers_text answers)
@@ -47,7 +47,7 @@ pub so-far-good : (scid : ℕ) (script : List ℕ) (count : ℕ) (session : Sess
 so-far-good scid script count session rest a b (answers, leads, is, text) =
     subst (λ n. Leads script n (phase_of session) rest) (sym is) (answered-leads scid script answers session rest leads)
 
--- one line more
+-- one more line is answered
 pub one-more-so-far : (scid : ℕ) (script : List ℕ) (count : ℕ) (session new : Session) (rest line after : List ℕ) (answer : Option Answer) (a b c : Option (List ℕ))
     → IsSoFar scid script count session rest a b → IsFirstLine rest line after → IsLineAnswered (IsStaffedOperated scid) session line new answer → Appends b c (answer_line answer)
     → IsSoFar scid script (count + 1) new after a c
@@ -58,7 +58,7 @@ one-more-so-far scid script count session new rest line after answer a b c (answ
   subst (Appends a c) (flat_map_more answer_line [] answers answer) (Appends-trans a b c _ _ text more),
 )
 
--- a bad line ends it
+-- a bad line ends the script
 pub cut-short : (scid : ℕ) (script : List ℕ) (count : ℕ) (session : Session) (rest line after : List ℕ) (reason : Reason) (a b : Option (List ℕ))
     → (reason ≡ NoMemory) ⊎ IsBadLine (phase_of session) line reason → IsSoFar scid script count session rest a b → IsFirstLine rest line after
     → IsScriptCutShort scid script a b (Line (count + 1) reason)
@@ -67,7 +67,7 @@ cut-short scid script count session rest line after reason a b (inl memory) (ans
 cut-short scid script count session rest line after reason a b (inr bad) (answers, leads, is, text) next =
     inr (answers, session, rest, line, after, leads, next, bad, ap (λ n. n + 1) is, text)
 
--- the end of the script, and what comes of the report
+-- the end of the script, with or without its report
 pub end-written : (laws : AloneLaws) (reported : Result (Unit {0}) ScriptFault) (scid : ℕ) (script : List ℕ) (count : ℕ) (session : Session) (rest : List ℕ) (a b c : Option (List ℕ))
     → IsSoFar scid script count session rest a b → rest ≡ [] → OnOk reported (IsSessionReportWritten scid session b c) → OnOk reported (IsScriptWritten scid script a c)
 end-written laws (Err fault) scid script count session rest a b c so-far end written = tt
@@ -91,7 +91,7 @@ end-cut-short (Err fault) scid script count session rest a b c (answers, leads, 
 end-cut-short (Err fault) scid script count session rest a b c so-far end (inr (inr memory)) (inr kept) =
     subst (IsScriptCutShort scid script a c) (sym memory) (inl (refl, inr (inr (unreported scid script count session rest a b c so-far end kept))))
 
--- why the station of a session isn't closed
+-- a fault for which the station isn't closed is a fault of the session's report
 pub not-closed : (scid : ℕ) (session : Session) (staffed met : Staffed) (station : Roster) (operator : AtStation) (operators : List AtStation) (lines : ℕ) (fault : ScriptFault)
     → IsStaffedFound scid session staffed → AllHaveMet staffed met → station ≡ met.station → operator ≡ met.operator → operators ≡ operator ∷ []
     → IsScriptCloseFault station operators lines fault → IsReportFault scid session lines fault
@@ -100,7 +100,7 @@ not-closed scid session staffed met station operator operators lines fault found
     inr (inl (unbalanced, (staffed, met, found, have, one)))
 not-closed scid session staffed met station operator operators lines fault found have place hand all (inr memory) = inr (inr memory)
 
--- the report of the station of a session
+-- the report on the station of a session
 pub reported : (scid : ℕ) (session : Session) (staffed met : Staffed) (station : Roster) (operator : AtStation) (operators : List AtStation) (channels shown : List History) (a b : Option (List ℕ))
     → shown ≡ channels → IsStaffedFound scid session staffed → AllHaveMet staffed met → station ≡ met.station → operator ≡ met.operator → IsOurs station operator → operators ≡ operator ∷ []
     → IsClosedReport station operators channels → All IsNumberReported channels → All IsLawfulHistory shown → Appends a b (report_text shown)
@@ -111,12 +111,12 @@ reported scid session staffed met station operator operators channels shown a b 
     let of : IsReportOf channels (report_text shown) = record { rising = closed.rising; reported = numbers; lawful = subst (All IsLawfulHistory) lent lawful; written = ap report_text lent } in
     (report_text shown, inr (staffed, met, channels, found, have, mine, one, of), text)
 
--- the report of channels is that of a script where its lines are done in order
+-- the report on channels is that of the script when its lines are carried out in order
 abbrev pub IsReportInOrder : Type 0
 IsReportInOrder = (scid : ℕ) (script : List ℕ) (channels : List History) (text : List ℕ) → AreWorkedChannels scid script channels → IsReportOf channels text
     → (answers : List (Option Answer)) × (progress : Progress) × AreAnswers (IsPerformed scid) script answers progress [] × IsScriptReport scid progress text
 
--- what was read is the script, where the octets of the reader are known, and the report is that of its lines in order
+-- if the octets of the reader are known, they are the script, and the report is that of its lines in order
 pub parallel-written : IsReportInOrder → (known : Option (List ℕ)) (scid : ℕ) (script read : List ℕ) (channels shown : List History) (a b c : Option (List ℕ))
     → script ≡ read → IfSome known (λ octets. read ≡ octets) → shown ≡ channels → AreWorkedChannels scid script channels → AreRising channels → All IsNumberReported channels
     → All IsLawfulHistory shown → Appends a b (report_text shown) → Keeps b c → IfSome known (λ octets. IsWrittenInParallel scid octets a c)
@@ -127,7 +127,7 @@ parallel-written in-order (Some octets) scid script read channels shown a b c wh
     let one = in-order scid octets channels (report_text shown) of-script of in
     (one.0, one.1, report_text shown, one.2, one.3, Appends-kept a b c _ text kept)
 
--- what was written stays
+-- the text that was written stays
 written-kept : (scid : ℕ) (script : List ℕ) (a b c : Option (List ℕ)) → IsScriptWritten scid script a b → Keeps b c → IsScriptWritten scid script a c
 written-kept scid script a b c (answers, progress, report, leads, of, text) kept = (answers, progress, report, leads, of, Appends-kept a b c _ text kept)
 
@@ -144,7 +144,7 @@ cut-short-kept scid script a b c (Line number reason) (inl (memory, inr (inr (an
 cut-short-kept scid script a b c (Line number reason) (inr (answers, session, rest, line, after, leads, next, bad, is, text)) kept =
     inr (answers, session, rest, line, after, leads, next, bad, is, Appends-kept a b c _ text kept)
 
--- nothing was written where the script wasn't read
+-- nothing was written if the script wasn't read
 pub read-cut-short : (known : Option (List ℕ)) (scid : ℕ) (a : Option (List ℕ)) (fault : ScriptFault) → IsReadFault known fault
     → IfSome known (λ script. IsScriptCutShort scid script a a fault)
 read-cut-short None scid a fault why = tt
@@ -154,7 +154,7 @@ read-cut-short (Some script) scid a (Line number reason) why = inl (why.1, inl (
 read-cut-short (Some script) scid a Write why = tt
 read-cut-short (Some script) scid a Unbalanced why = absurd why
 
--- what was read is the script, where the octets of the reader are known
+-- if the octets of the reader are known, they are the script
 pub whole-written : (done : Result (Unit {0}) ScriptFault) (known : Option (List ℕ)) (scid : ℕ) (script read : List ℕ) (a b c : Option (List ℕ))
     → script ≡ read → IfSome known (λ octets. read ≡ octets) → OnOk done (IsScriptWritten scid script a b) → Keeps b c → OnOk done (IfSome known (λ octets. IsScriptWritten scid octets a c))
 whole-written done known scid script read a b c whole is written kept =

@@ -1,8 +1,9 @@
--- A script, and what it writes, worked out by hand from the standard and docs/reference/scripts.md.
+-- A script, and the text that it writes, worked out by hand from the standard and docs/reference/scripts.md.
 use Rattle.std.specs.Prelude.{ℕ, List, codes}
 
--- for spacecraft 42: nothing is there to be released; a packet of application 5 is brought by Type-AD, released and taken; another
--- application has no queue, and another MAP isn't chosen; two octets for MAP 3 come by Type-BD; and one more packet waits in the buffer
+-- A script for spacecraft 42. At first there is nothing to release. A packet of application 5 is brought in a Type-AD
+-- frame, released and taken. Another application has no queue, and another MAP isn't chosen. Two octets for MAP 3 come
+-- in a Type-BD frame, and one more packet waits in the buffer at the end.
 abbrev pub script : List ℕ
 script = codes "channel 1 10 2 0\nqueue 1 5 1\nmap 1 3 1\nrelease 1\nframe 002a040c00c01005c0000000aa\nrelease 1\ntake 1 5\ntake 1 6\nunit 1 4\nframe 202a040700c3aabb\nframe 002a040c01c01005c0000000aa\n"
 

@@ -1,4 +1,4 @@
--- A script whose operations are parted by their channels: the jobs so far, and what a line gives to them.
+-- A script whose operations are sorted by their channels: the jobs so far, and the job that a line adds to them.
 use Rattle.std.specs.Prelude.{◌≡◌, ◌⊎◌, ℕ, ◌+◌, List, [], Ok}
 use Rattle.tc_channel.specs.Journal.{History}
 use Rattle.tc_station.specs.declared.work.Order.TheVariants as orders
@@ -20,7 +20,7 @@ use Rattle.tc_rack.specs.declared.stage.Stage.TheVariants.{SettingUp, Operating}
 abbrev pub Plan : Type 0
 Plan = Stage Parted
 
--- the jobs that an operation finds: none of a new station where no operation came before
+-- the jobs that an operation finds: none, at a new station, if no operation came before
 abbrev pub ArePartedFor : ℕ → Plan → Parted → Type 0
 ArePartedFor scid (SettingUp list) found = IsNewlyParted scid list found
 ArePartedFor scid (Operating parted) found = found ≡ parted
@@ -32,7 +32,8 @@ Begins scid old new = (found : Parted) × ArePartedFor scid old found × (new �
 abbrev pub GivesToFound : ℕ → (Parted → Parted → Type 0) → Plan → Plan → Type 0
 GivesToFound scid Gives old new = (found parted : Parted) × ArePartedFor scid old found × Gives found parted × (new ≡ Operating parted)
 
--- the job of a line is given to its channel; a CLCW is no job, and neither is a blank line. What a line sets up is known by its phase
+-- the job of a line is given to its channel; a CLCW or a blank line has no job, and what a line sets up is known from
+-- the phase
 abbrev pub IsParted : ℕ → ℕ → Plan → Instruction → Plan → Type 0
 IsParted scid line old Nothing new = new ≡ old
 IsParted scid line old (Channel settings) new = Unit {0}
@@ -43,20 +44,21 @@ IsParted scid line old (Take vcid apid) new = GivesToFound scid (IsGiven vcid (r
 IsParted scid line old (TakeUnit vcid map_id) new = GivesToFound scid (IsGiven vcid (record { line = line; order = orders.TakeUnit map_id })) old new
 IsParted scid line old (Clcw vcid) new = GivesToFound scid (λ before after. after ≡ before) old new
 
--- the line with this number is good, leads from the one plan to the other, and its job is given to its channel
+-- the line with this number is good and leads from the first plan to the second, and its job is given to its channel
 abbrev pub IsLineParted : ℕ → ℕ → Plan → List ℕ → Plan → Type 0
 IsLineParted scid number plan line new =
     (said : Said) × (line_of (words line) ≡ Ok said) × Does (phase_of plan) (instruction_of said) (phase_of new)
     × IsParted scid number plan (instruction_of said) new
 
--- the first lines of a script are good, and so many of them, each with its number, give their jobs: they lead to this plan, and leave these octets
+-- the first lines of a script are good and give their jobs, each with the number of its line: this number of lines
+-- leads to this plan, and leaves these octets
 pub data AreParted (scid : ℕ) (script : List ℕ) : ℕ → Plan → List ℕ → Type 0 where
   none_parted : AreParted scid script 0 (SettingUp []) script
   one_parted : {count : ℕ} {plan new : Plan} {rest line after : List ℕ}
       → AreParted scid script count plan rest → IsFirstLine rest line after → IsLineParted scid (count + 1) plan line new
       → AreParted scid script (count + 1) new after
 
--- what the workers of the whole script have made of its channels: there are none where none was set up
+-- the channels after the workers of the whole script, of which there are none if none was set up
 abbrev pub AreWorkedChannels : ℕ → List ℕ → List History → Type 0
 AreWorkedChannels scid script channels =
     (count : ℕ) × (plan : Plan) × AreParted scid script count plan []

@@ -1,4 +1,4 @@
--- The lines of a script, one after the other, and where a script ends early.
+-- The lines of a script, one after the other, and the lines at which a script ends early.
 use Rattle.std.specs.Prelude.{◌≡◌, ◌<◌, ◌≤◌, ℕ, ◌+◌, List, [], ◌⊎◌, length, Ok, Err}
 use Rattle.tc_text.specs.Reading.{IsFirstLine, script_limit}
 use Rattle.tc_text.specs.Word.{words}
@@ -16,22 +16,22 @@ use Rattle.tc_station.specs.Together.{IsCauseAtStation}
 use Rattle.tc_desk.specs.declared.together.Refusal.{Refusal}
 use Rattle.tc_desk.specs.declared.together.Refusal.TheVariants as refusals
 
--- the line is good, and leads from the one phase to the other
+-- the line is good, and leads from the first phase to the second
 abbrev pub IsGoodLine : Phase → List ℕ → Phase → Type 0
 IsGoodLine phase line new = (said : Said) × (line_of (words line) ≡ Ok said) × Does phase (instruction_of said) new
 
--- the first lines of a script are good: so many of them lead to this phase, and leave these octets
+-- the first lines of a script are good: this number of them leads to this phase, and leaves these octets
 pub data Leads (script : List ℕ) : ℕ → Phase → List ℕ → Type 0 where
   starts : Leads script 0 (Setup []) script
   goes_on : {count : ℕ} {phase new : Phase} {rest line after : List ℕ}
       → Leads script count phase rest → IsFirstLine rest line after → IsGoodLine phase line new → Leads script (count + 1) new after
 
--- why the line is bad that comes at a phase, memory aside
+-- a reason, other than memory, for which the line that comes at a phase is bad
 abbrev pub IsBadLine : Phase → List ℕ → Reason → Type 0
 IsBadLine phase line reason =
     (line_of (words line) ≡ Err reason) ⊎ ((said : Said) × (line_of (words line) ≡ Ok said) × IsBad phase (instruction_of said) reason)
 
--- the line with this number is the first bad one, and this is why
+-- the line with this number is the first bad one, for this reason
 pub record IsFirstBad (script : List ℕ) (number : ℕ) (reason : Reason) : Type 0 where
   pub before : ℕ
   pub phase : Phase
@@ -47,27 +47,30 @@ pub record IsFirstBad (script : List ℕ) (number : ℕ) (reason : Reason) : Typ
 abbrev pub IsGood : List ℕ → Type 0
 IsGood script = (count : ℕ) × (phase : Phase) × Leads script count phase []
 
--- so many first lines of a script are good
+-- the first `count` lines of a script are good
 abbrev pub AreFirstGood : List ℕ → ℕ → Type 0
 AreFirstGood script count = (phase : Phase) × (rest : List ℕ) × Leads script count phase rest
 
--- the line with this number was reached: so many first lines are good, or those before it are, and it is there. Before the first it is 0
+-- the line with this number was reached: all lines up to it are good, or all lines before it are and there is such a
+-- line; the number is 0 before the first line
 abbrev pub IsReached : List ℕ → ℕ → Type 0
 IsReached script number =
     AreFirstGood script number
     ⊎ ((before : ℕ) × (phase : Phase) × (rest line after : List ℕ) × Leads script before phase rest × IsFirstLine rest line after × (number ≡ before + 1))
 
--- why the station of a script of so many lines isn't closed together with these operators: it is out of balance only with this cause
+-- a fault for which the station of a script of `lines` lines isn't closed together with these operators: it is out of
+-- balance only if there is this cause
 abbrev pub IsScriptCloseFault : Roster → List AtStation → ℕ → ScriptFault → Type 0
 IsScriptCloseFault station operators lines fault = ((fault ≡ Unbalanced) × IsCauseAtStation station operators) ⊎ (fault ≡ Line lines NoMemory)
 
--- what it is for a script of so many lines that its station isn't closed; a lock that isn't free is reported as the station's own close reports it
+-- the fault of a script of `lines` lines whose station isn't closed; a lock that isn't free is reported as it is when a
+-- station alone is closed
 abbrev pub close_fault : ℕ → Refusal → ScriptFault
 close_fault lines refusals.NoMemory = Line lines NoMemory
 close_fault lines refusals.InUse = Line lines NoMemory
 close_fault lines refusals.Unbalanced = Unbalanced
 
--- why a script with these octets ends early
+-- a fault for which a script with these octets ends early
 abbrev pub IsScriptFault : List ℕ → ScriptFault → Type 0
 IsScriptFault script Read = Unit {0}
 IsScriptFault script TooLong = script_limit < length script

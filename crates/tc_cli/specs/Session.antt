@@ -1,4 +1,5 @@
--- A script whose lines are done in order at a station: the station that an operation finds, and what the operation is answered there.
+-- A script whose lines are carried out in order at a station: the station that an operation finds, and the answer of
+-- the operation.
 use Rattle.std.specs.Prelude.{ℕ}
 use Rattle.tc_cli.specs.Staffed.{Staffed, IsNewlyStaffed, AreAsCounted, IsStaffedAnswer}
 use Rattle.tc_rack.specs.Performing.{IsFound, IsLeft, IsOperated}
@@ -10,11 +11,12 @@ use Rattle.tc_text.specs.declared.fault.Reason.{Reason}
 abbrev pub Session : Type 0
 Session = Stage Staffed
 
--- the station that operations find: the one that is there, or a new one where none came before
+-- the station that an operation finds: the one that is there, or a new one if no operation came before
 abbrev pub IsStaffedFound : ℕ → Session → Staffed → Type 0
 IsStaffedFound scid session found = IsFound (IsNewlyStaffed scid) session found
 
--- what a refused line leaves: all as it was, or where memory ran out the station with what its operator had counted
+-- the session after a refused line: as it was, or, if memory ran out, with the station, whose operator has counted no
+-- more than before
 abbrev pub IsSessionLeft : ℕ → Reason → Session → Session → Type 0
 IsSessionLeft scid reason old new = IsLeft (IsNewlyStaffed scid) AreAsCounted reason old new
 

@@ -1,5 +1,5 @@
--- A station with the one operator that it has issued, and a watcher of each channel: what its operations are answered at the desks of its
--- channels, and what its watchers have seen.
+-- A station with the one operator that it has issued, and a watcher of each channel: the answers of its operations at
+-- the desks of its channels, and the journals that its watchers have seen.
 use Rattle.std.specs.Prelude.{◌≡◌, ◌⊎◌, ℕ, zero, suc, List, Contains, Some, Result, length, slice_get, slice_set}
 use Rattle.logged_lock.specs.Log.{IsBeginning, with_entry}
 use Rattle.tc_channel.specs.declared.settings.Settings.{Settings}
@@ -24,13 +24,13 @@ use Rattle.tc_rack.specs.declared.answer.Refusal.TheVariants.{Unlocated, Unknown
 use Rattle.tc_rack.specs.declared.operation.Operation.{Operation}
 use Rattle.tc_rack.specs.declared.operation.Operation.TheVariants as operations
 
--- the station, what its operator has seen and made, and what a watcher of each channel has seen
+-- the station, the view and the events of its operator, and the view of the watcher of each channel
 pub record Staffed : Type 0 where
   pub station : Roster
   pub operator : AtStation
   pub watchers : List Watching
 
--- a new one for the channels with these settings
+-- a new staffed station for the channels with these settings
 pub record IsNewlyStaffed (scid : ℕ) (list : List Settings) (m : Staffed) : Type 0 where
   pub spacecraft : m.station.scid ≡ scid
   pub vcids : m.station.vcids ≡ vcids_of list
@@ -40,16 +40,17 @@ pub record IsNewlyStaffed (scid : ℕ) (list : List Settings) (m : Staffed) : Ty
   pub nothing : HasMadeNothing m.operator
   pub watchers : AreWatchersOf m.station m.watchers
 
--- the same station, whose operator has counted the same; what it and its watchers have seen may be more
+-- the station is the same, and its operator has counted as much as before; the operator and the watchers may have seen
+-- more
 abbrev pub AreAsCounted : Staffed → Staffed → Type 0
 AreAsCounted old new = (new.station ≡ old.station) × (tally new.operator ≡ tally old.operator)
 
--- the channel of a desk at some moment; a script sets no flag of a link
+-- the channel of a desk at some moment; no flag of its link is set, since a script sets none
 abbrev pub linked : Moment → Linked
 linked m = record { history = history_of m; link = no_flag }
 
--- The operator made this call at its desk of this place, where the channel's watcher met the desk before and behind. The other watchers
--- are as they were.
+-- The operator made this call at its desk of this place, and the channel's watcher met the desk before and after the
+-- call. The other watchers are as they were.
 pub record IsStaffedCall {R F : Type 0} (place vcid : ℕ) (e : Event) (ok : Moment → R → Type 0) (err : Moment → F → Type 0) (before : Staffed) (result : Result R F) (after : Staffed) : Type 0 where
   pub early : Watching
   pub late : Watching
@@ -58,9 +59,10 @@ pub record IsStaffedCall {R F : Type 0} (place vcid : ℕ) (e : Event) (ok : Mom
   pub watchers : after.watchers ≡ slice_set before.watchers place late
   pub station : after.station ≡ before.station
 
--- At a moment of the desk of this place, whose channel has this id, which goes on from all that the operator had seen of it, and from all
--- that the channel's watcher had seen, the channel answered so. Where that is an event, it is the next of the journal, and the operator's
--- own. Then the watcher has seen all that the operator has. Its other desks, and their watchers, are as they were.
+-- The channel with this id, at the desk of this place, answered so at a moment whose journal continues all that the
+-- operator had seen of it, and all that the channel's watcher had seen. If the operation is an event, it is the next
+-- one of the journal, and one of the operator's own. After it, the watcher has seen all that the operator has. The
+-- other desks, and their watchers, are as they were.
 pub record IsAnsweredAt (place vcid : ℕ) (Answers : Linked → Answer → Linked → Type 0) (before : Staffed) (answer : Answer) (after : Staffed) : Type 0 where
   pub there : AtLock
   pub next : AtLock
@@ -82,20 +84,20 @@ pub record IsAnsweredAt (place vcid : ℕ) (Answers : Linked → Answer → Link
   pub watchers : after.watchers ≡ slice_set before.watchers place late
   pub station : after.station ≡ before.station
 
--- the channel with this id answers so at its desk; or there is no such channel
+-- the channel with this id answers so at its desk, or there is no such channel
 abbrev pub IsDeskAnswer : ℕ → (Linked → Answer → Linked → Type 0) → Staffed → Answer → Staffed → Type 0
 IsDeskAnswer vcid Answers m answer after =
     ((place : ℕ) × IsPlace m.station vcid place × IsAnsweredAt place vcid Answers m answer after)
     ⊎ (¬ Contains m.station.vcids vcid × (answer ≡ Refused UnknownChannel) × (after ≡ m))
 
--- octets are brought to the desk of the channel that their frame names; or the answer says why they aren't
+-- octets are brought to the desk of the channel that their frame names, or the answer gives the reason why they aren't
 abbrev pub IsBringAnswer : List ℕ → Staffed → Answer → Staffed → Type 0
 IsBringAnswer octets m answer after =
     ((place vcid : ℕ) × (frame : List ℕ) × IsPlaced m.station octets place vcid frame × IsAnsweredAt place vcid (IsFrameAnswered frame) m answer after)
     ⊎ ((fault : LocateFault) × IsLocateFault m.station octets fault × (answer ≡ Refused (Unlocated fault)) × (after ≡ m))
 
--- The watcher of this place, whose channel has this id, read a CLCW, with no flag of its link, of all that it has seen then. That goes on
--- from all that it had seen. Nothing else is changed.
+-- The watcher of this place, whose channel has this id, read a CLCW without flags of the link. It is the CLCW of all
+-- that the watcher has then seen, which continues all that it had seen before. Nothing else is changed.
 pub record IsReadAt (place vcid : ℕ) (before : Staffed) (answer : Answer) (after : Staffed) : Type 0 where
   pub head : Identity
   pub early : Watching
@@ -108,13 +110,13 @@ pub record IsReadAt (place vcid : ℕ) (before : Staffed) (answer : Answer) (aft
   pub word : answer ≡ Clcw vcid (clcw late.seen.settings late.seen.journal no_flag)
   pub change : after ≡ record before { watchers = slice_set before.watchers place late }
 
--- the CLCW of the channel with this id, read by its watcher without its lock; or there is no such channel
+-- the answer is the CLCW of the channel with this id, read by its watcher without its lock, or there is no such channel
 abbrev pub IsWordAnswer : ℕ → Staffed → Answer → Staffed → Type 0
 IsWordAnswer vcid m answer after =
     ((place : ℕ) × IsPlace m.station vcid place × IsReadAt place vcid m answer after)
     ⊎ (¬ Contains m.station.vcids vcid × (answer ≡ Refused UnknownChannel) × (after ≡ m))
 
--- what an operation is answered, and what it leaves
+-- the answer and the effect of an operation
 abbrev pub IsStaffedAnswer : Operation → Staffed → Answer → Staffed → Type 0
 IsStaffedAnswer (operations.Frame octets) old answer new = IsBringAnswer octets old answer new
 IsStaffedAnswer (operations.Release vcid) old answer new = IsDeskAnswer vcid IsReleaseAnswered old answer new
@@ -122,7 +124,7 @@ IsStaffedAnswer (operations.Take vcid apid) old answer new = IsDeskAnswer vcid (
 IsStaffedAnswer (operations.Unit vcid map_id) old answer new = IsDeskAnswer vcid (IsUnitAnswered map_id) old answer new
 IsStaffedAnswer (operations.Clcw vcid) old answer new = IsWordAnswer vcid old answer new
 
--- the watcher of this place met the desk there, by the operator; the others are as they were
+-- the watcher of this place met the desk there, through the operator; the other watchers are as they were
 pub record HasMetAt (place : ℕ) (before : Staffed) (after : Staffed) : Type 0 where
   pub vcid : ℕ
   pub early : Watching
@@ -132,7 +134,7 @@ pub record HasMetAt (place : ℕ) (before : Staffed) (after : Staffed) : Type 0 
   pub watchers : after.watchers ≡ slice_set before.watchers place late
   pub station : after.station ≡ before.station
 
--- the first so many watchers met their desks, one after the other
+-- the first `n` watchers met their desks, one after the other
 abbrev pub HaveMet : ℕ → Staffed → Staffed → Type 0
 HaveMet zero before after = after ≡ before
 HaveMet (suc n) before after = (mid : Staffed) × HaveMet n before mid × HasMetAt n mid after

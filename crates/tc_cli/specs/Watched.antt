@@ -1,19 +1,19 @@
--- Of which channels the watchers of a station are.
+-- The channels of a station's watchers.
 use Rattle.std.specs.Prelude.{◌≡◌, ◌≢◌, ℕ, List, AllPairs, length, slice_get, Some}
 use Rattle.tc_status.specs.Board.{Watching}
 use Rattle.tc_station.specs.Moments.{IsWatcherAt}
 use Rattle.tc_station.specs.Roster.{Roster, settings_in}
 use Rattle.tc_station.specs.StationSettings.{vcids_of}
 
--- a station whose channels have the ids of their settings, no two the same
+-- a station whose channels have the ids of their settings, all of them different
 pub record IsOrdered (station : Roster) : Type 0 where
   pub named : vcids_of (settings_in station) ≡ station.vcids
   pub distinct : AllPairs (λ (a b : ℕ). a ≢ b) station.vcids
 
--- each of these watchers is of the desk at its place
+-- each of these watchers watches the desk at its place
 abbrev pub AreWatching : Roster → List Watching → Type 0
 AreWatching station watchers = (place : ℕ) (w : Watching) → slice_get watchers place ≡ Some w → IsWatcherAt station place w
 
--- there is one for each channel of the station
+-- there is one watcher for each channel of the station
 abbrev pub AreWatchersOf : Roster → List Watching → Type 0
 AreWatchersOf station watchers = (length watchers ≡ length station.heads) × AreWatching station watchers

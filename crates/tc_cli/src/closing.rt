@@ -10,8 +10,8 @@ use tc_channel::CountingChannel;
 use tc_station::{CountingStation, Operator, Refusal};
 use tc_text::{Reason, ScriptFault};
 
-/// Closes the station of a script with so many lines, together with its operators. The channels come in rising virtual channel
-/// id, and each reports the number of its events as it is.
+/// Closes the station of a script with `lines` lines, together with its operators, and returns the channels in rising
+/// order of their ids. Each channel reports the true number of its events.
 pub(crate) fn close(
     station: CountingStation,
     operators: Vec<Operator>,
@@ -31,7 +31,7 @@ pub(crate) fn close(
     }
 }
 
-// What it is for a script of so many lines that its station isn't closed.
+// Returns the fault of a script with `lines` lines whose station isn't closed.
 fn fault_of(refusal: Refusal, lines: u32) -> ScriptFault
     ensures { result ≡ close_fault lines refusal }
 {

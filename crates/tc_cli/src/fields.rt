@@ -1,4 +1,4 @@
-//! Whether the frames of a script end with their frame error control fields.
+//! A look at the frames of a script: whether they end with frame error control fields.
 
 ghost use Rattle.std.specs.Prelude.{◌≤◌, length};
 
@@ -7,8 +7,8 @@ use std::alloc::Global;
 use tc_fecf::without_field;
 use tc_text::{Line, next_line, parse_line};
 
-/// Whether a script that was done has a frame, and each one is whole and ends with its field. Where memory is refused, the answer is
-/// no. It is a hint for a user, of which no contract speaks.
+/// Returns whether a script that was carried out has a frame, and each of its frames is whole and ends with its field.
+/// If memory runs out, the answer is no. It is a hint for the user, on which no contract depends.
 pub(crate) fn each_frame_has_its_field(alloc: Global, script: &[u8]) -> bool {
     let mut has_frame = false;
     let mut rest = from_next_frame(script);
@@ -23,7 +23,7 @@ pub(crate) fn each_frame_has_its_field(alloc: Global, script: &[u8]) -> bool {
     has_frame
 }
 
-// The lines from the next one on that may be a frame. Without an `f` a line is none.
+// Returns the lines from the next one on that may be a frame line. A line without an `f` isn't one.
 fn from_next_frame(lines: &[u8]) -> &[u8]
     ensures { length result.now ≤ length lines.now }
 {
@@ -36,7 +36,8 @@ fn from_next_frame(lines: &[u8]) -> &[u8]
     }
 }
 
-// Whether the frame of a line is whole and ends with its field. None: the line is no frame. A line that is refused has no field.
+// Returns whether the frame of a line is whole and ends with its field, or `None` if the line isn't a frame line. A
+// line that can't be parsed counts as a frame without a field.
 fn has_field(alloc: Global, line: &[u8]) -> Option<bool> {
     match parse_line(alloc, line) {
         Ok(Line::Frame(octets)) => Some(without_field(alloc, octets.as_slice()).is_ok()),

@@ -1,4 +1,4 @@
-//! A station of the channels that a script has set up.
+//! Creating a station with the channels that a script has set up.
 
 ghost use Rattle.std.specs.Prelude.{◌≡◌, ◌≢◌, ◌≤◌, ◌⊎◌, [], length, map, IfOk, IfErr, OnOk};
 ghost use Rattle.tc_cli.specs.Parting.{empty_list, IsNewStation};
@@ -9,7 +9,7 @@ use tc_setup::Configuration;
 use tc_station::{CountingStation, StationFault, WorkList};
 use tc_text::Reason;
 
-/// A station with these channels.
+/// Creates a station with these channels.
 pub(crate) fn found(
     alloc: Global,
     scid: u16,
@@ -32,7 +32,7 @@ pub(crate) fn found(
     }
 }
 
-/// An empty list of jobs for each channel.
+/// Creates an empty list of jobs for each channel.
 pub(crate) fn lists_for(
     alloc: Global,
     configuration: &Configuration,

@@ -17,8 +17,8 @@ const NO_WRITER: ScriptFault = ScriptFault::Line {
     reason: Reason::NoMemory,
 };
 
-/// Runs the script of standard input, and writes to standard output, as [`run_script`](crate::run_script) does. If all of it was done,
-/// says whether each of its frames ended with its frame error control field.
+/// Runs the script of standard input as [`run_script`](crate::run_script) does, and writes to standard output. If all
+/// of the script was carried out, the result tells whether each of its frames ended with its frame error control field.
 pub fn run_input<R: AllocGlobal + Input + Print + Wait>(
     rt: &R,
     scid: u16,
@@ -33,7 +33,8 @@ pub fn run_input<R: AllocGlobal + Input + Print + Wait>(
     Ok(each_frame_has_its_field(rt.alloc(), script.as_slice()))
 }
 
-/// The same, as [`parallel_script`](crate::parallel_script) does.
+/// Runs the script of standard input as [`parallel_script`](crate::parallel_script) does, and writes to standard
+/// output. The result is that of [`run_input`].
 pub fn parallel_input<R: AllocGlobal + Input + Print + Threads + Wait + Sync>(
     rt: &R,
     scid: u16,

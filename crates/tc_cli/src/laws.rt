@@ -14,13 +14,13 @@ ghost use Rattle.tc_text.specs.declared.fault.ScriptFault.TheVariants.{Line};
 use tc_desk::{one_alone_is_answered_after_its_own_events, the_only_maker_made_the_whole_journal};
 use tc_link::each_input_begins_with_one_frame_at_most;
 
-/// Where memory ran out at a line, each number of lines below that line's is the number of some first lines, which are good.
+/// States that all lines before the one at which memory ran out are good.
 pub fn the_lines_before_memory_ran_out_are_good()
     ensures { (script : List ℕ) (number count : ℕ) → IsScriptFault script (Line number NoMemory) → count < number → AreFirstGood script count }
 {}
 
-/// What a script does follows from its lines: two ways through all of them lead to the same channels with the same journals, and have the
-/// same answers. And there is one report of them.
+/// States that the effect of a script follows from its lines. Two ways through all of them lead to the same channels
+/// with the same journals, and give the same answers, and there is only one report of these channels.
 pub fn what_a_script_does_follows_from_its_lines()
     ensures answers { (scid : ℕ) (script : List ℕ) (answers others : List (Option Answer)) (progress other : Progress)
         → AreAnswers (IsPerformed scid) script answers progress [] → AreAnswers (IsPerformed scid) script others other []
@@ -31,7 +31,8 @@ pub fn what_a_script_does_follows_from_its_lines()
     each_input_begins_with_one_frame_at_most();
 }
 
-/// The report of the channels that a script's workers have made is the one that the script has where its lines are done in order.
+/// States that the report on the channels after a script's workers is the report of the script when its lines are
+/// carried out in order.
 pub(crate) fn the_workers_report_is_that_of_the_lines_in_order()
     ensures { (scid : ℕ) (script : List ℕ) (channels : List History) (text : List ℕ) → AreWorkedChannels scid script channels → IsReportOf channels text
         → (answers : List (Option Answer)) × (progress : Progress) × AreAnswers (IsPerformed scid) script answers progress [] × IsScriptReport scid progress text }

@@ -1,4 +1,4 @@
-//! Scripts whose channels are worked side by side.
+//! Scripts whose channels are worked on side by side.
 
 ghost use Rattle.std.specs.Prelude.{◌≡◌, ◌≢◌, ◌⊎◌, ◌≤◌, [], All, length, IfOk, IfErr, OnOk, IfSome};
 ghost use Rattle.std.specs.Io.KnownBytes.{Keeps};
@@ -25,13 +25,13 @@ use tc_setup::{Configuration, Instruction};
 use tc_station::{Gate, Job, Order};
 use tc_text::{Reason, ScriptFault, next_line, parse_line, read_whole};
 
-/// Reads a script and checks each of its lines; then does its frames and releases, and what it takes, by one worker
-/// for each channel, and writes the final report alone: the very report that `run_script` writes for it. The script is
-/// read whole, and all its jobs are kept before the first one is done.
+/// Reads a script and checks each of its lines. Then one worker for each channel carries out the frames, releases and
+/// takes of this channel, and the final report alone is written. It is the report that `run_script` writes for the
+/// script. The script is read whole, and all its jobs are kept before the first one is carried out.
 ///
-/// Each worker passes the gate once, while it holds its channel's lock. Where the octets of the reader
-/// are known, nothing is done unless each line is good, and a bad line that is reported is the first one.
-/// Where it ends early, nothing is written, unless a write failed. It ends as unbalanced only with a cause.
+/// Each worker passes the gate once, while it holds its channel's lock. If the octets of the reader are known, nothing
+/// is carried out unless each line is good, and a bad line that is reported is the first one. If the script ends early,
+/// nothing is written, unless a write failed. `Unbalanced` is returned only if there is a cause.
 pub fn parallel_script<T: Threads + Wait + Sync, G: Gate + Sync, R: Read, W: Write>(
     rt: &T,
     alloc: Global,
@@ -53,7 +53,7 @@ pub fn parallel_script<T: Threads + Wait + Sync, G: Gate + Sync, R: Read, W: Wri
     }
 }
 
-/// Runs a script as [`parallel_script`] does, and gives it back, as it was read, if all of it was done.
+/// Runs a script as [`parallel_script`] does, and returns it, as it was read, if all of it was carried out.
 pub fn parallel_and_give_back<T: Threads + Wait + Sync, G: Gate + Sync, R: Read, W: Write>(
     rt: &T,
     alloc: Global,
@@ -82,7 +82,7 @@ pub fn parallel_and_give_back<T: Threads + Wait + Sync, G: Gate + Sync, R: Read,
     }
 }
 
-// The channels of a script that is done.
+// Carries out a script, and returns its channels.
 fn work_lines<T: Threads + Wait + Sync, G: Gate + Sync>(
     rt: &T,
     alloc: Global,
@@ -110,10 +110,10 @@ fn work_lines<T: Threads + Wait + Sync, G: Gate + Sync>(
     }
 }
 
-// How far a script has come whose operations are parted by their channels, to be done later.
+// The progress of a script whose operations are sorted by their channels, to be carried out later.
 type Plan = Stage<Parted>;
 
-// What is to be done by a script, and how many lines it has.
+// Returns the plan of the jobs of a script, and the number of its lines.
 fn part_lines(alloc: Global, scid: u16, script: &[u8]) -> Result<(Plan, u32), ScriptFault>
     requires spacecraft { scid ≤ 1023 }
     requires within { length script.now ≤ script_limit }
@@ -153,8 +153,8 @@ fn part_line(
     part(plan, alloc, scid, line, Instruction::of(alloc, said))
 }
 
-// Gives what a line asks for to its channel, or sets it up. A line that is refused leaves all as it is, unless
-// memory is refused before operation.
+// Gives the job of a line to its channel, or sets up what the line sets up. A line that is refused leaves the plan as
+// it is, unless memory ran out before the first operation.
 fn part(
     plan: &mut Plan,
     alloc: Global,
@@ -194,7 +194,7 @@ fn part(
     }
 }
 
-// Gives the octets of a line to the channel that they are for.
+// Gives the octets of a line to the channel for which they are.
 fn give_frame(
     plan: &mut Plan,
     alloc: Global,
@@ -237,7 +237,7 @@ fn give_order(
     }
 }
 
-// Makes the station and its lists, where no operation came before.
+// Creates the station and its lists, if no operation came before.
 #[inline(always)]
 fn begin(plan: &mut Plan, alloc: Global, scid: u16) -> Result<(), Reason>
     requires { scid ≤ 1023 }
@@ -252,7 +252,7 @@ fn begin(plan: &mut Plan, alloc: Global, scid: u16) -> Result<(), Reason>
     }
 }
 
-// The same, apart from what runs for each line.
+// Creates the station and its lists. This is compiled apart from the code that runs for each line.
 #[cold]
 #[inline(never)]
 fn begin_anew(plan: &mut Plan, alloc: Global, scid: u16) -> Result<(), Reason>
@@ -273,7 +273,7 @@ fn begin_anew(plan: &mut Plan, alloc: Global, scid: u16) -> Result<(), Reason>
     }
 }
 
-// The jobs so far, of a station made by what was set up where no operation came before.
+// Returns the jobs so far. If no operation came before, the station is created from what was set up.
 fn start(plan: Plan, alloc: Global, scid: u16) -> Result<Parted, Reason>
     requires { scid ≤ 1023 }
     ensures parted { IfOk result (ArePartedFor scid plan) }

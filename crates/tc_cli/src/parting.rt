@@ -1,4 +1,4 @@
-//! Jobs, parted by the channels that they are for, and done by a worker for each channel.
+//! Jobs, sorted by the channels for which they are, and carried out by one worker for each channel.
 
 ghost use Rattle.std.specs.Prelude.{◌≡◌, ◌≢◌, ◌≤◌, ◌⊎◌, [], All, IfOk, IfErr, OnOk, OnErr, MatchOption};
 ghost use Rattle.tc_cli.specs.Parting.{IsNewlyParted, IsGiven, IsFrameGiven, HasWorkList, IsListAt, IsWorkedOut, IsWorkFault};
@@ -36,8 +36,8 @@ impl Model for Parted {
 }
 
 impl Parted {
-    /// A station with these channels, and no job yet.
-    // It is made once for a script, so its code isn't inlined into what runs for each line.
+    /// Creates a station with these channels, and no job yet.
+    // This runs once for a script, so its code isn't inlined into the code that runs for each line.
     #[cold]
     #[inline(never)]
     pub(crate) fn new(
@@ -74,7 +74,7 @@ impl Parted {
         self.give(alloc, vcid, Job { line, order })
     }
 
-    /// Gives a job to a channel, where there is such a channel.
+    /// Gives a job to a channel, if there is such a channel.
     pub(crate) fn give(&mut self, alloc: Global, vcid: u8, job: Job) -> Result<(), Reason>
         ensures given { OnOk result (IsGiven vcid job self.old self.new) }
         ensures reason { IfErr result (λ reason. reason ≡ Reason.NoMemory) }
@@ -87,7 +87,7 @@ impl Parted {
         append(alloc, &mut list.jobs, job)
     }
 
-    /// Does the jobs of a script with so many lines, by a worker for each list, and closes the station.
+    /// Has a worker for each list carry out the jobs of a script with `lines` lines, and closes the station.
     pub(crate) fn work<T: Threads + Wait + Sync, G: Gate + Sync>(
         self,
         rt: &T,
@@ -112,14 +112,14 @@ impl Parted {
     }
 }
 
-// The place of the list of this channel.
+// Returns the place of the list of this channel.
 fn place_of(lists: &[WorkList], vcid: u8) -> Option<usize>
     ensures { MatchOption result (¬ HasWorkList lists.now vcid) (λ place. (l : WorkList) × IsListAt lists.now vcid place l) }
 {
     lists.iter().position(|list| list.vcid == vcid)
 }
 
-// What it is for a script that memory was refused for a job.
+// Returns the fault of a script for one of whose jobs memory ran out.
 fn refused(fault: WorkFault) -> ScriptFault
     ensures { result ≡ ScriptFault.Line (line_of_fault fault) Reason.NoMemory }
 {

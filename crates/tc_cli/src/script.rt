@@ -21,13 +21,14 @@ use tc_rack::{Answer, Stage, perform, start, write_report};
 use tc_setup::{Configuration, Instruction};
 use tc_text::{Reason, ScriptFault, next_line, parse_line, read_whole};
 
-/// Reads a script, does its lines in order and writes their answers, and then the final report.
+/// Reads a script, carries out its lines in order, and writes their answers and then the final report.
 ///
-/// The script, of 1,048,576 octets at most, is read whole and kept before the first line is done.
-/// Where the octets of the reader are known, a script is done to its end only if each line is good,
-/// and a bad line that ends it is the first one. Then each answer, and the report, is what the lines before make it. A CLCW, too, which is
-/// read without its channel's lock: the reader meets its channel at each operation, and once more before the report. Where the
-/// script ends early, the answers of the lines before are written alone, unless a write failed.
+/// The script, of 1,048,576 octets at most, is read whole and kept before the first line is carried out. If the octets
+/// of the reader are known, a script is carried out to its end only if each line is good, and a bad line that ends it
+/// is the first one. Each answer, and the report, then follows from the lines before it. This holds for a CLCW, too,
+/// although it is read without its channel's lock: the reader of a CLCW meets its channel at each operation, and once
+/// more before the report. If the script ends early, only the answers of the lines before are written, unless a write
+/// failed.
 pub fn run_script<T: Wait, R: Read, W: Write>(
     rt: &T,
     alloc: Global,
@@ -47,7 +48,7 @@ pub fn run_script<T: Wait, R: Read, W: Write>(
     }
 }
 
-/// Runs a script as [`run_script`] does, and gives it back, as it was read, if all of it was done.
+/// Runs a script as [`run_script`] does, and returns it, as it was read, if all of it was carried out.
 pub fn run_and_give_back<T: Wait, R: Read, W: Write>(
     rt: &T,
     alloc: Global,
@@ -69,7 +70,7 @@ pub fn run_and_give_back<T: Wait, R: Read, W: Write>(
     }
 }
 
-// Does a script that was read, and lets all that was written go out.
+// Carries out a script that was read, and flushes what was written.
 fn run_read<W: Write>(
     rt: &impl Wait,
     alloc: Global,
@@ -150,7 +151,7 @@ fn write_answer<W: Write>(answer: Option<Answer>, writer: &mut W) -> Result<(), 
     }
 }
 
-// The report at the end of a script with so many lines. Where no channel was set up there is none.
+// Writes the report at the end of a script with `lines` lines. If no channel was set up, there is none.
 fn report<W: Write>(
     rt: &impl Wait,
     alloc: Global,

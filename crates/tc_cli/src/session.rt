@@ -1,4 +1,4 @@
-//! A script whose lines are done in order: at the first operation its station is made.
+//! A script whose lines are carried out in order. Its station is created at the first operation.
 
 ghost use Rattle.std.specs.Prelude.{◌≤◌};
 
@@ -10,10 +10,10 @@ use tc_rack::{Answer, Backend, Operation, Stage};
 use tc_setup::Configuration;
 use tc_text::Reason;
 
-/// How far a script has come whose operations are done one after the other.
+/// The progress of a script whose operations are carried out one after the other.
 pub(crate) type Session = Stage<StaffedStation>;
 
-/// Who makes the station of the spacecraft with this id, with its operator and its watchers.
+/// The creator of the station of the spacecraft with this id, with its operator and its watchers.
 #[derive(Drop)]
 pub(crate) struct StationBackend<'rt, T: Wait> {
     pub(crate) rt: &'rt T,
@@ -32,7 +32,7 @@ impl<T: Wait> Backend for StationBackend<'_, T> {
 
     ghost spares = { AreAsCounted };
 
-    // It is made once for a script, so its code isn't inlined into what runs for each line.
+    // This runs once for a script, so its code isn't inlined into the code that runs for each line.
     #[cold]
     #[inline(never)]
     fn found(&self, alloc: Global, list: Configuration) -> Result<StaffedStation, Reason> {

@@ -1,4 +1,4 @@
-//! A station with its operator and its watchers, and what the operations of a script are answered.
+//! A station with its operator and its watchers, and the answers to the operations of a script.
 
 ghost use Rattle.std.specs.Prelude.{◌≡◌, ◌<◌, length, IfOk, IfErr, OnOk, OnErr};
 ghost use Rattle.tc_rack.specs.Linked.{IsReleaseAnswered, IsTakeAnswered, IsUnitAnswered};
@@ -42,8 +42,8 @@ impl Model for StaffedStation {
 }
 
 impl StaffedStation {
-    /// A station that has issued no operator yet, with its first one, and with watchers of the
-    /// channels with these ids, which are all.
+    /// Creates a staffed station from one that has issued no operator yet, with its first operator and with
+    /// watchers of the channels with these ids, which are all its channels.
     pub(crate) fn new(
         rt: &impl Wait,
         alloc: Global,
@@ -66,7 +66,7 @@ impl StaffedStation {
         })
     }
 
-    /// The station and its operator, apart.
+    /// Returns the station and its operator separately.
     pub(crate) fn into_parts(self) -> (CountingStation, Operator)
         ensures station { result.0 ≡ self.station }
         ensures operator { result.1 ≡ self.operator }
@@ -101,7 +101,8 @@ impl StaffedStation {
         self.station.meet(rt, &mut self.operator, watcher, vcid);
     }
 
-    // The operation on the channel at this place, which has this id. Its watcher meets it before and behind.
+    // Carries out the operation on the channel at this place, which has this id. Its watcher meets the channel before
+    // and after it.
     fn operate_met<O: DeskOperation<Unrecorded>>(
         &mut self,
         rt: &impl Wait,
@@ -205,7 +206,7 @@ impl StaffedStation {
     }
 }
 
-// The first operator that a station issues.
+// Issues the first operator of a station.
 fn only_operator(station: &mut CountingStation) -> Result<Operator, Reason>
     requires { station.old.issued ≡ 0 }
     ensures new { IfOk result HasMadeNothing }

@@ -11,13 +11,13 @@ use tc_station::{CountingStation, WatcherFault};
 use tc_status::Watcher;
 use tc_text::Reason;
 
-/// Neither link flag is set: the program has no radio.
+/// The flags of the link. Neither is set, because the program has no radio.
 pub(crate) const NO_FLAGS: Link = Link {
     no_rf: false,
     no_bit_lock: false,
 };
 
-/// A watcher for each of the channels of a station, which have these ids.
+/// Creates a watcher for each of the channels of a station, which have these ids.
 pub(crate) fn watch_each(
     rt: &impl Wait,
     alloc: Global,

@@ -1,10 +1,10 @@
-//! What the definitions have a script write.
+//! A law on the text that a script writes by the definitions.
 
 ghost use Rattle.std.specs.Prelude.{[], Some};
 ghost use Rattle.tc_cli.specs.Examples as example;
 ghost use Rattle.tc_cli.specs.Written.{IsScriptWritten};
 
-/// A script with operations of each kind but the CLCW writes the text that was worked out by hand.
+/// States that a script with operations of each kind but the CLCW writes the text that was worked out by hand.
 pub fn a_script_writes_this()
     ensures { IsScriptWritten 42 example.script (Some []) (Some example.text) }
 {}

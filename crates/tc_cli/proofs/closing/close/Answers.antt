@@ -22,7 +22,7 @@ pub returns-in-Ok-clause-reported : goal.returns-in-Ok-clause-reported
 returns-in-Ok-clause-reported c =
     All-permutation IsNumberReported _ _ c.sort_unstable_by_key.ensures.permutation (closed-reported c.args.station c.args.operators.items c.in-Ok.channels.items c.in-Ok.ensures.closed)
 
--- a refusal, as it is reported
+-- a refusal is reported as a fault of the script
 reported-so : (station : Roster) (operators : List AtStation) (lines : ℕ) (refusal : Refusal) → (refusal ≡ refusals.Unbalanced → IsCauseAtStation station operators)
     → IsScriptCloseFault station operators lines (close_fault lines refusal)
 reported-so station operators lines refusals.NoMemory cause = inr refl

@@ -249,7 +249,7 @@ reported =
       },
     )
 
--- the lines, and what is left of the script behind so many of them
+-- the lines, and the octets of the script that are left after each number of them
 
 abbrev lines : List (List ℕ)
 lines =
@@ -267,7 +267,7 @@ all_answers =
     None ∷ None ∷ None ∷ Some (answers.Refused Empty) ∷ Some (framed 1 0) ∷ Some release ∷ Some (answers.Take 1 5 packet)
     ∷ Some (answers.Refused NoQueue) ∷ Some (answers.Refused NoMap) ∷ Some (framed 6 1) ∷ Some (framed 1 0) ∷ []
 
--- so many first lines are answered
+-- the first `count` lines are answered
 
 abbrev AreDone : ℕ → Progress → Type 0
 AreDone count stage = AreAnswers (IsPerformed 42) example.script (take count all_answers) stage (from count)
