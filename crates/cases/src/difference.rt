@@ -1,18 +1,19 @@
-//! Where a script isn't answered as expected.
+//! Differences between the result of a script and the expected one.
 
 ghost use Rattle.std.specs.Prelude.{◌≡◌, ◌↔◌, IsNone};
 
 use std::fmt;
 
-/// Where what a script led to isn't what is expected.
+/// A difference between the result of a script and the expected one.
 #[derive(Debug, Drop)]
 pub enum Difference<'a> {
-    /// The first line that differs.
+    /// A difference in the answers, with the number of the first line that differs.
     Answers { line: usize },
     Fault { found: &'a str, expected: &'a str },
 }
 
-/// The first difference between the answers and the text of the fault that a script led to and those that are expected.
+/// Returns the first difference between the answers and the text of the fault that a script led to, and the expected
+/// ones.
 pub fn compare<'a>(
     answers: &[u8],
     fault: &'a str,
@@ -34,7 +35,7 @@ pub fn compare<'a>(
     None
 }
 
-// How many lines are the same at the front of both.
+// Returns the number of lines that are the same at the front of both texts.
 fn common_lines(found: &[u8], expected: &[u8]) -> usize {
     found
         .iter()

@@ -1,20 +1,20 @@
-//! Cases, as the index lists them.
+//! Cases, in the form in which the index lists them.
 
 ghost use Rattle.std.specs.Prelude.{◌≤◌, IfSome};
 
 use tc_text::SpacecraftId;
 
-/// A script, and how it is to end.
+/// A script, and the way in which it must end.
 #[derive(Clone, Copy, Debug)]
 pub struct Case<'a> {
     pub name: &'a str,
     /// The spacecraft id, at most 1,023.
     pub scid: u16,
-    /// The text of the fault; empty where the script is done to its end.
+    /// The text of the fault. It is empty if the script runs to its end.
     pub fault: &'a str,
 }
 
-/// The case that a line of the index names: its name, the spacecraft id, and then the fault, if any.
+/// Parses a line of the index, which has the name of a case, the spacecraft id, and then the fault, if there is one.
 pub fn parse_case(line: &str) -> Option<Case<'_>>
     ensures { IfSome result (λ case. case.scid ≤ 1023) }
 {

@@ -1,10 +1,10 @@
-//! Scripts at the limit of their size, which are long and dull.
+//! Scripts at the limit of their size, which are long and repeat one octet.
 
 ghost use Rattle.std.specs.Prelude.{◌≡◌, ◌++◌, IfOk, replicate};
 
 use std::alloc::{AllocError, Global};
 
-/// A script that is answered nothing.
+/// A script without answers.
 #[derive(Debug, Drop)]
 pub struct LargeCase {
     pub name: &'static str,
@@ -12,10 +12,10 @@ pub struct LargeCase {
     pub script: Vec<u8>,
 }
 
-/// How many octets a script may have.
+/// The number of octets that a script may have.
 const LIMIT: usize = 1_048_576;
 
-/// The octets of a script: one of them over and over, and then some more.
+/// Returns the octets of a script: `count` times the same octet, and then those of `end`.
 fn repeated(alloc: Global, octet: u8, count: usize, end: &[u8]) -> Result<Vec<u8>, AllocError>
     ensures { IfOk result (λ script. script.items ≡ replicate count octet ++ end.now) }
 {

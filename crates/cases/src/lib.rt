@@ -1,4 +1,5 @@
-//! Cases of scripts: how an index lists them, those at the limit of their size, the report among the answers, and where an answer differs.
+//! Cases of scripts: their list in an index, scripts at the limit of their size, the report among the answers, and the
+//! place where an answer differs.
 #![tactic(auto)]
 
 mod difference;

@@ -1,6 +1,7 @@
 //! The final report of a script, as the last of its answers.
 
-/// The report that ends these answers, which begins with the first word `final`. A script that ends with a fault has none.
+/// Returns the report at the end of these answers, which begins with the first word `final`. A script that ends with a
+/// fault has none.
 pub fn report_of<'a>(answers: &'a [u8], fault: &str) -> &'a [u8] {
     let found = answers
         .windows(5)

@@ -1,4 +1,4 @@
-//! Tests of a channel of each form, by public names. The library itself is empty.
+//! Tests of a channel of each form, which use public names only. The library itself is empty.
 #![tactic(auto)]
 
 #[cfg(test)]

@@ -31,18 +31,18 @@ const BOTH: Wanted<'static> = Wanted {
     ..WANTED
 };
 
-// A Type-BD frame was accepted (event 6), and ended no unit.
+// The reply to a Type-BD frame that was accepted (event 6), and ended no unit.
 const PASSED: FrameReply = FrameReply {
     delivery: NOTHING,
     ..DELIVERED
 };
 
-// One growth may be refused.
+// Creates settings. One growth may be refused.
 fn settings(rt: &impl Abort, alloc: Global, wanted: &Wanted<'_>) -> Settings {
     test_parts::settings(alloc, wanted).expect(rt, "settings")
 }
 
-// A channel by settings that make one; where memory is refused, that is printed, and it is made again.
+// Creates a channel with good settings. If memory is refused, that is printed, and the channel is created again.
 fn new_channel<C: Form>(
     rt: &(impl Abort + Print),
     alloc: Global,

@@ -4,8 +4,9 @@ use anyhow::{Result, anyhow};
 use std::alloc::Global;
 use tc_link::{ClcwFields, Report, State, clcw_word, read_clcw};
 
-/// Whether a line of the list agrees. It has a word in hexadecimal digits and then, where that is a CLCW of COP-1,
-/// its fields: status, virtual channel, No RF Available, No Bit Lock, Lockout, Wait, Retransmit, FARM-B and V(R).
+/// Returns whether a line of the list agrees. The line has a word in hexadecimal digits and then, if that is a CLCW of
+/// COP-1, its fields: status, virtual channel, No RF Available, No Bit Lock, Lockout, Wait, Retransmit, FARM-B and
+/// V(R).
 pub(crate) fn agrees(alloc: Global, line: &str) -> Result<bool> {
     let (digits, expected) = match line.split_once(' ') {
         Some(parts) => parts,
@@ -36,7 +37,7 @@ fn text_of(alloc: Global, fields: &ClcwFields) -> Result<String> {
     )?)
 }
 
-// Whether these fields are written as this word. Of the status field only 0 is written.
+// Returns whether these fields are written as this word. The library only writes a status field of 0.
 fn is_written(word: u32, fields: &ClcwFields) -> bool {
     let report = Report {
         state: State::S1,

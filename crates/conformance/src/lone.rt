@@ -1,4 +1,4 @@
-//! Channels without a station, and what the operations of a script are answered by them.
+//! Channels without a station, and their answers to the operations of a script.
 
 ghost use Rattle.std.specs.Prelude.{◌<◌, IfSome, length};
 
@@ -14,10 +14,11 @@ use tc_station::LocateFault;
 use tc_text::Reason;
 use test_parts::Form;
 
-/// How many virtual channel ids there are.
+/// The number of virtual channel ids.
 const IDS: u8 = 64;
 
-/// Makes channels of a form for the spacecraft with this id, and asks them. Nothing is promised of the form.
+/// The backend that creates channels of a form for the spacecraft with this id, and operates them. Nothing is promised
+/// of the form.
 #[derive(Drop)]
 pub(crate) struct LoneBackend<C> {
     scid: u16,
@@ -62,7 +63,8 @@ impl<C: Form> Backend for LoneBackend<C> {
     }
 }
 
-/// The virtual channels of one spacecraft, each of the same form, without locks. A call answers `None` where memory runs out.
+/// The virtual channels of one spacecraft, each of the same form, without locks. A call returns `None` if memory runs
+/// out.
 #[derive(Drop)]
 pub(crate) struct Lone<C: Form> {
     alloc: Global,
@@ -71,7 +73,7 @@ pub(crate) struct Lone<C: Form> {
 }
 
 impl<C: Form> Lone<C> {
-    // A channel for each of the settings.
+    // Creates a channel for each of the settings.
     fn new(alloc: Global, scid: u16, list: Configuration) -> Option<Lone<C>> {
         let mut channels = Vec::new(alloc);
         for settings in list.into_channels() {
@@ -116,7 +118,7 @@ impl<C: Form> Lone<C> {
         Some(Answer::Frame { vcid, reply })
     }
 
-    /// Writes what each channel has come to, in rising id.
+    /// Writes the report on each channel, in rising order of their ids.
     pub(crate) fn report<W: Write>(&self, writer: &mut W) -> io::Result<()> {
         for vcid in 0..IDS {
             if let Some(place) = place_of(&self.channels, vcid) {
@@ -127,7 +129,7 @@ impl<C: Form> Lone<C> {
     }
 }
 
-// Has a channel answer an operation on it alone.
+// Carries out an operation on one channel, and returns its answer.
 fn ask<C: Form>(alloc: Global, channel: &mut C, vcid: u8, operation: &Operation) -> Option<Answer> {
     match operation {
         Operation::Take(_, apid) => match channel.take_packet(alloc, *apid) {
@@ -162,7 +164,7 @@ fn ask<C: Form>(alloc: Global, channel: &mut C, vcid: u8, operation: &Operation)
     }
 }
 
-// The place of the channel with this id.
+// Returns the place of the channel with this id.
 fn place_of<C: Form>(channels: &[C], vcid: u8) -> Option<usize>
     ensures { IfSome result (λ place. place < length channels.now) }
 {
@@ -179,7 +181,7 @@ fn unlocated(fault: LocateFault) -> Option<Answer> {
     refused(Refusal::Unlocated(fault))
 }
 
-// Reports a channel, then how many packets wait in each queue, and how many units on each chosen MAP.
+// Writes the report on a channel, then the number of packets that wait in each queue, and of units on each chosen MAP.
 fn report_channel<C: Form, W: Write>(channel: &C, writer: &mut W) -> io::Result<()> {
     let settings = channel.made_with();
     let vcid = settings.vcid;

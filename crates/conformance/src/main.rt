@@ -1,11 +1,10 @@
-//! Runs the scripts of the folder that it runs in, and reports each that is answered otherwise than
-//! expected.
+//! Runs the scripts of the current folder, and reports each script whose answers aren't the expected ones.
 //!
-//! The file `index` has a line for each case, in the order of their names: the name, the spacecraft
-//! id, and the text of the fault with which the script ends, if it does. `NAME.script` is the script,
-//! `NAME.out` what it is answered line by line, by a station and by channels of each form alike, with the final report
-//! that is also made where each channel has a worker. Scripts at the limit of their size are made here. The file
-//! `clcws` has words that another program built, each with what it says; each is a case, too.
+//! The file `index` has a line for each case, in the order of their names: the name, the spacecraft id, and the text of
+//! the fault with which the script ends, if it does. `NAME.script` is the script, and `NAME.out` has its answers line
+//! by line, which a station and channels of each form must give alike, with the final report, which must also come if
+//! each channel has a worker. Scripts at the limit of their size are made here. The file `clcws` has words that another
+//! program built, each with its fields. Each of them is a case, too.
 #![tactic(auto)]
 
 ghost use Rattle.std.specs.Prelude.{◌≤◌};
@@ -35,7 +34,7 @@ fn main(rt: HostRuntime) -> ExitCode {
     }
 }
 
-/// How many cases were done, how many of them agree, and how many are scripts.
+/// The number of cases that were run, and of those that agree, and the number of scripts.
 #[derive(Clone, Copy, Debug)]
 struct Tally {
     cases: u32,
@@ -57,7 +56,7 @@ impl Tally {
     }
 }
 
-// Prints how many cases agree, and each that doesn't. Answers whether all do.
+// Prints how many cases agree, and each that doesn't. Returns whether all do.
 fn check_all<R: Files + AllocGlobal + Print + Threads + Wait + Sync>(rt: &R) -> Result<bool> {
     let mut tally = Tally {
         cases: 0,
@@ -134,8 +133,8 @@ fn check_clcws<R: Files + AllocGlobal + Print>(rt: &R, tally: &mut Tally) -> Res
     Ok(())
 }
 
-// Whether a script leads to these answers where it is done line by line, on a station and on channels of each form, and to
-// the report among them where each channel has a worker.
+// Returns whether a script leads to these answers if it is run line by line, on a station and on channels of each form,
+// and to the report among them if each channel has a worker.
 fn agrees_each_way<R: AllocGlobal + Print + Threads + Wait + Sync>(
     rt: &R,
     case: &Case,
@@ -155,7 +154,7 @@ fn agrees_each_way<R: AllocGlobal + Print + Threads + Wait + Sync>(
     Ok(all)
 }
 
-// Whether a script leads to what it is to lead to. Where it doesn't, that is reported.
+// Returns whether a script leads to the expected answers and fault. If it doesn't, that is reported.
 fn agrees<R: AllocGlobal + Print + Threads + Wait + Sync>(
     rt: &R,
     case: &Case,

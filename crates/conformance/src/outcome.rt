@@ -1,4 +1,4 @@
-//! Runs a script in each way.
+//! Running a script in each of the ways.
 
 ghost use Rattle.std.specs.Prelude.{◌≤◌};
 
@@ -19,14 +19,14 @@ pub(crate) struct Outcome {
     pub(crate) fault: String,
 }
 
-/// How a script is run.
+/// The way in which a script is run.
 #[derive(Clone, Copy, Debug)]
 pub(crate) enum Command {
     /// Line by line, with an answer for each operation.
     Run,
     /// With a worker for each channel, and the final report alone.
     Parallel,
-    /// As `Run`, on channels in place of a station: each with its journal in memory, without one, or in rooms.
+    /// Like `Run`, but on channels instead of a station: each with its journal in memory, without one, or in rooms.
     Alone,
     Counting,
     Rooms,

@@ -1,4 +1,4 @@
-//! A script on channels without a station, line by line, as `run` runs it on a station.
+//! Running a script on channels without a station, line by line, as `run` does on a station.
 
 use crate::lone::{Lone, LoneBackend};
 use std::alloc::Global;
@@ -22,7 +22,7 @@ pub(crate) fn replay<C: Form, R: Read, W: Write>(
     report(alloc, &backend, stage, writer, lines)
 }
 
-// Runs the lines, and says how many there are.
+// Runs the lines, and returns how many there are.
 fn replay_lines<C: Form, W: Write>(
     alloc: Global,
     backend: &LoneBackend<C>,
@@ -40,7 +40,7 @@ fn replay_lines<C: Form, W: Write>(
     Ok(line)
 }
 
-// Runs a line, and writes its answer where it has one.
+// Runs a line, and writes its answer if it has one.
 fn replay_line<C: Form, W: Write>(
     alloc: Global,
     backend: &LoneBackend<C>,
@@ -60,7 +60,7 @@ fn replay_line<C: Form, W: Write>(
     }
 }
 
-// The report at the end of a script with so many lines. Where no channel was set up there is none.
+// Writes the report at the end of a script. If no channel was set up, there is none.
 fn report<C: Form, W: Write>(
     alloc: Global,
     backend: &LoneBackend<C>,

@@ -1,4 +1,4 @@
-//! The forms of a channel: with its journal in memory, without, and in rooms.
+//! The forms of a channel: with its journal in memory, without a journal, and in rooms.
 
 use crate::frames::NO_FLAG;
 use std::alloc::Global;
@@ -9,12 +9,12 @@ use tc_channel::{
 use tc_fixed::{FixedChannel, NoUnitTaken, NothingReleased, NothingTaken};
 use tc_link::{Frame, Report};
 
-/// Has the calls of a channel of whatever form.
+/// A channel of any form, with its calls.
 pub trait Form: Drop {
-    /// The channel of these settings.
+    /// Creates the channel with these settings.
     fn made(alloc: Global, settings: Settings) -> Result<Self, SettingsFault>;
 
-    /// Takes a frame in.
+    /// Brings a frame to the channel.
     fn bring(&mut self, frame: &Frame) -> Result<FrameReply, NoMemory>;
 
     /// Releases the oldest data field of the buffer.
@@ -32,22 +32,22 @@ pub trait Form: Drop {
     /// Lends the oldest unit of a chosen MAP.
     fn lent_whole(&self, map: u8) -> Option<&[u8]>;
 
-    /// The CLCW with both link flags 0.
+    /// Returns the CLCW with both link flags 0.
     fn word(&self) -> u32;
 
-    /// The report of FARM-1.
+    /// Returns the report of FARM-1.
     fn state(&self) -> Report;
 
-    /// The settings that it was made with.
+    /// Returns the settings with which the channel was created.
     fn made_with(&self) -> &Settings;
 
-    /// How many events there were, and how many data fields wait.
+    /// Returns the number of events, and the number of data fields that wait.
     fn events_and_fields(&self) -> (u64, usize);
 
-    /// How many packets of an application wait.
+    /// Returns the number of packets of an application that wait.
     fn packets(&self, apid: u16) -> Option<usize>;
 
-    /// How many units of a chosen MAP wait.
+    /// Returns the number of units of a chosen MAP that wait.
     fn whole_units(&self, map: u8) -> Option<usize>;
 }
 
@@ -105,7 +105,7 @@ impl<J: Journal> Form for ChannelWith<J> {
     }
 }
 
-// Octets for an item of this length, or none where there is no memory for them.
+// Returns octets for an item of this length, or `None` if there is no memory for them.
 fn room_for(alloc: Global, item: Option<&[u8]>) -> Option<Vec<u8>> {
     vec![in alloc; 0; item.map_or(0, |item| item.len())].ok()
 }

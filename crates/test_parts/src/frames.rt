@@ -1,4 +1,4 @@
-//! Frames of spacecraft 42, and what they are answered.
+//! Frames for spacecraft 42, and the replies to them.
 
 use crate::growths::octets_of;
 use std::alloc::{AllocError, Global};
@@ -19,7 +19,7 @@ pub const FRAME: [u8; 13] = [
     0x00, 0x2a, 0x04, 0x0c, 0x00, 0xc0, 0x10, 0x05, 0xc0, 0x00, 0x00, 0x00, 0xaa,
 ];
 
-/// As `FRAME`, with N(S) 1.
+/// A frame like `FRAME`, with N(S) 1.
 pub const NEXT: [u8; 13] = [
     0x00, 0x2a, 0x04, 0x0c, 0x01, 0xc0, 0x10, 0x05, 0xc0, 0x00, 0x00, 0x00, 0xaa,
 ];
@@ -35,20 +35,20 @@ pub const UNIT: [u8; 2] = [0xaa, 0xbb];
 /// The Type-AD frame with N(S) 0 for virtual channel 1 that carries `UNIT` on MAP 3.
 pub const AD_UNIT: [u8; 8] = [0x00, 0x2a, 0x04, 0x07, 0x00, 0xc3, 0xaa, 0xbb];
 
-/// The same by Type-BD.
+/// The Type-BD frame for virtual channel 1 that carries `UNIT` on MAP 3.
 pub const BD_UNIT: [u8; 8] = [0x20, 0x2a, 0x04, 0x07, 0x00, 0xc3, 0xaa, 0xbb];
 
 /// An Unlock for virtual channel 1.
 pub const UNLOCK: [u8; 6] = [0x30, 0x2a, 0x04, 0x05, 0x00, 0x00];
 
-/// No unit was ended.
+/// The delivery if no unit was ended.
 pub const NOTHING: Delivery = Delivery {
     queued: 0,
     dropped: 0,
     rest: false,
 };
 
-/// One packet was queued, and nothing was left; or one whole unit was.
+/// The delivery if one packet was queued and nothing was left, or if one whole unit was queued.
 pub const ONE: Delivery = Delivery {
     queued: 1,
     dropped: 0,
@@ -91,7 +91,7 @@ pub const DELIVERED: FrameReply = FrameReply {
     delivery: ONE,
 };
 
-/// `FRAME`, for this virtual channel and with this N(S).
+/// Returns `FRAME` for this virtual channel and with this N(S).
 pub fn ad_frame(vcid: u8, ns: u8) -> [u8; 13] {
     let third = vcid.wrapping_mul(4);
     [
@@ -99,12 +99,12 @@ pub fn ad_frame(vcid: u8, ns: u8) -> [u8; 13] {
     ]
 }
 
-/// The event of a frame with these octets. One growth may be refused.
+/// Returns the event of a frame with these octets. One growth may be refused.
 pub fn frame_event(alloc: Global, octets: &[u8]) -> Result<Event, AllocError> {
     Ok(Event::Frame(octets_of(alloc, octets)?))
 }
 
-/// Whether the event is of a frame with these octets.
+/// Returns whether the event is that of a frame with these octets.
 pub fn is_frame(event: &Event, frame: &[u8]) -> bool {
     match event {
         Event::Frame(octets) => octets.as_slice() == frame,

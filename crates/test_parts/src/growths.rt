@@ -1,4 +1,4 @@
-//! Lists whose making one refused growth doesn't stop, and what calls answered.
+//! Lists that are created even if one growth is refused, and checks of what calls returned.
 
 ghost use Rattle.std.specs.Prelude.{◌≡◌, ◌∷◌, [], IfOk};
 
@@ -6,7 +6,7 @@ use std::alloc::{AllocError, Global};
 use std::fmt::Display;
 use tc_channel::{Event, Octets};
 
-/// An empty list with room for so many items. One growth may be refused.
+/// Returns an empty list with room for `count` items. One growth may be refused.
 pub fn room<T>(alloc: Global, count: usize) -> Result<Vec<T>, AllocError>
     ensures { IfOk result (λ list. list.items ≡ []) }
 {
@@ -16,7 +16,7 @@ pub fn room<T>(alloc: Global, count: usize) -> Result<Vec<T>, AllocError>
     }
 }
 
-/// A list of this item alone. One growth may be refused.
+/// Returns a list of this item alone. One growth may be refused.
 pub fn list_of<T: Drop>(alloc: Global, item: T) -> Result<Vec<T>, AllocError>
     ensures { IfOk result (λ list. list.items ≡ item ∷ []) }
 {
@@ -25,7 +25,7 @@ pub fn list_of<T: Drop>(alloc: Global, item: T) -> Result<Vec<T>, AllocError>
     Ok(list)
 }
 
-/// These items. One growth may be refused.
+/// Returns a copy of these items. One growth may be refused.
 pub fn copied<T: Copy>(alloc: Global, items: &[T]) -> Result<Vec<T>, AllocError> {
     match Vec::from_slice(alloc, items) {
         Ok(copy) => Ok(copy),
@@ -33,12 +33,12 @@ pub fn copied<T: Copy>(alloc: Global, items: &[T]) -> Result<Vec<T>, AllocError>
     }
 }
 
-/// Octets on the heap. One growth may be refused.
+/// Returns a copy of these octets on the heap. One growth may be refused.
 pub fn octets_of(alloc: Global, octets: &[u8]) -> Result<Octets, AllocError> {
     Ok(Octets::from(copied(alloc, octets)?))
 }
 
-/// Appends to a journal. One growth may be refused.
+/// Appends an event to a journal. One growth may be refused.
 pub fn note(journal: &mut Vec<Event>, event: Event) -> Result<(), AllocError> {
     if journal.reserve(1).is_err() {
         journal.reserve(1)?;
@@ -47,7 +47,7 @@ pub fn note(journal: &mut Vec<Event>, event: Event) -> Result<(), AllocError> {
     Ok(())
 }
 
-/// Makes a call. Where it was refused memory, that is printed under this name, and the call is made again.
+/// Makes a call. If memory for it was refused, that is printed under this name, and the call is made again.
 pub fn made_again<T, E: Drop + PartialEq, F: Fn() -> Result<T, E>>(
     rt: &impl Print,
     name: &str,
@@ -65,7 +65,8 @@ pub fn made_again<T, E: Drop + PartialEq, F: Fn() -> Result<T, E>>(
     }
 }
 
-/// Whether a call was answered, as it must be, or refused so. Nothing where it was neither.
+/// Returns whether a call returned what it must. The result is false if it failed with `no_memory`, and `None` if it
+/// did neither.
 pub fn is_answered<T: Drop + PartialEq, E: Drop + PartialEq>(
     answer: Result<T, E>,
     expected: &T,
@@ -78,7 +79,8 @@ pub fn is_answered<T: Drop + PartialEq, E: Drop + PartialEq>(
     }
 }
 
-/// Whether a packet or a unit was taken, as it must be, or the take was refused so. Nothing where it was neither.
+/// Returns whether a take gave the packet or unit that it must. The result is false if it failed with `no_memory`, and
+/// `None` if it did neither.
 pub fn is_taken<E: Drop + PartialEq>(
     answer: Result<Vec<u8>, E>,
     item: &[u8],
@@ -91,7 +93,7 @@ pub fn is_taken<E: Drop + PartialEq>(
     }
 }
 
-/// Whether each fault has its text.
+/// Returns whether each fault has its text.
 pub fn have_texts<F: Display>(alloc: Global, texts: &[(F, &str)]) -> bool {
     texts.iter().all(|(fault, text)| fault
         .to_string(alloc)

@@ -1,5 +1,5 @@
-//! Tests of several crates share this: frames and replies, settings made of data, the forms of a channel, growths that are refused
-//! once, and streams that fail.
+//! Parts that the tests of several crates share: frames and replies, settings made of data, the forms of a channel,
+//! growths that are refused once, and streams that fail.
 #![tactic(auto)]
 
 mod form;

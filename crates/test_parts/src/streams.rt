@@ -4,7 +4,7 @@ use std::alloc::Global;
 use std::io;
 use std::io::{ErrorKind, Read, Write};
 
-/// Gives so many octets a read at most, and fails at a read.
+/// A reader that gives at most `most` octets at each read, and fails at one read.
 #[derive(Drop)]
 pub struct Failing<'a> {
     rest: &'a [u8],
@@ -14,7 +14,7 @@ pub struct Failing<'a> {
 }
 
 impl<'a> Failing<'a> {
-    /// Of these octets. Reads are numbered from 1.
+    /// Creates a reader of these octets that fails at the read `fails_at`. Reads are numbered from 1.
     pub fn new(octets: &'a [u8], most: usize, fails_at: u32) -> Failing<'a> {
         Failing {
             rest: octets,
@@ -24,7 +24,7 @@ impl<'a> Failing<'a> {
         }
     }
 
-    /// How often it was read.
+    /// Returns the number of reads.
     pub fn reads(&self) -> u32 {
         self.reads
     }
@@ -44,7 +44,7 @@ impl Read for Failing<'_> {
     }
 }
 
-/// Keeps what is written, fails at a write or at each flush, and counts both.
+/// A writer that keeps the octets that are written, fails at a write or at each flush, and counts both.
 #[derive(Drop)]
 pub struct Watched {
     kept: Vec<u8>,
@@ -55,7 +55,8 @@ pub struct Watched {
 }
 
 impl Watched {
-    /// One that fails at this write, numbered from 1, or at none.
+    /// Creates a writer that fails at the write `fails_at`, numbered from 1, or at none if that is 0, and at each flush
+    /// if `fails_to_flush` is set.
     pub fn new(alloc: Global, fails_at: u32, fails_to_flush: bool) -> Watched {
         Watched {
             kept: Vec::new(alloc),
@@ -66,17 +67,17 @@ impl Watched {
         }
     }
 
-    /// All that was written.
+    /// Returns all octets that were written.
     pub fn kept(&self) -> &[u8] {
         &self.kept
     }
 
-    /// How often it was written to.
+    /// Returns the number of writes.
     pub fn writes(&self) -> u32 {
         self.writes
     }
 
-    /// How often it was flushed.
+    /// Returns the number of flushes.
     pub fn flushes(&self) -> u32 {
         self.flushes
     }

@@ -13,19 +13,20 @@ pub struct Wanted<'a> {
     pub vcid: u8,
     /// The width of the window.
     pub width: u8,
-    /// How many data fields are buffered.
+    /// The number of data fields that the buffer holds.
     pub buffer: u8,
     /// The first V(R).
     pub first: u8,
-    /// Whether data fields have segment headers.
+    /// A flag that is set if data fields have segment headers.
     pub segmented: bool,
-    /// APIDs and capacities.
+    /// The APIDs and capacities of the packet queues.
     pub queues: &'a [(u16, u16)],
-    /// MAPs and capacities.
+    /// The chosen MAPs and the capacities of their queues.
     pub maps: &'a [(u8, u16)],
 }
 
-/// Virtual channel 1 with the window 10, room for one field, V(R) 0 first, and a queue of capacity 1 for APID 5.
+/// Virtual channel 1 with a window of width 10, room for one field, the first V(R) 0, and a queue of capacity 1 for
+/// APID 5.
 pub const WANTED: Wanted<'static> = Wanted {
     vcid: 1,
     width: 10,
@@ -52,7 +53,7 @@ fn maps_of(alloc: Global, wanted: &[(u8, u16)]) -> Result<Items<MapSetting>, All
     Ok(Items::from(maps))
 }
 
-/// These settings. One growth may be refused.
+/// Creates these settings. One growth may be refused.
 pub fn settings(alloc: Global, wanted: &Wanted<'_>) -> Result<Settings, AllocError>
     ensures { IfOk result (λ settings. settings.vcid ≡ wanted.now.vcid) }
 {

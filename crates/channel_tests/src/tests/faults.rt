@@ -1,4 +1,5 @@
-//! Settings that make a channel, settings that make none, what a channel in rooms refuses, and the texts of the faults.
+//! Settings that create a channel, settings that are rejected, calls that a channel in rooms rejects, and the texts of
+//! the faults.
 
 use super::*;
 use SettingsFault::{
@@ -22,7 +23,7 @@ static FAULTS: [(u8, u8, u8, &[(u16, u16)], Option<SettingsFault>); 12] = [
     (1, 3, 1, &[(5, 0)], Some(BadWindow)),
 ];
 
-// Settings have this fault, or none, and make no channel because of it, or make one.
+// Checks that settings have this fault, and create no channel for it; or that they have none, and create one.
 fn check_fault(rt: &impl Abort, alloc: Global, wanted: &Wanted<'_>, fault: Option<SettingsFault>) {
     let settings = settings(rt, alloc, wanted);
     assert_eq!(rt; settings.check().err(), fault);
@@ -180,7 +181,8 @@ fn the_text_of_each_fault_in_rooms(rt: HostRuntime) {
 // Octets that nothing was copied to yet.
 const UNTOUCHED: [u8; 8] = [0xee; 8];
 
-// A take into too few octets takes nothing, and changes none of them; what comes behind an item stays. What is dropped is gone.
+// A take into too few octets takes nothing, and changes none of them. Octets behind an item keep their values. An item
+// that is dropped is gone.
 #[test]
 fn takes_into_few_octets_and_drops(rt: HostRuntime) {
     let mut channel: FixedChannel = new_channel(&rt, rt.alloc(), "FixedChannel", &BOTH);

@@ -1,4 +1,5 @@
-//! Each call is made, of a channel of each form; where it answers out of memory, the channel is as it was, and the call is made again.
+//! Each call is made on a channel of each form. If a call runs out of memory, the channel is as it was, and the call is
+//! made again.
 
 use super::Step::{
     Ad, Clcw, Field, Frame, Holds, Lends, NoRelease, NoTake, NoTakeUnit, Release, ReleaseOf, Take,
@@ -6,22 +7,22 @@ use super::Step::{
 };
 use super::*;
 
-// Room for one field, a queue of capacity 2 for APID 5, and one of capacity 1 for APID 6 and for APID 7; a queue of two units of
-// MAP 3.
+// Settings with room for one field, a queue of capacity 2 for APID 5, one of capacity 1 for each of APIDs 6 and 7, and
+// a queue for two units of MAP 3.
 const GROWING: Wanted<'static> = Wanted {
     queues: &[(5, 2), (6, 1), (7, 1)],
     maps: &[(3, 2)],
     ..WANTED
 };
 
-// The same without segment headers, and so without MAPs.
+// Settings like `GROWING`, but without segment headers, and so without MAPs.
 const PLAIN: Wanted<'static> = Wanted {
     segmented: false,
     maps: &[],
     ..GROWING
 };
 
-// On a new channel, after so many frames that are discarded.
+// Plays steps on a new channel, after `earlier` frames that are discarded.
 fn play_on<C: Form>(
     rt: &(impl Abort + Print),
     alloc: Global,
@@ -38,7 +39,7 @@ fn play_on<C: Form>(
     run
 }
 
-// On a channel of each form.
+// Plays steps on a channel of each form.
 fn play(
     rt: &(impl Abort + Print),
     alloc: Global,
@@ -71,7 +72,7 @@ static EACH_CALL: [Step<'static>; 9] = [
     Holds(0, 0, Some(0)),
 ];
 
-// So many frames that are discarded come before, so that the journal grows in each call once.
+// Different numbers of discarded frames come before, so that the journal grows once in each of the calls.
 #[test]
 fn growth_of_each_call_of_a_channel(rt: HostRuntime) {
     for earlier in 0..5 {
@@ -113,7 +114,7 @@ const TWO_APIDS: [u8; 20] = [
     0x01, 0x00, 0x00, 0xbb,
 ];
 
-// The second packet of each of the two.
+// The second packets of `TWO_PACKETS` and `TWO_APIDS`.
 const SECOND: [u8; 7] = [0x10, 0x05, 0xc0, 0x01, 0x00, 0x00, 0xbb];
 
 const SECOND_APID: [u8; 7] = [0x10, 0x07, 0xc0, 0x01, 0x00, 0x00, 0xbb];
@@ -218,7 +219,7 @@ fn growth_of_units_of_a_chosen_map(rt: HostRuntime) {
 
 static TAKE_OF_A_UNIT: [Step<'static>; 2] = [Frame(&BD_UNIT, DELIVERED), TakeUnit(3, &UNIT)];
 
-// So many frames that are discarded come before, so that the journal grows in a take of a unit once.
+// Different numbers of discarded frames come before, so that the journal grows once in a take of a unit.
 #[test]
 fn growth_of_a_take_of_a_unit(rt: HostRuntime) {
     for earlier in 0..4 {
@@ -229,7 +230,7 @@ fn growth_of_a_take_of_a_unit(rt: HostRuntime) {
 // `SECOND`, unsegmented on MAP 0.
 const SECOND_FIELD: [u8; 8] = [0xc0, 0x10, 0x05, 0xc0, 0x01, 0x00, 0x00, 0xbb];
 
-// One packet or unit was dropped, since its queue was full.
+// The reply to a frame whose packet or unit was dropped, since its queue was full.
 const DROPPED: FrameReply = FrameReply {
     delivery: Delivery {
         dropped: 1,
@@ -272,8 +273,9 @@ static QUEUES: [Step<'static>; 30] = [
     Holds(0, 0, Some(0)),
 ];
 
-// Items come out in the order in which they came, from rooms that are used again and again. What is lent is what the next take gives,
-// and nothing of an empty queue or of one that isn't there. Lending is no event, nor is what is refused.
+// Items are taken in the order in which they came, from rooms that are used again and again. The item that is lent is
+// the one that the next take gives. An empty queue, or one that doesn't exist, lends nothing. A loan is no event, and
+// neither is a call that is refused.
 #[test]
 fn packets_and_units_in_their_queues(rt: HostRuntime) {
     play(&rt, rt.alloc(), &GROWING, 0, &QUEUES)

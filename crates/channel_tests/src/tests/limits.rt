@@ -1,5 +1,6 @@
-//! Limits of units by MAP. Expected values are those of CCSDS 232.0-B, 4.4, by hand: a unit is what an unsegmented data field
-//! carries behind its segment header, or what a first, continuing and last segment carry together.
+//! Limits of units by MAP. Expected values were worked out by hand from CCSDS 232.0-B, 4.4: a unit is the octets that
+//! an unsegmented data field carries behind its segment header, or that a first, continuing and last segment carry
+//! together.
 
 use super::Step::{Field, Frame, Holds, Take, TakeUnit};
 use super::*;
@@ -18,8 +19,8 @@ const EIGHT_ON_1: [u8; 9] = [0xc1, 0x10, 0x05, 0xc0, 0x00, 0x00, 0x01, 0xaa, 0xb
 
 const EIGHT_ON_63: [u8; 9] = [0xff, 0x10, 0x05, 0xc0, 0x00, 0x00, 0x01, 0xaa, 0xbb];
 
-// The limit of MAP 0 lets `PACKET`, of 7 octets, through, and drops the one of 8 octets; MAPs 1 and 63 aren't listed, and have
-// the limit of 8 octets.
+// The limit of MAP 0 lets `PACKET`, of 7 octets, through, and drops the packet of 8 octets. MAPs 1 and 63 aren't
+// listed, and have the limit of 8 octets.
 static BY_PACKETS: [Step<'static>; 8] = [
     Frame(&BD_PACKET, DELIVERED),
     Field(&EIGHT_ON_0, PASSED),
@@ -42,7 +43,7 @@ static BY_SEGMENTS: [Step<'static>; 6] = [
 ];
 
 // The chosen MAP 3 has a limit of its own: a run of three octets is dropped, and one of two is joined, whatever comes on another
-// MAP; an unsegmented unit of two is whole, and one of three is dropped.
+// MAP. An unsegmented unit of two octets is whole, and one of three is dropped.
 static OF_ANOTHER_MAP: [Step<'static>; 11] = [
     Field(&[0x43, 1, 2], PASSED),
     Field(&[0x03, 3], PASSED),
@@ -73,14 +74,14 @@ static PLAIN_FIELDS: [Step<'static>; 4] = [
     Take(5, &PACKET),
 ];
 
-// The same as `BOTH` without segment headers, and so without MAPs.
+// Settings like `BOTH`, but without segment headers, and so without MAPs.
 const PLAIN: Wanted<'static> = Wanted {
     segmented: false,
     maps: &[],
     ..BOTH
 };
 
-// One growth may be refused.
+// Creates limits. One growth may be refused.
 pub(super) fn limits_of(rt: &impl Abort, alloc: Global, others: u32, maps: &[MapLimit]) -> Limits {
     let maps = copied(alloc, maps).expect(rt, "limits");
     Limits {
@@ -89,7 +90,8 @@ pub(super) fn limits_of(rt: &impl Abort, alloc: Global, others: u32, maps: &[Map
     }
 }
 
-// On a channel of these settings with so many octets on each of these MAPs, and so many on each other one.
+// Plays steps on a channel with these settings, with the limits of `maps`, and with the limit `others` for each other
+// MAP.
 fn play_within(
     rt: &(impl Abort + Print),
     alloc: Global,
@@ -127,7 +129,8 @@ const OVER_ON_3: MapLimit = MapLimit {
 
 const BAD_VCID: LimitsFault = LimitsFault::Settings(SettingsFault::BadVcid);
 
-// Settings, the limit of the other MAPs, those of listed ones, and the fault; of several that are there the first.
+// Settings, the limit of the other MAPs, those of listed ones, and the fault, which is the first one if there are
+// several.
 static FAULTS: [(Wanted<'static>, u32, &[MapLimit], Option<LimitsFault>); 12] = [
     (NO_CHANNEL, 65_543, &[HIGH], Some(BAD_VCID)),
     (BOTH, 65_543, &[HIGH], Some(BadOthers)),

@@ -2,7 +2,7 @@
 
 use super::*;
 
-// A channel with 64 queues of capacity 1, each with the APID that is how many queues come after it.
+// Creates a channel with 64 queues of capacity 1. The APID of each is the number of queues that come after it.
 fn channel_of_queues<C: Form>(rt: &(impl Abort + Print), alloc: Global, name: &str) -> C {
     let mut queues = room(alloc, 64).expect(rt, "room");
     for after in (0..64).rev() {
@@ -40,7 +40,7 @@ static PACKETS: [(u8, u8, u8); 20] = [
     (0x10, 7, 19),
 ];
 
-// A BD frame of one unit of `PACKETS` and an octet.
+// Returns a BD frame with one unit, which consists of `PACKETS` and an octet.
 fn long_frame(rt: &impl Abort, alloc: Global) -> Vec<u8> {
     let mut frame = room(alloc, 147).expect(rt, "room");
     frame
@@ -55,12 +55,12 @@ fn long_frame(rt: &impl Abort, alloc: Global) -> Vec<u8> {
     frame
 }
 
-// How many packets wait for APIDs 0, 1, 7, 62 and 63.
+// Returns the numbers of packets that wait for APIDs 0, 1, 7, 62 and 63.
 fn queued<C: Form>(channel: &C) -> [Option<usize>; 5] {
     [0, 1, 7, 62, 63].map(|apid| channel.packets(apid))
 }
 
-// A refused growth leaves the channel as it was.
+// Checks the reply to the long unit, and that a refused growth leaves the channel as it was.
 fn check_long_unit<C: Form, T: Abort + Print>(rt: &T, alloc: Global, name: &str) {
     let mut channel: C = channel_of_queues(rt, alloc, name);
     let octets = long_frame(rt, alloc);

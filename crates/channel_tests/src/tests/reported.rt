@@ -1,4 +1,4 @@
-//! Compares what a channel and octets report of themselves.
+//! The reports of a channel and of octets on themselves.
 
 use super::*;
 

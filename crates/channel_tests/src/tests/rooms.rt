@@ -22,7 +22,7 @@ fn octets_in_a_room(rt: HostRuntime) {
     check_room::<GrowingRoom, HostRuntime>(&rt, rt.alloc());
 }
 
-// Three items, one after the other, in two rooms.
+// Three items are put into two rooms, one after the other.
 #[test]
 fn items_in_two_rooms(rt: HostRuntime) {
     let mut slots: Slots<FixedRoom> = Slots::with_capacity(rt.alloc(), 2, 3).expect(&rt, "rooms");
@@ -43,7 +43,7 @@ fn items_in_two_rooms(rt: HostRuntime) {
     assert_eq!(&rt; slots.front(), Some([4].as_slice()));
 }
 
-// Of three items the first one waits, and the others are staged and rolled back.
+// The first of three items waits, and the others are staged and rolled back.
 #[test]
 fn items_staged_and_rolled_back(rt: HostRuntime) {
     let mut slots: Slots<GrowingRoom> = Slots::with_capacity(rt.alloc(), 3, 3).expect(&rt, "rooms");

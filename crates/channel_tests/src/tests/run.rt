@@ -1,9 +1,9 @@
-//! Steps of a channel as data, with what it must answer, and the run of them on a channel of whatever form.
+//! Steps on a channel as data, with the answers that it must give, and their run on a channel of any form.
 
 use super::*;
 use tc_link::Report;
 
-// Calls of a channel, with what it answers.
+// A call on a channel, with the answer that it must give.
 pub enum Step<'a> {
     // The frame of `ad_frame` with this N(S).
     Ad(u8, FrameReply),
@@ -11,9 +11,9 @@ pub enum Step<'a> {
     Frame(&'a [u8], FrameReply),
     // The Type-BD frame that carries this data field, of 32 octets at most.
     Field(&'a [u8], FrameReply),
-    // Of a unit of one packet.
+    // The release of a unit of one packet.
     Release,
-    // Of a unit of this kind, which names the release where it is refused memory.
+    // The release of a unit of this kind. Its name is printed if memory for the release is refused.
     ReleaseOf(&'a str, Delivery),
     Take(u16, &'a [u8]),
     TakeUnit(u8, &'a [u8]),
@@ -23,21 +23,21 @@ pub enum Step<'a> {
     NoTakeUnit(u8, TakeUnitFault),
     // The word with both link flags 0.
     Clcw(u32),
-    // How many fields are buffered, packets wait for APID 5, and units of MAP 3.
+    // The numbers of fields in the buffer, of packets that wait for APID 5, and of units that wait for MAP 3.
     Holds(usize, usize, Option<usize>),
     // The oldest packet for APID 5, and the oldest unit of MAP 3.
     Lends(Option<&'a [u8]>, Option<&'a [u8]>),
 }
 
-// A channel reports this of itself.
+// The report of a channel on itself.
 #[derive(Clone, Copy, Debug, PartialEq, Eq)]
 struct Reported {
     report: Report,
     word: u32,
     events_and_fields: (u64, usize),
-    // For APID 5 and for APID 7.
+    // The numbers of packets for APID 5 and for APID 7.
     queued: [Option<usize>; 2],
-    // Of MAP 3.
+    // The number of units of MAP 3.
     units: Option<usize>,
 }
 
@@ -51,7 +51,7 @@ fn report_of<C: Form>(channel: &C) -> Reported {
     }
 }
 
-// A channel, and the journal that it must have. A call that is refused memory is printed, and made again.
+// A channel, and the journal that it must have. A call for which memory is refused is printed, and made again.
 #[derive(Drop)]
 pub struct Run<C: Form> {
     name: &'static str,
@@ -61,7 +61,7 @@ pub struct Run<C: Form> {
 }
 
 impl Run<Channel> {
-    // The channel's journal is as it must be.
+    // Checks that the channel's journal is as it must be.
     pub fn check_journal(&self, rt: &impl Abort) {
         assert_eq!(rt; self.channel.journal(), self.journal.as_slice());
     }
@@ -77,13 +77,13 @@ impl<C: Form> Run<C> {
         }
     }
 
-    // A call was refused memory, and the channel is as it was.
+    // Prints a call for which memory was refused, and checks that the channel is as it was.
     fn check_refused(&self, rt: &(impl Abort + Print), call: &str, reported: &Reported) {
         let _ = println!(rt; "refused: {}::{call}", self.name);
         assert_eq!(rt; report_of(&self.channel), *reported);
     }
 
-    // The journal must have one event more.
+    // Notes that the journal must have one more event.
     fn note(&mut self, rt: &impl Abort, event: Event) {
         note(&mut self.journal, event).expect(rt, "an event")
     }
@@ -146,7 +146,7 @@ impl<C: Form> Run<C> {
         self.note(rt, Event::TakeUnit(map))
     }
 
-    // It lends these, and nothing where there is no queue.
+    // Checks that the channel lends these, and nothing if there is no queue.
     fn check_lent(&self, rt: &impl Abort, packet: Option<&[u8]>, unit: Option<&[u8]>) {
         assert_eq!(rt; self.channel.lent_packet(5), packet);
         assert_eq!(rt; self.channel.lent_whole(3), unit);
@@ -186,7 +186,7 @@ impl<C: Form> Run<C> {
         }
     }
 
-    // Each step in turn; after each there are as many events as there must be.
+    // Plays the steps in order, and checks the number of events after each.
     pub fn play(&mut self, rt: &(impl Abort + Print), steps: &[Step<'_>]) {
         for step in steps {
             self.step(rt, step);

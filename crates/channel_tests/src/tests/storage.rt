@@ -1,33 +1,33 @@
-//! How many octets are asked for, worked out by hand from the sizes of x86-64: the own words of a room have 32 octets, those of a
-//! stream 40, those of a queue 64.
+//! The number of bytes that are requested, worked out by hand from the sizes of x86-64: the words of a room itself have
+//! 32 bytes, those of a stream 40, and those of a queue 64.
 
 use super::limits::limits_of;
 use super::*;
 use tc_fixed::{LentLimits, storage, storage_of_lent, storage_with_lent, storage_with_limits};
 
-// Two queues of 4 packets and a buffer of 4, with segment headers.
+// Settings with two queues of 4 packets and a buffer of 4, with segment headers.
 const TWO_QUEUES: Wanted<'static> = Wanted {
     buffer: 4,
     queues: &[(5, 4), (6, 4)],
     ..WANTED
 };
 
-// The same without segment headers.
+// Settings like `TWO_QUEUES`, but without segment headers.
 const PLAIN_QUEUES: Wanted<'static> = Wanted {
     segmented: false,
     ..TWO_QUEUES
 };
 
-// Four queues of 8 and a buffer of 8.
+// Settings with four queues of 8 packets and a buffer of 8.
 const USUAL: Wanted<'static> = Wanted {
     buffer: 8,
     queues: &[(5, 8), (6, 8), (7, 8), (8, 8)],
     ..WANTED
 };
 
-// Without segment headers 4 times 32 + 1,019 for the buffer, 2 times 64 for the queues, and 8 times 32 + 1,019 for packets. With
-// them packets have 65,542 octets, and there are 128 times 40 + 65,542 for the streams. The queue of a MAP has the words of any
-// other: in `BOTH` a buffer of 1, two queues, and four items.
+// Without segment headers, the buffer takes 4 times 32 + 1,019 bytes, the queues 2 times 64, and the packets 8 times 32
+// + 1,019. With segment headers, packets have 65,542 octets, and the streams take 128 times 40 + 65,542. The queue of a
+// MAP has as many words as any other. `BOTH` has a buffer of 1, two queues, and four items.
 static OCTETS: [(Wanted<'static>, u64); 4] = [
     (PLAIN_QUEUES, 12_740),
     (TWO_QUEUES, 8_923_420),
@@ -35,7 +35,7 @@ static OCTETS: [(Wanted<'static>, u64); 4] = [
     (USUAL, 10_501_528),
 ];
 
-// Without limits by MAP it is what is asked for without them, and of lists that are lent it is the same.
+// Without limits by MAP, all three functions return the same number, be the lists owned or lent.
 #[test]
 fn octets_without_limits(rt: HostRuntime) {
     let none = Limits::none(rt.alloc());
@@ -47,8 +47,8 @@ fn octets_without_limits(rt: HostRuntime) {
     }
 }
 
-// Units of 1,024 octets on MAP 0 alone: 8 times 32 + 1,019 for the buffer, 128 times 40 and twice 1,024 for the streams, 4 times
-// 64 for the queues, and 32 times 32 + 1,024 for packets.
+// With units of 1,024 octets on MAP 0 alone, the buffer takes 8 times 32 + 1,019 bytes, the streams 128 times 40 and
+// twice 1,024, the queues 4 times 64, and the packets 32 times 32 + 1,024.
 #[test]
 fn octets_within_limits(rt: HostRuntime) {
     let settings = settings(&rt, rt.alloc(), &USUAL);

@@ -3,19 +3,19 @@
 use std::process::Abort;
 use tc_cltu::{Fate, Judged, Mode, decode_block, encode_block, judge};
 
-// Seven octets and their code block, by long division of integers in Python.
+// Seven octets and their code block, computed by long division of integers in Python.
 const INFORMATION: [u8; 7] = [0x22, 0xf6, 0x00, 0xff, 0x00, 0x42, 0x1a];
 
 const BLOCK: u64 = 0x22f600ff00421a12;
 
-// What becomes of a block in a mode, and what it carries, if it is taken.
+// Checks the fate of a block in a mode, and the octets that it carries, if it is accepted.
 fn check(rt: &impl Abort, block: u64, mode: Mode, fate: Fate, information: Option<[u8; 7]>) {
     let block = block.to_be_bytes();
     assert!(rt; judge(block, mode) == Judged { fate, information });
     assert!(rt; decode_block(block, mode) == information);
 }
 
-// One of 63 bits is corrected, or detected; two and three are detected.
+// One wrong bit of 63 is corrected, or detected. Two and three wrong bits are detected.
 #[test]
 fn wrong_bits_are_detected_or_corrected(rt: HostRuntime) {
     assert!(rt; encode_block(INFORMATION) == BLOCK.to_be_bytes());

@@ -1,10 +1,10 @@
-//! CLTUs that are written.
+//! Writing CLTUs.
 
 use tc_cltu::{CltuFault, write_cltu};
 use test_parts::made_again;
 
-// A frame, and the CLTU that carries it: the start sequence eb90, code blocks, in the last of which fill octets are 55, and the tail
-// sequence. The parity bits are by long division of integers in Python.
+// A frame, and the CLTU that carries it: the start sequence eb90, code blocks, the last of which has fill octets 55,
+// and the tail sequence. The parity bits were computed by long division of integers in Python.
 const FRAME: &[u8] = b"\x00\x2a\x04\x0c\x00\xc0\x10\x05\xc0\x00\x00\x00\xaa";
 
 const CLTU: &[u8] =
@@ -22,7 +22,7 @@ fn growth_of_a_cltu_that_is_written(rt: HostRuntime) {
     assert!(rt; made.expect(&rt, "a CLTU").as_slice() == CLTU);
 }
 
-// The longest is the start sequence, 147 code blocks of 8 octets, and the tail sequence.
+// The longest CLTU has the start sequence, 147 code blocks of 8 octets, and the tail sequence.
 #[test]
 fn the_longest_cltu_is_written(rt: HostRuntime) {
     let made = write_cltu(rt.alloc(), &[0; 1029]).expect(&rt, "a CLTU");

@@ -12,7 +12,7 @@ fn window(rt: &impl Abort, width: u8) -> Window {
     Window::new(width).expect(rt, "a width")
 }
 
-// A frame comes; in S2 it finds no room.
+// Brings a frame, for which there is no room in S2.
 fn arrive(farm: &mut Farm, kind: Kind, room: bool) -> Act {
     match farm.report().state {
         State::S2 => farm.step(Arrival::Frame { kind, room: false }),
@@ -25,7 +25,7 @@ fn word(farm: &Farm) -> u32 {
     clcw_word(&farm.report(), 1, NO_FLAG)
 }
 
-// What comes, what FARM-1 makes of it, and the CLCW after it.
+// An arrival, the act of FARM-1, and the CLCW after it.
 type Row = (Arrival, Act, u32);
 
 fn check_rows(rt: &impl Abort, farm: &mut Farm, rows: &[Row]) {

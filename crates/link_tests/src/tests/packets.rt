@@ -5,7 +5,7 @@ use std::process::Abort;
 use tc_packet::{Cut, NoMemory, Packet, cut, next_packet, read_packet};
 use test_parts::{PACKET, made_again};
 
-// The octets begin with this packet, and these octets come after it.
+// Checks that the octets begin with this packet, and that these octets come after it.
 fn check_packet(rt: &impl Abort, octets: &[u8], packet: Packet<'_>, rest: &[u8]) {
     assert_eq!(rt; next_packet(octets), Some((packet, rest)));
     assert_eq!(rt; read_packet(octets), Some(packet));
@@ -38,7 +38,7 @@ fn reads_the_packet_at_the_front(rt: HostRuntime) {
     check_packet(&rt, TAIL, SECOND, b"\xff");
 }
 
-// The unit is cut into so many packets like `PACKET` and this rest.
+// Checks that the unit is cut into `count` packets like `PACKET` and this rest.
 fn check_cut(rt: &impl Abort, cut: &Cut<'_>, count: usize, rest: &[u8]) {
     assert_eq!(rt; cut.packets.len(), count);
     for packet in &cut.packets {
@@ -47,7 +47,7 @@ fn check_cut(rt: &impl Abort, cut: &Cut<'_>, count: usize, rest: &[u8]) {
     assert_eq!(rt; cut.rest, rest);
 }
 
-// So many packets like `PACKET`, and these octets after them.
+// Returns `count` packets like `PACKET`, and these octets after them.
 fn packets_and(rt: &impl Abort, alloc: Global, count: usize, rest: &[u8]) -> Vec<u8> {
     let mut unit = Vec::new(alloc);
     for _ in 0..count {
@@ -57,7 +57,7 @@ fn packets_and(rt: &impl Abort, alloc: Global, count: usize, rest: &[u8]) -> Vec
     unit
 }
 
-// Numbers of packets and the rests of units, of which the last is the largest one.
+// The numbers of packets and the rests of units, the last of which is the largest unit.
 static CUT: [(usize, &[u8]); 3] = [(0, b""), (1, b"\xff"), (9_363, b"\xff")];
 
 #[test]

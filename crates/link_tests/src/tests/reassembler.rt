@@ -8,7 +8,7 @@ use std::process::Abort;
 use tc_packet::{NoMemory, Reassembler, Service, read_segment};
 use test_parts::made_again;
 
-// The unit that a field, which isn't empty, would end.
+// Returns the unit that a field, which isn't empty, would end.
 fn ask(
     rt: &impl Abort,
     reassembler: &Reassembler,
@@ -19,7 +19,7 @@ fn ask(
     reassembler.unit_after(service, field)
 }
 
-// The unit that a field, which isn't empty, ends.
+// Brings a field, which isn't empty, and returns the unit that it ends.
 fn push(
     rt: &impl Abort,
     reassembler: &mut Reassembler,
@@ -30,13 +30,13 @@ fn push(
     reassembler.push(service, field)
 }
 
-// This unit was ended, or none; no memory was refused.
+// Checks that this unit was ended, or none, and that no memory was refused.
 fn check_unit(rt: &impl Abort, answer: Result<Option<Vec<u8>>, NoMemory>, expected: Option<&[u8]>) {
     let unit = answer.expect(rt, "an answer");
     assert_eq!(rt; unit.as_deref(), expected);
 }
 
-// A reassembler, and all that was ever given to it.
+// A reassembler, and all fields that were ever given to it.
 #[derive(Drop)]
 struct Watched {
     alloc: Global,
@@ -54,7 +54,8 @@ impl Watched {
         }
     }
 
-    // The unit that the field would end: the same of the reassembler and by the definition over the whole stream.
+    // Returns the unit that the field would end, and checks that the reassembler and the definition over the whole
+    // stream agree on it.
     fn unit_after(&self, rt: &impl Abort, service: Service, field: &[u8]) -> Option<Vec<u8>> {
         let expected = definition::unit_after(self.alloc, &self.given, service, field).expect(
             rt,
@@ -72,7 +73,7 @@ impl Watched {
             .expect(rt, "a field");
     }
 
-    // The field ends this unit, or none, by each call and by the definition.
+    // Brings a field, checks that each call and the definition agree on the unit that it ends, and returns this unit.
     fn push(&mut self, rt: &impl Abort, service: Service, field: &[u8]) -> Option<Vec<u8>> {
         let expected = self.unit_after(rt, service, field);
         let answer = push(rt, &mut self.reassembler, service, field);
@@ -81,7 +82,7 @@ impl Watched {
         expected
     }
 
-    // The open run of the stream is what an empty last segment would make a unit of.
+    // Checks the open run of a stream, which is the unit that an empty last segment would end.
     fn check_run(&self, rt: &impl Abort, service: Service, map: u8) {
         self.unit_after(rt, service, &[0x80 | (map & 0x3f)]);
     }

@@ -10,7 +10,7 @@ fn decoder_of(rt: &(impl Abort + Print), alloc: Global, mode: Mode) -> Decoder {
     made_again(rt, "Decoder::new", AllocError, &new).expect(rt, "a decoder")
 }
 
-// Octets, and the CLTU that carries them.
+// A frame, and the CLTU that carries it.
 const FRAME: [u8; 7] = [0x30, 0x2a, 0x04, 0x05, 0x00, 0x00, 0x55];
 
 const CLTU: [u8; 18] = [
@@ -18,7 +18,8 @@ const CLTU: [u8; 18] = [
     0xc5, 0x79,
 ];
 
-// A frame whose copy is refused stays in the decoder: all octets up to its end were taken, and the frames before it stay.
+// Feeds the CLTU to the decoder. A frame whose copy is refused stays in the decoder: all octets up to its end were
+// taken, and the frames before it stay.
 fn feed(
     rt: &(impl Abort + Print),
     alloc: Global,
@@ -47,7 +48,7 @@ fn growth_of_the_frames_of_many_cltus(rt: HostRuntime) {
     }
 }
 
-// How long the first frame of a stream is, which comes octet by octet.
+// Returns the length of the first frame of a stream that comes octet by octet.
 fn length_of(rt: &(impl Abort + Print), alloc: Global, stream: &[u8]) -> Option<usize> {
     let mut decoder = decoder_of(rt, alloc, Mode::Correct);
     for octet in stream {
@@ -65,7 +66,7 @@ const ZEROS: [u8; 8] = [0, 0, 0, 0, 0, 0, 0, 0xfe];
 
 const END: [u8; 8] = [0xc5, 0xc5, 0xc5, 0xc5, 0xc5, 0xc5, 0xc5, 0x79];
 
-// 147 code blocks, and one more.
+// A CLTU of 147 code blocks gives its octets, and one with one more gives nothing.
 #[test]
 fn a_cltu_that_is_too_long_gives_nothing(rt: HostRuntime) {
     let mut longest = [ZEROS; 149];

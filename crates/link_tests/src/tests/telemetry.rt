@@ -1,4 +1,4 @@
-//! Telemetry frames, worked out by hand. The sum is that of Python's `binascii.crc_hqx(.., 0xffff)`.
+//! Telemetry frames, worked out by hand. The check sum is from Python's `binascii.crc_hqx(.., 0xffff)`.
 
 use std::alloc::{AllocError, Global};
 use tc_tm::{Counts, ErrorControl, TmFault, TmHeader, write_tm};
@@ -13,12 +13,12 @@ const HEADER: TmHeader = TmHeader {
 
 const CLCW: [u8; 4] = [0x01, 0x04, 0x00, 0x01];
 
-// 00 0000101010 001 1, the counts, 0 0 0 11 11111111110, an idle octet and the CLCW.
+// The bits 00 0000101010 001 1, the counts, the bits 0 0 0 11 11111111110, an idle octet and the CLCW.
 const FRAME: [u8; 11] = [
     0x02, 0xa3, 0xff, 0x07, 0x1f, 0xfe, 0x55, 0x01, 0x04, 0x00, 0x01,
 ];
 
-// The same, and the sum over it.
+// `FRAME`, and the check sum over it.
 const WHOLE: [u8; 13] = [
     0x02, 0xa3, 0xff, 0x07, 0x1f, 0xfe, 0x55, 0x01, 0x04, 0x00, 0x01, 0x73, 0xd2,
 ];
@@ -34,7 +34,7 @@ fn growth_of_a_telemetry_frame_that_is_written(rt: HostRuntime) {
     assert!(rt; made.expect(&rt, "a frame").as_slice() == WHOLE.as_slice());
 }
 
-// Both counts of the next frame.
+// Returns both counts of the next frame.
 fn next_counts(
     counts: &mut Counts,
     alloc: Global,
@@ -49,7 +49,8 @@ fn next_counts(
     })
 }
 
-// Frames, one after the other: the spacecraft, the virtual channel and the length, and both counts, or why the frame isn't made.
+// Frames, one after the other: the spacecraft, the virtual channel and the length, and both counts, or the fault for
+// which the frame isn't written.
 static COUNTED: [(u16, u8, usize, Result<[u8; 2], TmFault>); 6] = [
     (42, 1, 11, Ok([0, 0])),
     (42, 2, 11, Ok([1, 0])),

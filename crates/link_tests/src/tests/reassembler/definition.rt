@@ -1,4 +1,4 @@
-//! The unit that a field ends, computed slowly from its definition: over all fields of the stream.
+//! The unit that a field ends, computed slowly from its definition, over all fields of the stream.
 
 use std::alloc::{AllocError, Global};
 use tc_packet::Service;
@@ -17,7 +17,8 @@ fn map(field: &[u8]) -> Option<u8> {
     field.first().map(|header| header & 0x3f)
 }
 
-// The fields are one unsegmented one, or a first and a last one and between them only continuing ones.
+// Returns whether the fields are a single unsegmented one, or a first and a last one with only continuing ones between
+// them.
 fn are_one_unit(fields: &[&[u8]]) -> bool {
     match fields {
         [] => false,

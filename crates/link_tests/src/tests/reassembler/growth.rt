@@ -1,4 +1,4 @@
-//! Each call is made; where it answers that memory ran out, no run has changed, and the call is made again.
+//! Each call is made. If it runs out of memory, no run has changed, and the call is made again.
 
 use super::*;
 
@@ -13,7 +13,7 @@ const LAST: [u8; 9] = [0x80 | MAP, 5, 5, 5, 5, 5, 5, 5, 5];
 
 const UNSEGMENTED: [u8; 3] = [0xc0 | MAP, 5, 5];
 
-// What `FIRST` leaves open; the same with the body of `CONTINUING`; the units that end both with `LAST`.
+// The run that `FIRST` leaves open, this run with the body of `CONTINUING`, and the units that `LAST` makes of both.
 const SHORT_RUN: [u8; 3] = [5; 3];
 
 const LONG_RUN: [u8; 42] = [5; 42];
@@ -22,7 +22,7 @@ const SHORT_UNIT: [u8; 11] = [5; 11];
 
 const LONG_UNIT: [u8; 50] = [5; 50];
 
-// The open run of a stream is what an empty last segment would make a unit of.
+// Checks the open run of a stream, which is the unit that an empty last segment would end.
 fn check_run(
     rt: &impl Abort,
     reassembler: &Reassembler,
@@ -38,7 +38,7 @@ fn check_run(
     assert_eq!(rt; run.as_deref(), expected, "{service:?}, MAP {map}");
 }
 
-// The stream of `MAP` on BD has this open run, and no other stream has one.
+// Checks that the stream of `MAP` on BD has this open run, and that no other stream has one.
 fn check_only_run(rt: &impl Abort, reassembler: &Reassembler, expected: Option<&[u8]>) {
     for map in 0..64 {
         check_run(rt, reassembler, Service::Ad, map, None);
@@ -52,7 +52,7 @@ fn made(rt: &(impl Abort + Print), alloc: Global, segmented: bool) -> Reassemble
     made_again(rt, "Reassembler::new", NoMemory, &new).expect(rt, "an answer")
 }
 
-// `push` was refused memory for this field.
+// Prints that memory for the `push` of this field was refused.
 fn report_refused(rt: &(impl Abort + Print), field: &[u8]) {
     assert!(rt; !field.is_empty());
     let part = read_segment(field[0]).part;
@@ -62,7 +62,7 @@ fn report_refused(rt: &(impl Abort + Print), field: &[u8]) {
 // A field, the unit that it ends, and the open run after it.
 type Row = (&'static [u8], Option<&'static [u8]>, Option<&'static [u8]>);
 
-// Takes a field, and checks the unit and the open run before and after.
+// Brings a field, and checks the unit and the open runs before and after.
 fn check_push(
     rt: &(impl Abort + Print),
     reassembler: &mut Reassembler,
@@ -81,10 +81,10 @@ fn check_push(
     check_only_run(rt, reassembler, after);
 }
 
-// `FIRST` opens `SHORT_RUN`.
+// The row of `FIRST`, which opens `SHORT_RUN`.
 const OPENED: Row = (&FIRST, None, Some(&SHORT_RUN));
 
-// Segments of each part; a first and an unsegmented one drop the open run.
+// Segments of each part. A first and an unsegmented segment drop the open run.
 static SEGMENTS: [Row; 8] = [
     OPENED,
     OPENED,
@@ -107,7 +107,7 @@ fn growth_of_units_and_open_runs(rt: HostRuntime) {
     }
 }
 
-// With `SHORT_RUN` open, the field would end this unit, or none, and the run stays.
+// Checks that with `SHORT_RUN` open, the field would end this unit, or none, and that the run stays.
 fn check_asked(
     rt: &(impl Abort + Print),
     reassembler: &Reassembler,
@@ -140,7 +140,7 @@ fn growth_of_a_unit_that_a_segment_would_end(rt: HostRuntime) {
     }
 }
 
-// A field without a segment header is the unit of both calls.
+// Checks that a field without a segment header is the unit that both calls return.
 fn check_plain(rt: &(impl Abort + Print), reassembler: &mut Reassembler, field: &[u8]) {
     let would_end = || ask(rt, reassembler, Service::Bd, field);
     let answer = made_again(rt, "unit_after, plain", NoMemory, &would_end);
@@ -153,7 +153,7 @@ fn check_plain(rt: &(impl Abort + Print), reassembler: &mut Reassembler, field: 
     check_unit(rt, answer, Some(field));
 }
 
-// On a plain channel what would be a first segment, and one of an octet.
+// The fields on the plain channel would elsewhere be a first segment, and a last one of an octet.
 #[test]
 fn growth_of_units_of_a_plain_channel(rt: HostRuntime) {
     let mut reassembler = made(&rt, rt.alloc(), false);

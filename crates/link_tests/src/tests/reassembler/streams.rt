@@ -1,16 +1,16 @@
-//! Units at the limit, and long streams against the definition.
+//! Units at the limit, and long streams compared with the definition.
 
 ghost use Rattle.std.specs.Prelude.{◌<◌};
 
 use super::*;
 
-// On a new reassembler the field ends this unit, or none.
+// Checks that on a new reassembler the field ends this unit, or none.
 fn check_alone(rt: &impl Abort, alloc: Global, field: &[u8], expected: Option<&[u8]>) {
     let unit = Watched::new(rt, alloc).push(rt, Service::Ad, field);
     assert_eq!(rt; unit.as_deref(), expected);
 }
 
-// The octets, and so many zeros after them.
+// Returns the octets, and `count` zeros after them.
 fn with_zeros(rt: &impl Abort, alloc: Global, octets: &[u8], count: usize) -> Vec<u8> {
     let mut field = Vec::from_slice(alloc, octets).expect(rt, "octets");
     let zeros = vec![in alloc; 0; count];
@@ -27,7 +27,8 @@ fn bounds_an_unsegmented_unit(rt: HostRuntime) {
     check_alone(&rt, rt.alloc(), &longer, None)
 }
 
-// A first segment, 63 continuing ones of 1,018 octets and a last one of so many end this unit, or none.
+// Checks that a first segment, 63 continuing ones of 1,018 octets and a last one of `last` octets end this unit, or
+// none.
 fn check_long(rt: &impl Abort, alloc: Global, last: usize, expected: Option<&[u8]>) {
     let mut watched = Watched::new(rt, alloc);
     let first = with_zeros(rt, alloc, b"\x40\x10\x05\xc0\x00\xff\xff", 1_012);
@@ -65,7 +66,7 @@ impl Numbers {
     }
 }
 
-// A segment header of one of three MAPs, more often of a continuing segment.
+// Returns a segment header of one of three MAPs. That of a continuing segment comes more often than others.
 fn some_header(numbers: &mut Numbers) -> u8 {
     let flags = match numbers.below(8) {
         0 => 0x40,
@@ -76,7 +77,7 @@ fn some_header(numbers: &mut Numbers) -> u8 {
     flags | [0, 1, 63][numbers.below(3) as usize]
 }
 
-// A field with a body of fewer octets than the bound.
+// Returns a field whose body has fewer octets than the bound.
 fn some_field(rt: &impl Abort, alloc: Global, numbers: &mut Numbers, bound: u32) -> Vec<u8>
     requires { 0 < bound }
 {
@@ -97,7 +98,7 @@ fn some_service(numbers: &mut Numbers) -> Service {
     }
 }
 
-// So many fields, each followed by a look at the open runs of all streams that it may have touched.
+// Brings `fields` fields, and looks after each at the open runs of all streams that it may have touched.
 fn check_stream(rt: &impl Abort, alloc: Global, seed: u64, fields: usize, bound: u32)
     requires { 0 < bound }
 {
@@ -119,6 +120,6 @@ fn is_its_definition_on_long_streams(rt: HostRuntime) {
     for seed in 0..8 {
         check_stream(&rt, rt.alloc(), seed, 200, 8);
     }
-    // Bodies so long that runs go beyond the limit.
+    // These bodies are so long that runs go beyond the limit.
     check_stream(&rt, rt.alloc(), 8, 200, 30_000)
 }
