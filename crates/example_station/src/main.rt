@@ -1,7 +1,7 @@
 //! A station, an operator and a watcher at work on one frame: the example of the page on the library, docs/howto/library.md.
 //!
-//! It prints what became of the frame, how long the packet is that it brought, the CLCW after it, and how many events its
-//! channel's journal has in the end.
+//! It prints whether the frame was accepted and how many packets were queued, the length of the packet that it brought,
+//! the CLCW after it, and the number of events in the channel's journal at the end.
 #![tactic(auto)]
 
 #[cfg(test)]
@@ -18,14 +18,14 @@ use tc_station::Station;
 /// A frame of Type-AD for channel 1 of spacecraft 42, with N(S) 0 and a packet of application 5 in one segment.
 const FRAME: &[u8] = b"\x00\x2a\x04\x0c\x00\xc0\x10\x05\xc0\x00\x00\x00\xaa";
 
-/// An operator and a watcher have seen this.
+/// The values that an operator and a watcher have seen.
 #[derive(Debug, Drop)]
 struct Seen {
     accepted: bool,
     queued: u32,
     packet: Vec<u8>,
     word: u32,
-    /// How many events the channel's journal has, if the station was closed.
+    /// The number of events in the channel's journal, if the station was closed.
     events: Option<usize>,
 }
 
@@ -50,7 +50,7 @@ fn print<R: Wait + AllocGlobal + Print>(rt: &R) -> Result<()> {
     Ok(())
 }
 
-// The page shows what is between the two marks, and checks/pages compares them.
+// Receives one frame. The page shows the lines between the two marks, and checks/pages compares them.
 fn receive(rt: &impl Wait, alloc: Global, octets: &[u8]) -> Result<Seen> {
     // the page: from here
     let queues = Items::from(vec![in alloc;

@@ -30,7 +30,7 @@ fn one_frame(rt: HostRuntime) {
     assert_eq!(rt; seen.word, word);
     assert!(rt; seen.accepted);
     assert_eq!(rt; seen.queued, 1);
-    // the frame, its release and the take
+    // The events are the frame, its release and the take.
     assert!(rt; seen.events == Some(3));
     assert_eq!(rt;
         seen.packet.as_slice(),

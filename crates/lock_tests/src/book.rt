@@ -5,7 +5,7 @@ ghost use Rattle.std.specs.Prelude.{ℕ};
 use logged_lock::{Head, LockSeat, Logged, LoggedLock, NextEntry};
 use std::marker::{Brand, PhantomData};
 
-/// Which book it is.
+/// The head of a book's log, which says which book it is.
 pub struct Title {
     pub number: u8,
 }
@@ -16,7 +16,7 @@ impl Head for Title {
     ghost blank = { untitled };
 }
 
-/// The numbers that were written, in their order.
+/// A book with the numbers that were written, in order.
 #[derive(Drop)]
 pub struct Book {
     pub title: u8,
@@ -40,7 +40,7 @@ impl Number for Brand {
     ghost number = { 0 };
 }
 
-/// A number was written.
+/// The next entry of a book: the number that was written.
 pub struct Writes<P> {
     marker: PhantomData<P>,
 }

@@ -1,4 +1,4 @@
-//! Tests of the lock that remembers, over a book of numbers that several threads write, and of desks behind it.
+//! Tests of the lock with a log, around a book of numbers that several threads write, and around desks.
 #![tactic(auto)]
 
 mod book;

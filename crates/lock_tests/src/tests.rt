@@ -13,7 +13,7 @@ use std::alloc::Global;
 use std::process::Abort;
 use turns::{take_out, try_turn, turn, write};
 
-// A lock over a book in which nothing is written yet, and its first seat.
+// Creates a lock around a book in which nothing is written yet, and its first seat.
 fn new_lock(rt: &impl Abort, alloc: Global) -> (BookLock, BookSeat)
     ensures rest { IsWriter result.0 result.1 }
     ensures first { result.1.id ≡ 0 }

@@ -1,4 +1,4 @@
-//! Tests of desks and of stations, by public names. The library itself is empty.
+//! Tests of desks and of stations, which use public names only. The library itself is empty.
 #![tactic(auto)]
 
 #[cfg(test)]

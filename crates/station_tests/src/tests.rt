@@ -20,7 +20,7 @@ use test_parts::{
     settings,
 };
 
-// Settings for this virtual channel, with room for 64 data fields. One growth may be refused.
+// Creates settings for this virtual channel, with room for 64 data fields. One growth may be refused.
 fn settings_for(rt: &impl Abort, alloc: Global, vcid: u8) -> Settings
     ensures { result.vcid ≡ vcid }
 {
@@ -32,7 +32,7 @@ fn settings_for(rt: &impl Abort, alloc: Global, vcid: u8) -> Settings
     settings(alloc, &wanted).expect(rt, "settings")
 }
 
-// A station for spacecraft 42 with virtual channel 1. One growth may be refused.
+// Creates a station for spacecraft 42 with virtual channel 1. One growth may be refused.
 fn station_of_one<J: Journal>(rt: &impl Abort, alloc: Global) -> StationOf<J>
     ensures { result.vcids ≡ 1 ∷ [] }
 {
@@ -46,7 +46,7 @@ fn station_of_one<J: Journal>(rt: &impl Abort, alloc: Global) -> StationOf<J>
     }
 }
 
-// The same with virtual channels 1 and 2.
+// Creates a station for spacecraft 42 with virtual channels 1 and 2.
 fn station_of_two<J: Journal>(rt: &impl Abort, alloc: Global) -> StationOf<J>
     ensures { result.vcids ≡ 1 ∷ 2 ∷ [] }
 {
@@ -56,7 +56,7 @@ fn station_of_two<J: Journal>(rt: &impl Abort, alloc: Global) -> StationOf<J>
     StationOf::new(alloc, 42, list).expect(rt, "a station")
 }
 
-// So many operators of a station that has issued none. One growth may be refused.
+// Issues `n` operators of a station that has issued none. One growth may be refused.
 fn new_operators<J: Journal>(
     rt: &(impl Abort + Print),
     station: &mut StationOf<J>,
@@ -77,7 +77,8 @@ fn new_operators<J: Journal>(
     }
 }
 
-// Closes a station that these operators are in balance with. One growth may be refused: both are given back, and it is closed then.
+// Closes a station that is in balance with these operators. One growth may be refused: the station and the operators
+// are returned then, and the station is closed by a second call.
 fn closed(rt: &(impl Abort + Print), station: Station, operators: Vec<Operator>) -> Vec<Channel>
     requires { All (λ o. o.vcids ≡ station.vcids) operators.items }
 {
@@ -91,7 +92,7 @@ fn closed(rt: &(impl Abort + Print), station: Station, operators: Vec<Operator>)
     }
 }
 
-// There are as many channels, with so many events each.
+// Checks that there is a channel for each count, with that number of events.
 fn check_events<J: Journal>(rt: &impl Abort, channels: &[ChannelWith<J>], counts: &[u64]) {
     assert_eq!(rt; channels.len(), counts.len());
     for (channel, count) in channels.iter().zip(counts) {

@@ -1,4 +1,4 @@
-//! Each kind of call, one after the other.
+//! Calls of each kind, one after the other.
 
 use crate::calls::Call::{Again, Bypassing, Clcw, Next, Release, Take, Unlock};
 use crate::filler::{
@@ -17,12 +17,13 @@ const APID: u16 = 1;
 
 const PACKET: Oldest = Oldest::Packet(APID);
 
-// One packet of seven octets, unsegmented, and two.
+// An unsegmented field with one packet of seven octets, and one with two.
 const ONE_PACKET: Field = (Some(UNSEGMENTED | PACKETS), 0, 7);
 
 const TWO_PACKETS: Field = (Some(UNSEGMENTED | PACKETS), 0, 14);
 
-// Segments, the last of which ends a unit that is one packet of 26 octets: by 14, 2, 2 and 2 after the first six, or by 14 and 6.
+// Segments, the last of which ends a unit that is one packet of 26 octets. The first six octets are followed by 14, 2,
+// 2 and 2 octets, or by 14 and 6.
 const BEGUN: Field = (Some(FIRST | PACKETS), 19, 6);
 
 const FOURTEEN: Field = (Some(CONTINUING | PACKETS), 19, 14);
@@ -43,31 +44,32 @@ const UNIT_ENDED: Field = (Some(LAST | CHOSEN), 19, 2);
 // A field of a plain channel, which is one packet.
 const PLAIN_FIELD: Field = (None, 1_012, 1_019);
 
-// How many frames come to each channel before each of the two times that each kind of call is made, which is 35 events on the first
-// channel and five on the plain one. So the second time the first has more than 64 events and fewer than 128, the plain one more than
-// 32 and fewer than 64, and the list of a kept journal's events, whose room is doubled, grows in none of the calls.
+// The number of frames that come to each channel before each of the two times that each kind of call is made. The calls
+// are 35 events on the first channel and five on the plain one. So the second time the first channel has more than 64
+// events and fewer than 128, and the plain one more than 32 and fewer than 64. The list of a kept journal's events,
+// whose room is doubled, then grows in none of the calls.
 const BEFORE: u8 = 20;
 
-// Names the calls of a channel.
+// A call on a channel.
 #[derive(Clone, Copy)]
 enum Call {
     // A Type-AD frame that is accepted, and one that is discarded.
     Next(Field),
     Again(Field),
-    // A Type-BD frame, of whose unit so many items are queued and dropped, with the end of its line.
+    // A Type-BD frame, with the numbers of items of its unit that are queued and dropped, and the end of its line.
     Bypassing(Field, Items, &'static str),
     // The control command Unlock.
     Unlock,
-    // A release, likewise.
+    // A release, with the numbers of items of its unit that are queued and dropped, and the end of its line.
     Release(Items, &'static str),
-    // So many are taken, with the beginning of the line.
+    // Takes of this number of items, with the beginning of the line.
     Take(Oldest, u16, &'static str),
     Clcw,
 }
 
-// Each call on the first channel.
+// The calls on the first channel.
 static FIRST_CALLS: [Call; 30] = [
-    // These end no unit.
+    // These calls end no unit.
     Unlock,
     Again(ONE_PACKET),
     Clcw,
@@ -80,15 +82,15 @@ static FIRST_CALLS: [Call; 30] = [
     Bypassing(ONE_PACKET, ONE, ", one packet queued"),
     Bypassing(ONE_PACKET, DROPPED, ", one packet dropped"),
     Take(PACKET, 4, "take"),
-    // Segments, the last of which ends a unit that is one packet. The block of a run that grew the first time is there the second
-    // time.
+    // Segments, the last of which ends a unit that is one packet. The block of a run that grew the first time is still
+    // there the second time.
     Bypassing(BEGUN, NOTHING, ", first segment"),
     Bypassing(FOURTEEN, NOTHING, ", next segment"),
     Bypassing(TWO, NOTHING, ", next segment"),
     Bypassing(TWO, NOTHING, ", next segment"),
     Bypassing(LAST_TWO, ONE, ", last segment, one packet queued"),
     Take(PACKET, 1, "take"),
-    // The same by the buffer.
+    // The segments of such a unit, by way of the buffer.
     Next(BEGUN),
     Next(FOURTEEN),
     Next(LAST_SIX),
@@ -105,7 +107,7 @@ static FIRST_CALLS: [Call; 30] = [
     Take(Oldest::Unit(CHOSEN), 3, "take_unit"),
 ];
 
-// Fields of a plain channel.
+// The calls on a plain channel.
 static PLAIN_CALLS: [Call; 4] = [
     Bypassing(PLAIN_FIELD, ONE, " on a plain channel, one packet queued"),
     Next(PLAIN_FIELD),
@@ -113,7 +115,7 @@ static PLAIN_CALLS: [Call; 4] = [
     Take(PACKET, 2, "take"),
 ];
 
-/// Makes each kind of call, and again, and prints a line after each.
+/// Makes each kind of call twice, and prints a line after each call.
 pub(crate) fn print<F: Form, R: AllocGlobal + Print>(rt: &R) -> Result<()> {
     let mut first = Filler::new(F::made(rt.alloc(), CALLED.settings(rt.alloc(), 1)?)?);
     let mut plain = Filler::new(F::made(rt.alloc(), PLAIN.settings(rt.alloc(), 1)?)?);
@@ -145,7 +147,7 @@ fn print_each<F: Form>(rt: &impl Print, filler: &mut Filler<F>, calls: &[Call]) 
     Ok(())
 }
 
-// Makes a call; its line, in two parts.
+// Makes a call, and returns its line in two parts.
 fn make<F: Form>(filler: &mut Filler<F>, call: Call) -> Result<(&'static str, &'static str)> {
     match call {
         Next(field) => {

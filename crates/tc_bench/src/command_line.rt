@@ -1,17 +1,17 @@
 //! The command line.
 
-/// Says what becomes of a channel's journal, and when the channel asks for memory.
+/// The form of a channel, by where its journal is kept and when the channel requests memory.
 #[derive(Clone, Copy)]
 pub(crate) enum Kind {
-    /// The journal is kept in memory.
+    /// A channel whose journal is kept in memory.
     Recorded,
-    /// The journal takes no memory.
+    /// A channel whose journal takes no memory.
     Counting,
-    /// The journal takes no memory, and all else has rooms, which are made with the channel.
+    /// A channel whose journal takes no memory, and for which all else has rooms that are created with the channel.
     Rooms,
 }
 
-/// Says what comes to a bare channel in each round, and is taken.
+/// The load that comes to a bare channel in each round, and is taken.
 #[derive(Clone, Copy)]
 pub(crate) enum Load {
     /// A Type-AD frame of 13 octets, which is released, and its packet.
@@ -24,20 +24,20 @@ pub(crate) enum Load {
     Segments,
 }
 
-/// Says what a command line asks for.
+/// The action that a command line requests.
 #[derive(Clone, Copy)]
 pub(crate) enum Action<'a> {
-    /// Run the load, and print its scores.
+    /// A run of the load that prints its scores.
     Scores,
-    /// Make so many rounds of a load on a channel of this form, and print what they add up to.
+    /// This number of rounds of a load on a channel of this form, whose sum is printed.
     Rounds(Kind, Load, u32),
-    /// Fill a channel, or make each kind of call on it, as this word says.
+    /// The filling of a channel, or calls of each kind on it, as this word says.
     Fill(&'a str),
-    /// Make the call with this name once, on a channel of so many queues.
+    /// A single call with this name, on a channel with this number of queues.
     Worst(&'a str, u16),
 }
 
-/// Reads what the words ask for, the program's name first.
+/// Returns the action that the words request. The program's name is the first word.
 pub(crate) fn judge(words: &[String]) -> Option<Action<'_>> {
     match words {
         [] | [_] => Some(Action::Scores),
@@ -53,7 +53,7 @@ pub(crate) fn judge(words: &[String]) -> Option<Action<'_>> {
     }
 }
 
-// So many rounds of a load on a channel of the form that a word names.
+// Returns the action of `count` rounds of a load on a channel of the form that a word names.
 fn rounds(word: &str, form: &str, load: &str, count: &str) -> Option<Action<'static>> {
     let form = match (word, form) {
         ("rounds", "recorded") => Kind::Recorded,

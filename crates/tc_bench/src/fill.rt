@@ -1,4 +1,4 @@
-//! Filling a channel, by rows of like things. A key is an application or a MAP.
+//! Filling a channel, by rows of pieces of the same kind. A key is an application or a MAP.
 
 use crate::calls;
 use crate::filler::{
@@ -11,14 +11,14 @@ use anyhow::{Result, anyhow};
 use tc_channel::{Channel, CountingChannel};
 use tc_fixed::{FixedChannel, Limits, MapLimit, storage_with_limits};
 
-// Says what a row brings for a key.
+// The piece that a row brings for a key.
 #[derive(Clone, Copy)]
 enum Piece {
     // The largest packet that a data field without a segment header has, for the application.
     Plain(Kind),
     // An unsegmented packet of seven octets for the application.
     Packet,
-    // A segment on the MAP with these sequence flags, and so many octets.
+    // A segment on the MAP with these sequence flags, and this number of octets.
     Segment(Kind, u8, u16),
     // A run of as many octets as the largest unit, which is left open on the MAP.
     Run(Kind),
@@ -27,11 +27,12 @@ enum Piece {
     LargestUnit,
 }
 
-// A piece for each of the keys in turn, the first of which and their number is given; how many in all; and how many items of each are
-// queued and dropped.
+// A piece that is brought for each key in turn, the first key and the number of keys, the number of pieces in all, and
+// the numbers of items of each piece that are queued and dropped.
 type Row = (Piece, (u16, u16), u16, Items);
 
-// A unit of one segment; segments of Type-BD that begin a unit, go on and end one; and a first one that waits in the buffer.
+// A unit of one segment, segments of Type-BD that begin, continue and end a unit, and a first segment that waits in the
+// buffer.
 const UNIT: Piece = Piece::Segment(Kind::Bypassing, UNSEGMENTED, 7);
 
 const BEGUN: Piece = Piece::Segment(Kind::Bypassing, FIRST, 1_018);
@@ -42,7 +43,7 @@ const ENDED: Piece = Piece::Segment(Kind::Bypassing, LAST, 0);
 
 const BUFFERED: Piece = Piece::Segment(Kind::Next, FIRST, 1_018);
 
-// These rows fill the queues and the buffer of a plain channel.
+// Returns rows that fill the queues and the buffer of a plain channel.
 fn plain_rows(plan: &Plan) -> [Row; 2] {
     let (queues, packets) = plan.queues;
     let packets = queues.saturating_mul(packets);
@@ -53,19 +54,20 @@ fn plain_rows(plan: &Plan) -> [Row; 2] {
     ]
 }
 
-// Frames of a sender who means harm, for the channel of `MANY`: 70 queues of two packets, and three chosen MAPs of three units. Each
-// is answered as the model says, whatever came before.
+// Frames of a hostile sender, for the channel of `MANY` with 70 queues of two packets and three chosen MAPs of three
+// units. Each frame gets the answer that the model gives, whatever came before.
 static HOSTILE_ROWS: [Row; 16] = [
     // A thousand first segments over 16 MAPs: each begins the run of its MAP anew, and none ends.
     (BEGUN, (0, 16), 1_000, NOTHING),
-    // Packets for queues that are empty and then full, and for none, and units likewise.
+    // Packets for queues that are empty and then full, and for no queue, and units for queues that are empty and then
+    // full.
     (Piece::Packet, (0, 70), 140, ONE),
     (Piece::Packet, (0, 70), 140, DROPPED),
     (Piece::Packet, (70, 1), 1, DROPPED),
     (UNIT, (0, 3), 9, ONE),
     (UNIT, (0, 3), 9, DROPPED),
-    // On each MAP of each service a run of as many octets as a unit may have; then one octet more, which drops it, and an end, which
-    // ends nothing.
+    // On each MAP of each service a run of as many octets as a unit may have, then one more octet, which drops the run,
+    // and a last segment, which ends nothing.
     (Piece::Run(Kind::Released), (0, 64), 64, NOTHING),
     (Piece::Run(Kind::Bypassing), (0, 64), 64, NOTHING),
     (GONE_ON, (0, 64), 64, NOTHING),
@@ -76,7 +78,8 @@ static HOSTILE_ROWS: [Row; 16] = [
         64,
         NOTHING,
     ),
-    // A run of as many octets as a unit may have, whose end finds its queue full, and a run that is never ended.
+    // A run of as many octets as a unit may have, for which there is no room in its queue when it ends, and a run that
+    // never ends.
     (Piece::Run(Kind::Bypassing), (0, 1), 1, NOTHING),
     (ENDED, (0, 1), 1, DROPPED),
     (Piece::Run(Kind::Bypassing), (63, 1), 1, NOTHING),
@@ -84,8 +87,9 @@ static HOSTILE_ROWS: [Row; 16] = [
     (BEGUN, (63, 1), 1, NOTHING),
 ];
 
-// These rows fill the queues with these packets and largest units, open a run on each MAP of each service, fill the buffer, and make
-// units that find no room. Where the last are of runs that are beyond their limits, they end nothing.
+// Returns rows that fill the queues with these packets and largest units, open a run on each MAP of each service, fill
+// the buffer, and then end units for which there is no room. Where the runs of these units are beyond their limits,
+// their last segments end nothing.
 fn filling_rows(plan: &Plan, packet: Piece, ended: Items) -> [Row; 8] {
     let (queues, packets) = plan.queues;
     let packets = queues.saturating_mul(packets);
@@ -103,7 +107,8 @@ fn filling_rows(plan: &Plan, packet: Piece, ended: Items) -> [Row; 8] {
     ]
 }
 
-// Makes the channel of a plan, reports the memory that it takes, and brings it these rows, with a line before and after.
+// Creates the channel of a plan, prints the memory that it takes, and brings these rows to it, with a line before and
+// after.
 fn print<F: Form, R: AllocGlobal + Print>(rt: &R, plan: &Plan, rows: &[Row]) -> Result<()> {
     let settings = plan.settings(rt.alloc(), 1)?;
     let (name, octets) = F::memory(&settings);
@@ -111,7 +116,8 @@ fn print<F: Form, R: AllocGlobal + Print>(rt: &R, plan: &Plan, rows: &[Row]) -> 
     print_rows(rt, F::made(rt.alloc(), settings)?, rows)
 }
 
-// The same of a channel in rooms within limits: of 1,024 octets for the MAP of packets, and of none for each other MAP.
+// Creates and fills a channel in rooms within limits, which are 1,024 octets for the MAP of packets, and none for each
+// other MAP.
 fn print_limited<R: AllocGlobal + Print>(rt: &R) -> Result<()> {
     let settings = LIMITED.settings(rt.alloc(), 1)?;
     let limit = MapLimit {
@@ -168,7 +174,7 @@ fn bring_piece<F: Form>(
     }
 }
 
-// Runs what a word says for a channel of this form.
+// Runs the action that a word names for a channel of this form.
 fn fill<F: Form, R: AllocGlobal + Print>(rt: &R, word: &str) -> Result<()> {
     let mut plan = PLAIN;
     match word {
@@ -192,7 +198,7 @@ fn fill<F: Form, R: AllocGlobal + Print>(rt: &R, word: &str) -> Result<()> {
     }
 }
 
-/// Runs what this word says.
+/// Runs the action that this word names.
 pub(crate) fn obey<R: AllocGlobal + Print>(rt: &R, word: &str) -> Result<()> {
     match (word, word.strip_prefix("fixed_")) {
         ("recorded", _) => calls::print::<Channel, R>(rt),

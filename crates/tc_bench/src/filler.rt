@@ -1,4 +1,4 @@
-//! A channel, and what is brought to it.
+//! A channel, and the frames that are brought to it.
 
 use crate::form::Form;
 use anyhow::{Result, anyhow};
@@ -14,20 +14,20 @@ pub(crate) const LAST: u8 = 0x80;
 
 pub(crate) const UNSEGMENTED: u8 = 0xc0;
 
-/// A MAP that no plan chooses: packets go on it.
+/// A MAP that no plan chooses, and on which packets are sent.
 pub(crate) const PACKETS: u8 = 63;
 
-/// The most octets of a unit in one segment.
+/// The largest number of octets of a unit in one segment.
 pub(crate) const BODY: u16 = 1_018;
 
 /// The number in the length field of a packet that is the largest unit.
 pub(crate) const LARGEST: u16 = 0xffff;
 
-/// A data field: its segment header, if it has one; the number in the length field of each packet of its unit; and how many octets
-/// of the unit it has.
+/// A data field: its segment header, if it has one, the number in the length field of each packet of its unit, and the
+/// number of octets of the unit that it has.
 pub(crate) type Field = (Option<u8>, u16, u16);
 
-/// How many items of a unit are queued, and how many dropped.
+/// The numbers of items of a unit that are queued, and that are dropped.
 pub(crate) type Items = (u32, u32);
 
 pub(crate) const NOTHING: Items = (0, 0);
@@ -36,12 +36,12 @@ pub(crate) const ONE: Items = (1, 0);
 
 pub(crate) const DROPPED: Items = (0, 1);
 
-/// Kinds of frames, by what FARM-1 makes of them (CCSDS 232.0-B, 4.1.2.3).
+/// A kind of frames, by the way in which FARM-1 treats them (CCSDS 232.0-B, 4.1.2.3).
 #[derive(Clone, Copy)]
 pub(crate) enum Kind {
     /// The Type-AD frame that is expected, for which there is room.
     Next,
-    /// The same, which is then released.
+    /// The Type-AD frame that is expected, for which there is room, and whose data field is then released.
     Released,
     /// A Type-AD frame with the N(S) of the one before, which is discarded.
     Again,
@@ -51,7 +51,7 @@ pub(crate) enum Kind {
     Unlock,
 }
 
-// The answer to a frame of this kind by FARM-1's table, with so many items.
+// Returns the reply to a frame of this kind by FARM-1's table, with these numbers of items.
 fn reply_of(kind: Kind, items: Items) -> FrameReply {
     let (event, accepted, (queued, dropped)) = match kind {
         Kind::Next => (1, true, items),
@@ -81,7 +81,7 @@ pub(crate) struct Filler<F: Form> {
 }
 
 impl<F: Form> Filler<F> {
-    /// A channel whose V(R) is 0.
+    /// Creates a filler for a channel whose V(R) is 0.
     pub(crate) fn new(channel: F) -> Filler<F> {
         Filler {
             channel,
@@ -91,7 +91,7 @@ impl<F: Form> Filler<F> {
         }
     }
 
-    // The octet at this place of a data field's part of its unit. Those after the headers of packets are 0.
+    // Returns the octet at this place of a data field's part of its unit. Octets after the headers of packets are 0.
     fn octet(&self, length: u16, place: usize) -> u8 {
         let [first, second] = (self.apid % 2_048).to_be_bytes();
         let [fifth, sixth] = length.to_be_bytes();
@@ -105,7 +105,7 @@ impl<F: Form> Filler<F> {
         }
     }
 
-    /// The octets of a frame of this kind for spacecraft 42 and virtual channel 1; fill comes after it.
+    /// Returns the octets of a frame of this kind for spacecraft 42 and virtual channel 1, and fill after it.
     pub(crate) fn octets(&self, kind: Kind, (header, length, count): Field) -> [u8; 1024] {
         let (flags, ns) = match kind {
             Kind::Next | Kind::Released => (0x00, self.ns),
@@ -128,7 +128,7 @@ impl<F: Form> Filler<F> {
         octets
     }
 
-    /// Brings a frame, of whose unit so many items must be queued and dropped.
+    /// Brings a frame, and checks the numbers of items of its unit that are queued and dropped.
     pub(crate) fn bring(&mut self, kind: Kind, field: Field, items: Items) -> Result<()> {
         let octets = self.octets(kind, field);
         let reply = self.channel.bring(&read_frame(&octets)?)?;
@@ -146,7 +146,7 @@ impl<F: Form> Filler<F> {
         Ok(())
     }
 
-    /// Releases a data field, of whose unit so many items must be queued and dropped.
+    /// Releases a data field, and checks the numbers of items of its unit that are queued and dropped.
     pub(crate) fn release(&mut self, items: Items) -> Result<()> {
         let delivery = self.channel.let_out()?;
         if delivery == reply_of(Kind::Bypassing, items).delivery {
@@ -156,8 +156,8 @@ impl<F: Form> Filler<F> {
         }
     }
 
-    /// Opens a run that has as many octets as the largest unit, and whose room was doubled once too often: six octets and then as
-    /// many as a segment has make 1,024, of which the largest unit is 64 times as many and six more.
+    /// Opens a run that has as many octets as the largest unit, and whose room was doubled once more than necessary.
+    /// The first six octets and those of one segment are 1,024, and the largest unit has 64 times as many and six more.
     pub(crate) fn open(&mut self, kind: Kind, map: u8) -> Result<()> {
         self.bring(kind, (Some(FIRST | map), LARGEST, 6), NOTHING)?;
         for _ in 0..64 {

@@ -1,4 +1,4 @@
-//! The forms of a channel: by where it keeps its journal, and by when it asks for memory.
+//! The forms of a channel, by where it keeps its journal and when it requests memory.
 
 use crate::score::Score;
 use crate::seen::{NO_FLAG, call_clcw, call_drop_oldest_unit, call_new, call_take};
@@ -13,34 +13,35 @@ use tc_link::Frame;
 pub(crate) enum Oldest {
     /// The packet of an application.
     Packet(u16),
-    /// The same, which is read in its room, where it can be, and then dropped.
+    /// The packet of an application, which is read in its room, if it can be, and then dropped.
     LentPacket(u16),
     /// The unit of a MAP.
     Unit(u8),
 }
 
-/// Has the calls of a channel of whatever form.
+/// A channel of any form, with its calls.
 pub(crate) trait Form: Drop {
-    /// Names what bounds the memory of a channel of these settings, and counts its octets.
+    /// Returns the name of the bound on the memory of a channel with these settings, and the number of bytes.
     fn memory(settings: &Settings) -> (&'static str, u64);
 
-    /// The channel of these settings.
+    /// Creates the channel with these settings.
     fn made(alloc: Global, settings: Settings) -> Result<Self>;
 
-    /// Takes a frame in.
+    /// Brings a frame to the channel.
     fn bring(&mut self, frame: &Frame) -> Result<FrameReply>;
 
-    /// Lets the oldest data field out of the buffer.
+    /// Releases the oldest data field of the buffer.
     fn let_out(&mut self) -> Result<Delivery>;
 
-    /// Takes an item, and adds to the score what is read of it.
+    /// Takes an item, and adds the octets that are read of it to the score.
     fn take_oldest(&mut self, oldest: Oldest, score: &mut Score) -> Result<()>;
 
-    /// The CLCW, and how many events there were.
+    /// Returns the CLCW, and the number of events.
     fn word_and_events(&self) -> (u32, u64);
 }
 
-// Of a packet that isn't small, its first octets and its last one stand for all.
+// Adds the octets of an item to the score. For a packet that isn't small, its first octets and its last one stand for
+// all.
 #[inline(always)]
 fn add(octets: &[u8], score: &mut Score) {
     match octets {
@@ -86,8 +87,8 @@ impl<J: Journal> Form for ChannelWith<J> {
     }
 }
 
-// The calls that `worst` makes once, for another program to see, are made here by the same functions, but for frames and releases: those
-// come before it, too.
+// Calls are made here by the functions through which `worst` makes its one call, for another program to see. Frames and
+// releases are an exception, because they also come before that call.
 impl Form for FixedChannel {
     fn memory(settings: &Settings) -> (&'static str, u64) {
         ("storage", storage(settings))

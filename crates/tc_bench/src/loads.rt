@@ -1,4 +1,4 @@
-//! Brings a bare channel its load in each round.
+//! The load of a bare channel in each round.
 
 use crate::filler::{BODY, CONTINUING, FIRST, LAST, UNSEGMENTED};
 use crate::sender::SCID;
@@ -8,10 +8,11 @@ use std::alloc::Global;
 use tc_channel::Octets;
 use tc_link::{Header, write_frame};
 
-/// How many packets a data field has that is full of small ones.
+/// The number of packets in a data field that is full of small ones.
 pub(crate) const PACKETS: usize = 100;
 
-// A packet of the application with this number in its length field, which is one less than the octets of its data.
+// Appends a packet of the application with this number in its length field, which is one less than the number of octets
+// of its data.
 fn add_packet(octets: &mut Vec<u8>, length: u16) -> Result<()> {
     let [high, low] = length.to_be_bytes();
     octets.extend_from_slice(&[0x10, APID as u8, 0xc0, 0, high, low])?;
@@ -21,7 +22,7 @@ fn add_packet(octets: &mut Vec<u8>, length: u16) -> Result<()> {
     Ok(())
 }
 
-// The Type-BD frame with this data field.
+// Returns the Type-BD frame with this data field.
 fn bypassing(alloc: Global, field: &[u8]) -> Result<Octets> {
     let header = Header {
         bypass: true,
@@ -33,7 +34,7 @@ fn bypassing(alloc: Global, field: &[u8]) -> Result<Octets> {
     Ok(Octets::from(write_frame(alloc, &header, field)?))
 }
 
-/// Frames with the segments of a unit of so many packets, with this number in the length field of each.
+/// Returns frames with the segments of a unit of `packets` packets, with this number in the length field of each.
 pub(crate) fn frames(alloc: Global, packets: usize, length: u16) -> Result<Vec<Octets>> {
     let mut unit = Vec::new(alloc);
     for _ in 0..packets {

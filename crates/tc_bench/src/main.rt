@@ -1,16 +1,19 @@
-//! `tc_bench`: a fixed load for stations, rounds on a bare channel, and channels that are filled, so that another program can see what
-//! they cost.
+//! `tc_bench`: a fixed load for stations, rounds on a bare channel, and channels that are filled, so that another
+//! program can measure their costs.
 //!
-//! With no argument it runs the load and prints scores that each answer changes: a receiver that answers otherwise prints
-//! others. With `rounds recorded`, `rounds counting` or `rounds rooms` and a number it makes so many rounds on a bare channel of that
-//! form, of Type-AD frames or of the load that another word names, and prints what their answers add up to.
+//! With no argument it runs the load and prints scores that each answer changes, so that a receiver with other answers
+//! prints other scores. With `rounds recorded`, `rounds counting` or `rounds rooms` and a number it makes this number
+//! of rounds on a bare channel of that form, of Type-AD frames or of the load that another word names, and prints the
+//! score of their answers.
 //!
-//! With `fill` and `plain`, `one` or `many` it makes a counting channel of that plan, prints the bound of its memory, and fills it, with
-//! `plain_7`, `plain_8` and `plain_63` a plain one of so many queues. With `fill calls` it makes each kind of call once, and again, and
-//! prints a line after each, with `fill recorded` likewise on a channel whose journal is recorded. Each of these words but `recorded` with `fixed_`
-//! before it does so with the channel in rooms. Nothing that it keeps beside the channel grows between two lines. With `fixed_limited`
-//! it fills one in rooms within limits. With `fixed_hostile` it brings to that of `fixed_many` the frames of a sender who means harm.
-//! With `worst` it makes one call of it, once, behind what makes that cost most.
+//! With `fill` and `plain`, `one` or `many` it creates a counting channel of that plan, prints the bound of its memory,
+//! and fills it. `plain_7`, `plain_8` and `plain_63` are plans of plain channels with that number of queues. With `fill
+//! calls` it makes each kind of call twice, and prints a line after each call. With `fill recorded` it does so on a
+//! channel whose journal is recorded. If `fixed_` stands before one of these words other than `recorded`, the channel
+//! has rooms. Nothing that the program keeps beside the channel grows between two lines. With `fill fixed_limited` it
+//! fills a channel in rooms within limits. With `fill fixed_hostile` it brings the frames of a hostile sender to the
+//! channel of `fixed_many`. With `worst`, a call and a number of queues it makes this call once, on a channel in rooms
+//! with these queues, after the calls that make it cost most.
 #![tactic(auto)]
 
 mod calls;
@@ -51,7 +54,7 @@ fn main(rt: HostRuntime) -> ExitCode {
     }
 }
 
-// The words of the command line.
+// Returns the words of the command line.
 fn words<R: Env + AllocGlobal>(rt: &R) -> Result<Vec<String>> {
     Ok(env::args(rt)?.collect(rt.alloc())?)
 }

@@ -1,11 +1,12 @@
-//! The channels.
+//! The plans of channels.
 
 use crate::station::APID;
 use std::alloc::{AllocError, Global};
 use tc_channel::{Items, MapSetting, QueueSetting, Settings};
 
-/// A channel: how many data fields its buffer holds, the first APID with a queue, how many queues it has with so many packets each,
-/// how many chosen MAPs with so many units each, and whether its data fields have segment headers. The MAPs are the first.
+/// The plan of a channel: the number of data fields that its buffer holds, the first APID with a queue, the number of
+/// queues and of packets in each, the number of chosen MAPs and of units of each, and whether its data fields have
+/// segment headers. The chosen MAPs are those with the lowest numbers.
 #[derive(Clone, Copy)]
 pub(crate) struct Plan {
     pub(crate) buffer: u8,
@@ -24,7 +25,7 @@ pub(crate) const PLAIN: Plan = Plan {
     segmented: false,
 };
 
-/// Room for one data field, and for one packet.
+/// A channel with room for one data field and for one packet.
 pub(crate) const SMALL: Plan = Plan {
     buffer: 1,
     apid: 0,
@@ -33,7 +34,7 @@ pub(crate) const SMALL: Plan = Plan {
     segmented: true,
 };
 
-/// So many queues that a call works with a table of them, and chosen MAPs.
+/// A channel with so many queues that a call uses a table of them, and with chosen MAPs.
 pub(crate) const MANY: Plan = Plan {
     buffer: 64,
     apid: 0,
@@ -42,7 +43,7 @@ pub(crate) const MANY: Plan = Plan {
     segmented: true,
 };
 
-/// The channel that is made within limits.
+/// The channel that is created with limits.
 pub(crate) const LIMITED: Plan = Plan {
     buffer: 8,
     apid: 0,
@@ -70,7 +71,7 @@ pub(crate) const LOADED: Plan = Plan {
 };
 
 impl Plan {
-    /// The settings of such a channel, with a window of 10 and V(R) 0 first.
+    /// Returns the settings of such a channel, with a window of width 10 and the first V(R) 0.
     pub(crate) fn settings(&self, alloc: Global, vcid: u8) -> Result<Settings, AllocError> {
         let mut queues = Vec::with_capacity(alloc, usize::from(self.queues.0))?;
         let capacity = self.queues.1;

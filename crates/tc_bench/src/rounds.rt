@@ -1,4 +1,4 @@
-//! Rounds on a bare channel, of whatever form.
+//! Rounds on a bare channel of any form.
 
 use crate::command_line::{Kind, Load};
 use crate::form::{Form, Oldest};
@@ -13,12 +13,12 @@ use tc_channel::{Channel, CountingChannel, Octets};
 use tc_fixed::FixedChannel;
 use tc_link::read_frame;
 
-// As many packets as the queue has room for, so that all of a full data field wait in it.
+// The number of packets for which the queue has room. All packets of a full data field can wait in it.
 const CAPACITY: u16 = 128;
 
 const OLDEST: Oldest = Oldest::LentPacket(APID);
 
-/// Makes so many rounds of a load on a channel of this form, and prints their score.
+/// Runs `count` rounds of a load on a channel of this form, and prints their score.
 pub(crate) fn print<R: AllocGlobal + Print>(
     rt: &R,
     kind: Kind,
@@ -65,7 +65,8 @@ fn play<F: Form>(alloc: Global, load: Load, count: u32) -> Result<u64> {
     Ok(score.sum)
 }
 
-// Frames with a packet each are taken in, and their packets taken. Those that don't bypass the window are released before.
+// Runs rounds in which a frame with a packet is brought, and the packet is taken. A frame that doesn't bypass the
+// window is released before the take.
 fn packets<F: Form>(
     channel: &mut F,
     sender: &Sender,
@@ -86,7 +87,7 @@ fn packets<F: Form>(
     Some(())
 }
 
-// The frames with the segments of a unit are taken in, and its packets taken.
+// Runs rounds in which the frames with the segments of a unit are brought, and its packets are taken.
 fn units<F: Form>(
     channel: &mut F,
     frames: &[Octets],
@@ -105,7 +106,7 @@ fn units<F: Form>(
     Some(())
 }
 
-// Takes in a frame that must be accepted.
+// Brings a frame that must be accepted.
 #[inline(always)]
 fn bring<F: Form>(channel: &mut F, octets: &[u8], score: &mut Score) -> Option<()> {
     let reply = channel.bring(&read_frame(octets).ok()?).ok()?;

@@ -2,10 +2,10 @@
 
 use tc_channel::{Delivery, FrameReply};
 
-/// The score so far is multiplied by this before a word is added: a prime above 2^40.
+/// The factor by which the score so far is multiplied before a word is added, a prime above 2^40.
 const FACTOR: u64 = 1_099_511_628_211;
 
-/// A number that the answers and their order determine, 0 before the first.
+/// A number that the answers and their order determine. It is 0 before the first answer.
 #[derive(Drop)]
 pub(crate) struct Score {
     /// The number.
@@ -19,7 +19,7 @@ impl Score {
         self.sum = self.sum.wrapping_mul(FACTOR).wrapping_add(word);
     }
 
-    /// Adds what became of the packets that a call offered.
+    /// Adds the delivery of the packets that a call offered.
     #[inline(always)]
     pub(crate) fn add_delivery(&mut self, delivery: Delivery) {
         self.add(u64::from(delivery.queued));
@@ -27,7 +27,7 @@ impl Score {
         self.add(u64::from(delivery.rest));
     }
 
-    /// Adds what became of a frame.
+    /// Adds the reply to a frame.
     #[inline(always)]
     pub(crate) fn add_reply(&mut self, vcid: u8, reply: FrameReply) {
         self.add(u64::from(vcid));
@@ -36,7 +36,7 @@ impl Score {
         self.add_delivery(reply.delivery);
     }
 
-    /// Adds a packet: how many octets it has, and each of them.
+    /// Adds a packet: the number of its octets, and each of them.
     #[inline(always)]
     pub(crate) fn add_packet(&mut self, octets: &[u8]) {
         self.add(octets.len() as u64);

@@ -12,8 +12,8 @@ use std::sync::Wait;
 use std::thread::Threads;
 use tc_channel::Channel;
 
-// A score is of these: the virtual channels, how many rounds are made on each, and whether a worker for each channel makes them, or one
-// thread makes a round on each in turn.
+// The name of a score, its virtual channels, the number of rounds on each, and whether a worker for each channel makes
+// them, or one thread makes a round on each in turn.
 type Row = (&'static str, &'static [u8], u32, bool);
 
 static ROWS: [Row; 3] = [
@@ -31,7 +31,7 @@ pub(crate) fn print<R: Threads + Wait + Sync + AllocGlobal + Print>(rt: &R) -> R
     Ok(())
 }
 
-// A sender for each of the virtual channels, in their order.
+// Creates a sender for each of the virtual channels, in order.
 fn senders(alloc: Global, vcids: &[u8]) -> Result<Vec<Sender>> {
     let mut senders = Vec::with_capacity(alloc, vcids.len())?;
     for vcid in vcids {
@@ -40,7 +40,7 @@ fn senders(alloc: Global, vcids: &[u8]) -> Result<Vec<Sender>> {
     Ok(senders)
 }
 
-// Adds what each answer in turn reports, and what the closed channels report.
+// Returns the score of a row, to which each answer in turn and the closed channels add.
 fn score_of<R: Threads + Wait + Sync>(
     rt: &R,
     alloc: Global,
@@ -82,7 +82,7 @@ fn in_turn(
     operator_list.close(alloc)
 }
 
-// Adds what closed channels report.
+// Adds the reports of closed channels.
 fn add_channels(score: &mut Score, channels: &[Channel]) -> Result<()> {
     for channel in channels {
         let Some(queued) = channel.queued(APID) else {

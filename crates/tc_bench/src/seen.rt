@@ -1,6 +1,6 @@
-//! The calls of a channel in rooms, each made by a function of its own that is never inlined, so that another program sees in the
-//! machine code what the call reaches, how deep its stack goes and how many instructions it takes. The function `call_NAME` makes the
-//! call NAME.
+//! The calls of a channel in rooms, each made by a function of its own that is never inlined. So another program can
+//! see in the machine code which functions the call reaches, how deep its stack goes, and how many instructions it
+//! takes. The function `call_NAME` makes the call NAME.
 
 use std::alloc::Global;
 use tc_channel::{Delivery, FrameReply, Settings, SettingsFault};

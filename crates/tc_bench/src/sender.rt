@@ -6,22 +6,22 @@ use std::alloc::Global;
 use tc_channel::Octets;
 use tc_link::{Header, WriteFault, write_frame};
 
-/// The spacecraft that all frames are for.
+/// The spacecraft for which all frames are.
 pub(crate) const SCID: u16 = 42;
 
 /// A frame of the load.
 #[derive(Clone, Copy)]
 pub(crate) enum Sent {
-    /// Type-AD with this N(S), and a packet whose data is the same octet.
+    /// A Type-AD frame with this N(S), and a packet whose data is the same octet.
     Sequenced(u8),
-    /// Type-BD with a packet whose data is this octet.
+    /// A Type-BD frame with a packet whose data is this octet.
     Bypassing(u8),
     /// The control command Unlock.
     Unlock,
 }
 
-/// The frame that follows the accepted one in its round: the same again, one that bypasses the window, one that is ahead,
-/// or an Unlock.
+/// Returns the frame that follows the accepted one in its round: the accepted frame again, one that bypasses the
+/// window, one that is ahead, or an Unlock.
 pub(crate) fn second(number: u8) -> Sent {
     match number % 4 {
         0 => Sent::Sequenced(number),
@@ -42,7 +42,7 @@ pub(crate) struct Sender {
 }
 
 impl Sender {
-    /// Makes the frames for a virtual channel.
+    /// Creates the frames for a virtual channel.
     pub(crate) fn new(alloc: Global, vcid: u8) -> Result<Sender, WriteFault> {
         Ok(Sender {
             vcid,
@@ -52,7 +52,7 @@ impl Sender {
         })
     }
 
-    /// The octets of a frame.
+    /// Returns the octets of a frame.
     pub(crate) fn octets(&self, sent: Sent) -> &[u8] {
         match sent {
             Sent::Sequenced(octet) => self.sequenced[usize::from(octet)].as_slice(),
@@ -62,7 +62,7 @@ impl Sender {
     }
 }
 
-// A frame for each octet.
+// Writes a frame for each octet.
 fn write_each<F: Fn(u8) -> Sent>(
     alloc: Global,
     vcid: u8,
@@ -80,7 +80,7 @@ fn write_each<F: Fn(u8) -> Sent>(
     Ok(frames)
 }
 
-// The field of Type-AD and Type-BD is an unsegmented packet on MAP 0, whose data is one octet.
+// Writes a frame. The data field of Type-AD and Type-BD is an unsegmented packet on MAP 0, whose data is one octet.
 fn write(alloc: Global, vcid: u8, sent: Sent) -> Result<Octets, WriteFault> {
     let (bypass, control, ns, octet) = match sent {
         Sent::Sequenced(ns) => (false, false, ns, ns),

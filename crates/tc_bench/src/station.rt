@@ -9,7 +9,7 @@ use tc_station::Station;
 /// The application whose packets are queued.
 pub(crate) const APID: u16 = 5;
 
-/// A station with these virtual channels.
+/// Creates a station with these virtual channels.
 pub(crate) fn new_station(alloc: Global, vcids: &[u8]) -> Result<Station> {
     let mut list = Vec::with_capacity(alloc, vcids.len())?;
     for vcid in vcids {

@@ -1,4 +1,4 @@
-//! The load by workers, a list of jobs for each channel.
+//! The load for workers, as a list of jobs for each channel.
 
 ghost use Rattle.std.specs.Prelude.{◌≡◌, All, length};
 ghost use Rattle.tc_station.specs.Tally.{IsOurs};
@@ -12,7 +12,7 @@ use std::thread::Threads;
 use tc_channel::{Channel, Items, Octets};
 use tc_station::{FreeGate, Job, Operator, Order, Station, WorkList};
 
-/// Makes rounds on each channel, by a worker of its own, and closes the station.
+/// Lets a worker for each channel make rounds on it, and closes the station.
 pub(crate) fn work<R: Threads + Wait + Sync>(
     rt: &R,
     alloc: Global,
@@ -27,7 +27,7 @@ pub(crate) fn work<R: Threads + Wait + Sync>(
     Ok(station.close(operators)?)
 }
 
-// Each list by the operator of its place. The operators keep their channels.
+// Carries out each list through the operator of its place. The operators keep their channels.
 fn do_lists<R: Threads + Wait + Sync>(
     rt: &R,
     station: &Station,
@@ -56,7 +56,7 @@ fn work_lists(alloc: Global, senders: &[Sender], rounds: u32) -> Result<Vec<Work
     Ok(lists)
 }
 
-// The jobs of a round, whose number stands for the line.
+// Adds the jobs of a round, whose number stands for the line.
 fn add_round(
     alloc: Global,
     jobs: &mut Vec<Job>,

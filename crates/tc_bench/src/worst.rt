@@ -1,4 +1,4 @@
-//! One call of a channel in rooms, once, behind what makes it cost most.
+//! A single call of a channel in rooms, after the calls that make it cost most.
 
 use crate::filler::{
     BODY, CONTINUING, FIRST, Field, Filler, Kind, LARGEST, LAST, NOTHING, ONE, PACKETS, UNSEGMENTED,
@@ -18,14 +18,15 @@ use tc_link::read_frame;
 // The last chosen MAP.
 const CHOSEN: u8 = 62;
 
-// The most octets of a unit.
+// The largest number of octets of a unit.
 const LARGEST_UNIT: usize = 65_542;
 
-// How many packets of seven octets the queue of the last application holds: as many as one data field may have.
+// The number of packets of seven octets that the queue of the last application holds, which is as many as one data
+// field may have.
 const ROOM: u16 = 145;
 
-// A data field full of the smallest packets, unsegmented, and as a first segment; and the last segments of a largest unit: of one that
-// is full of them, of one that is a packet, and of one that is queued whole.
+// A data field full of the smallest packets, unsegmented and as a first segment, and last segments of largest units: of
+// a unit that is full of these packets, of one that is a packet, and of one that is queued whole.
 const PACKETS_FIELD: Field = (Some(UNSEGMENTED | PACKETS), 0, BODY);
 
 const FIRST_FIELD: Field = (Some(FIRST | PACKETS), 0, BODY);
@@ -36,7 +37,7 @@ const PACKET_END: Field = (Some(LAST | PACKETS), LARGEST, 390);
 
 const WHOLE_END: Field = (Some(LAST | CHOSEN), LARGEST, 390);
 
-// A channel, to whose last application all packets go, and room for what is taken.
+// A channel, to whose last application all packets are sent, and room for the item that is taken.
 #[derive(Drop)]
 struct Caller {
     filler: Filler<FixedChannel>,
@@ -44,7 +45,8 @@ struct Caller {
 }
 
 impl Caller {
-    // So many packet queues, the last of which has more room, and each MAP but that of the packets is chosen.
+    // Creates a channel with `queues` packet queues, the last of which has more room. Each MAP but that of the packets
+    // is chosen.
     fn new(alloc: Global, queues: u16) -> Result<Caller> {
         let plan = Plan {
             buffer: 64,
@@ -68,7 +70,7 @@ impl Caller {
         Ok(Caller { filler, taken })
     }
 
-    // Brings the segments of a largest unit that come before a last one.
+    // Brings the segments of a largest unit that come before the last one.
     fn open(&mut self, kind: Kind, (header, length, _): Field) -> Result<()> {
         let header = header.unwrap_or(0);
         if header & UNSEGMENTED != LAST {
@@ -85,8 +87,9 @@ impl Caller {
         Ok(())
     }
 
-    // Brings a frame by the call that is seen, or buffers its field and releases it by that call, behind what comes before it; how many
-    // items came to queues, with those that found no room.
+    // Brings the segments before this field, and then the frame itself by the call that is seen, or buffers its field
+    // and releases it by that call. Returns the number of items for queues, including those for which there was no
+    // room.
     fn items(&mut self, kind: Kind, field: Field) -> Result<u64> {
         self.open(kind, field)?;
         let delivery = if let Kind::Released = kind {
@@ -99,7 +102,7 @@ impl Caller {
         Ok(u64::from(delivery.queued) + u64::from(delivery.dropped))
     }
 
-    // Makes the call with this name; what it answers, as a number.
+    // Makes the call with this name, and returns its answer as a number.
     fn answer(&mut self, name: &str) -> Result<u64> {
         match name {
             "frame_buffered" => self.items(Kind::Next, FIRST_FIELD),
@@ -113,7 +116,8 @@ impl Caller {
         }
     }
 
-    // The same where a largest packet is queued for the last application, and a largest unit for the last chosen MAP.
+    // Makes the call with this name after a largest packet was queued for the last application, and a largest unit for
+    // the last chosen MAP.
     fn answer_full(&mut self, name: &str) -> Result<u64> {
         for last in [PACKET_END, WHOLE_END] {
             self.open(Kind::Bypassing, last)?;
@@ -142,14 +146,15 @@ fn length(octets: Option<&[u8]>) -> usize {
     octets.unwrap_or(&[]).len()
 }
 
-/// Makes a call on a channel of so many queues, as it costs most, and prints what it answers.
+/// Makes a call on a channel of `queues` queues, in the case in which it costs most, and prints its answer.
 pub(crate) fn print<R: AllocGlobal + Print>(rt: &R, name: &str, queues: u16) -> Result<()> {
     let answer = answer_of(rt.alloc(), queues, name)?;
     println!(rt; "{name} {answer}")?;
     Ok(())
 }
 
-// The caller, and with it the channel, is dropped at one place alone: each is proved for itself.
+// Makes the call with this name, and returns its answer as a number. The caller, and with it the channel, is dropped at
+// this place alone, because each place at which it is dropped is proved separately.
 fn answer_of(alloc: Global, queues: u16, name: &str) -> Result<u64> {
     let mut caller = Caller::new(alloc, queues)?;
     caller.answer(name)

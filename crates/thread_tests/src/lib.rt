@@ -1,7 +1,7 @@
 //! Tests of a station by several threads. The library itself is empty.
 //!
-//! Two threads share a station, a channel is watched by two while four others work on it, two workers meet at a gate while each
-//! holds the lock of its channel, and each worker passes it once. The faults of a station have texts.
+//! Two threads share a station. Two threads watch a channel while four others work on it. Two workers meet at a gate
+//! while each holds the lock of its channel, and each worker passes the gate once. The faults of a station have texts.
 #![tactic(auto)]
 
 #[cfg(test)]

@@ -24,7 +24,7 @@ const CHANNEL: Wanted<'static> = Wanted {
     ..WANTED
 };
 
-// A station for spacecraft 42 with that channel.
+// Creates a station for spacecraft 42 with that channel.
 fn station_of_one<J: Journal>(rt: &impl Abort, alloc: Global) -> StationOf<J>
     ensures { result.vcids ≡ 1 ∷ [] }
 {
@@ -34,7 +34,7 @@ fn station_of_one<J: Journal>(rt: &impl Abort, alloc: Global) -> StationOf<J>
     StationOf::new(alloc, 42, list).expect(rt, "a station")
 }
 
-// One with virtual channels 1 and 2, which have buffers of this capacity and queues of one packet.
+// Creates a station with virtual channels 1 and 2, which have buffers of this capacity and queues of one packet.
 fn station_of_two(rt: &impl Abort, alloc: Global, buffer: u8) -> Station
     ensures { result.vcids ≡ 1 ∷ 2 ∷ [] }
 {

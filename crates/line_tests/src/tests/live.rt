@@ -6,13 +6,13 @@ use std::process::Abort;
 use tc_live::{FrameCheck, Receiver, answer_lines};
 use tc_text::SpacecraftId;
 
-/// A receiver for spacecraft 42.
+/// Creates a receiver for spacecraft 42.
 fn receiver(rt: &impl Abort, alloc: Global, check: FrameCheck) -> Receiver {
     let spacecraft = SpacecraftId::new(42).expect(rt, "a spacecraft id");
     Receiver::new(alloc, spacecraft, check)
 }
 
-/// These lines are answered so, to their end.
+/// Checks that these lines get these answers, to their end.
 fn check_answers(rt: &impl Abort, alloc: Global, lines: &str, answers: &str) {
     let mut reader = lines.as_bytes();
     let mut written = Vec::new(alloc);

@@ -8,14 +8,14 @@ use std::thread::Threads;
 use tc_cli::{ScriptFault, parallel_script, run_script};
 use tc_station::FreeGate;
 
-// How a script is run.
+// The way in which a script is run.
 #[derive(Clone, Copy)]
 enum Way {
     InOrder,
     InParallel,
 }
 
-// A script of spacecraft 42. The calls that have the contracts are here alone, for any script.
+// Runs a script for spacecraft 42. Only this function calls the ones that have the contracts, for any script.
 fn run<T: Threads + Wait + Sync + AllocGlobal, R: Read, W: Write>(
     rt: &T,
     way: Way,
@@ -28,7 +28,7 @@ fn run<T: Threads + Wait + Sync + AllocGlobal, R: Read, W: Write>(
     }
 }
 
-/// A frame that becomes a packet, and one that finds no room.
+/// A script with a frame that becomes a packet, and one for which there is no room.
 const SCRIPT: &str =
     "channel 1 10 1 0\nqueue 1 5 1\nclcw 1\nframe 002a040c00c01005c0000000aa\nclcw 1\nframe 002a040c01c01005c0000000aa\nclcw 1\nrelease 1\nclcw 1\ntake 1 5\nrelease 1\n";
 
@@ -38,7 +38,7 @@ const ANSWERS: &str =
 /// The final report of `SCRIPT`.
 const REPORT: &str = "final 1 01040801 events 4 buffered 0\nqueue 1 5 0\n";
 
-/// Two units of a chosen MAP, by either service.
+/// A script with two units of a chosen MAP, one by each service.
 const UNITS: &str =
     "channel 1 10 1 0\nmap 1 3 2\nframe 002a040800c3aabbcc\nrelease 1\nframe 202a040700c3ddee\nunit 1 3\nunit 1 3\nclcw 1\n";
 

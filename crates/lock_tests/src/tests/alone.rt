@@ -6,7 +6,7 @@ ghost use Rattle.lock_tests.specs.Book.{IsAtRest};
 use super::*;
 use std::sync::Wait;
 
-// Whether the lock isn't free for the second seat while the first has it.
+// Returns whether the lock isn't free for the second seat while the first one has it.
 fn fails_meanwhile<R: Wait>(rt: &R, lock: &BookLock, one: &mut BookSeat, two: &mut BookSeat) -> bool
     requires one { IsAtRest lock.now one.old }
     requires two { IsAtRest lock.now two.old }

@@ -11,7 +11,7 @@ use test_parts::{
     room, settings,
 };
 
-// Virtual channel 1 with a queue of capacity 2 for APID 5, and one for MAP 3.
+// Virtual channel 1 with a queue of capacity 2 for APID 5, and one of capacity 1 for MAP 3.
 const CHANNEL: Wanted<'static> = Wanted {
     queues: &[(5, 2)],
     maps: &[(3, 1)],

@@ -1,4 +1,4 @@
-//! Has a thread play a role with its seat, and two or three threads at the same time.
+//! Roles that a thread plays with its seat, and that two or three threads play at the same time.
 
 ghost use Rattle.std.specs.Thread.{IsSync};
 ghost use Rattle.lock_tests.specs.Book.{IsWriter};
@@ -10,29 +10,30 @@ use std::sync::atomic::{AtomicBool, Ordering};
 use std::thread::{Threads, join_mut, sleep, yield_now};
 use std::time::Duration;
 
-// How many numbers a role of `Write` writes.
+// The number of numbers that a thread in the role `Write` writes.
 pub(super) const TURNS: u32 = 10_000;
 
-// Says what a thread does with its seat. Those that do it at the same time have a flag, which isn't set first.
+// The role of a thread with its seat. Threads that play at the same time share a flag, which isn't set at first.
 #[derive(Clone, Copy)]
 pub(super) enum Role {
-    // Writes the numbers from this one on, in rising order.
+    // A thread that writes the numbers from this one on, in rising order.
     Write(u32),
-    // Sets the flag while it has the lock, and has it for long.
+    // A thread that sets the flag while it holds the lock, and holds it for long.
     HaveForLong,
-    // Writes the number 1 once the flag is set.
+    // A thread that writes the number 1 once the flag is set.
     WriteBehind,
-    // Takes the lock over and over until the flag is set.
+    // A thread that takes the lock again and again until the flag is set.
     HaveAllTheTime,
-    // Writes a hundred numbers, and then sets the flag.
+    // A thread that writes a hundred numbers, and then sets the flag.
     WriteNowAndThen,
-    // Has the lock where it finds it free, for longer than who sleeps takes to wake, so many times at most, until the flag is set.
+    // A thread that takes the lock when it finds it free, and holds it for longer than a sleeping thread takes to wake.
+    // It does so until the flag is set, and at most this many times.
     HaveWhereFree(u32),
-    // Writes three numbers, each after a while, and then sets the flag.
+    // A thread that writes three numbers, each after a while, and then sets the flag.
     WriteAfterAWhile,
 }
 
-// Writes the numbers from this one on, one a turn. Says whether none was refused.
+// Writes the numbers from this one on, one at each turn, and returns whether none was refused.
 fn write_all<R: Wait>(rt: &R, lock: &BookLock, seat: &mut BookSeat, first: u32) -> bool
     requires { IsWriter lock.now seat.old }
     ensures { IsWriter lock.now seat.new }
@@ -45,7 +46,7 @@ fn write_all<R: Wait>(rt: &R, lock: &BookLock, seat: &mut BookSeat, first: u32) 
     done
 }
 
-// Waits until the flag is set, for so many turns at most, and says whether it is.
+// Waits until the flag is set, for at most `turns` turns, and returns whether it is set.
 fn comes_true(flag: &AtomicBool, turns: u32) -> bool {
     for turn in 0..turns {
         if flag.load(Ordering::SeqCst) {
@@ -58,7 +59,7 @@ fn comes_true(flag: &AtomicBool, turns: u32) -> bool {
     false
 }
 
-// Has the lock for longer than anyone looks at it before sleeping.
+// Holds the lock for longer than any thread looks at it before it sleeps.
 fn have_for_long<R: Wait + Clock>(
     rt: &R,
     lock: &BookLock,
@@ -75,7 +76,7 @@ fn have_for_long<R: Wait + Clock>(
     true
 }
 
-// Writes the number once the lock is taken. Says whether it was written.
+// Writes the number once the lock is taken, and returns whether it was written.
 fn write_behind<R: Wait>(rt: &R, lock: &BookLock, seat: &mut BookSeat, taken: &AtomicBool) -> bool
     requires { IsWriter lock.now seat.old }
     ensures { IsWriter lock.now seat.new }
@@ -83,7 +84,7 @@ fn write_behind<R: Wait>(rt: &R, lock: &BookLock, seat: &mut BookSeat, taken: &A
     comes_true(taken, 100_000_000) && write(rt, lock, seat, 1)
 }
 
-// Takes the lock and gives it back over and over until the flag is set, and says whether it was.
+// Takes the lock and releases it again and again until the flag is set, and returns whether it was.
 fn have_it_all_the_time<R: Wait>(
     rt: &R,
     lock: &BookLock,
@@ -102,7 +103,7 @@ fn have_it_all_the_time<R: Wait>(
     false
 }
 
-// Writes so many numbers, and then sets the flag.
+// Writes a hundred numbers, and then sets the flag.
 fn write_now_and_then<R: Wait>(
     rt: &R,
     lock: &BookLock,
@@ -120,7 +121,8 @@ fn write_now_and_then<R: Wait>(
     true
 }
 
-// Has the lock where it finds it free, so many times at most, until the flag is set. Says whether it was set before the last time.
+// Takes the lock when it finds it free, at most `times` times, until the flag is set. Returns whether it was set before
+// the last time.
 fn have_where_free<R: Wait + Clock>(
     rt: &R,
     lock: &BookLock,
@@ -148,7 +150,7 @@ fn have_where_free<R: Wait + Clock>(
     false
 }
 
-// Writes three numbers, each after others have had the time to take the lock, and then sets the flag.
+// Writes three numbers, each after other threads have had the time to take the lock, and then sets the flag.
 fn write_after_a_while<R: Wait + Clock>(
     rt: &R,
     lock: &BookLock,
@@ -166,7 +168,7 @@ fn write_after_a_while<R: Wait + Clock>(
     true
 }
 
-// Says whether all was done that the role asks for.
+// Plays a role, and returns whether it was played to its end.
 fn act<R: Wait + Clock>(
     rt: &R,
     lock: &BookLock,
@@ -188,7 +190,7 @@ fn act<R: Wait + Clock>(
     }
 }
 
-// Each seat has its role, in a thread of its own. Says whether all was done that both ask for.
+// Lets each seat play its role, in a thread of its own, and returns whether both were played to their ends.
 pub(super) fn side_by_side<R: Threads + Wait + Clock + Sync>(
     rt: &R,
     lock: &BookLock,
@@ -204,7 +206,8 @@ pub(super) fn side_by_side<R: Threads + Wait + Clock + Sync>(
     act_both(rt, lock, one, two, &AtomicBool::new(false), roles)
 }
 
-// The same with this flag.
+// Lets each seat play its role, in a thread of its own, with this flag, and returns whether both were played to their
+// ends.
 fn act_both<R: Threads + Wait + Clock + Sync>(
     rt: &R,
     lock: &BookLock,
@@ -231,8 +234,8 @@ fn act_both<R: Threads + Wait + Clock + Sync>(
     a && b
 }
 
-// Two have the lock where they find it free, so many times each, while the third writes after a while. Says whether it has written
-// before they were done.
+// Lets two threads take the lock when they find it free, at most `times` times each, while the third writes after a
+// while. Returns whether the third has written before the others were done.
 pub(super) fn against_two<R: Threads + Wait + Clock + Sync>(
     rt: &R,
     lock: &BookLock,

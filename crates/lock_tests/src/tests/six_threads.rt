@@ -1,6 +1,6 @@
 //! Six threads write 10,000 numbers each into one book.
 //!
-//! All of them end, and the book has each number once, and each thread's numbers in their order.
+//! All of them end, and the book has each number once, and each thread's numbers in order.
 
 ghost use Rattle.std.specs.Prelude.{◌≡◌, true};
 ghost use Rattle.std.specs.Thread.{IsSync};
@@ -12,7 +12,7 @@ use std::rt::Clock;
 use std::sync::Wait;
 use std::thread::{Threads, join_mut};
 
-// Writes the numbers from its first one on.
+// A writer of the numbers from its first one on.
 #[derive(Drop)]
 struct Writer {
     seat: BookSeat,
@@ -40,7 +40,7 @@ struct Pair {
 }
 
 impl Pair {
-    // Two writers, who write the numbers from this one on.
+    // Creates two writers, which write the numbers from this one on.
     fn new(lock: &BookLock, first: &mut BookSeat, number: u32) -> Pair
         requires writer { IsWriter lock.now first.old }
         requires first { first.old.id ≡ 0 }
@@ -53,7 +53,7 @@ impl Pair {
         Pair { one, two }
     }
 
-    // Both write, each in a thread of its own.
+    // Lets both write, each in a thread of its own.
     fn work<R: Threads + Wait + Clock + Sync>(&mut self, rt: &R, lock: &BookLock) -> bool
         requires one { IsWriter lock.now self.old.one.seat }
         requires two { IsWriter lock.now self.old.two.seat }
@@ -73,7 +73,7 @@ struct Six {
 }
 
 impl Six {
-    // All six write, each in a thread of its own.
+    // Lets all six write, each in a thread of its own.
     fn work<R: Threads + Wait + Clock + Sync>(&mut self, rt: &R, lock: &BookLock) -> bool
         requires one { IsWriter lock.now self.old.one.one.seat × IsWriter lock.now self.old.one.two.seat }
         requires two { IsWriter lock.now self.old.two.one.seat × IsWriter lock.now self.old.two.two.seat }
@@ -98,7 +98,7 @@ impl Six {
     }
 }
 
-// Two pairs write.
+// Lets two pairs write.
 fn work_by_four<R: Threads + Wait + Clock + Sync>(
     rt: &R,
     lock: &BookLock,
@@ -122,7 +122,7 @@ fn work_by_four<R: Threads + Wait + Clock + Sync>(
     a && b
 }
 
-// The first seat learns what both have seen and made.
+// Reports to the first seat the entries that both have seen and made.
 fn report_both(lock: &BookLock, first: &mut BookSeat, pair: Pair)
     requires first { (first.old.table_id ≡ lock.now.id) × (first.old.id ≡ 0) × (first.old.me.0.live ≡ true) }
     requires one { IsWriter lock.now pair.one.seat }
@@ -135,7 +135,8 @@ fn report_both(lock: &BookLock, first: &mut BookSeat, pair: Pair)
     lock.report(first, two.seat);
 }
 
-// The book of a lock that nobody else has: the first seat takes it, once it knows what the six have seen and made.
+// Returns the book of a lock that no other seat has. The first seat takes it out, once it knows the entries that the
+// six have seen and made.
 fn close<R: Wait>(rt: &R, alloc: Global, lock: &BookLock, mut first: BookSeat, six: Six) -> Book
     requires first { IsWriter lock.now first × (first.id ≡ 0) }
     requires one { IsWriter lock.now six.one.one.seat × IsWriter lock.now six.one.two.seat }
@@ -155,7 +156,7 @@ fn close<R: Wait>(rt: &R, alloc: Global, lock: &BookLock, mut first: BookSeat, s
     lock.replace(&mut first, blank)
 }
 
-// Among all numbers those of the writer whose numbers begin with this one are all that it wrote, in their order.
+// Checks that all numbers include those of the writer whose numbers begin with this one, all of them and in order.
 fn check_in_order(rt: &impl Abort, numbers: &[u32], first: u32) {
     let end = first.saturating_add(TURNS);
     let mut wanted = first..end;

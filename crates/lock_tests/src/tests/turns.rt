@@ -1,4 +1,4 @@
-//! Has a thread take turns with a book under its lock.
+//! The turns that a thread takes with a book under its lock.
 
 ghost use Rattle.std.specs.Prelude.{◌≡◌, ◌∷◌, ◌++◌, [], MatchBool, ℕ, true};
 ghost use Rattle.logged_lock.specs.Rule.{HasLock};
@@ -8,7 +8,7 @@ use super::*;
 use std::marker::Brand;
 use std::sync::Wait;
 
-// Writes the number by a seat that has the book, and gives the lock back.
+// Writes the number through a seat that has the book, and releases the lock.
 fn write_with<P: Number>(lock: &BookLock, seat: &mut BookSeat, number: u32) -> bool
     requires number { P.number ≡ number }
     requires own { seat.old.table_id ≡ lock.now.id }
@@ -31,7 +31,7 @@ fn write_with<P: Number>(lock: &BookLock, seat: &mut BookSeat, number: u32) -> b
     }
 }
 
-// Writes the number at the end of the book, under the lock. Says whether there was memory for it.
+// Writes the number at the end of the book, under the lock, and returns whether there was memory for it.
 pub(super) fn write<R: Wait>(rt: &R, lock: &BookLock, seat: &mut BookSeat, number: u32) -> bool
     requires { IsWriter lock.now seat.old }
     ensures rest { IsWriter lock.now seat.new }
@@ -42,7 +42,7 @@ pub(super) fn write<R: Wait>(rt: &R, lock: &BookLock, seat: &mut BookSeat, numbe
     write_with::<Brand>(lock, seat, number)
 }
 
-// Takes the lock once it is free, and gives it back.
+// Takes the lock once it is free, and releases it.
 pub(super) fn turn<R: Wait>(rt: &R, lock: &BookLock, seat: &mut BookSeat)
     requires { IsAtRest lock.now seat.old }
     ensures rest { IsAtRest lock.now seat.new }
@@ -52,7 +52,7 @@ pub(super) fn turn<R: Wait>(rt: &R, lock: &BookLock, seat: &mut BookSeat)
     lock.unlock(seat);
 }
 
-// Takes the lock if it is free, and then gives it back. Says whether it was free.
+// Takes the lock if it is free, and then releases it. Returns whether it was free.
 pub(super) fn try_turn(lock: &BookLock, seat: &mut BookSeat) -> bool
     requires { IsAtRest lock.now seat.old }
     ensures rest { IsAtRest lock.now seat.new }
@@ -65,7 +65,7 @@ pub(super) fn try_turn(lock: &BookLock, seat: &mut BookSeat) -> bool
     taken
 }
 
-// Takes the lock for good, and gives out the book under it for this one.
+// Takes the lock for good, and returns the book under it, which this one replaces.
 pub(super) fn take_out<R: Wait>(rt: &R, lock: &BookLock, seat: &mut BookSeat, blank: Book) -> Book
     requires { IsAtRest lock.now seat.old }
 {

@@ -1,4 +1,4 @@
-//! Who waits for a lock gets it.
+//! A thread that waits for a lock gets it.
 
 ghost use Rattle.lock_tests.specs.Book.{IsAtRest};
 
@@ -6,7 +6,7 @@ use super::roles::{Role, against_two, side_by_side};
 use super::*;
 use std::sync::Wait;
 
-// How many numbers the book has, which nobody can take afterwards.
+// Returns the number of numbers in the book, whose lock no seat can take afterwards.
 fn numbers<R: Wait>(rt: &R, alloc: Global, lock: &BookLock, seat: &mut BookSeat) -> usize
     requires { IsAtRest lock.now seat.old }
 {
@@ -45,8 +45,9 @@ fn who_has_it_all_the_time_keeps_nobody_away(rt: HostRuntime) {
     assert_eq!(rt; numbers(&rt, rt.alloc(), &lock, &mut other), 100);
 }
 
-// Two threads that only try are there before who is woken, every time. So who sleeps comes in only where the lock is left to it, which
-// it asks for when it has slept twice: each of its three turns then waits for four of theirs or so.
+// Two threads that only try the lock take it, every time, before a thread that is woken. So a thread that sleeps gets
+// the lock only when it is reserved for it, which it requests once it has slept twice. Each of its three turns then
+// waits for about four of theirs.
 #[test]
 fn who_has_slept_twice_comes_before_who_only_tries(rt: HostRuntime) {
     let (lock, mut first) = new_lock(&rt, rt.alloc());

@@ -1,4 +1,4 @@
-//! The operation of a line, made of a station, of a desk and of a channel that stands alone.
+//! The operation of a line, carried out on a station, on a desk, and on a channel without a station.
 
 ghost use Rattle.std.specs.Prelude.{◌≡◌, All};
 ghost use Rattle.tc_station.specs.Tally.{IsOurs};
@@ -12,7 +12,7 @@ use tc_station::{
 };
 use tc_status::Watcher;
 
-// A script prints this of an operation, unless memory ran out.
+// The answer that a script prints for an operation, unless memory ran out.
 pub(super) type Asked = Result<Answer, NoMemory>;
 
 fn refused(refusal: Refusal) -> Asked {
@@ -69,8 +69,8 @@ fn of_word(vcid: u8, answer: Option<u32>) -> Asked {
     }
 }
 
-// A channel reports this of itself: its CLCW with both link flags 0, and its number of events; and of who isn't locked how many data
-// fields, packets for APID 5 and units of MAP 3 wait.
+// The report of a channel on itself: its CLCW with both link flags 0, and its number of events. A channel that isn't
+// behind a lock also reports the numbers of data fields, of packets for APID 5 and of units of MAP 3 that wait.
 #[derive(Clone, Copy, PartialEq, Eq)]
 pub(super) struct Reported {
     pub(super) word: Option<u32>,
@@ -78,14 +78,14 @@ pub(super) struct Reported {
     waiting: [Option<usize>; 3],
 }
 
-// Is asked for operations.
+// A station, a desk or a channel that carries out operations.
 pub(super) trait Asking: Drop {
-    // Makes the operation of a line on a virtual channel.
+    // Carries out the operation of a line on a virtual channel.
     fn ask<R: Wait + Abort>(&mut self, rt: &R, vcid: u8, line: &Line) -> Asked;
 
     fn reported<R: Wait + Abort>(&mut self, rt: &R, vcid: u8) -> Reported;
 
-    // Whether it has virtual channel 2 beside 1.
+    // Returns whether there is virtual channel 2 besides 1.
     fn has_two(&self) -> bool {
         false
     }
@@ -103,7 +103,8 @@ fn reported_of<J: Journal>(channel: &ChannelWith<J>) -> Reported {
     }
 }
 
-// Octets that arrive at the one channel of a desk, or at one that stands alone, are answered as a station with that channel answers.
+// Returns the answer of a station with one channel, for octets that arrive at the channel of a desk, or at one without
+// a station.
 fn of_alone(vcid: u8, read: Result<Result<FrameReply, NoMemory>, FrameFault>) -> Asked {
     match read {
         Ok(reply) => Ok(Answer::Frame {
@@ -142,7 +143,7 @@ impl Asking for Channel {
     }
 }
 
-// Compares what the watcher of a desk reads, which was there before its first frame.
+// The CLCW of the desk is the one that its watcher reads. The watcher was created before the first frame.
 impl Asking for Watched {
     fn ask<R: Wait + Abort>(&mut self, rt: &R, vcid: u8, line: &Line) -> Asked {
         let desk = &mut self.desk;
@@ -179,7 +180,7 @@ pub(super) struct Watched {
     pub(super) watcher: Watcher,
 }
 
-// A station with one operator. Frames are brought plainly, or with a watcher of their channel.
+// A station with one operator. Frames are brought with or without a watcher of their channel.
 #[derive(Drop)]
 pub(super) struct OperatorList<J: Journal> {
     is_watched: bool,
@@ -188,7 +189,7 @@ pub(super) struct OperatorList<J: Journal> {
     ghost ours: { IsOurs station operator },
 }
 
-// The operator that a station issues. One growth may be refused.
+// Issues the only operator of a station. One growth may be refused.
 fn only_operator<J: Journal>(rt: &(impl Abort + Print), station: &mut StationOf<J>) -> Operator
     ensures ours { IsOurs station.new result }
     ensures same { station.new.vcids ≡ station.old.vcids }
@@ -197,7 +198,7 @@ fn only_operator<J: Journal>(rt: &(impl Abort + Print), station: &mut StationOf<
     operator.expect(rt, "an operator")
 }
 
-// A channel's CLCW with both link flags 0, as a new watcher reads it, if the station has that channel.
+// Returns a channel's CLCW with both link flags 0, as a new watcher reads it, if the station has that channel.
 fn status_of<J: Journal>(station: &StationOf<J>, rt: &impl Wait, vcid: u8) -> Option<u32> {
     let mut watcher = station.watcher(rt, vcid).ok()?;
     Some(station.watch(&mut watcher, NO_FLAG))
@@ -225,7 +226,7 @@ impl<J: Journal> OperatorList<J> {
         self.station.bring(rt, &mut self.operator, octets)
     }
 
-    // With what the watcher reads that is made with the frame.
+    // Brings a frame together with a new watcher, and returns what this watcher reads, too.
     pub(super) fn bring_watched(
         &mut self,
         rt: &impl Wait,
@@ -235,7 +236,7 @@ impl<J: Journal> OperatorList<J> {
         Ok((brought, self.station.watch(&mut own, NO_FLAG)))
     }
 
-    // It reads at once what a watcher reads that is made afterwards.
+    // Brings a frame together with a new watcher, and checks that a watcher that is created afterwards reads the same.
     fn bring_seen(
         &mut self,
         rt: &(impl Wait + Abort),
@@ -268,7 +269,8 @@ impl<J: Journal> OperatorList<J> {
         self.station.take_unit(rt, &mut self.operator, vcid, map)
     }
 
-    // The channels of the closed station. One growth may be refused: all is given back, and it is closed then.
+    // Closes the station, and returns its channels. One growth may be refused: all is returned then, and a second call
+    // closes the station.
     pub(super) fn close(self, rt: &(impl Abort + Print), alloc: Global) -> Vec<ChannelWith<J>> {
         let OperatorList {
             is_watched: _,
@@ -280,7 +282,8 @@ impl<J: Journal> OperatorList<J> {
     }
 }
 
-// Closes a station whose operators these are, likewise.
+// Closes a station together with these operators, which are its own. One growth may be refused: all is returned then,
+// and a second call closes the station.
 pub(super) fn closed_together<J: Journal>(
     rt: &(impl Abort + Print),
     station: StationOf<J>,

@@ -1,4 +1,4 @@
-//! Closes with operators of another station, which count otherwise, and closes of counting stations.
+//! Closes with operators of another station, whose counts differ, and closes of counting stations.
 
 ghost use Rattle.std.specs.Prelude.{◌≡◌, All};
 
@@ -7,7 +7,7 @@ use super::*;
 use tc_channel::{Recorded, Unrecorded};
 use tc_station::{CountingCloseFault, CountingStation};
 
-// A close with the operator of another station is refused, and gives back the channels.
+// Checks that a close with the operator of another station is refused, and that the channels are returned.
 fn check_unbalanced(rt: &impl Abort, station: Station, operators: Vec<Operator>)
     requires { All (λ o. o.vcids ≡ station.vcids) operators.items }
 {

@@ -1,4 +1,4 @@
-//! Each call is made; one that runs out of memory must have left what stood before as it was, and then the call is made again.
+//! Each call is made. If it runs out of memory, it must have left everything as it was, and then it is made again.
 
 ghost use Rattle.std.specs.Prelude.{◌≡◌, ◌≤◌, All, length};
 ghost use Rattle.tc_station.specs.Tally.{IsOurs};
@@ -13,14 +13,14 @@ use tc_station::{Desk, FreeGate, Job, Order, WorkFault, WorkList};
 use tc_status::{Publisher, Watcher, meet};
 use test_parts::room;
 
-// Virtual channel 1 with a queue of capacity 2 for APID 5, and one for MAP 3.
+// Virtual channel 1 with queues of capacity 2 for APID 5 and for MAP 3.
 const CHANNEL: Wanted<'static> = Wanted {
     queues: &[(5, 2)],
     maps: &[(3, 2)],
     ..WANTED
 };
 
-// The journal grows with the first event and with the fifth, which is a take: it makes no other growth.
+// The journal grows with the first event and with the fifth, which is a take, in which nothing else grows.
 static PACKETS: Row<'static> = Row {
     name: "packets",
     wanted: &CHANNEL,
@@ -28,7 +28,7 @@ static PACKETS: Row<'static> = Row {
     answers: "frame 1 E1 accepted 1 queued 0 dropped 0 rest 0\nclcw 1 01040001\nframe 1 E2 accepted 0 queued 0 dropped 0 rest 0\nclcw 1 01041801\nframe 1 E4 accepted 0 queued 0 dropped 0 rest 0\nrelease 1 queued 1 dropped 0 rest 0\nclcw 1 01040801\ntake 1 5 1005c0000000aa\nframe 1 E6 accepted 1 queued 2 dropped 0 rest 0\nclcw 1 01040a01\ntake 1 5 1005c0000000aa\ntake 1 5 1005c0010000bb\nrefused empty\nrefused no queue\nrefused empty\nclcw 1 01040a01\n",
 };
 
-// The fifth event is the take of a unit, which makes no other growth.
+// The fifth event is the take of a unit, in which nothing else grows.
 static UNITS: Row<'static> = Row {
     name: "units of a chosen MAP",
     wanted: &CHANNEL,
@@ -64,7 +64,7 @@ fn new_desk(rt: &(impl Abort + Print), alloc: Global, row: &Row) -> Desk {
     }
 }
 
-// A watcher takes no memory.
+// Plays a row on a desk with a watcher, which takes no memory.
 fn check_desk(rt: &(impl Wait + Abort + Print), alloc: Global, row: &Row) {
     let mut desk = new_desk(rt, alloc, row);
     let watcher = desk.watcher().expect(rt, "a watcher");
@@ -80,7 +80,7 @@ fn growth_of_each_call_of_a_desk(rt: HostRuntime) {
     check_desk(&rt, rt.alloc(), &UNITS)
 }
 
-// The station closes with just these operators: a refused call has issued none, else one would be missing.
+// The station closes with these operators alone. If a refused call had issued one, it would be missing.
 #[test]
 fn growth_of_operators_of_a_new_station(rt: HostRuntime) {
     let mut station = station_of_one(&rt, rt.alloc());
@@ -104,7 +104,7 @@ fn new_publisher(rt: &(impl Abort + Print), alloc: Global, channel: &Channel) ->
     }
 }
 
-// A channel, what publishes it, and a watcher that was made before its first frame.
+// A channel, its publisher, and a watcher that was created before its first frame.
 #[derive(Drop)]
 struct Published {
     channel: Channel,
@@ -127,7 +127,8 @@ impl Published {
         }
     }
 
-    // The frame has this event. The watcher reads the first word before its publication, and the second one after it.
+    // Brings a frame that must have this event. The watcher must read the first word before the publication, and the
+    // second one after it.
     fn frame(&mut self, rt: &impl Abort, octets: &[u8], event: u8, words: [u32; 2]) {
         let frame = read_frame(octets).expect(rt, "a frame");
         let reply = match self.channel.frame(&frame) {
@@ -140,7 +141,7 @@ impl Published {
         assert_eq!(rt; self.old.read(), words[1]);
     }
 
-    // The watcher reads this, as does one that is made now.
+    // Checks that the watcher reads this word, as does one that is created now.
     fn check(&mut self, rt: &impl Abort, word: u32) {
         assert_eq!(rt; self.old.read(), word);
         let mut new = self.publisher.watcher().expect(rt, "a watcher");
@@ -163,7 +164,7 @@ fn growth_of_a_board_whose_watchers_read_what_was_published_last(rt: HostRuntime
     published.check(&rt, 0x01041801);
 }
 
-// Two Unlocks, on lines 5 and 6. One growth may be refused.
+// Creates a list of two Unlocks, on lines 5 and 6. One growth may be refused.
 fn two_unlocks(rt: &impl Abort, alloc: Global) -> WorkList {
     let mut jobs = room(alloc, 2).expect(rt, "room");
     for line in 5..7 {
@@ -174,7 +175,7 @@ fn two_unlocks(rt: &impl Abort, alloc: Global) -> WorkList {
     WorkList { vcid: 1, jobs }
 }
 
-// How many Unlocks were answered, by the lowest line that memory was refused for.
+// Returns how many Unlocks were answered, by the lowest line for which memory was refused.
 fn answered(rt: &(impl Abort + Print), done: Result<(), WorkFault>) -> u64
     ensures { result ≤ 2 }
 {
@@ -192,7 +193,7 @@ fn answered(rt: &(impl Abort + Print), done: Result<(), WorkFault>) -> u64
     }
 }
 
-// Tries to do the lists, and says how many Unlocks were answered.
+// Tries to carry out the lists, and returns how many Unlocks were answered.
 fn try_lists<R: Threads + Wait + Sync + Abort + Print>(
     rt: &R,
     station: &Station,

@@ -1,4 +1,4 @@
-//! Has stations refuse what they must.
+//! Calls that stations must refuse.
 
 use super::asking::OperatorList;
 use super::*;
@@ -28,7 +28,7 @@ fn settings_that_make_no_station(rt: HostRuntime) {
     check_fault(&rt, alloc, 42, &[64], bad);
 }
 
-// How many operators are issued.
+// Checks how many operators are issued, or the fault.
 fn check_issued(
     rt: &impl Abort,
     station: &mut Station,
@@ -49,7 +49,7 @@ fn more_operators_than_have_numbers(rt: HostRuntime) {
     check_issued(&rt, &mut station, 0, Ok(0));
 }
 
-// `FRAME` for spacecraft 43, and for it and virtual channel 2.
+// `FRAME` for spacecraft 43, and for spacecraft 43 and virtual channel 2.
 const OTHER_SPACECRAFT: [u8; 13] = [
     0x00, 0x2b, 0x04, 0x0c, 0x00, 0xc0, 0x10, 0x05, 0xc0, 0x00, 0x00, 0x00, 0xaa,
 ];
@@ -58,7 +58,7 @@ const OTHER_BOTH: [u8; 13] = [
     0x00, 0x2b, 0x08, 0x0c, 0x00, 0xc0, 0x10, 0x05, 0xc0, 0x00, 0x00, 0x00, 0xaa,
 ];
 
-// Octets for no channel are refused alike where they are located and where they are brought.
+// Checks that octets for no channel are refused with this fault when they are located, and when they are brought.
 fn check_unplaced(
     rt: &(impl Wait + Abort),
     operator_list: &mut OperatorList<Recorded>,

@@ -1,4 +1,4 @@
-//! The lines of a script on channels of a station, and on channels that stand alone.
+//! The lines of a script on channels of a station, and on channels without a station.
 
 use super::asking::{Asked, Asking, OperatorList};
 use super::*;
@@ -7,7 +7,8 @@ use tc_cli::{Answer, Line, Reason, parse_line};
 use tc_station::StationFault;
 use test_parts::{made_again, room};
 
-// A row is run on virtual channel 1 of stations and of channels with these settings: lines of a script, and what each is answered.
+// A row of lines of a script and their answers. It is run on virtual channel 1 with these settings, of stations and
+// without a station.
 pub(super) struct Row<'a> {
     pub(super) name: &'a str,
     pub(super) wanted: &'a Wanted<'a>,
@@ -15,7 +16,7 @@ pub(super) struct Row<'a> {
     pub(super) answers: &'a str,
 }
 
-// Settings of channel 1, or of channel 2, which are the same but for their first V(R).
+// Creates the settings of channel 1, or of channel 2, which differ in their first V(R) only.
 pub(super) fn row_settings(rt: &impl Abort, alloc: Global, row: &Row, vcid: u8) -> Settings {
     let first = if vcid == 1 { 0 } else { 100 };
     let wanted = Wanted {
@@ -26,7 +27,7 @@ pub(super) fn row_settings(rt: &impl Abort, alloc: Global, row: &Row, vcid: u8) 
     settings(alloc, &wanted).expect(rt, "settings")
 }
 
-// A channel with such settings. One growth may be refused.
+// Creates a channel with such settings. One growth may be refused.
 pub(super) fn new_channel(rt: &impl Abort, alloc: Global, row: &Row, vcid: u8) -> Channel {
     match Channel::new(alloc, row_settings(rt, alloc, row, vcid)) {
         Ok(channel) => channel,
@@ -37,7 +38,7 @@ pub(super) fn new_channel(rt: &impl Abort, alloc: Global, row: &Row, vcid: u8) -
     }
 }
 
-// Prints which call was refused memory, by what it is answered then.
+// Prints the call for which memory was refused, by the answer that it has then.
 fn call_of(rt: &impl Print, who: &str, answer: &Asked) {
     let _ = match answer {
         Ok(Answer::Frame { vcid: _, reply }) => {
@@ -50,7 +51,8 @@ fn call_of(rt: &impl Print, who: &str, answer: &Asked) {
     };
 }
 
-// Asks for the operation of a line. Where memory ran out, all is as it was, and it is asked for again. The text of the answer.
+// Requests the operation of a line, and returns the text of the answer. If memory ran out, all is as it was, and the
+// operation is requested again.
 pub(super) fn ask<A: Asking, R: Wait + Abort + Print>(
     rt: &R,
     alloc: Global,
@@ -68,7 +70,7 @@ pub(super) fn ask<A: Asking, R: Wait + Abort + Print>(
     text_of(rt, alloc, &answer.expect(rt, "an answer"))
 }
 
-// One growth may be refused.
+// Returns the text of an answer. One growth may be refused.
 fn text_of(rt: &impl Abort, alloc: Global, answer: &Answer) -> String {
     match answer.to_string(alloc) {
         Ok(text) => text,
@@ -76,7 +78,8 @@ fn text_of(rt: &impl Abort, alloc: Global, answer: &Answer) -> String {
     }
 }
 
-// As many of these octets as a frame has by their header, one more than the number in its ten bits of length.
+// Returns the octets of the frame without its fill. Their number is one more than the number in the ten bits of length
+// of the header.
 fn without_fill(octets: &[u8]) -> Option<&[u8]> {
     let high = *octets.get(2)? & 3;
     let low = *octets.get(3)?;
@@ -84,7 +87,8 @@ fn without_fill(octets: &[u8]) -> Option<&[u8]> {
     octets.get(..length)
 }
 
-// The event that a journal has of an operation that is not refused. Nothing is noted of a CLCW, or of octets without a frame.
+// Returns the event that a journal has for an operation that isn't refused. There is none for a CLCW, or for octets
+// without a frame.
 fn event_of(alloc: Global, line: &Line) -> Option<Event> {
     match line {
         Line::Frame(octets) => frame_event(alloc, without_fill(octets.as_slice())?).ok(),
@@ -95,7 +99,7 @@ fn event_of(alloc: Global, line: &Line) -> Option<Event> {
     }
 }
 
-// The same line, whose frame is for virtual channel 2 in place of 1.
+// Returns the line with its frame for virtual channel 2 instead of 1.
 fn for_channel_2(line: Line) -> Line {
     match line {
         Line::Frame(octets) => {
@@ -109,8 +113,8 @@ fn for_channel_2(line: Line) -> Line {
     }
 }
 
-// Beside channels 1 and 2 of a station a channel with the settings of each that stands alone, and the journal that channel 1 must
-// have.
+// Two channels without a station, with the settings of channels 1 and 2 of a station, and the journal that channel 1
+// must have.
 #[derive(Drop)]
 pub(super) struct Replay {
     alloc: Global,
@@ -129,7 +133,7 @@ impl Replay {
         }
     }
 
-    // Has the channel with this id that stands alone answer the operation of a line.
+    // Carries out the operation of a line on the channel with this id that has no station, and returns its answer.
     fn ask_alone(&mut self, rt: &(impl Wait + Abort + Print), (vcid, line): (u8, &Line)) -> String {
         if vcid == 1 {
             ask(rt, self.alloc, "Channel", &mut self.first, (vcid, line))
@@ -138,7 +142,8 @@ impl Replay {
         }
     }
 
-    // The same of whoever is asked, too, which is the same.
+    // Carries out the operation of a line on `asked` and on the channel without a station, and checks that their
+    // answers are the same.
     fn ask_both<A: Asking, R: Wait + Abort + Print>(
         &mut self,
         rt: &R,
@@ -152,7 +157,7 @@ impl Replay {
         reported
     }
 
-    // Each channel reports the CLCW of the one that stands alone.
+    // Checks that each channel reports the CLCW of the one without a station.
     fn check_words<A: Asking, R: Wait + Abort>(&self, rt: &R, asked: &mut A) {
         assert!(rt; asked.reported(rt, 1).word == Some(self.first.clcw(NO_FLAG)));
         if asked.has_two() {
@@ -160,7 +165,7 @@ impl Replay {
         }
     }
 
-    // The journal is to have the event of an operation that was answered so, unless it was refused.
+    // Notes the event that the journal must have after this answer, unless the operation was refused.
     fn note(&mut self, rt: &impl Abort, event: Option<Event>, answered: &str) {
         if let Some(event) = event {
             if !answered.starts_with("refused ") {
@@ -169,8 +174,8 @@ impl Replay {
         }
     }
 
-    // The operation of a line, on channel 1 and then on channel 2, where it is there. What channel 1 answers is this text, and its
-    // journal then has the event.
+    // Carries out the operation of a line, on channel 1 and then on channel 2, if it is there. Checks that channel 1
+    // gives this answer, and that its journal then has the event.
     fn step<A: Asking, R: Wait + Abort + Print>(
         &mut self,
         rt: &R,
@@ -191,7 +196,7 @@ impl Replay {
         }
     }
 
-    // Each line in turn.
+    // Carries out the operations of all lines, in order.
     pub(super) fn play<A: Asking, R: Wait + Abort + Print>(
         &mut self,
         rt: &R,
@@ -208,19 +213,20 @@ impl Replay {
         assert!(rt; answers.next().is_none(), "{}", row.name);
     }
 
-    // The journal of channel 1 is this one.
+    // Checks that the journal of channel 1 is this one.
     pub(super) fn check_journal(&self, rt: &impl Abort, journal: &[Event]) {
         assert!(rt; journal == self.journal.as_slice());
     }
 
-    // The closed channels of a station, in the order of its settings, report of themselves what those report that stand alone.
+    // Checks that the closed channels of a station, in the order of its settings, report what those without a station
+    // report.
     pub(super) fn check_closed<J: Journal>(&self, rt: &impl Abort, channels: &[ChannelWith<J>]) {
         assert_eq!(rt; channels.len(), 2);
         check_same(rt, &channels[0], &self.second);
         check_same(rt, &channels[1], &self.first);
     }
 
-    // Their journals are the same, too.
+    // Checks that the journals of closed channels are those of the channels without a station.
     pub(super) fn check_journals(&self, rt: &impl Abort, channels: &[Channel]) {
         assert_eq!(rt; channels.len(), 2);
         assert!(rt; channels[0].journal() == self.second.journal());
@@ -244,7 +250,7 @@ fn read_line(rt: &(impl Abort + Print), alloc: Global, line: &str) -> Line {
     made_again(rt, "parse_line", Reason::NoMemory, &parse).expect(rt, "a line")
 }
 
-// A station for spacecraft 42 with virtual channels 2 and 1, in this order. One growth may be refused.
+// Creates a station for spacecraft 42 with virtual channels 2 and 1, in this order. One growth may be refused.
 fn new_station<J: Journal>(rt: &(impl Abort + Print), alloc: Global, row: &Row) -> StationOf<J> {
     for _ in 0..2 {
         let mut list = room(alloc, 2).expect(rt, "room");
@@ -263,7 +269,7 @@ fn new_station<J: Journal>(rt: &(impl Abort + Print), alloc: Global, row: &Row) 
     panic!(rt; "refused twice")
 }
 
-// Plays a row on a station, with frames that are brought in this manner, and closes it.
+// Plays a row on a station, with frames that are brought with or without a watcher, and closes it.
 fn play_on<J: Journal>(
     rt: &(impl Wait + Abort + Print),
     alloc: Global,
@@ -283,7 +289,7 @@ fn play_on<J: Journal>(
     (replay, channels)
 }
 
-// On one whose channels keep their journals.
+// Plays a row on a station whose channels keep their journals.
 pub(super) fn play_recorded(
     rt: &(impl Wait + Abort + Print),
     alloc: Global,
@@ -295,7 +301,7 @@ pub(super) fn play_recorded(
     replay.check_journals(rt, &channels);
 }
 
-// On a counting one.
+// Plays a row on a counting station.
 pub(super) fn play_counting(
     rt: &(impl Wait + Abort + Print),
     alloc: Global,

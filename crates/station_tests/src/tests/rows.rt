@@ -1,4 +1,4 @@
-//! Operations on virtual channel 1, as lines of a script, and what each is answered.
+//! Operations on virtual channel 1, as lines of a script, and their answers.
 
 use super::replay::{Row, play_counting, play_recorded};
 use super::*;
@@ -36,7 +36,8 @@ static ROWS: [Row; 5] = [
     },
 ];
 
-// On stations whose channels keep their journals, and on those that count them, with frames that are brought in each manner.
+// Each row is played on stations whose channels keep their journals, and on those that count events, with and without
+// watchers.
 #[test]
 fn a_station_answers_as_channels_that_stand_alone(rt: HostRuntime) {
     for row in &ROWS {

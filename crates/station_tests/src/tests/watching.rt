@@ -1,4 +1,4 @@
-//! Compares what watchers read.
+//! Comparisons of the status that watchers read.
 
 ghost use Rattle.std.specs.Prelude.{◌≡◌};
 ghost use Rattle.tc_station.specs.Moments.{IsWatcherOf};
@@ -17,7 +17,7 @@ const BROUGHT: Brought = Brought {
     reply: BUFFERED,
 };
 
-// The watcher reads this.
+// Checks that the watcher reads this word.
 fn check_read<J: Journal>(
     rt: &impl Abort,
     operator_list: &OperatorList<J>,
@@ -51,8 +51,8 @@ fn each_watcher_reads_its_own_channel(rt: HostRuntime) {
     );
 }
 
-// Brings octets, and then lets the watcher of channel 1 meet it, by the same operator. So a call leaves an operator with which a watcher
-// can meet its channel.
+// Brings octets, and then lets the watcher of channel 1 meet it through the same operator. This shows that after a call
+// a watcher can meet its channel through the operator.
 fn bring_and_meet<J: Journal, R: Wait>(
     rt: &R,
     station: &StationOf<J>,
@@ -89,7 +89,7 @@ fn bring(rt: &impl Abort, desk: &mut Desk, octets: &[u8])
     assert!(rt; desk.frame(&frame) == Ok(BUFFERED));
 }
 
-// A watcher that was made before its first frame.
+// The watcher was created before the first frame.
 #[test]
 fn a_watcher_that_met_its_desk_reads_the_frame(rt: HostRuntime) {
     let mut desk = new_desk(&rt, rt.alloc());

@@ -10,8 +10,8 @@ use tc_cli::parallel_script;
 use tc_station::{Gate, Job, Order, WorkList};
 use tc_status::Watcher;
 
-// Whoever passes for channel 1 waits for one who passes for another channel, and the other way round, for so many turns
-// at most. Who didn't see the other says so.
+// A gate at which the worker of channel 1 waits for the worker of another channel, and the other way round, for at most
+// `turns` turns. A worker that didn't see the other sets `ran_out`.
 #[derive(Drop)]
 struct Meeting {
     turns: u32,
@@ -30,7 +30,7 @@ impl Meeting {
         }
     }
 
-    // Whether someone passed for channel 1, and whether for another.
+    // Returns whether a worker passed for channel 1, and whether one passed for another channel.
     fn came(&self) -> (bool, bool) {
         (
             self.first_came.load(Ordering::SeqCst),
@@ -60,7 +60,7 @@ impl Gate for Meeting {
     }
 }
 
-// Whether the flag is set within so many turns.
+// Returns whether the flag is set within `turns` turns.
 fn comes_true(flag: &AtomicBool, turns: u32) -> bool {
     for turn in 0..turns {
         if flag.load(Ordering::SeqCst) {
@@ -73,7 +73,7 @@ fn comes_true(flag: &AtomicBool, turns: u32) -> bool {
     false
 }
 
-// One job: to unlock the channel, by a frame with this third octet.
+// Creates a list of one job, which unlocks the channel by a frame with this third octet.
 fn unlock(rt: &impl Abort, alloc: Global, vcid: u8, third: u8) -> WorkList {
     let octets = [0x30, 0x2a, third, 0x05, 0x00, 0x00];
     let job = Job {
@@ -86,12 +86,12 @@ fn unlock(rt: &impl Abort, alloc: Global, vcid: u8, third: u8) -> WorkList {
     }
 }
 
-// An Unlock for each channel.
+// Creates a list with an Unlock for each channel.
 fn two_unlocks(rt: &impl Abort, alloc: Global) -> [WorkList; 2] {
     [unlock(rt, alloc, 1, 0x04), unlock(rt, alloc, 2, 0x08)]
 }
 
-// A station with channels 1 and 2, and so many operators.
+// Creates a station with channels 1 and 2, and `n` operators.
 pub(super) fn new_operator_list(rt: &impl Abort, alloc: Global, n: u16) -> (Station, Vec<Operator>)
     ensures ours { All (IsOurs result.0) result.1.items }
     ensures number { length result.1.items ≡ n }
@@ -101,7 +101,7 @@ pub(super) fn new_operator_list(rt: &impl Abort, alloc: Global, n: u16) -> (Stat
     (station, operators)
 }
 
-// Works the lists to their end.
+// Carries out the lists to their end.
 pub(super) fn do_lists<R: Threads + Wait + Sync + Abort, G: Gate + Sync>(
     rt: &R,
     gate: &G,
@@ -131,8 +131,8 @@ fn workers_of_two_channels_meet(rt: HostRuntime) {
     assert_eq!(rt; channels[1].journal().len(), 1);
 }
 
-// Two channels, the second one set up first, and a frame for each that comes by another way. The final report stands in rising virtual
-// channel id.
+// A script with two channels, the second of which is set up first, and with frames of Type-AD and of Type-BD. The final
+// report is in rising order of virtual channel ids.
 const SCRIPT: &str =
     "channel 2 10 2 255\nqueue 2 7 3\nchannel 1 10 1 0\nqueue 1 5 1\nframe 002a080cffc01007c0000000bb\nframe 202a040c00c01005c0000000aa\nrelease 2\nframe 002a040c00c01005c0000000aa\n";
 
@@ -151,8 +151,8 @@ fn workers_of_a_script_meet(rt: HostRuntime) {
     assert!(rt; !gate.has_run_out());
 }
 
-// Whoever passes for channel 1 says that it is inside, and then waits for a report, for so many turns at most. Others wait until it is
-// inside.
+// A gate at which the worker of channel 1 sets `inside`, and then waits for a report, for at most `turns` turns. Other
+// workers wait until it is inside.
 #[derive(Drop)]
 struct Inside {
     turns: u32,
@@ -193,7 +193,7 @@ impl Gate for Inside {
     }
 }
 
-// Reports to the gate when channel 2 was unlocked.
+// Reports to the gate once channel 2 was unlocked.
 fn report_the_second(station: &Station, watcher: &mut Watcher, gate: &Inside) {
     for turn in 0..100_000_000u32 {
         if station.watch(watcher, NO_FLAG) == 0x01080200 {
@@ -220,7 +220,7 @@ fn a_channel_is_worked_while_the_lock_of_another_is_held(rt: HostRuntime) {
     assert!(rt; gate.was_reported());
 }
 
-// Reports to the gate when a watcher of channel 1 was made while someone is inside.
+// Reports to the gate if a watcher of channel 1 was created while a worker is inside.
 fn report_a_watcher(rt: &impl Wait, station: &Station, gate: &Inside) {
     if comes_true(&gate.inside, 100_000_000) && station.watcher(rt, 1).is_ok() {
         gate.report();

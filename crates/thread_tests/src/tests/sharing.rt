@@ -1,4 +1,4 @@
-//! Two threads, each with an operator of its own, make operations on one station.
+//! Two threads, each with an operator of its own, carry out operations on one station.
 
 ghost use Rattle.std.specs.Thread.{IsSync};
 ghost use Rattle.tc_station.specs.Tally.{IsOurs};
@@ -7,7 +7,7 @@ use super::*;
 use std::thread::{Threads, join_mut};
 use tc_station::ReleaseRefused;
 
-// Whether the frame was not refused.
+// Brings a frame, and returns whether it wasn't refused.
 fn bring(rt: &impl Wait, station: &Station, operator: &mut Operator, frame: &[u8]) -> bool
     requires { IsOurs station.now operator.old }
     ensures { IsOurs station.now operator.new }
@@ -15,7 +15,8 @@ fn bring(rt: &impl Wait, station: &Station, operator: &mut Operator, frame: &[u8
     station.bring(rt, operator, frame).is_ok()
 }
 
-// Whether nothing was refused but for an empty buffer: the other thread may have emptied it.
+// Releases the channel, and returns whether that worked or the buffer was empty, since the other thread may have
+// emptied it.
 fn release(rt: &impl Wait, station: &Station, operator: &mut Operator, vcid: u8) -> bool
     requires { IsOurs station.now operator.old }
     ensures { IsOurs station.now operator.new }
@@ -36,7 +37,7 @@ fn turn(rt: &impl Wait, station: &Station, operator: &mut Operator, vcid: u8, ns
     brought && released
 }
 
-// 300 turns on channel 1 and then on channel 2, with rising numbers. Says whether nothing else was refused.
+// Takes 300 turns on channel 1 and then on channel 2, with rising numbers. Returns whether nothing else was refused.
 fn take_turns(rt: &impl Wait, station: &Station, operator: &mut Operator) -> bool
     requires { IsOurs station.now operator.old }
     ensures { IsOurs station.now operator.new }
@@ -51,7 +52,7 @@ fn take_turns(rt: &impl Wait, station: &Station, operator: &mut Operator) -> boo
     done
 }
 
-// Both operators take their turns, each in a thread of its own.
+// Lets both operators take their turns, each in a thread of its own.
 fn share<R: Threads + Wait + Sync>(
     rt: &R,
     station: &Station,
@@ -79,7 +80,7 @@ fn counted_by_both(one: &Operator, two: &Operator, vcid: u8) -> Option<u64> {
     one.count(vcid)?.checked_add(two.count(vcid)?)
 }
 
-// The channel has as many events as were counted of it: each of the 600 frames, and what was released.
+// Checks that the channel has as many events as the operators counted: each of the 600 frames, and each release.
 fn check_journal(rt: &impl Abort, channel: &Channel, vcid: u8, counted: Option<u64>) {
     assert_eq!(rt; channel.settings().vcid, vcid);
     let events = channel.journal().len() as u64;
@@ -89,7 +90,7 @@ fn check_journal(rt: &impl Abort, channel: &Channel, vcid: u8, counted: Option<u
 
 #[test]
 fn two_operators_on_one_station(rt: HostRuntime) {
-    // Its channels have room for 64 fields.
+    // The channels have room for 64 fields.
     let mut station = station_of_two(&rt, rt.alloc(), 64);
     let mut operators = station.operators(2).expect(&rt, "operators");
     let mut two = operators.pop().expect(&rt, "a second operator");

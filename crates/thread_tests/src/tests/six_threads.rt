@@ -1,7 +1,7 @@
 //! Six threads on one channel: two bring frames, one releases, one takes and two watch.
 //!
-//! In whatever order they came, a new channel that is given the events of the closed one's journal answers what they were
-//! answered.
+//! Whatever the order of their calls was, a new channel that is given the events of the closed one's journal gives the
+//! same answers.
 
 ghost use Rattle.std.specs.Prelude.{◌≡◌, ◌∷◌, [], All};
 ghost use Rattle.std.specs.Thread.{IsSync};
@@ -14,14 +14,14 @@ use tc_link::read_clcw;
 use tc_station::{ReleaseRefused, TakeRefused};
 use tc_status::Watcher;
 
-// Says what an operator does over and over.
+// The task that an operator repeats.
 #[derive(Clone, Copy, PartialEq)]
 enum Task {
-    // It brings the frames with N(S) 0 to 199.
+    // Bringing the frames with N(S) 0 to 199.
     Bring,
-    // It releases 300 times.
+    // Releasing 300 times.
     Release,
-    // It takes packets for APID 5, 300 times.
+    // Taking packets for APID 5, 300 times.
     Take,
 }
 
@@ -42,7 +42,7 @@ impl Answer {
     }
 }
 
-// An operator of a station with virtual channel 1, its task, and what it was answered, refusals aside.
+// An operator of a station with virtual channel 1, its task, and the answers that it got, without refusals.
 #[derive(Drop)]
 struct Worker {
     task: Task,
@@ -103,7 +103,7 @@ impl Worker {
         }
     }
 
-    // One turn of its task. Says whether nothing was refused but for an empty buffer or an empty queue.
+    // Takes one turn of the task. Returns whether nothing was refused, except for an empty buffer or an empty queue.
     fn act(&mut self, rt: &impl Wait, station: &Station, turn: u16) -> bool
         requires { IsOurs station.now self.old.operator }
         ensures { IsOurs station.now self.new.operator }
@@ -115,7 +115,7 @@ impl Worker {
         }
     }
 
-    // All its turns. Nothing else is refused.
+    // Takes all turns of the task, and checks that nothing else is refused.
     fn work(&mut self, rt: &(impl Abort + Wait), station: &Station)
         requires { IsOurs station.now self.old.operator }
         ensures { IsOurs station.now self.new.operator }
@@ -127,7 +127,7 @@ impl Worker {
     }
 }
 
-// V(R) in the watcher's next status, which is of channel 1 with a FARM-B counter of 0.
+// Returns V(R) in the watcher's next status, which must be that of channel 1 with a FARM-B counter of 0.
 fn next_number(station: &Station, watcher: &mut Watcher) -> Option<u8> {
     let status = read_clcw(station.watch(watcher, NO_FLAG))?;
     if status.vcid == 1 && status.farm_b == 0 {
@@ -137,7 +137,7 @@ fn next_number(station: &Station, watcher: &mut Watcher) -> Option<u8> {
     }
 }
 
-// Watches 300 times. Says whether V(R) never fell.
+// Watches 300 times, and returns whether V(R) never fell.
 fn never_falls(station: &Station, watcher: &mut Watcher) -> bool {
     let mut last = 0;
     for _ in 0..300 {
@@ -150,7 +150,7 @@ fn never_falls(station: &Station, watcher: &mut Watcher) -> bool {
     true
 }
 
-// Two that bring, one that releases and one that takes.
+// Creates four workers: two that bring, one that releases and one that takes.
 fn four_workers(rt: &impl Abort, alloc: Global, station: &mut Station) -> Vec<Worker>
     requires { station.old.vcids ≡ 1 ∷ [] }
     ensures ours { All (λ w. IsOurs station.new w.operator) result.items }
@@ -167,7 +167,7 @@ fn new_watcher(rt: &(impl Abort + Wait), station: &Station) -> Watcher {
     station.watcher(rt, 1).expect(rt, "a watcher")
 }
 
-// Each worker in a thread of its own.
+// Lets each worker work in a thread of its own.
 fn work_all<R: Abort + Threads + Wait + Sync>(rt: &R, station: &Station, workers: &mut [Worker])
     requires { All (λ w. IsOurs station.now w.operator) workers.old }
 {
@@ -181,7 +181,7 @@ fn work_all<R: Abort + Threads + Wait + Sync>(rt: &R, station: &Station, workers
     );
 }
 
-// For neither watcher V(R) falls, each of which is in a thread of its own.
+// Lets both watchers watch, each in a thread of its own, and checks that V(R) falls for neither.
 fn watch_both<R: Abort + Threads + Wait + Sync>(
     rt: &R,
     station: &Station,
@@ -196,7 +196,7 @@ fn watch_both<R: Abort + Threads + Wait + Sync>(
     assert!(rt; first && second);
 }
 
-// Workers and watchers, each in a thread of its own.
+// Lets workers work and watchers watch, each in a thread of its own.
 fn all_at_once<R: Abort + Threads + Wait + Sync>(
     rt: &R,
     station: &Station,
@@ -213,7 +213,7 @@ fn all_at_once<R: Abort + Threads + Wait + Sync>(
     join_mut(rt, &mut first, &mut second);
 }
 
-// Adds up what all operators counted of channel 1.
+// Returns the sum of the events that all operators counted on channel 1.
 fn counted(rt: &impl Abort, workers: &[Worker]) -> u64 {
     let mut sum: u64 = 0;
     for worker in workers {
@@ -231,7 +231,7 @@ fn take(rt: &impl Abort, channel: &mut Channel, apid: u16) -> Vec<u8> {
     channel.take(apid).expect(rt, "a packet")
 }
 
-// Has a channel answer an event.
+// Returns the answer of a channel to an event.
 fn answer_to(rt: &impl Abort, channel: &mut Channel, event: &Event) -> Answer {
     match event {
         Event::Frame(octets) => {
@@ -247,14 +247,15 @@ fn answer_to(rt: &impl Abort, channel: &mut Channel, event: &Event) -> Answer {
     }
 }
 
-// Both report the same of themselves.
+// Checks that both channels report the same.
 fn check_alike(rt: &impl Abort, channel: &Channel, closed: &Channel) {
     assert_eq!(rt; channel.clcw(NO_FLAG), closed.clcw(NO_FLAG));
     assert_eq!(rt; channel.buffered(), closed.buffered());
     assert!(rt; channel.queued(5) == closed.queued(5));
 }
 
-// Has a new channel answer the events of the closed one's journal. It is then as the closed one.
+// Returns the answers of a new channel to the events of the closed one's journal, and checks that both channels are
+// alike then.
 fn answers_again(rt: &impl Abort, alloc: Global, closed: &Channel) -> Vec<Answer> {
     let mut channel = Channel::new(alloc, settings(alloc, &CHANNEL).expect(rt, "settings")).expect(
         rt,
@@ -269,7 +270,7 @@ fn answers_again(rt: &impl Abort, alloc: Global, closed: &Channel) -> Vec<Answer
     answers
 }
 
-// Among all answers those to the worker's task are the worker's, in order.
+// Checks that the answers to this task among all answers are the worker's, in order.
 fn check_in_order(rt: &impl Abort, all: &[Answer], task: Task, got: &[Answer]) {
     let mut got = got.iter();
     for answer in all {
@@ -290,7 +291,7 @@ fn times(answers: &[Answer], wanted: &Answer) -> u32 {
     times
 }
 
-// Each reply to a frame stands among all answers as often as among those of both bringers.
+// Checks that each reply to a frame comes as often among all answers as among those of both workers that bring.
 fn check_as_often(rt: &impl Abort, all: &[Answer], one: &[Answer], two: &[Answer]) {
     assert_eq!(rt; one.len(), 200);
     assert_eq!(rt; two.len(), 200);
@@ -302,7 +303,7 @@ fn check_as_often(rt: &impl Abort, all: &[Answer], one: &[Answer], two: &[Answer
     }
 }
 
-// The journal has this frame twice.
+// Checks that the journal has this frame twice.
 fn check_frame(rt: &impl Abort, journal: &[Event], frame: &[u8]) {
     let mut times: u32 = 0;
     for event in journal {
@@ -313,14 +314,14 @@ fn check_frame(rt: &impl Abort, journal: &[Event], frame: &[u8]) {
     assert_eq!(rt; times, 2);
 }
 
-// Each frame was brought by both bringers.
+// Checks that each frame was brought by both workers that bring.
 fn check_frames(rt: &impl Abort, journal: &[Event]) {
     for ns in 0..200u8 {
         check_frame(rt, journal, &ad_frame(1, ns));
     }
 }
 
-// The journal has what the operators counted, and the last status is the channel's.
+// Checks that the journal has as many events as the operators counted, and that the last status is the channel's.
 fn check_closed(rt: &impl Abort, channel: &Channel, counted: u64, status: u32) {
     let events = channel.journal().len() as u64;
     assert_eq!(rt; events, counted);
@@ -329,7 +330,7 @@ fn check_closed(rt: &impl Abort, channel: &Channel, counted: u64, status: u32) {
     check_frames(rt, channel.journal());
 }
 
-// The channel that is left, and what each operator was answered.
+// The channel that is left, and the answers that each operator got.
 #[derive(Drop)]
 struct Closed {
     channel: Channel,
@@ -343,7 +344,7 @@ fn last_of(rt: &impl Abort, workers: &mut Vec<Worker>) -> Worker {
     workers.pop().expect(rt, "a worker")
 }
 
-// Closes the station, and keeps what each operator was answered.
+// Closes the station, and keeps the answers that each operator got.
 fn close_all(rt: &impl Abort, alloc: Global, station: Station, mut workers: Vec<Worker>) -> Closed
     requires { station.vcids ≡ 1 ∷ [] }
 {
@@ -364,7 +365,7 @@ fn close_all(rt: &impl Abort, alloc: Global, station: Station, mut workers: Vec<
     }
 }
 
-// Each operator was answered what a new channel answers.
+// Checks that each operator got the answers that a new channel gives.
 fn check_answers(rt: &impl Abort, alloc: Global, closed: &Closed) {
     let all = answers_again(rt, alloc, &closed.channel);
     check_as_often(rt, &all, &closed.one, &closed.two);

@@ -7,15 +7,15 @@ use super::gate::{do_lists, new_operator_list};
 use super::*;
 use tc_station::{FreeGate, Job, Order, WorkList};
 
-// The third octet of the frames for virtual channels 1 and 2.
+// The third octets of the frames for virtual channels 1 and 2.
 const TO_CHANNEL_1: u8 = 0x04;
 
 const TO_CHANNEL_2: u8 = 0x08;
 
-// How many frames each worker brings to each channel.
+// The number of frames that each worker brings to each channel.
 const FRAMES: u8 = 200;
 
-// A Type-BD frame to the channel of the third octet. Its data field names the worker and the frame.
+// Returns a Type-BD frame for the channel of the third octet. Its data field names the worker and the frame.
 fn frame(third: u8, worker: u8, number: u8) -> [u8; 8] {
     [0x20, 0x2a, third, 0x07, 0x00, 0xc0, worker, number]
 }
@@ -27,7 +27,7 @@ fn bring(rt: &impl Abort, alloc: Global, octets: &[u8]) -> Job {
     }
 }
 
-// The worker's frames, to channel 1 and to channel 2 in turn.
+// Returns the worker's frames, for channel 1 and for channel 2 in turn.
 fn frames_of(rt: &impl Abort, alloc: Global, worker: u8) -> WorkList {
     let mut jobs = Vec::new(alloc);
     for number in 0..FRAMES {
@@ -42,7 +42,7 @@ fn frames_of(rt: &impl Abort, alloc: Global, worker: u8) -> WorkList {
     }
 }
 
-// Closes a station that is refused nothing.
+// Closes a station, which must succeed.
 fn closed_together(rt: &impl Abort, station: Station, operators: Vec<Operator>) -> Vec<Channel>
     requires { All (IsOurs station) operators.items }
 {
@@ -52,7 +52,8 @@ fn closed_together(rt: &impl Abort, station: Station, operators: Vec<Operator>) 
     }
 }
 
-// The journal is a merge of both workers' frames to this channel: each worker's are there in order, all of them, and nothing else.
+// Checks that the journal is a merge of both workers' frames for this channel: it has all frames of each worker, in
+// order, and nothing else.
 fn check_merge(rt: &impl Abort, journal: &[Event], third: u8) {
     let mut one: u8 = 0;
     let mut two: u8 = 0;

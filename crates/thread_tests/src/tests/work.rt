@@ -5,12 +5,12 @@ use super::*;
 use std::sync::atomic::{AtomicU32, Ordering};
 use tc_station::{Gate, Job, Order, WorkList};
 
-// A job that brings octets, on line 1.
+// Returns the order of a job that brings octets.
 fn bring(rt: &impl Abort, alloc: Global, octets: &[u8]) -> Order {
     Order::Bring(octets_of(alloc, octets).expect(rt, "octets"))
 }
 
-// An order that is refused or not, and then an Unlock of virtual channel 1.
+// Creates a list of an order that may be refused, and then an Unlock of virtual channel 1.
 fn list_for(rt: &impl Abort, alloc: Global, vcid: u8, order: Order) -> WorkList {
     let first = Job { line: 1, order };
     let unlock = Job {
@@ -23,9 +23,9 @@ fn list_for(rt: &impl Abort, alloc: Global, vcid: u8, order: Order) -> WorkList 
     }
 }
 
-// Channel 9 isn't there. What is asked for before an Unlock is refused: a release of an empty buffer and one of no channel, octets
-// that are no frame, a packet of an application without a queue, one where none waits, and a unit of a MAP that isn't chosen. The
-// last list has no jobs.
+// Creates seven lists. Channel 9 isn't there. The order before each Unlock is refused: a release of an empty buffer and
+// one of no channel, octets that aren't a frame, takes of a packet without a queue and from an empty queue, and of a
+// unit of a MAP that isn't chosen. The last list has no jobs.
 fn seven_lists(rt: &impl Abort, alloc: Global) -> [WorkList; 7] {
     [
         list_for(rt, alloc, 1, Order::Release),
@@ -41,7 +41,8 @@ fn seven_lists(rt: &impl Abort, alloc: Global) -> [WorkList; 7] {
     ]
 }
 
-// Counts how often it is passed: for channel 1 in the ones, 2 in the tens, 9 in the hundreds, and any other in the thousands.
+// A gate that counts how often it is passed: for channel 1 in the ones, 2 in the tens, 9 in the hundreds, and any other
+// in the thousands.
 #[derive(Drop)]
 struct Counting {
     passed: AtomicU32,
@@ -59,7 +60,7 @@ impl Gate for Counting {
     }
 }
 
-// The worker of a list without jobs, too. Refusals are passed over.
+// The worker of a list without jobs passes the gate, too. Refusals don't stop a worker.
 #[test]
 fn each_worker_passes_the_gate_once(rt: HostRuntime) {
     let alloc = rt.alloc();

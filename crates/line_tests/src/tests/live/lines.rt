@@ -1,4 +1,4 @@
-//! Lines that no script has.
+//! Lines of the live receiver that aren't lines of a script.
 
 use super::check_answers;
 

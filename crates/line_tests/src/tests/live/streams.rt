@@ -44,7 +44,7 @@ fn how_frames_end_is_reported(rt: HostRuntime) -> Result<(), Fail> {
 
 #[test]
 fn a_read_fails_after_a_line(rt: HostRuntime) -> Result<(), Fail> {
-    // It has 26 octets, and the read after them fails.
+    // The reader has 26 octets, and the read after them fails.
     let failing = Failing::new(b"no\nchannel 1 10 1 0\nclcw 1".as_slice(), 3, 10);
     let mut reader = BufReader::new(rt.alloc(), failing)?;
     let mut writer = Watched::new(rt.alloc(), 0, false);

@@ -1,10 +1,11 @@
-//! Frames with and without their frame error control field. The sums are those of Python's `binascii.crc_hqx(.., 0xffff)`.
+//! Frames with and without their frame error control field. The check sums are those of Python's `binascii.crc_hqx(..,
+//! 0xffff)`.
 
 use std::alloc::Global;
 use tc_fecf::{FieldFault, with_field, without_field};
 use tc_link::FrameFault;
 
-// Frames, and what they are with their field.
+// Frames without and with their field.
 const FRAMES: [(&str, &str); 3] = [
     (
         "002a040c00c01005c0000000aa",
@@ -26,7 +27,7 @@ fn a_field_goes_on_and_comes_off(rt: HostRuntime) {
     }
 }
 
-// A frame of so many octets for virtual channel 1, all of whose data are 0.
+// Returns a frame of `length` octets for virtual channel 1, all of whose data octets are 0.
 fn frame_of(alloc: Global, length: u16) -> Option<Vec<u8>> {
     let [c, d] = 1024u16.wrapping_add(length.wrapping_sub(1)).to_be_bytes();
     let mut octets = vec![in alloc; 0, 42, c, d].ok()?;
@@ -51,7 +52,7 @@ fn the_longest_and_the_shortest_frame(rt: HostRuntime) {
     }
 }
 
-// Octets, and why no field is taken off.
+// Octets, and the fault for which no field is taken off.
 const REFUSED: [(&str, FieldFault); 8] = [
     ("002a04", FieldFault::NoFrame(FrameFault::Short)),
     (

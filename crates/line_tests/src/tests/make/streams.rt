@@ -6,7 +6,7 @@ use std::test::Fail;
 use tc_make::{Ending, MAX_LINE, ServingFault, answer_lines};
 use test_parts::{Failing, Watched};
 
-/// Gives a thousand octets a read, and is interrupted before each read.
+/// A reader that gives a thousand octets at each read, and is interrupted before each.
 #[derive(Drop)]
 struct Interrupted<'a> {
     rest: &'a [u8],
@@ -42,7 +42,7 @@ fn lines_are_answered_and_flushed_one_by_one(rt: HostRuntime) -> Result<(), Fail
 
 #[test]
 fn a_read_fails_after_a_line(rt: HostRuntime) -> Result<(), Fail> {
-    // It has 21 octets, and the read after them fails.
+    // The reader has 21 octets, and the read after them fails.
     let failing = Failing::new(b"unlock 42 1\nunlock 42".as_slice(), 3, 8);
     let mut reader = BufReader::new(rt.alloc(), failing)?;
     let mut writer = Watched::new(rt.alloc(), 0, false);

@@ -1,4 +1,4 @@
-//! Sums of octets. Each is what Python's `binascii.crc_hqx(bytes.fromhex(digits), 0xffff)` gives.
+//! Check sums of octets. Each is the result of Python's `binascii.crc_hqx(bytes.fromhex(digits), 0xffff)`.
 
 use tc_fecf::{checksum, passes};
 

@@ -1,5 +1,5 @@
-//! Calls that take memory. With ample memory each answers at once; with one growth refused each
-//! leaves what stood before, and then answers the same.
+//! Calls that request memory. With ample memory each succeeds at once. If one growth is refused, each leaves the state
+//! as it was, and then succeeds with the same answers.
 
 use super::{ANSWERS, REPORT, SCRIPT, UNITS, UNITS_ANSWERS, UNITS_REPORT, Way, run};
 use std::alloc::Global;
@@ -9,7 +9,7 @@ use std::thread::Threads;
 use tc_cli::{Line, Reason, ScriptFault, parse_line};
 use test_parts::{UNLOCK, room};
 
-/// A line, read at once or after a growth was refused.
+/// Parses a line, at once or after a growth was refused.
 fn parsed<T: Abort + Print>(rt: &T, alloc: Global, text: &[u8]) -> Line {
     match parse_line(alloc, text) {
         Ok(line) => line,
@@ -29,7 +29,8 @@ fn parse_line_growth(rt: HostRuntime) {
     }
 }
 
-/// The first lines, so many of them, have no answer, and each after them has one.
+/// Checks the fault and the answers when memory ran out. The first `setups` lines have no answer, and each line after
+/// them has one.
 fn check_refused<T: Abort>(
     rt: &T,
     fault: ScriptFault,
@@ -45,14 +46,14 @@ fn check_refused<T: Abort>(
     assert!(rt; line <= lines);
     let answered = answers.iter().filter(|octet| **octet == b'\n').count();
     let before = line.saturating_sub(setups.saturating_add(1)) as usize;
-    // The growths of the report come after the last line's answer.
+    // The report requests memory after the last line's answer.
     let reported = answered == before || (line == lines && answered == before.saturating_add(1));
     assert!(rt; reported, "{answered} answers at line {line}");
     assert!(rt; expected.as_bytes().starts_with(answers));
 }
 
-/// A script whose first lines, so many of them, set up channels, is done to its end, at once or after a
-/// growth was refused.
+/// Checks that a script whose first `setups` lines set up channels runs to its end, at once or after a growth was
+/// refused.
 fn check_script<T: Abort + Print + Threads + Wait + Sync + AllocGlobal>(
     rt: &T,
     script: &str,
@@ -60,7 +61,7 @@ fn check_script<T: Abort + Print + Threads + Wait + Sync + AllocGlobal>(
     setups: u32,
     lines: u32,
 ) {
-    // So the writer takes no memory later.
+    // With this room the writer requests no memory later.
     let mut answers = room(rt.alloc(), 1000).expect(rt, "room");
     if let Err(fault) = run(rt, Way::InOrder, &mut script.as_bytes(), &mut answers) {
         let _ = println!(rt; "refused: run_script, {fault}");
@@ -82,7 +83,7 @@ fn run_script_growth_of_units(rt: HostRuntime) {
     check_script(&rt, UNITS, UNITS_ANSWERS, 2, 8);
 }
 
-/// The station is made for the report alone, whose lines come after the last line.
+/// The station is created for the report alone, whose lines come after the last line.
 #[test]
 fn report_growth(rt: HostRuntime) {
     let script = "channel 1 10 1 0\nqueue 1 5 1\nchannel 0 10 1 0\n\n";
@@ -91,8 +92,8 @@ fn report_growth(rt: HostRuntime) {
     check_script(&rt, script, report, 4, 4);
 }
 
-// Runs a script in parallel. Where a growth is refused, that is reported at line 0, as the script is read, or from the first to the
-// last of these lines, and nothing is written.
+// Runs a script in parallel. If a growth is refused, that is reported at line 0, for the reading of the script, or at a
+// line from `first` to `last`, and nothing is written.
 fn check_parallel<R: Threads + Wait + Sync + Abort + Print + AllocGlobal>(
     rt: &R,
     script: &str,
@@ -125,7 +126,7 @@ fn parallel_script_growth_of_units(rt: HostRuntime) {
     check_parallel(&rt, UNITS, UNITS_REPORT, 1, 8);
 }
 
-/// The comments make no growth, so each that is refused is one of the last line.
+/// Comments request no memory, so each growth that is refused is one of the last line.
 #[test]
 fn parallel_growth_after_comments(rt: HostRuntime) {
     let script = "# one\n# two\n# three\nchannel 1 10 1 0\n";

@@ -9,7 +9,7 @@ use std::thread::Threads;
 use tc_cli::{Reason, ScriptFault};
 use test_parts::{Failing, Watched};
 
-/// Gives an octet a read, without end.
+/// A reader that gives one octet at each read, without end.
 #[derive(Drop)]
 struct Endless {
     reads: u32,
@@ -26,7 +26,8 @@ impl Read for Endless {
     }
 }
 
-// All is answered, or the failed read is reported and nothing is answered. Says whether the script is read before this read fails.
+// Checks that all is answered, or that the failed read is reported and nothing is answered. Returns whether the script
+// is read before this read fails.
 fn is_read<T: Abort + Threads + Wait + Sync + AllocGlobal>(
     rt: &T,
     way: Way,
@@ -64,7 +65,8 @@ fn a_read_fails(rt: HostRuntime) {
     }
 }
 
-// All is written, or the failed write is reported, and what was written before is the front of the rest. Says whether all was.
+// Checks that all is written, or that the failed write is reported and the text before it is the beginning of the
+// answers. Returns whether all was written.
 fn is_written<T: Abort + Threads + Wait + Sync + AllocGlobal>(
     rt: &T,
     way: Way,
@@ -120,7 +122,7 @@ fn reading_ends(rt: HostRuntime) {
     assert_eq!(rt; reader.reads, 1_048_577);
 }
 
-// A channel line and a frame line that goes on with so many zeros that the script has this length.
+// Returns a channel line, and a frame line that continues with zeros until the script has this length.
 fn long_script<T: Abort + AllocGlobal>(rt: &T, length: usize) -> Vec<u8> {
     let start = b"channel 1 10 1 0\nframe ";
     let mut script = vec![in rt.alloc(); b'0'; length].expect(rt, "a script");
@@ -130,7 +132,7 @@ fn long_script<T: Abort + AllocGlobal>(rt: &T, length: usize) -> Vec<u8> {
     script
 }
 
-// A script of this length is answered so.
+// Checks that a script of this length has these answers.
 fn check_long<T: Abort + Threads + Wait + Sync + AllocGlobal>(
     rt: &T,
     length: usize,

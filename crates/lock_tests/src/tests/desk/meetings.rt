@@ -1,4 +1,4 @@
-//! A watcher meets the desk, by one operator, after what another one did.
+//! A watcher meets the desk, through one operator, after operations of another one.
 
 ghost use Rattle.std.specs.Prelude.{◌≡◌};
 
@@ -8,8 +8,9 @@ use std::sync::Wait;
 use tc_channel::ReleaseFault;
 use tc_desk::{DeskOperator, Release, Watching};
 
-// CLCWs from the standard's fields: COP-1 in effect (01); virtual channel 1 (04); no flag, FARM-B's count of Type-BD frames in two bits
-// and a spare bit; V(R). A Type-AD frame makes V(R) 1, each Type-BD frame counts, and a release changes neither.
+// Checks the CLCWs that a watcher reads at its meetings. Their octets are the standard's fields: COP-1 in effect (01),
+// virtual channel 1 (04), no flag with FARM-B's count of Type-BD frames in two bits and a spare bit, and V(R). A
+// Type-AD frame makes V(R) 1, each Type-BD frame counts, and a release changes neither.
 fn check_meetings<R: Abort + Wait>(
     rt: &R,
     desk: &Locked,

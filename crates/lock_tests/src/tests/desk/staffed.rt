@@ -11,7 +11,7 @@ use tc_link::read_frame;
 
 pub(super) type Locked = LockedDesk<Recorded>;
 
-// A desk and who works at it.
+// A desk and the operator that works at it.
 #[derive(Drop)]
 pub(super) struct Staffed {
     pub(super) owned_desk: Desk,
@@ -32,7 +32,7 @@ impl Staffed {
         }
     }
 
-    // Another operator of the same desk.
+    // Issues another operator of the same desk.
     pub(super) fn other(&mut self) -> DeskOperator
         ensures other { result.lock ≡ self.new.owned_desk.lock }
         ensures same { (self.new.owned_desk.lock ≡ self.old.owned_desk.lock) × (self.new.owned_desk.own.seen ≡ self.old.owned_desk.own.seen) × (self.new.operator ≡ self.old.operator) }
@@ -41,7 +41,7 @@ impl Staffed {
     }
 }
 
-// An operator brings this frame. Says whether it was answered.
+// Lets an operator bring this frame, and returns whether it was answered.
 pub(super) fn bring<R: Abort + Wait>(
     rt: &R,
     desk: &Locked,

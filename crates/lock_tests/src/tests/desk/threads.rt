@@ -10,15 +10,15 @@ use std::sync::Wait;
 use std::thread::{Threads, join_mut};
 use tc_desk::DeskOperator;
 
-// How many frames each of them brings.
+// The number of frames that each of them brings.
 const TURNS: u8 = 250;
 
-// The BD frame of this thread's turn. Its unit has two octets: who brought it, and in which turn.
+// Returns the BD frame of this thread's turn. Its unit has two octets: the number of the thread, and that of the turn.
 fn turn_frame(who: u8, turn: u8) -> [u8; 8] {
     [0x20, 0x2a, 0x04, 0x07, 0x00, 0xc3, who, turn]
 }
 
-// Brings the frames of all turns, one after the other. Says whether each was answered.
+// Brings the frames of all turns, one after the other, and returns whether each was answered.
 fn bring_all<R: Abort + Wait>(rt: &R, desk: &Locked, operator: &mut DeskOperator, who: u8) -> bool
     requires { operator.old.lock ≡ desk.now.id }
     ensures { operator.new.lock ≡ desk.now.id }
@@ -30,7 +30,7 @@ fn bring_all<R: Abort + Wait>(rt: &R, desk: &Locked, operator: &mut DeskOperator
     done
 }
 
-// Both bring their frames, each in a thread of its own. Says whether each was answered.
+// Lets both operators bring their frames, each in a thread of its own, and returns whether each frame was answered.
 fn side_by_side<R: Threads + Abort + Wait + Sync>(
     rt: &R,
     desk: &Locked,
@@ -54,7 +54,7 @@ fn side_by_side<R: Threads + Abort + Wait + Sync>(
     a && b
 }
 
-// The desk's own operator and this one bring their frames. Says whether each was answered.
+// Lets the desk's own operator and this one bring their frames, and returns whether each frame was answered.
 fn work<R: Threads + Abort + Wait + Sync>(
     rt: &R,
     staffed: &mut Staffed,
@@ -66,7 +66,7 @@ fn work<R: Threads + Abort + Wait + Sync>(
     side_by_side(rt, staffed.owned_desk.desk(), &mut staffed.operator, other)
 }
 
-// Of the frames of the journal those of one thread are all that it brought, in their order.
+// Checks that the frames of one thread in the journal are all that it brought, in order.
 fn check_frames(rt: &impl Abort, journal: &[Event], who: u8) {
     let mut turn = 0u8;
     for event in journal {

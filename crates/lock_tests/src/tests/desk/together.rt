@@ -1,4 +1,4 @@
-//! The close of two desks at once, with all who have an operator at each.
+//! The close of two desks at once, with all workers that have an operator at each.
 
 ghost use Rattle.std.specs.Prelude.{◌≡◌, ◌∷◌, [], map};
 ghost use Rattle.tc_desk.specs.Together.{AreOurs};
@@ -13,10 +13,10 @@ use tc_link::read_frame;
 
 pub(super) type Desk = OwnedDesk<Recorded>;
 
-// As `BD_UNIT`, for virtual channel 2.
+// A frame like `BD_UNIT`, for virtual channel 2.
 const OTHER_FRAME: [u8; 8] = [0x20, 0x2a, 0x08, 0x07, 0x00, 0xc3, 0xaa, 0xbb];
 
-// A desk for this virtual channel, whose settings are else those of virtual channel 1.
+// Creates a desk for this virtual channel, whose other settings are those of virtual channel 1.
 fn new_desk(rt: &impl Abort, alloc: Global, vcid: u8) -> Desk {
     let wanted = Wanted { vcid, ..CHANNEL };
     Desk::new(alloc, settings(alloc, &wanted).expect(rt, "settings")).expect(rt, "a desk")
@@ -29,7 +29,7 @@ struct Desks {
     second: Desk,
 }
 
-// Has an operator at each of them.
+// A worker that has an operator at each of two desks.
 #[derive(Drop)]
 struct Worker {
     first: DeskOperator,
@@ -90,8 +90,8 @@ fn take_unit(rt: &(impl Abort + Wait), desk: &Desk, operator: &mut DeskOperator)
         .expect(rt, "a unit")
 }
 
-// At the first desk one brings a frame, and the other lets its data field out; at the second the other brings a unit, and the one
-// takes it.
+// Lets two workers work. At the first desk `one` brings a frame, and `other` releases its data field. At the second
+// desk `other` brings a unit, and `one` takes it.
 fn work(rt: &(impl Abort + Wait), desks: &Desks, one: &mut Worker, other: &mut Worker)
     requires one { (one.old.first.lock ≡ desks.now.first.lock) × (one.old.second.lock ≡ desks.now.second.lock) }
     requires other { (other.old.first.lock ≡ desks.now.first.lock) × (other.old.second.lock ≡ desks.now.second.lock) }
@@ -114,7 +114,7 @@ pub(super) fn list_of_two<T: Drop>(rt: &impl Abort, alloc: Global, first: T, sec
     list
 }
 
-// The two desks in their order, and one's operators in the same.
+// Returns the two desks in order. `operator_list_of` returns the operators of a worker in the same order.
 fn owned_desks_of(rt: &impl Abort, alloc: Global, desks: Desks) -> Vec<Desk>
     ensures { result.items ≡ desks.first ∷ desks.second ∷ [] }
 {
@@ -143,7 +143,7 @@ pub(super) fn closed(
     }
 }
 
-// Takes the channels out, whoever made their events.
+// Takes the channels out, whichever operators made their events.
 fn taken_out(rt: &impl Abort, alloc: Global, owned_desks: Vec<Desk>) -> Vec<Channel> {
     match take_out_together(alloc, owned_desks) {
         Ok(channels) => channels,
@@ -151,8 +151,8 @@ fn taken_out(rt: &impl Abort, alloc: Global, owned_desks: Vec<Desk>) -> Vec<Chan
     }
 }
 
-// The two channels, in the order of the desks: the journal of each, and its CLCW. At the first V(R) is 1, at the second FARM-B
-// counts 1.
+// Checks the two channels, in the order of the desks: the journal of each, and its CLCW. At the first V(R) is 1, and at
+// the second FARM-B counts 1.
 fn check_channels(rt: &impl Abort, alloc: Global, channels: &[Channel]) {
     assert_eq!(rt; channels.len(), 2);
     if let [first, second] = channels {
@@ -171,13 +171,13 @@ fn check_channels(rt: &impl Abort, alloc: Global, channels: &[Channel]) {
     }
 }
 
-// Each of the two has made one event at each desk.
+// Checks that a worker has made one event at each desk.
 fn check_counts(rt: &impl Abort, worker: &Worker) {
     assert_eq!(rt; worker.first.count(), 1);
     assert_eq!(rt; worker.second.count(), 1);
 }
 
-// Two desks and two who have worked at both.
+// Creates two desks, and two workers that have worked at both.
 fn worked(rt: &(impl Abort + Wait), alloc: Global) -> (Desks, Worker, Worker)
     ensures one { (result.1.first.lock ≡ result.0.first.lock) × (result.1.second.lock ≡ result.0.second.lock) }
     ensures other { (result.2.first.lock ≡ result.0.first.lock) × (result.2.second.lock ≡ result.0.second.lock) }
@@ -205,7 +205,7 @@ fn desks_closed_together(rt: HostRuntime) {
     check_channels(&rt, alloc, &closed(&rt, alloc, owned_desks, operator_lists));
 }
 
-// Who worked at the desks isn't asked.
+// The workers aren't needed to take the channels out.
 #[test]
 fn desks_taken_out_together(rt: HostRuntime) {
     let alloc = rt.alloc();
