@@ -59,7 +59,7 @@ fn new_channel<C: Form>(
     }
 }
 
-// Has a channel answer the frame at the front of these octets.
+// Brings the frame at the front of these octets to a channel, and returns the reply.
 fn offer<C: Form>(rt: &impl Abort, channel: &mut C, octets: &[u8]) -> Result<FrameReply, NoMemory> {
     channel.bring(&read_frame(octets).expect(rt, "a frame"))
 }

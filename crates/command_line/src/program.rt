@@ -17,9 +17,9 @@ const MAX_SCID: u16 = 1023;
 /// The way in which a script is run.
 #[derive(Clone, Copy, Debug, PartialEq, Eq)]
 pub enum Way {
-    /// Line by line.
+    /// A run line by line.
     InOrder,
-    /// With a worker for each channel.
+    /// A run with a worker for each channel.
     Parallel,
 }
 

@@ -22,9 +22,9 @@ pub(crate) struct Outcome {
 /// The way in which a script is run.
 #[derive(Clone, Copy, Debug)]
 pub(crate) enum Command {
-    /// Line by line, with an answer for each operation.
+    /// A run line by line, with an answer for each operation.
     Run,
-    /// With a worker for each channel, and the final report alone.
+    /// A run with a worker for each channel, and the final report alone.
     Parallel,
     /// Like `Run`, but on channels instead of a station: each with its journal in memory, without one, or in rooms.
     Alone,

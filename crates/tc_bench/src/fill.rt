@@ -22,7 +22,8 @@ enum Piece {
     Segment(Kind, u8, u16),
     // A run of as many octets as the largest unit, which is left open on the MAP.
     Run(Kind),
-    // The largest packet for the application, and the largest unit on the MAP, with all their segments. The last one has no octet.
+    // The largest packet for the application, and the largest unit on the MAP, with all their segments. The last
+    // segment has no octet.
     LargestPacket,
     LargestUnit,
 }

@@ -1,5 +1,6 @@
 -- If the operator of a station has made all events of its desks, each of its answers follows from the lines before it.
--- So does each CLCW that its watchers read, if each watcher has seen exactly what the operator has seen in the end.
+-- So does each CLCW that its watchers read, if each watcher has in the end seen exactly the events that the operator
+-- has.
 use Rattle.std.proofs.Common.{◌≡◌, ◌<◌, ℕ, zero, suc, List, [], ◌∷◌, ◌++◌, Some, Err, All, map, length, get_or, set, slice_get, inl, inr, refl, sym, ap, ◌∙◌, subst, arith, ◌==◌, Contains, slice_index}
 use Rattle.tc_cli.proofs.Names.{All-head, All-tail, AllHaveMet, Answer, AreClosedTogether, AtLock, AtStation, Changes, Event, HasChannel, HasMadeAll, HasMetAt, HasSeenItsOwn, HasSeenNoMore, HaveMet, History, Identity, IsAnswerOf, IsAnsweredAt, IsBeginning, IsBringAnswer, IsChannelAnswer, IsClcwAnswer, IsClosed, IsDeskAnswer, IsFrameAnswer, IsFrameAnswered, IsMergeOf, IsPlace, IsRackLocateFault, IsReleaseAnswered, IsTakeAnswered, IsUnitAnswered, IsWordAnswer, KnowsDesks, Linked, LocateFault, Staffed, Moment, Operation, Own, Racked, Roster, Settings, Watching, clcw, eqb-true, eqb_tells, get_or_from_slice_get, header_of, heads_of, histories, history_of, length-map, length-set, linked, looked, made, map-map, new_linked, new_rack, no_flag, nobody, position-Some, same_Some, settings_in, slice_get-get_or, slice_get_within, reported_word, vcid_of}
 use Rattle.std.proofs.lemmas.List.{map-set}
@@ -93,7 +94,7 @@ module _ (laws : AloneLaws) (Answers : Linked → Answer → Linked → Type 0) 
       }
 
   -- if the operator has made all events in the end, it had before this answer, which is the answer of the channel that
-  -- it had seen; and if each watcher has seen exactly what the operator has in the end, it had before
+  -- it had seen; and if each watcher has in the end seen exactly the events that the operator has, it had before
   changed : IsAlone new → IsAlone m × Changes (rack_of m) vcid (λ before after. Answers before answer after) (rack_of new)
   changed alone =
       let desks = m.operator.desks in
@@ -242,7 +243,7 @@ module _ (laws : AloneLaws) where
       let late = met-alone n mid met last early.0 in
       (late.0, λ alone. let one = late.1 alone in let two = early.1 one.0 in (two.0, one.1 ∙ two.1))
 
-  -- a watcher that has met its desk has seen exactly what the operator has
+  -- a watcher that has met its desk has seen exactly the events that the operator has seen
   level-so-far : (n : ℕ) (m met : Staffed) → HaveMet n m met → (k : ℕ) (d : AtLock) (w : Watching) → k < n → slice_get met.operator.desks k ≡ Some d → slice_get met.watchers k ≡ Some w → IsLevel d w.seen
   level-so-far zero m met same k d w lt at here = absurd (omega (arith, lt))
   level-so-far (suc n) m met (mid, first, last) k d w lt at here =

@@ -23,7 +23,7 @@ beginning-same a b p q =
 abbrev pub AreEach : (AtLock → History → Type 0) → List AtLock → List Watching → Type 0
 AreEach P desks watchers = (k : ℕ) (d : AtLock) (w : Watching) → slice_get desks k ≡ Some d → slice_get watchers k ≡ Some w → P d w.seen
 
--- the watcher has seen exactly what the operator has
+-- the watcher has seen exactly the events that the operator has seen
 abbrev pub IsLevel : AtLock → History → Type 0
 IsLevel d seen = seen ≡ history_of d.own.seen
 

@@ -54,7 +54,7 @@ same-parts octets line after other rest one two (inr (is, end)) (inr (too, stop)
 same-line : (octets line after other rest : List ℕ) → IsFirstLine octets line after → IsFirstLine octets other rest → (line ≡ other) × (after ≡ rest)
 same-line octets line after other rest one two = same-parts octets line after other rest one.one two.one one.parts two.parts
 
--- ---- no two channels have one id
+-- ---- no two channels have the same id
 
 -- each id stands at one place only
 abbrev pub AreApart : List ℕ → Type 0
@@ -375,7 +375,7 @@ module _ (only : IsOneAtMost) (scid : ℕ) where
 
 -- ---- the report
 
--- no two channels of a script have one id
+-- no two channels of a script have the same id
 keyed : (scid : ℕ) (progress : Progress) → AreApart (ids_of progress) → (c d : History) → Contains (histories (rack_for scid progress)) c → Contains (histories (rack_for scid progress)) d
     → c.settings.vcid ≡ d.settings.vcid → c ≡ d
 keyed scid progress apart c d (i, lt, is) (j, less, too) id =

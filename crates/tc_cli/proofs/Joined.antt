@@ -150,7 +150,7 @@ module _ (laws : WorkLaws) (station : Roster) (lists : List WorkList) (rack : Ra
       let same : h.settings ≡ c.history.settings = closed.settings ∙ settings in
       λ i. record { settings = same i; journal = journal i }
 
-  -- all channels
+  -- all channels once the station is closed
   all-closed : (befores ops : List AtStation) (closed : List History) → All HasMadeNothing befores → All (KnowsDesks station) befores → AreWorked station lists None befores ops
       → AreClosedTogether station ops closed → closed ≡ histories rack
   all-closed befores ops closed nothing knows (shifts, of-lists, of-befores, of-ops, each, none) (owned_desks, owned, all) =

@@ -161,7 +161,7 @@ located-for found rack octets faults.OtherSpacecraft planned (frame, begins, apa
 located-for found rack octets faults.UnknownChannel planned (frame, ours, none) =
     (frame, ours.0, ours.1 ∙ sym planned.spacecraft, no-channel found rack (header_of frame).vcid planned none)
 
--- the channel of a frame, by what its header names
+-- a frame is answered by the channel that its header names
 brought : (octets frame : List ℕ) (vcid : ℕ) (found parted : Parted) (rack new : Racked) (answer : Answer) → IsPlanned found rack → at_station.IsLocated found.station octets vcid frame
     → IsChannelAnswer vcid (IsFrameAnswered frame) rack answer new → IsPlanned parted new → IsAnsweredSo (IsFrameAnswer octets) parted rack
 brought octets frame vcid found parted rack new answer planned located (inl changes) moved =

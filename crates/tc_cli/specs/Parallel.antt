@@ -32,7 +32,7 @@ Begins scid old new = (found : Parted) × ArePartedFor scid old found × (new �
 abbrev pub GivesToFound : ℕ → (Parted → Parted → Type 0) → Plan → Plan → Type 0
 GivesToFound scid Gives old new = (found parted : Parted) × ArePartedFor scid old found × Gives found parted × (new ≡ Operating parted)
 
--- the job of a line is given to its channel; a CLCW or a blank line has no job, and what a line sets up is known from
+-- the job of a line is given to its channel; a CLCW or a blank line has no job, and the set-up of a line is known from
 -- the phase
 abbrev pub IsParted : ℕ → ℕ → Plan → Instruction → Plan → Type 0
 IsParted scid line old Nothing new = new ≡ old

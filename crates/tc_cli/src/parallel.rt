@@ -153,8 +153,8 @@ fn part_line(
     part(plan, alloc, scid, line, Instruction::of(alloc, said))
 }
 
-// Gives the job of a line to its channel, or sets up what the line sets up. A line that is refused leaves the plan as
-// it is, unless memory ran out before the first operation.
+// Gives the job of a line to its channel, or carries out its set-up. A line that is refused leaves the plan as it is,
+// unless memory ran out before the first operation.
 fn part(
     plan: &mut Plan,
     alloc: Global,
@@ -273,7 +273,7 @@ fn begin_anew(plan: &mut Plan, alloc: Global, scid: u16) -> Result<(), Reason>
     }
 }
 
-// Returns the jobs so far. If no operation came before, the station is created from what was set up.
+// Returns the jobs so far. If no operation came before, the station is created from the configuration.
 fn start(plan: Plan, alloc: Global, scid: u16) -> Result<Parted, Reason>
     requires { scid ≤ 1023 }
     ensures parted { IfOk result (ArePartedFor scid plan) }

@@ -87,7 +87,7 @@ impl Parted {
         append(alloc, &mut list.jobs, job)
     }
 
-    /// Has a worker for each list carry out the jobs of a script with `lines` lines, and closes the station.
+    /// Lets a worker for each list carry out the jobs of a script with `lines` lines, and closes the station.
     pub(crate) fn work<T: Threads + Wait + Sync, G: Gate + Sync>(
         self,
         rt: &T,
@@ -119,7 +119,7 @@ fn place_of(lists: &[WorkList], vcid: u8) -> Option<usize>
     lists.iter().position(|list| list.vcid == vcid)
 }
 
-// Returns the fault of a script for one of whose jobs memory ran out.
+// Returns the fault of a script if memory ran out for one of its jobs.
 fn refused(fault: WorkFault) -> ScriptFault
     ensures { result ≡ ScriptFault.Line (line_of_fault fault) Reason.NoMemory }
 {

@@ -1,4 +1,4 @@
--- An answer is followed by the answers for what is handed on.
+-- An answer is followed by the answers for the items that are handed on.
 use Rattle.tc_live.proofs.Names.{ℕ, true, false, List, ◌++◌, Option, Some, None, refl, inl, inr, Appends-trans, Appends, AreAnswersWritten, reported_lines, Script, Link as LinkOf, Report, Deliver, Collect, Candidate, live_text, Receiving, IsLiveLineAnswered, IsLineDone, IsReady, IsFollowedBy, IsLineSaid, IsReported, LiveAnswer}
 use Rattle.tc_lines.specs.Answering.{Writes}
 use Rattle.tc_text.specs.declared.live.LiveLine.{LiveLine}

@@ -27,7 +27,7 @@ abbrev pub FailsCheck : FrameCheck → Line → Type 0
 FailsCheck ErrorControl (Frame octets) = HasWrongField octets
 FailsCheck _ line = ⊥
 
--- a frame stands at the front of what a CLTU carried, and more than fill follows it
+-- the octets that a CLTU carried begin with a frame, and more than fill follows it
 abbrev pub CarriesMore : List ℕ → Type 0
 CarriesMore octets = (frame : List ℕ) × (rest : List ℕ) × IsDelimited octets frame rest × (is_fill rest ≡ false)
 

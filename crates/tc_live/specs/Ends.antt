@@ -12,7 +12,7 @@ use Rattle.tc_live.specs.declared.ends.FrameEnds.TheVariants.{EachWithField, One
 abbrev pub has_field : List ℕ → Bool
 has_field octets = elim (taking_fault_of octets) [ None ↦ true | Some fault ↦ false ]
 
--- the ends after one more frame, where one frame without a field decides for all
+-- the ends after one more frame: once a frame had no field, they stay `OneWithout`
 abbrev pub ends_after : FrameEnds → List ℕ → FrameEnds
 ends_after OneWithout octets = OneWithout
 ends_after _ octets = if has_field octets then EachWithField else OneWithout

@@ -28,8 +28,8 @@ IsNumberUnreported receiver = ¬ All IsNumberReported (histories (rack_at receiv
 abbrev pub IsClosingFault : Receiving → ServingFault → Type 0
 IsClosingFault receiver fault = (fault ≡ Write) ⊎ (fault ≡ NoMemory) ⊎ ((fault ≡ Unbalanced) × IsNumberUnreported receiver)
 
--- the answers that follow the answer of a line: for a delivery or a collection those of what is handed on, and none for
--- any other line
+-- the answers that follow the answer of a line: for a delivery or a collection those for the items that are handed on,
+-- and none for any other line
 abbrev pub IsFollowedBy : LiveAnswer → Receiving → Receiving → List Answer → Type 0
 IsFollowedBy (reported.Delivery vcid a) old new answers = IsDeliveryDone old vcid new answers
 IsFollowedBy (reported.Collection vcid) old new answers = IsDeliveryDone old vcid new answers

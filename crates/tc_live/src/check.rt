@@ -34,8 +34,9 @@ impl FrameCheck {
         }
     }
 
-    /// Returns the line to carry out for what a CLTU carried, or `None` if it doesn't pass. If frames are checked, the
-    /// frame is as long as its length field says, and is copied without its frame error control field to a new list.
+    /// Returns the line to carry out for the octets that a CLTU carried, or `None` if they don't pass. If frames are
+    /// checked, the frame is as long as its length field says, and is copied without its frame error control field to a
+    /// new list.
     pub fn pass_candidate(self, alloc: Global, octets: Octets) -> Result<Option<Line>, Reason>
         ensures passed { IfOk result (λ passed. MatchOption passed (FailsCandidate self octets) (IsCandidatePassed self octets)) }
         ensures reason { IfErr result (λ reason. reason ≡ Reason.NoMemory) }
@@ -47,7 +48,8 @@ impl FrameCheck {
     }
 }
 
-/// Returns whether more follows the frame at the front of what a CLTU carried than can be fill. This allocates nothing.
+/// Returns whether the octets that a CLTU carried begin with a frame that is followed by more than fill. This allocates
+/// nothing.
 pub fn carries_more(octets: &[u8]) -> bool
     ensures { IsTrue result ↔ CarriesMore octets.now }
 {

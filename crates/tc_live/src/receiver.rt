@@ -94,8 +94,8 @@ impl Receiver {
         }
     }
 
-    // Takes the frame out of what a CLTU carried, and brings it to its channel. If more than fill follows the frame,
-    // nothing is done.
+    // Takes the frame out of a candidate, and brings it to its channel. If more than fill follows the frame, nothing is
+    // done.
     fn candidate(&mut self, alloc: Global, octets: Octets) -> Result<LiveAnswer, Reason>
         ensures answer { IfOk result (IsCandidateDone self.old octets self.new) }
         ensures reason { IfErr result (λ reason. (reason ≡ Reason.NoMemory) ⊎ IsBadCandidate self.old octets reason) }
@@ -136,7 +136,7 @@ impl Receiver {
         self.instruct(alloc, Instruction::of(alloc, passed))
     }
 
-    // Carries out what a line asks for.
+    // Carries out the instruction of a line.
     fn instruct(&mut self, alloc: Global, instruction: Instruction) -> Result<LiveAnswer, Reason>
         ensures done { OnOk result (Does (phase_of self.old.stage) instruction (phase_of self.new.stage)) }
         ensures answer { IfOk result (IsInstructed self.old instruction self.new) }
@@ -227,8 +227,8 @@ impl Receiver {
         }
     }
 
-    // Creates the channels from a copy of what was set up, if no operation came before. If memory runs out, what was
-    // set up stays.
+    // Creates the channels from a copy of the configuration, if no operation came before. If memory runs out, the
+    // configuration stays.
     fn begin(&mut self, alloc: Global) -> Result<(), Reason>
         ensures begun { OnOk result (self.new ≡ begun self.old) }
         ensures some { OnOk result (phase_of self.old.stage ≢ Setup []) }

@@ -187,11 +187,11 @@ packet_text octets =
     holds_text (is_telecommand octets) (apid_of octets) (bits (word_at octets 2) 0 14) (bits (word_at octets 2) 14 2)
     ++ whole_text (bits (word_at octets 0) 11 1 == 1) octets
 
--- the packets of a unit in their order, and then what is left of it
+-- the lines of the packets of a unit, in order, and then of the octets that are left
 abbrev pub unit_packets_text : List ℕ → List ℕ
 unit_packets_text unit = flat_map packet_text (packets_of unit) ++ some_text (codes "rest") (rest_of unit)
 
--- the lines of what follows a segment header: a whole unit, or a part of one
+-- the lines of the octets behind a segment header: a whole unit, or a part of one
 abbrev pub body_text : Part → List ℕ → List ℕ
 body_text First body = some_text (codes "body") body
 body_text Continuing body = some_text (codes "body") body

@@ -1,4 +1,4 @@
--- How lines are answered, one after the other.
+-- The answers to lines, one after the other.
 use Rattle.std.specs.Prelude.{ℕ, List, Option}
 use Rattle.tc_lines.specs.Answering as lines
 use Rattle.tc_lines.specs.declared.answering.ServingFault.{ServingFault}
@@ -9,18 +9,18 @@ use Rattle.tc_make.specs.Making.{new_maker}
 use Rattle.tc_make.specs.declared.ending.Ending.{Ending}
 use Rattle.tc_make.specs.declared.maker.Maker.{Maker}
 
--- how many octets a line may have, without its line feed
+-- the number of octets that a line may have, without its line feed
 abbrev pub limit : ℕ
 limit = 262143
 
--- a line is answered, and what it does to the counts and the decoders is there for the next
+-- a line is answered, and its effect on the counts and the decoders is there for the next line
 abbrev pub IsMakerAnswered : Maker → List ℕ → Maker → List ℕ → Type 0
 IsMakerAnswered old line new text = IsAnswer old (maker_line_of (words line)) new text
 
--- the answers of all lines of these octets were written, in their order, each once
+-- the answers to all lines of these octets were written, in order and each once
 abbrev pub AreWritten : Ending → List ℕ → Option (List ℕ) → Option (List ℕ) → Type 0
 AreWritten ending octets before after = (last : Maker) × lines.AreAllWritten limit IsMakerAnswered (new_maker ending) octets last before after
 
--- what was written where it ended early
+-- the text that was written before an early end
 abbrev pub IsMakingCutShort : Ending → List ℕ → Option (List ℕ) → Option (List ℕ) → ServingFault → Type 0
 IsMakingCutShort ending octets before after fault = (last : Maker) × lines.IsCutShort limit IsMakerAnswered (new_maker ending) octets last before after fault

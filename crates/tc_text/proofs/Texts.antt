@@ -1,4 +1,4 @@
--- Whether a word is a text, octet by octet.
+-- The comparison of a word with a text, octet by octet.
 use Rattle.std.proofs.Common.{◌≡◌, ◌<◌, ℕ, true, List, length, get_or, sym, arith}
 use Rattle.std.proofs.lemmas.List.{ext_get_or}
 use Rattle.std.proofs.lemmas.Slice.Eq.{bytes_eq-Decides}

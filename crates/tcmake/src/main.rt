@@ -1,4 +1,4 @@
-//! `tcmake`: makes and explains telecommand frames, line by line.
+//! `tcmake`: a program that makes and explains telecommand frames, line by line.
 #![tactic(auto)]
 
 use command_line::{Making, asked_of_tcmake};

@@ -112,7 +112,7 @@ pub fn is_frame(event: &Event, frame: &[u8]) -> bool {
     }
 }
 
-/// Has a channel answer the frame at the front of these octets, if there is one.
+/// Brings the frame at the front of these octets to a channel, if there is a frame, and returns the reply.
 pub fn offer<J: Journal>(
     channel: &mut ChannelWith<J>,
     octets: &[u8],

@@ -1,4 +1,4 @@
-//! Lists that are created even if one growth is refused, and checks of what calls returned.
+//! Lists that are created even if one growth is refused, and checks of the results of calls.
 
 ghost use Rattle.std.specs.Prelude.{◌≡◌, ◌∷◌, [], IfOk};
 
@@ -65,7 +65,7 @@ pub fn made_again<T, E: Drop + PartialEq, F: Fn() -> Result<T, E>>(
     }
 }
 
-/// Returns whether a call returned what it must. The result is false if it failed with `no_memory`, and `None` if it
+/// Returns whether a call gave the expected result. This is false if the call failed with `no_memory`, and `None` if it
 /// did neither.
 pub fn is_answered<T: Drop + PartialEq, E: Drop + PartialEq>(
     answer: Result<T, E>,
@@ -79,7 +79,7 @@ pub fn is_answered<T: Drop + PartialEq, E: Drop + PartialEq>(
     }
 }
 
-/// Returns whether a take gave the packet or unit that it must. The result is false if it failed with `no_memory`, and
+/// Returns whether a take gave the expected packet or unit. This is false if the take failed with `no_memory`, and
 /// `None` if it did neither.
 pub fn is_taken<E: Drop + PartialEq>(
     answer: Result<Vec<u8>, E>,

@@ -44,7 +44,7 @@ fn each_fault_of_settings(rt: HostRuntime) {
     }
 }
 
-// With segment headers or without, these MAPs and capacities, and the fault of such settings.
+// A flag for segment headers, MAPs and capacities, and the fault of such settings.
 static FAULTS_OF_MAPS: [(bool, &[(u8, u16)], Option<SettingsFault>); 7] = [
     (true, &[(63, 256), (0, 1)], None),
     (false, &[], None),
@@ -178,7 +178,7 @@ fn the_text_of_each_fault_in_rooms(rt: HostRuntime) {
     assert!(rt; have_texts(alloc, &LIMITS_TEXTS));
 }
 
-// Octets that nothing was copied to yet.
+// Octets to which nothing was copied yet.
 const UNTOUCHED: [u8; 8] = [0xee; 8];
 
 // A take into too few octets takes nothing, and changes none of them. Octets behind an item keep their values. An item

@@ -17,7 +17,7 @@ pub enum Step<'a> {
     ReleaseOf(&'a str, Delivery),
     Take(u16, &'a [u8]),
     TakeUnit(u8, &'a [u8]),
-    // A release, or a take, of nothing.
+    // A release, or a take, that gives nothing.
     NoRelease,
     NoTake(u16, TakeFault),
     NoTakeUnit(u8, TakeUnitFault),

@@ -6,7 +6,7 @@ use super::roles::{Role, against_two, side_by_side};
 use super::*;
 use std::sync::Wait;
 
-// Returns the number of numbers in the book, whose lock no seat can take afterwards.
+// Returns how many numbers the book has. No seat can take its lock afterwards.
 fn numbers<R: Wait>(rt: &R, alloc: Global, lock: &BookLock, seat: &mut BookSeat) -> usize
     requires { IsAtRest lock.now seat.old }
 {

@@ -226,7 +226,7 @@ impl<J: Journal> OperatorList<J> {
         self.station.bring(rt, &mut self.operator, octets)
     }
 
-    // Brings a frame together with a new watcher, and returns what this watcher reads, too.
+    // Brings a frame together with a new watcher, and returns the word that this watcher reads, too.
     pub(super) fn bring_watched(
         &mut self,
         rt: &impl Wait,

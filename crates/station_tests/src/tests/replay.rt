@@ -218,8 +218,8 @@ impl Replay {
         assert!(rt; journal == self.journal.as_slice());
     }
 
-    // Checks that the closed channels of a station, in the order of its settings, report what those without a station
-    // report.
+    // Checks that the closed channels of a station, in the order of its settings, give the same reports as those
+    // without a station.
     pub(super) fn check_closed<J: Journal>(&self, rt: &impl Abort, channels: &[ChannelWith<J>]) {
         assert_eq!(rt; channels.len(), 2);
         check_same(rt, &channels[0], &self.second);
