@@ -24,6 +24,7 @@ pub mod Faults
 pub mod Growth
 pub mod Given
 pub mod Through
+pub mod Lossless
 pub mod Account
 pub mod Apart
 pub mod InRooms

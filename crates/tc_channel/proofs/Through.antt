@@ -47,7 +47,7 @@ part-whole (x ∷ xs) (y ∷ ys) (inr p) le = absurd (let n = part-length (x ∷
 
 -- one more data field
 
-made-push : (Ended : List Passed → Passed → List (List ℕ)) (before ps : List Passed) (p : Passed) → all_made Ended before (ps ++ p ∷ []) ≡ all_made Ended before ps ++ Ended (before ++ ps) p
+pub made-push : (Ended : List Passed → Passed → List (List ℕ)) (before ps : List Passed) (p : Passed) → all_made Ended before (ps ++ p ∷ []) ≡ all_made Ended before ps ++ Ended (before ++ ps) p
 made-push Ended before [] p = append-nil (Ended before p) ∙ ap (λ (l : List Passed). Ended l p) (sym (append-nil before))
 made-push Ended before (r ∷ ps) p =
     ap (λ (l : List (List ℕ)). Ended before r ++ l) (made-push Ended (before ++ r ∷ []) ps p ∙ ap (λ (l : List Passed). all_made Ended (before ++ r ∷ []) ps ++ Ended l p) (append_assoc before (r ∷ []) ps))
@@ -75,15 +75,15 @@ run-chosen : (limits : ℕ → ℕ) (c : Settings) (journal : List Event) (field
 run-chosen limits c journal field = some-by-keys (map_of field) (run_within limits c journal).units (map empty_unit_queue c.maps) (unit-keys-stay limits c journal ∙ sym (keys-at-first limits c))
 
 -- the parts of a state that never change
-record IsOf (limits : ℕ → ℕ) (c : Settings) (b : ChannelState) : Type 0 where
-  segmented : b.segmented ≡ c.segmented
-  limit : b.limit ≡ limits
-  chosen : (field : List ℕ) → is_chosen b field ≡ is_chosen_by c field
+pub record IsOf (limits : ℕ → ℕ) (c : Settings) (b : ChannelState) : Type 0 where
+  pub segmented : b.segmented ≡ c.segmented
+  pub limit : b.limit ≡ limits
+  pub chosen : (field : List ℕ) → is_chosen b field ≡ is_chosen_by c field
 
-run-is-of : (limits : ℕ → ℕ) (c : Settings) (journal : List Event) → IsOf limits c (run_within limits c journal)
+pub run-is-of : (limits : ℕ → ℕ) (c : Settings) (journal : List Event) → IsOf limits c (run_within limits c journal)
 run-is-of limits c journal = record { segmented = run-segmented limits c journal; limit = run-limit limits c journal; chosen = run-chosen limits c journal }
 
-unit-is : (limits : ℕ → ℕ) (c : Settings) (b : ChannelState) (service : Service) (field : List ℕ) → IsOf limits c b → unit_of b service field ≡ unit_made limits c b.passed (record { service = service; field = field })
+pub unit-is : (limits : ℕ → ℕ) (c : Settings) (b : ChannelState) (service : Service) (field : List ℕ) → IsOf limits c b → unit_of b service field ≡ unit_made limits c b.passed (record { service = service; field = field })
 unit-is limits c b service field is = rw (is.segmented, is.limit) refl
 
 -- the queue with this key admitted part of the items that the passed fields make

@@ -8,6 +8,7 @@ pub mod Reply
 pub mod Era
 pub mod Given
 pub mod Through
+pub mod Lossless
 pub mod Account
 pub mod Holding
 pub mod Laws

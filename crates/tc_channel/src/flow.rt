@@ -8,13 +8,14 @@ ghost use Rattle.tc_channel.specs.Settings.{IsAllowed};
 ghost use Rattle.tc_packet.specs.declared.Service.{Service};
 ghost use Rattle.tc_channel.specs.declared.settings.Settings.{Settings};
 ghost use Rattle.tc_channel.specs.declared.event.Event.{Event};
-ghost use Rattle.tc_channel.specs.ChannelState.{Accepted, Queue, first_state_within, no_limits, queue_of};
+ghost use Rattle.tc_channel.specs.ChannelState.{Accepted, Queue, first_state_within, no_limits, queue_of, waiting};
 ghost use Rattle.tc_channel.specs.Examples as example;
 ghost use Rattle.tc_channel.specs.Run.{run_within, IsLawfulWithin};
 ghost use Rattle.tc_channel.specs.Reply.{clcw_within, take_reply_within, unit_reply_within};
 ghost use Rattle.tc_channel.specs.Given.{oldest_in, packets_given, units_given, fields_passed};
 ghost use Rattle.tc_channel.specs.Era.{IsEraWithin, ComesFromWithin, accepted_since_within};
 ghost use Rattle.tc_channel.specs.Account.{Share, AccountFor};
+ghost use Rattle.tc_channel.specs.Lossless.{DropsNone};
 ghost use Rattle.tc_channel.specs.Through.{IsPartOf, packets_made, units_made, sent_from, passed_since, released_since};
 
 use tc_link::a_written_clcw_reads_back;
@@ -66,6 +67,22 @@ pub fn what_was_sent_is_given_in_order()
         → IsPartOf (packets_given s apid (first_state_within limits s) journal) (packets_made limits s apid (run_within limits s journal).passed) }
     ensures units { (limits : ℕ → ℕ) (s : Settings) (journal : List Event) (map_id : ℕ) (q : Queue) → queue_of map_id (run_within limits s journal).units ≡ Some q
         → IsPartOf (units_given s map_id (first_state_within limits s) journal) (units_made limits s map_id (run_within limits s journal).passed) }
+{}
+
+/// Nothing is lost that no reply reports. If no reply of a journal reports a drop, each packet queue admitted all packets
+/// for its application that the passed data fields make. If nothing waits in the queue any more, takes gave exactly
+/// these packets: each once, in order. This also holds for the units of a chosen MAP.
+pub fn nothing_is_lost_that_no_reply_reports()
+    ensures packets_admitted { (limits : ℕ → ℕ) (s : Settings) (journal : List Event) (apid : ℕ) (q : Queue) → IsAllowed s → DropsNone s (first_state_within limits s) journal
+        → queue_of apid (run_within limits s journal).queues ≡ Some q → q.admitted ≡ packets_made limits s apid (run_within limits s journal).passed }
+    ensures packets_given { (limits : ℕ → ℕ) (s : Settings) (journal : List Event) (apid : ℕ) (q : Queue) → IsAllowed s → DropsNone s (first_state_within limits s) journal
+        → queue_of apid (run_within limits s journal).queues ≡ Some q → waiting q ≡ []
+        → packets_given s apid (first_state_within limits s) journal ≡ packets_made limits s apid (run_within limits s journal).passed }
+    ensures units_admitted { (limits : ℕ → ℕ) (s : Settings) (journal : List Event) (map_id : ℕ) (q : Queue) → IsAllowed s → DropsNone s (first_state_within limits s) journal
+        → queue_of map_id (run_within limits s journal).units ≡ Some q → q.admitted ≡ units_made limits s map_id (run_within limits s journal).passed }
+    ensures units_given { (limits : ℕ → ℕ) (s : Settings) (journal : List Event) (map_id : ℕ) (q : Queue) → IsAllowed s → DropsNone s (first_state_within limits s) journal
+        → queue_of map_id (run_within limits s journal).units ≡ Some q → waiting q ≡ []
+        → units_given s map_id (first_state_within limits s) journal ≡ units_made limits s map_id (run_within limits s journal).passed }
 {}
 
 /// Each data field that was passed to reassembly is accounted for. The fields of a service and a MAP are parted into

@@ -12,8 +12,8 @@
 //! [`a_unit_is_delivered_whole_or_by_packets`], [`a_unit_is_kept_where_its_queue_has_room`],
 //! [`buffer_keeps_to_its_size`], [`each_packet_is_queued_or_dropped`], [`no_more_items_wait_than_memory_counts`],
 //! [`what_waits_is_within_the_bound_of_memory`], [`each_clcw_fits_its_word`], [`a_longer_run_goes_on`],
-//! [`what_was_accepted_is_passed_on_in_order`], [`what_was_admitted_is_given_in_order`] and
-//! [`a_plain_channel_takes_each_field_as_a_unit`].
+//! [`what_was_accepted_is_passed_on_in_order`], [`what_was_admitted_is_given_in_order`],
+//! [`nothing_is_lost_that_no_reply_reports`] and [`a_plain_channel_takes_each_field_as_a_unit`].
 #![tactic(auto)]
 
 mod answered;
@@ -52,9 +52,9 @@ pub use channel_core::{ChannelCore, LARGEST_FIELD};
 pub use event::Event;
 pub use flow::{
     a_clcw_reports_how_many_were_accepted, each_passed_field_is_accounted_for,
-    passed_fields_make_so, what_was_accepted_is_passed_on_in_order,
-    what_was_admitted_is_given_in_order, what_was_passed_on_is_admitted_in_order,
-    what_was_sent_is_given_in_order,
+    nothing_is_lost_that_no_reply_reports, passed_fields_make_so,
+    what_was_accepted_is_passed_on_in_order, what_was_admitted_is_given_in_order,
+    what_was_passed_on_is_admitted_in_order, what_was_sent_is_given_in_order,
 };
 pub use holding::{Holding, MapHolding, QueueHolding, holding_in};
 pub use items::{Items, Octets};

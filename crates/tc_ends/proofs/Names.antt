@@ -23,7 +23,7 @@ pub use Rattle.tc_cltu.specs.Reception.{Decoding, Reception, Searching, Step, af
 pub use Rattle.tc_cltu.specs.declared.block.Mode.{Mode}
 pub use Rattle.tc_cltu.specs.declared.block.Mode.TheVariants.{Correct}
 pub use Rattle.tc_ends.specs.Arrivals.{AltersNothing, AreBrought, AreCarried, AreEventsAt, AreEventsOf, AreNearBlocks, Asks, Brings, CarryWell, Coming, IsCarried, IsNearCltu, Octets, enclosed, state_behind}
-pub use Rattle.tc_ends.specs.Ends.{AreAllPackets, AreFramesOf, AreFrom, AreGivenOf, AreMerged, AreNumbered, AreWritten, CanBeSent, CarrySent, CarryUnits, EndAtLast, IsSendable, OnStream, PacketsSent, SendsOnly, SendsPackets, Sent, UnitSent, all_joined, behind_ad, fields_in_order, is_chosen_map, is_from, is_in, is_same_stream, joined_on, map_in, on_map, only_on, packet_on, packets_for, packets_in_era, packets_sent_on, packets_to, passed_before, passed_in, sent_on, stream_in, stream_unit, units_ended_by, units_on, unless_chosen, until_ad}
+pub use Rattle.tc_ends.specs.Ends.{AreAllPackets, AreFramesOf, AreFrom, AreGivenOf, AreMerged, AreNumbered, AreWritten, CanBeSent, CarrySent, CarryUnits, EndAtLast, IsSendable, OnStream, PacketsSent, SendsOnly, SendsPackets, Sent, UnitSent, all_joined, behind_ad, fields_in_order, is_chosen_map, is_from, is_in, is_same_stream, joined_on, map_in, on_map, packet_on, packets_for, packets_in_era, packets_sent_on, packets_to, passed_before, passed_in, stream_in, stream_unit, units_ended_by, units_on, unless_chosen, until_ad}
 pub use Rattle.tc_ends.specs.Examples.{enclosing, first_frame, first_header, in_cltus, of_before, of_first_frame, of_set_v_r, one_unit, packet}
 pub use Rattle.tc_fecf.proofs.Delimiting.{one-frame}
 pub use Rattle.tc_fecf.proofs.Plain.{frame_with_field-alike}

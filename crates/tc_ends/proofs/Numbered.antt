@@ -2,9 +2,19 @@
 use Rattle.tc_ends.proofs.Names.{AllByRecursion, AreAllPackets, AreFramesOf, AreNumbered, Bool, CanBeSent, CarryUnits, Header, IsSendable, List, Segment, SendsPackets, UnitSent, [], all_joined, ap, arith, eqb, eqb_tells, false, field_of, filter-append, get_or, get_or-append_right, get_or_append_left, header_later, inl, inr, joined, length, length-append, map, map-append, map_in, on_map, refl, sent_from, subst, suc, sym, true, units_on, zero, ℕ, ◌%◌, ◌++◌, ◌+◌, ◌-◌, ◌<◌, ◌∙◌, ◌∷◌, ◌≡◌, cases_lt, recursion_from_All, All-from_get_or}
 use Rattle.tc_packet.specs.Segment.{header_of}
 use Rattle.tc_link.specs.Frame as link
-use Rattle.tc_ends.proofs.Can.{AreOn}
-use Rattle.tc_ends.proofs.CanSend.{map-own, map-none}
 use Rattle.tc_ends.proofs.Written.{written-segments}
+
+-- all these data fields are on this MAP
+abbrev AreOn : Bool → ℕ → List (List ℕ) → Type 0
+AreOn b m fields = AllByRecursion (λ f. map_in b f ≡ m) fields
+
+map-own : (b : Bool) (m id : ℕ) (fields : List (List ℕ)) → AreOn b m fields → eqb m id ≡ true → on_map b id fields ≡ fields
+map-own b m id [] on same = refl
+map-own b m id (f ∷ fs) on same = rw (on.0, same) (ap (λ (x : List (List ℕ)). f ∷ x) (map-own b m id fs on.1 same))
+
+map-none : (b : Bool) (m id : ℕ) (fields : List (List ℕ)) → AreOn b m fields → eqb m id ≡ false → on_map b id fields ≡ []
+map-none b m id [] on apart = refl
+map-none b m id (f ∷ fs) on apart = rw (on.0, apart) (map-none b m id fs on.1 apart)
 
 -- the data fields of a unit's frames are on its MAP and carry it
 own-fields : (limits : ℕ → ℕ) (b : Bool) (header : Header) (u : UnitSent) (frames : List (List ℕ)) → CanBeSent limits b u → AreFramesOf b header u frames

@@ -1,10 +1,13 @@
 -- The way from a sender's packets to the packets that takes give, over the start of an era.
 use Rattle.tc_ends.proofs.Names.{Action, AllByRecursion, AltersNothing, AreEventsOf, AreFrom, AreGivenOf, AreNumbered, Bool, CanBeSent, Coming, Event, Header, IsLoop, IsStart, List, Loop, Mode, Queue, Reception, SendsOnly, Some, Start, UnitSent, [], accepted, ap, arith, begins, begun, comes, era, era_session, field_of, inl, inr, is-loop, journal, journal-whole, known-so, length, length-drop, map, queue_of, receiver, refl, released-within, released_since, run_within, sent, sent_from, subst, suc, sym, units_on, whole, zero, ℕ, ◌++◌, ◌∙◌, ◌∷◌, ◌≡◌, ◌≤◌}
 use Rattle.tc_ends.proofs.Arrived.{events-came}
-use Rattle.tc_ends.proofs.CanSend.{shift}
 use Rattle.tc_ends.proofs.Numbered.{numbered-sends}
 use Rattle.tc_ends.proofs.Segmented.{Makes}
 use Rattle.tc_ends.proofs.Whole.{given-of-sent}
+
+shift : (sent : ℕ → List ℕ) (k n : ℕ) → sent_from sent (suc k) n ≡ sent_from (λ i. sent (suc i)) k n
+shift sent k zero = refl
+shift sent k (suc n) = ap (λ (x : List (List ℕ)). sent (suc k) ∷ x) (shift sent (suc k) n)
 
 -- the data fields of a sender's frames are those of the list
 fields-of : (frames : ℕ → List ℕ) (list : List (List ℕ)) → AreFrom frames list → sent_from (λ i. field_of (frames i)) 0 (length list) ≡ map field_of list

@@ -1,10 +1,20 @@
 -- The way from the packets of a sender to the packets that takes give.
 use Rattle.tc_ends.proofs.Names.{Ad, AllByRecursion, AreGivenOf, Bd, Bool, CarryUnits, ComesFromWithin, Event, HasMapsByHeaders, IsEraWithin, IsLawfulWithin, IsPartOf, IsSendable, List, Passed, Queue, SendsPackets, Service, Settings, Some, [], all_joined, all_made, ap, append-nil, append_assoc, arith, behind_ad, cond, drop, eqb, false, fields_passed, filter, filter-append, first_state_within, inl, inr, is_chosen_map, is_in, length, map, map-append, map_in, on_map, packets-given-of-made, packets_ended, packets_for, packets_given, packets_in_era, packets_made, passed-as-sent, passed_before, passed_in, queue_of, refl, released_since, run_within, same_service, sent_from, stream, stream_in, stream_unit, subst, suc, sym, true, unit_on, units-given-of-made, units_ended, units_given, units_made, unless_chosen, until_ad, zero, ℕ, ◌++◌, ◌+◌, ◌-◌, ◌∙◌, ◌∷◌, ◌≡◌, ◌≤◌}
-use Rattle.tc_ends.proofs.Can.{stream-of-ad}
+use Rattle.tc_channel.proofs.Lossless.{packets-all-given}
 use Rattle.tc_ends.proofs.Segmented.{Makes}
 use Rattle.tc_ends.proofs.Streams.{headed-carried, stream_unit_by, units-carried}
 use Rattle.tc_ends.proofs.Chosen.{units-on}
 use Rattle.tc_ends.proofs.Made.{cut-all, made-append, made-merged}
+
+-- the stream of Type-AD of a MAP
+stream-of-ad : (b : Bool) (m : ℕ) (ps : List Passed) → stream_in b Ad m ps ≡ on_map b m (fields_passed Ad ps)
+stream-of-ad b m [] = refl
+stream-of-ad b m (p ∷ ps) = by p.service refl (eqb (map_in b p.field) m) refl (stream-of-ad b m ps) where
+  by : (sv : Service) → p.service ≡ sv → (t : Bool) → eqb (map_in b p.field) m ≡ t → stream_in b Ad m ps ≡ on_map b m (fields_passed Ad ps)
+      → stream_in b Ad m (p ∷ ps) ≡ on_map b m (fields_passed Ad (p ∷ ps))
+  by Ad e true h ih = rw (e, h) (ap (λ (x : List (List ℕ)). p.field ∷ x) ih)
+  by Ad e false h ih = rw (e, h) ih
+  by Bd e t h ih = rw e ih
 
 part-more : (xs ys zs : List (List ℕ)) → IsPartOf xs ys → IsPartOf xs (ys ++ zs)
 part-more [] ys zs h = tt
@@ -101,14 +111,16 @@ module _ (limits : ℕ → ℕ) (s : Settings) (journal before : List Event) (se
       let is : made ++ all_made ended (old ++ new) rest ≡ older ++ all_made ended old (new ++ rest) =
       ap (λ (x : List (List ℕ)). x ++ all_made ended (old ++ new) rest) parts ∙ append_assoc older (all_made ended old new) (all_made ended (old ++ new) rest)
       ∙ ap (λ (x : List (List ℕ)). older ++ x) (sym (made-append ended old new rest)) in
+      let whole : released_since limits s before journal ≡ n → made ≡ older ++ all_made ended old (new ++ rest) = λ same.
+      let none : n - released_since limits s before journal ≡ 0 = omega arith in
+      parts ∙ ap (λ (x : List Passed). older ++ all_made ended old x) (sym (append-nil new) ∙ ap (λ (k : ℕ). new ++ by_ad (sent_from sent (released_since limits s before journal) k)) (sym none)) in
       record {
         merged = all_made ended old (new ++ rest);
         merge = made-merged limits s apid old (new ++ rest) (packets_in_era limits s apid before journal units) free on;
         given = subst (IsPartOf (packets_given s apid (first_state_within limits s) journal)) is
             (part-more (packets_given s apid (first_state_within limits s) journal) made (all_made ended (old ++ new) rest) (packets-given-of-made limits s journal apid q has));
-        whole = λ same.
-            let none : n - released_since limits s before journal ≡ 0 = omega arith in
-            parts ∙ ap (λ (x : List Passed). older ++ all_made ended old x) (sym (append-nil new) ∙ ap (λ (k : ℕ). new ++ by_ad (sent_from sent (released_since limits s before journal) k)) (sym none));
+        whole = whole;
+        all = λ p allowed none same found empty. packets-all-given limits s journal apid p allowed none found empty ∙ whole same;
       }
     where
       on : (service : Service) (id : ℕ) → unless_chosen s id (packets_for apid (all_made (stream_unit limits s service id) old (new ++ rest))) ≡ packets_in_era limits s apid before journal units service id

@@ -21,11 +21,12 @@ ghost use Rattle.tc_channel.specs.ChannelState.{Queue, first_state_within, queue
 ghost use Rattle.tc_channel.specs.Account.{unit_on};
 ghost use Rattle.tc_channel.specs.Era.{IsEraWithin, ComesFromWithin};
 ghost use Rattle.tc_channel.specs.Given.{packets_given, units_given};
+ghost use Rattle.tc_channel.specs.Lossless.{DropsNone};
 ghost use Rattle.tc_channel.specs.Run.{IsLawfulWithin, field_of, run_within};
 ghost use Rattle.tc_loop.specs.Loop.{Loop, Action, IsLoop, events, journal, receiver, sent};
 ghost use Rattle.tc_loop.specs.Start.{Start, IsStart, era, era_session};
 ghost use Rattle.tc_ends.specs.Arrivals.{AltersNothing, AreCarried, AreEventsAt, AreEventsOf, Coming, IsNearCltu, Octets, enclosed, state_behind};
-ghost use Rattle.tc_ends.specs.Ends.{AreAllPackets, AreFrom, AreGivenOf, AreMerged, AreNumbered, AreWritten, CanBeSent, CarrySent, CarryUnits, EndAtLast, IsSendable, PacketsSent, SendsOnly, SendsPackets, Sent, UnitSent, all_joined, fields_in_order, is_chosen_map, is_same_stream, joined_on, on_map, only_on, packets_sent_on, packets_to, passed_before, passed_in, sent_on, units_on};
+ghost use Rattle.tc_ends.specs.Ends.{AreAllPackets, AreFrom, AreGivenOf, AreMerged, AreNumbered, AreWritten, CanBeSent, CarrySent, CarryUnits, EndAtLast, IsSendable, PacketsSent, SendsOnly, SendsPackets, Sent, UnitSent, all_joined, fields_in_order, is_chosen_map, is_same_stream, joined_on, on_map, packets_sent_on, packets_to, passed_before, passed_in, units_on};
 ghost use Rattle.tc_loop.specs.Examples as start;
 ghost use Rattle.tc_ends.specs.Examples as example;
 
@@ -101,29 +102,6 @@ pub fn packets_that_are_sent_are_given()
 {
     the_segments_of_a_unit_make_the_unit();
 }
-
-/// The premises can be met. All units that can be sent can be carried on any stream, in segments of any size, or whole
-/// on MAP 0.
-pub fn all_units_can_be_carried()
-    ensures { (limits : ℕ → ℕ) (segmented : Bool) (service : Service) (map_id size : ℕ) (units : List (List ℕ)) → map_id < 64 → (segmented ≡ false → map_id ≡ 0) → 1 ≤ size
-        → AllByRecursion (IsSendable limits segmented map_id) units → (passed : List Passed) × CarrySent limits segmented (sent_on service map_id units) passed }
-{}
-
-/// In a loop, takes give what [`packets_that_are_sent_are_given`] promises. The links may lose, repeat and delay
-/// frames, and the sender keeps its window and reads CLCWs. Nothing is assumed about the moments at which frames come.
-pub fn packets_of_a_loop_are_given()
-    ensures { (l : Loop) (session : List Action) (apid n : ℕ) (units : ℕ → List (List (List ℕ))) (q : Queue) → IsLoop l session → SendsPackets l.limits l.settings.segmented (sent l) n units
-        → released_since l.limits l.settings l.before (journal l session) ≤ n → queue_of apid (receiver l session).queues ≡ Some q
-        → AreGivenOf l.limits l.settings apid l.before (journal l session) n units }
-{
-    the_segments_of_a_unit_make_the_unit();
-}
-
-/// A sender can number data fields that carry any units of packets on a MAP.
-pub fn all_packets_can_be_sent()
-    ensures { (limits : ℕ → ℕ) (segmented : Bool) (map_id size : ℕ) (units : List (List (List ℕ))) → map_id < 64 → (segmented ≡ false → map_id ≡ 0) → 1 ≤ size → AreAllPackets units
-        → AllByRecursion (IsSendable limits segmented map_id) (all_joined units) → (sent : ℕ → List ℕ) × (n : ℕ) × SendsPackets limits segmented sent n (only_on map_id units) }
-{}
 
 /// The units of a chosen MAP that takes gave are, in order, units that were sent on the MAP. Some may be left out.
 pub fn units_that_are_sent_are_given()
@@ -212,5 +190,6 @@ pub fn all_premises_are_met_at_once()
     ensures headers { start.learnt_by_9.loop.settings.segmented ≡ true }
     ensures queue { (q : Queue) × (queue_of 5 (receiver start.learnt_by_9.loop start.learnt_by_9.session).queues ≡ Some q) }
     ensures asked { packets_to 5 (units_on example.one_unit 0) ≡ example.packet ∷ [] }
+    ensures drops_none { DropsNone start.learnt_by_9.loop.settings (first_state_within start.learnt_by_9.loop.limits start.learnt_by_9.loop.settings) (events start.learnt_by_9.loop start.learnt_by_9.session) }
     ensures given { packets_given start.learnt_by_9.loop.settings 5 (first_state_within start.learnt_by_9.loop.limits start.learnt_by_9.loop.settings) (events start.learnt_by_9.loop start.learnt_by_9.session) ≡ example.packet ∷ [] }
 {}

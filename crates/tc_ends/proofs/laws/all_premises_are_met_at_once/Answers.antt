@@ -16,5 +16,6 @@ returns c = record {
   headers = refl;
   queue = met.queue;
   asked = refl;
+  drops_none = met.drops_none;
   given = met.given;
 }
