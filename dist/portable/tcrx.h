@@ -1037,6 +1037,8 @@ static inline tcrx_status tcrx_channel_free(tcrx_channel *channel) {
 /**
  * Gives the frame at the front of octets to the channel that it is for: of the spacecraft's the first one with the virtual channel id of
  * the frame. Where frames end with the frame error control field, that is checked first, and the channel is given the frame without it.
+ * If they end with it although `fecf` is 0, it counts as data, which no status can say: then each control command is event 9, and
+ * `rest` is 1 behind each packet that came in one frame.
  *
  * @param channels      the channels; null where there are none
  * @param channel_count how many there are

@@ -706,7 +706,8 @@ extern "C" {
     pub fn tcrx_channel_free_at(channel: *mut Channel) -> Status;
     /// Gives the frame at the front of octets to the channel that it is for: of the spacecraft's the first one with the virtual
     /// channel id of the frame. Where frames end with the frame error control field, that is checked first, and the channel is
-    /// given the frame without it.
+    /// given the frame without it. If they end with it although `fecf` is 0, it counts as data, which no status can say: then each
+    /// control command is event 9, and `rest` is 1 behind each packet that came in one frame.
     ///
     /// Answer: the event, what became of the unit, and the channel. Refused by `TCRX_BAD_FLAG`; where `fecf` is 1 as
     /// `tcrx_check_fecf`, by `TCRX_SHORT` to `TCRX_TRUNCATED`, `TCRX_FILL`, `TCRX_NO_FECF`, `TCRX_WRONG_FECF`, and where it is 0 by
