@@ -52,9 +52,9 @@ pub record CountsUpWithin (limits : ℕ → ℕ) (s : Settings) (journal before 
 abbrev pub CountsUpInItsEraWithin : (ℕ → ℕ) → Settings → List Event → Type 0
 CountsUpInItsEraWithin limits s journal = (before later : List Event) (x : ℕ) → IsEraWithin limits s journal before later x → CountsUpWithin limits s journal before x
 
--- The frame is one of a sender whose frame number i, from 0 on, has N(S) = x + i modulo 256 and the data field `sent
--- i`. The frame comes when its number is less than 256 away from the number of accepted frames, so that no two frames
--- are taken for one another.
+-- The frame is one of a sender whose frame i, counted from 0, has N(S) = x + i modulo 256 and the data field `sent i`.
+-- Here i is the field `number`. The frame comes when i and the number of accepted frames differ by less than 256, so
+-- that no two frames are taken for one another.
 pub record IsSent (x : ℕ) (sent : ℕ → List ℕ) (accepted : ℕ) (octets : List ℕ) : Type 0 where
   pub number : ℕ
   pub ns : (header_of octets).ns ≡ (x + number) % 256
@@ -70,7 +70,7 @@ IsOfSender x sent accepted (Take apid) = Unit {0}
 IsOfSender x sent accepted (TakeUnit map_id) = Unit {0}
 
 -- Each Type-AD frame that comes in the era is the sender's. Frames may be lost, repeated and put in another order, but
--- none comes 256 frames late or early.
+-- none comes 256 or more frames late or early.
 abbrev pub ComesFromWithin : (ℕ → ℕ) → Settings → List Event → List Event → ℕ → (ℕ → List ℕ) → Type 0
 ComesFromWithin limits s before later x sent = (place : ℕ) (e : Event) → slice_get later place ≡ Some e
     → IsOfSender x sent (length (accepted_since_within limits s before (before ++ take place later))) e

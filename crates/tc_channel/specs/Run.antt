@@ -70,7 +70,7 @@ HasStep s state Release = state.released < length state.accepted
 HasStep s state (Take apid) = HasItem apid state.queues
 HasStep s state (TakeUnit map_id) = HasItem map_id state.units
 
--- the state after the event (if the event can't happen, the value doesn't matter)
+-- The state after the event. If the event can't happen, the value doesn't matter, because the journal isn't lawful.
 abbrev pub step : Settings → ChannelState → Event → ChannelState
 step s state (Frame octets) = after_frame (row_of s state octets) octets state
 step s state Release = after_release state

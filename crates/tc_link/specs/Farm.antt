@@ -13,7 +13,8 @@ use Rattle.tc_link.specs.declared.farm.Arrival.{Arrival}
 use Rattle.tc_link.specs.declared.farm.Arrival.TheVariants.{Frame, Release}
 use Rattle.tc_link.specs.Window.{place_of}
 
--- the rows of the table, where the row of a Set V(R) carries its number
+-- The rows of the table, which are FARM-1's events. A Type-AD frame is one of E1 to E5 (`row_at`), a Type-BD frame is
+-- E6, Unlock is E7, Set V(R) is E8 with the number that it sets, an invalid frame is E9, and a buffer release is E10.
 pub data Row : Type 0 where
   E1 : Row
   E2 : Row
@@ -108,7 +109,7 @@ accepts_at _ _ = false
 abbrev pub accepts : Row → Report → Bool
 accepts row r = accepts_at row r.state
 
--- The components after a row. If the row has no entry, this value doesn't matter.
+-- The components after a row. If the row has no entry, this value doesn't matter, because a step requires an entry.
 abbrev pub after : Row → Report → Report
 after row r = unwrap_or (entry row r) r
 
