@@ -31,7 +31,7 @@ namespace tcrx {
 
 /** What a call came to: the statuses of tcrx.h, which says what each means. */
 enum class Status : tcrx_status {
-    // What follows is written by tools/c_interface of c/tcrx.h.
+    // tools/c_interface writes the following lines from c/tcrx.h.
     done = TCRX_DONE,
     too_short = TCRX_SHORT,
     bad_version = TCRX_BAD_VERSION,
@@ -89,7 +89,7 @@ enum class Status : tcrx_status {
     bad_length = TCRX_BAD_LENGTH,
     no_control = TCRX_NO_CONTROL,
     bad_decoder = TCRX_BAD_DECODER
-    // This is the end of what tools/c_interface writes.
+    // The lines that tools/c_interface writes end here.
 };
 
 /** Elements that are somewhere else, and how many there are: a std::span for C++17. */

@@ -83,7 +83,7 @@ u32 EXPORT(module_room_back)(void *at) {
     return TCRX_DONE;
 }
 
-/* What follows is written by tools/c_interface of c/tcrx.h. */
+/* tools/c_interface writes the following lines from c/tcrx.h. */
 static tcrx_header header_given(void) {
     const tcrx_header given = {(uint16_t)numbers[0], (uint8_t)numbers[1], (uint8_t)numbers[2], (uint8_t)numbers[3],
                                (uint8_t)numbers[4]};
@@ -391,7 +391,7 @@ u32 EXPORT(module_rack_find)(u32 vcid) {
     answer_count(0, answer.place);
     return answer.status;
 }
-/* This is the end of what tools/c_interface writes. */
+/* The lines that tools/c_interface writes end here. */
 
 /* Whether there is room for a channel of this storage, with its own block and a copy of each list; or it has a fault. */
 static int is_reserved(tcrx_count storage, uint64_t entries) {

@@ -1,4 +1,4 @@
-"""Written by tools/c_interface of c/tcrx.h, which says what each is: the numbers, records and calls of libtcrx.so.0 for ctypes."""
+"""The numbers, records and calls of libtcrx.so.0 for ctypes. tools/c_interface writes this module from c/tcrx.h, which describes them."""
 from ctypes import POINTER, Structure, c_char_p, c_size_t, c_uint8, c_uint16, c_uint32, c_uint64, c_void_p
 from typing import Any, Dict, List, Tuple
 
@@ -84,7 +84,7 @@ RELEASE = 6
 DECODER_ROOM = 1037
 
 
-# Records of C have fields alone.
+# Records of C have only fields.
 # pylint: disable=too-few-public-methods
 class _Farm(Structure):
     _fields_ = [("width", c_uint8), ("state", c_uint8), ("vr", c_uint8), ("farm_b", c_uint8), ("lockout", c_uint8),
@@ -197,7 +197,7 @@ class _Count(Structure):
     _fields_ = [("status", c_uint32), ("count", c_uint64)]
 
 
-# What each function answers and takes.
+# The type that each function returns, and the types of its parameters.
 CALLS: Dict[str, Tuple[Any, List[Any]]] = {
     "tcrx_text_at": (_Written, [c_uint32, c_void_p, c_size_t]),
     "tcrx_farm_start": (_FarmAnswer, [c_uint8, c_uint8]),

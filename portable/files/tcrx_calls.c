@@ -90,7 +90,7 @@ tcrx_decoded tcrx_cltu_octets_at(tcrx_decoder decoder, const uint8_t *octets, si
     return answer;
 }
 
-/* What follows is written by tools/c_interface of c/tcrx.h. */
+/* tools/c_interface writes the following lines from c/tcrx.h. */
 tcrx_written tcrx_text_at(tcrx_status status, uint8_t *text, size_t room) {
     tcrx_instance *at = tcrx_instance_shared();
     const tcrx_status done = Z_tcrxZ_module_text(&at->module, status, at->written, least(room, TCRX_MODULE_FRAME));
@@ -370,7 +370,7 @@ tcrx_count tcrx_channel_events_at(tcrx_channel *channel) {
     end(channel);
     return answer;
 }
-/* This is the end of what tools/c_interface writes. */
+/* The lines that tools/c_interface writes end here. */
 
 /* The five numbers of a record that goes into the module. */
 static void set_numbers(tcrx_instance *at, const uint32_t *numbers) {

@@ -61,55 +61,55 @@ macro_rules! refusals {
     };
 }
 
-// What follows is written by tools/c_interface of c/tcrx.h.
+// tools/c_interface writes the following lines from c/tcrx.h.
 refusals! {
-    /// Why octets begin with no frame.
+    /// The reason why octets don't begin with a frame.
     FrameError {
-        /// No frame: fewer than 5 octets.
+        /// There are fewer than 5 octets, too few for a frame.
         Short = SHORT,
-        /// No frame: version bits that aren't 0.
+        /// The version number of the frame isn't 0.
         BadVersion = BAD_VERSION,
-        /// No frame: spare bits that aren't 0.
+        /// The spare bits of the frame aren't 0.
         Spare = SPARE,
-        /// No frame: a frame length of fewer than 6 octets.
+        /// The length field of the frame gives fewer than 6 octets.
         LengthSmall = LENGTH_SMALL,
-        /// No frame: a frame length of more octets than there are.
+        /// The length field of the frame gives more octets than there are.
         Truncated = TRUNCATED,
     }
 }
 
 refusals! {
-    /// Why nothing is written.
+    /// The reason why nothing is written.
     WriteError {
-        /// Nothing is written: a field of the header is over its bound.
+        /// A field of the header is over its bound, so nothing is written.
         BadField = BAD_FIELD,
-        /// Nothing is written: a data field or a unit is empty.
+        /// A data field, a unit or a frame is empty, so nothing is written.
         EmptyData = EMPTY_DATA,
-        /// No frame is written: a data field of more than 1,019 octets.
+        /// The data field has more than 1,019 octets, so no frame is written.
         TooLong = TOO_LONG,
         /// The buffer is too short.
         NoRoom { needed } = NO_ROOM,
-        /// Settings, or a segment: a MAP is over 63.
+        /// A MAP in the settings, or of a segment, is over 63.
         BadMap = BAD_MAP,
-        /// No segment is written: segments that aren't for 1 to 1,018 octets.
+        /// The size of a segment isn't 1 to 1,018 octets, so no segment is written.
         BadSize = BAD_SIZE,
-        /// No segment is written: a unit of more than 65,542 octets.
+        /// The unit has more than 65,542 octets, so no segment is written.
         LongUnit = LONG_UNIT,
-        /// No packet is written: a packet data field of more than 65,536 octets.
+        /// The packet data field has more than 65,536 octets, so no packet is written.
         LongPacket = LONG_PACKET,
-        /// No CLTU carries more than 1,029 octets.
+        /// There are more than 1,029 octets, the most that a CLTU carries.
         LongCltu = LONG_CLTU,
-        /// No telemetry frame: its length isn't 11 to 2,048 octets, with a frame error control field 13 to 2,048.
+        /// The length of the telemetry frame isn't 11 to 2,048 octets, or 13 to 2,048 with a frame error control field.
         BadLength = BAD_LENGTH,
     }
 }
 
 refusals! {
-    /// Why octets are no telemetry frame.
+    /// The reason why octets aren't a telemetry frame.
     TmError {
-        /// No telemetry frame: its length isn't 11 to 2,048 octets, with a frame error control field 13 to 2,048.
+        /// The length of the telemetry frame isn't 11 to 2,048 octets, or 13 to 2,048 with a frame error control field.
         BadLength = BAD_LENGTH,
-        /// No frame: version bits that aren't 0.
+        /// The version number of the frame isn't 0.
         BadVersion = BAD_VERSION,
         /// The telemetry frame has no operational control field.
         NoControl = NO_CONTROL,
@@ -119,25 +119,25 @@ refusals! {
 }
 
 refusals! {
-    /// Why no frame error control field is added, or none is taken off.
+    /// The reason why no frame error control field is added or removed.
     FecfError {
-        /// No frame: fewer than 5 octets.
+        /// There are fewer than 5 octets, too few for a frame.
         Short = SHORT,
-        /// No frame: version bits that aren't 0.
+        /// The version number of the frame isn't 0.
         BadVersion = BAD_VERSION,
-        /// No frame: spare bits that aren't 0.
+        /// The spare bits of the frame aren't 0.
         Spare = SPARE,
-        /// No frame: a frame length of fewer than 6 octets.
+        /// The length field of the frame gives fewer than 6 octets.
         LengthSmall = LENGTH_SMALL,
-        /// No frame: a frame length of more octets than there are.
+        /// The length field of the frame gives more octets than there are.
         Truncated = TRUNCATED,
-        /// No frame alone: octets follow it.
+        /// Octets follow the frame, but the call takes only a frame.
         Fill = FILL,
-        /// No frame error control field is added: a frame of more than 1,022 octets.
+        /// The frame has more than 1,022 octets, so no frame error control field is added.
         LongFrame = LONG_FRAME,
         /// The buffer is too short.
         NoRoom { needed } = NO_ROOM,
-        /// No frame error control field: a frame of fewer than 8 octets.
+        /// The frame has fewer than 8 octets, too few to end with a frame error control field.
         NoFecf = NO_FECF,
         /// The frame error control field is wrong.
         WrongFecf = WRONG_FECF,
@@ -145,15 +145,15 @@ refusals! {
 }
 
 refusals! {
-    /// Why FARM-1 can't take a step, or there is no such FARM-1.
+    /// The reason why FARM-1 can't take a step, or why there is no such FARM-1.
     FarmError {
-        /// The width of the window isn't even and 2 to 254.
+        /// The width of the window isn't an even number from 2 to 254.
         BadWidth = BAD_WIDTH,
         /// The FARM-B counter is over 3.
         BadFarmB = BAD_FARM_B,
-        /// FARM-1 never has these flags in that state.
+        /// FARM-1 never has these flags in this state.
         FlagsDisagree = FLAGS_DISAGREE,
-        /// The state table has no entry: an expected Type-AD frame finds room in `TCRX_WAIT`.
+        /// The state table has no entry for an expected Type-AD frame that finds room in `TCRX_WAIT`.
         NoEntry = NO_ENTRY,
         /// The virtual channel id is over 63.
         BadVcid = BAD_VCID,
@@ -161,130 +161,130 @@ refusals! {
 }
 
 refusals! {
-    /// Why no channel is made of settings.
+    /// The reason why no channel is created from settings.
     SettingsError {
         /// The virtual channel id is over 63.
         BadVcid = BAD_VCID,
-        /// The width of the window isn't even and 2 to 254.
+        /// The width of the window isn't an even number from 2 to 254.
         BadWidth = BAD_WIDTH,
-        /// Settings: the buffer isn't 1 to 64.
+        /// The number of data fields in the buffer of the settings isn't 1 to 64.
         BadBuffer = BAD_BUFFER,
-        /// Settings: an APID is over 2,046.
+        /// The APID of a queue in the settings is over 2,046.
         BadApid = BAD_APID,
-        /// Settings: two queues have one APID.
+        /// Two queues in the settings have the same APID.
         DoubleApid = DOUBLE_APID,
-        /// Settings: the capacity of a packet queue isn't 1 to 256.
+        /// The capacity of a packet queue in the settings isn't 1 to 256.
         BadCapacity = BAD_CAPACITY,
-        /// Settings, or a segment: a MAP is over 63.
+        /// A MAP in the settings, or of a segment, is over 63.
         BadMap = BAD_MAP,
-        /// Settings: a MAP is chosen twice.
+        /// The settings choose a MAP twice.
         DoubleMap = DOUBLE_MAP,
-        /// Settings: the capacity of a MAP isn't 1 to 256.
+        /// The capacity of a chosen MAP's queue in the settings isn't 1 to 256.
         BadUnits = BAD_UNITS,
-        /// Settings: MAPs without segment headers.
+        /// The settings choose a MAP, but have no segment headers.
         PlainMap = PLAIN_MAP,
-        /// Out of memory: no channel is made.
+        /// There is too little memory, so no channel is created.
         NoMemory = NO_MEMORY,
-        /// Limits: `others` is over 65,542, or 0 without segment headers.
+        /// The limit `others` is over 65,542, or it is 0 without segment headers.
         BadOthers = BAD_OTHERS,
-        /// Limits: a MAP is over 63.
+        /// The MAP of a limit is over 63.
         BadLimitMap = BAD_LIMIT_MAP,
-        /// Limits: a MAP is listed twice.
+        /// Two limits are for the same MAP.
         DoubleLimit = DOUBLE_LIMIT,
-        /// Limits: that of a MAP isn't 1 to 65,542.
+        /// The limit of a MAP isn't 1 to 65,542.
         BadLimit = BAD_LIMIT,
-        /// Limits: a MAP is listed without segment headers.
+        /// A limit is for a MAP, but the settings have no segment headers.
         PlainLimit = PLAIN_LIMIT,
-        /// Limits: a chosen MAP isn't listed, and `others` is 0.
+        /// A chosen MAP has no limit of its own, and `others` is 0.
         UnlistedMap = UNLISTED_MAP,
     }
 }
 
 refusals! {
-    /// Why a channel didn't take a frame in. It is as it was.
+    /// The reason why a channel didn't take a frame in. The channel stays as it was.
     BringError {
-        /// No frame: fewer than 5 octets.
+        /// There are fewer than 5 octets, too few for a frame.
         Short = SHORT,
-        /// No frame: version bits that aren't 0.
+        /// The version number of the frame isn't 0.
         BadVersion = BAD_VERSION,
-        /// No frame: spare bits that aren't 0.
+        /// The spare bits of the frame aren't 0.
         Spare = SPARE,
-        /// No frame: a frame length of fewer than 6 octets.
+        /// The length field of the frame gives fewer than 6 octets.
         LengthSmall = LENGTH_SMALL,
-        /// No frame: a frame length of more octets than there are.
+        /// The length field of the frame gives more octets than there are.
         Truncated = TRUNCATED,
     }
 }
 
 refusals! {
-    /// Why none of the channels took a frame in. All are as they were.
+    /// The reason why none of the channels took a frame in. All channels stay as they were.
     RackError {
-        /// No frame: fewer than 5 octets.
+        /// There are fewer than 5 octets, too few for a frame.
         Short = SHORT,
-        /// No frame: version bits that aren't 0.
+        /// The version number of the frame isn't 0.
         BadVersion = BAD_VERSION,
-        /// No frame: spare bits that aren't 0.
+        /// The spare bits of the frame aren't 0.
         Spare = SPARE,
-        /// No frame: a frame length of fewer than 6 octets.
+        /// The length field of the frame gives fewer than 6 octets.
         LengthSmall = LENGTH_SMALL,
-        /// No frame: a frame length of more octets than there are.
+        /// The length field of the frame gives more octets than there are.
         Truncated = TRUNCATED,
-        /// No frame alone: octets follow it.
+        /// Octets follow the frame, but the call takes only a frame.
         Fill = FILL,
-        /// No frame error control field: a frame of fewer than 8 octets.
+        /// The frame has fewer than 8 octets, too few to end with a frame error control field.
         NoFecf = NO_FECF,
         /// The frame error control field is wrong.
         WrongFecf = WRONG_FECF,
         /// The frame is for another spacecraft.
         OtherSpacecraft = OTHER_SPACECRAFT,
-        /// No channel has that virtual channel id.
+        /// No channel has this virtual channel id.
         UnknownChannel = UNKNOWN_CHANNEL,
     }
 }
 
 refusals! {
-    /// Why none of the channels took the frame of a candidate in, behind which there may be fill. All are as they were.
+    /// The reason why none of the channels took in the frame of a candidate, which fill may follow. All channels stay as they were.
     CandidateError {
-        /// No frame: fewer than 5 octets.
+        /// There are fewer than 5 octets, too few for a frame.
         Short = SHORT,
-        /// No frame: version bits that aren't 0.
+        /// The version number of the frame isn't 0.
         BadVersion = BAD_VERSION,
-        /// No frame: spare bits that aren't 0.
+        /// The spare bits of the frame aren't 0.
         Spare = SPARE,
-        /// No frame: a frame length of fewer than 6 octets.
+        /// The length field of the frame gives fewer than 6 octets.
         LengthSmall = LENGTH_SMALL,
-        /// No frame: a frame length of more octets than there are.
+        /// The length field of the frame gives more octets than there are.
         Truncated = TRUNCATED,
-        /// No frame error control field: a frame of fewer than 8 octets.
+        /// The frame has fewer than 8 octets, too few to end with a frame error control field.
         NoFecf = NO_FECF,
         /// The frame error control field is wrong.
         WrongFecf = WRONG_FECF,
         /// The frame is for another spacecraft.
         OtherSpacecraft = OTHER_SPACECRAFT,
-        /// No channel has that virtual channel id.
+        /// No channel has this virtual channel id.
         UnknownChannel = UNKNOWN_CHANNEL,
     }
 }
 
 refusals! {
-    /// Why nothing left the buffer. The channel is as it was.
+    /// The reason why nothing left the buffer. The channel stays as it was.
     ReleaseError {
-        /// Nothing waits there.
+        /// Nothing waits in the buffer or in the queue.
         Empty = EMPTY,
     }
 }
 
 refusals! {
-    /// Why nothing was taken out of a queue. The channel is as it was.
+    /// The reason why nothing was taken out of a queue. The channel stays as it was.
     TakeError {
-        /// No queue has that APID.
+        /// No queue has this APID.
         NoQueue = NO_QUEUE,
-        /// Nothing waits there.
+        /// Nothing waits in the buffer or in the queue.
         Empty = EMPTY,
         /// The buffer is too short.
         NoRoom { needed } = NO_ROOM,
-        /// That MAP isn't chosen.
+        /// This MAP isn't chosen.
         NoMap = NO_MAP,
     }
 }
-// This is the end of what tools/c_interface writes.
+// The lines that tools/c_interface writes end here.
