@@ -1,8 +1,9 @@
 /*
- * Asks tcrx_static.c for blocks of all sizes and alignments until its array is used up, a thousand times over anew in a process of its
- * own each. Each block must be aligned, lie in the array, and keep its octets, so that two that overlap are found out; no block that
- * fits may be refused, and one that is refused must cut nothing. Once the storage is sealed a request must stop the process by a trap,
- * also one of no octets, and what gives a block back must not.
+ * Requests blocks of all sizes and alignments from tcrx_static.c until its array is used up. This is done a thousand
+ * times, each time in a process of its own. Each block must be aligned, lie in the array, and keep its octets, so that
+ * two blocks that overlap are found. No block that fits may be refused, and a refused block must cut nothing off the
+ * array. Once the storage is sealed, a request must stop the process by a trap, even a request for no octets. Returning
+ * a block must not.
  */
 #define _POSIX_C_SOURCE 200809L
 #include "../tcrx.h"
@@ -27,7 +28,7 @@ TCRX_STATIC_STORAGE(OCTETS);
 
 static struct { uint8_t *at; size_t count; } blocks[BLOCKS];
 
-/* Fills the array with blocks; whether each was as it must be. */
+/* Fills the array with blocks. Returns whether each was as it must be. */
 static bool fill(void) {
     bool good = true;
     for (size_t i = 0; i < BLOCKS; i++) {
@@ -52,7 +53,8 @@ static bool fill(void) {
     return good;
 }
 
-/* What a process of its own comes to that fills the array, and then asks once more where that is sealed. */
+/* Returns the status of a process that fills the array, and then requests one more block if the array is to be sealed.
+ * */
 static int status_of(uint64_t seed, bool seals) {
     const pid_t child = fork();
     if (child == 0) {
@@ -69,7 +71,7 @@ static int status_of(uint64_t seed, bool seals) {
     return child > 0 && waitpid(child, &status, 0) == child ? status : -1;
 }
 
-/* Whether that ended by a trap, or, where the trap is defined as one that returns, by a refusal. */
+/* Returns whether the process ended by a trap, or by a refusal if the trap is defined as one that returns. */
 static bool is_stopped(int status) {
 #ifdef RETURNS
     return status == 0;

@@ -1,7 +1,7 @@
-// Does a script on standard input through channels of tcrx.hpp, one for each `channel` line, and prints its answers and its final
-// report in the words of the program tcrx, for checks/bindings.
+// Does a script on standard input through channels of tcrx.hpp, one for each `channel` line. Prints the answers and the
+// final report in the words of the program tcrx, for checks/bindings.
 //
-//   cases SCID    for the spacecraft with this id
+//    cases SCID    for the spacecraft with this id
 #include "../tcrx.hpp"
 
 #include <cstdint>
@@ -17,8 +17,8 @@
 
 namespace {
 
-// The octets of all frames that are for each channel. Where this is compiled with LIMITED they are the limit of its units, so that each
-// answer is the same and less memory is filled.
+// The octets of all frames that are for each channel. If this is compiled with LIMITED, they are the limit of the
+// channel's units, so that each answer stays the same and less memory is filled.
 std::map<unsigned long, std::size_t> octets_for;
 
 struct Receiver {
@@ -125,7 +125,7 @@ void release(unsigned vcid, const Receiver &at) {
     std::printf("release %u queued %u dropped %u rest %u\n", vcid, delivery->queued, delivery->dropped, delivery->rest ? 1U : 0U);
 }
 
-// Into room for the longest unit.
+// Takes into room for the longest unit.
 void take(const std::string &what, unsigned vcid, const Receiver &at, unsigned key) {
     static std::vector<std::uint8_t> room(65542);
     const bool unit = what == "unit";

@@ -1,17 +1,18 @@
 /*
- * The receiver of c/examples/script.c, which does a script on standard input, with calls that are looked at more closely:
+ * Does a script on standard input as the receiver of c/examples/script.c does, and looks at its calls more closely:
  *
  *   channels SCID    for the spacecraft with this id
  *
- * Octets are brought from blocks of just so many, and taken into such blocks, so that a sanitizer sees what lies beyond: into ones that
- * are short, which must take nothing, and then into one that is long enough. Where there is room for it, every second frame is brought
- * with its frame error control field, and before that with a wrong one. Each CLCW must be that of FARM-1's record as well.
+ * Octets are brought from blocks of exactly their size, and taken into such blocks, so that a sanitizer sees what lies
+ * beyond. First they are taken into blocks that are too short, which must take nothing, and then into one that is long
+ * enough. If there is room for the frame error control field, every second frame is brought with it, and before that
+ * with a wrong one. Each CLCW must also be that of FARM-1's record.
  *
- * Where it is compiled with LIMITED, each channel has as its limit on each MAP the octets of all frames of the script that are for it,
- * so that no unit is longer and each answer is the same.
+ * If this is compiled with LIMITED, the limit of each channel on each MAP is the number of octets in all frames of the
+ * script that are for the channel. No unit is longer then, so that each answer stays the same.
  *
- * Where it is compiled with SEALED, it is linked with tcrx_static.c, and the storage is sealed once all channels are made: a request
- * for memory by any call after that ends it.
+ * If this is compiled with SEALED, it is linked with tcrx_static.c, and the storage is sealed once all channels are
+ * created. A later request for memory by any call ends the program.
  */
 #include <tcrx.h>
 
@@ -48,7 +49,7 @@ static void fail(const char *what, tcrx_status status) {
 }
 
 #ifdef LIMITED
-/* One more than the octets of all frames that are for a channel. */
+/* Returns one more than the number of octets in all frames that are for a channel. */
 static size_t octets_for(unsigned vcid) {
     size_t all = 1;
     for (size_t at = 0, end = 0; at < script_length; at = end + 1) {
@@ -83,7 +84,8 @@ static uint8_t *block(size_t count) {
     return at;
 }
 
-/* A frame without fill, of which there is room for the field, is brought with it every other time. */
+/* Brings a frame. Every other time, if it has no fill and there is room for the frame error control field, it is
+ * brought with the field. */
 static tcrx_rack_reply brought(tcrx_channel *channels, size_t count, uint16_t craft, uint8_t fecf, const uint8_t *from, size_t length) {
     static unsigned frames;
     uint8_t *plain = block(length), *ended = block(length + 2);
@@ -104,7 +106,7 @@ static tcrx_rack_reply brought(tcrx_channel *channels, size_t count, uint16_t cr
     return reply;
 }
 
-/* A take into a block of so many octets, of which what is written goes on. */
+/* Takes into a block of this many octets, and passes on what is written. */
 static tcrx_written taken_into(tcrx_channel *channel, bool is_unit, unsigned key, uint8_t *to, size_t room) {
     uint8_t *own = block(room);
     const tcrx_written found = is_unit ? tcrx_channel_take_unit(channel, (uint8_t)key, own, room) : tcrx_channel_take(channel, (uint16_t)key, own, room);
@@ -137,7 +139,7 @@ static tcrx_written unit_taken(tcrx_channel *channel, uint8_t key, uint8_t *to, 
     return taken_by_rooms(channel, true, key, to);
 }
 
-/* The channel is found in the rack by the id that its CLCW has. */
+/* Returns the CLCW of a channel. The rack must find the channel by the id in its CLCW. */
 static tcrx_clcw_answer clcw_reported(tcrx_channel *channel, uint8_t no_rf, uint8_t no_bit_lock) {
     const tcrx_clcw_answer clcw = tcrx_channel_clcw(channel, no_rf, no_bit_lock);
     const uint8_t vcid = (uint8_t)(clcw.word >> 18 & 63);

@@ -1,6 +1,7 @@
-// What tcrx.hpp does at the edges, for checks/bindings: channels that are moved, dropped, freed and used after that; each growth
-// of memory refused in turn; two channels in two threads; views of nothing; each field of what is read and reported, by the rows of
-// fields.h; settings that are refused. Linked with c/checks/refusing_memory.c. The last line says how many checks passed.
+// Checks the edge cases of tcrx.hpp, for checks/bindings: channels that are moved, dropped, freed and used after that,
+// each request for memory refused in turn, two channels in two threads, views of nothing, each field of what is read
+// and reported, by the rows of fields.h, and settings that are rejected. Linked with c/checks/refusing_memory.c. The
+// last line of the output is the number of checks that passed.
 #include "../tcrx.hpp"
 #include "fields.h"
 
@@ -37,7 +38,7 @@ tcrx::Channel make() {
     return *tcrx::Channel::make(settings, queues, maps);
 }
 
-// A frame of spacecraft 42 on channel 1, written by the library.
+// Returns a frame of spacecraft 42 on channel 1, written by the library.
 Bytes frame(std::uint8_t number, bool bypass, const Bytes &field) {
     Bytes room(1024);
     const tcrx::Result<tcrx::Octets> written = tcrx::write_frame({42, 1, number, bypass, false}, field, room);
@@ -49,14 +50,14 @@ Bytes first_packet() {
     return frame(0, false, {0xc0, 0x10, 0x05, 0xc0, 0x00, 0x00, 0x00, 0xaa});
 }
 
-// All that can be asked of a channel, as numbers.
+// Returns all that a channel can report, as numbers.
 std::vector<std::uint64_t> look(tcrx::Channel &channel) {
     const tcrx::Farm farm = channel.report().value();
     return {channel.clcw(true).value().word,   farm.vr, farm.farm_b, farm.width, channel.buffered().value(), channel.queued(5).value(),
             channel.queued(9).value(), channel.units(2).value(), channel.events().value()};
 }
 
-// Whether each call of a channel is refused as one of none.
+// Returns whether each call of a channel fails as if no channel were held.
 bool is_none(tcrx::Channel &channel) {
     Bytes room(8);
     constexpr tcrx::Status none = tcrx::Status::no_channel;
@@ -103,7 +104,7 @@ void check_drops() {
     expect(tcrx_blocks() == 0, "no block is left of channels that ended");
 }
 
-// Each block of a channel that is made; that no other call asks for one is compared by growths.c.
+// Refuses each block of a channel that is created. growths.c checks that no other call requests one.
 void check_refused_growths() {
     const tcrx::Limit listed[] = {{0, 64}, {2, 6}};
     const tcrx::Limits limits = {0, listed};
@@ -130,7 +131,7 @@ void check_refused_growths() {
     std::printf("ends: %d growths refused\n", refusals);
 }
 
-// Rounds on a channel of its own; how many packets were as they were sent.
+// Makes rounds on a channel of its own. Returns how many packets were as they were sent.
 int rounds(std::uint8_t octet, int count) {
     tcrx::Channel channel = make();
     std::array<std::uint8_t, 64> room{};
@@ -178,7 +179,7 @@ void check_views() {
     expect(taken.value_or(sent).size() == sent.size() && taken->empty(), "the value of a refused call");
 }
 
-// A rack: which channel a frame goes to, and each refusal.
+// Checks a rack: the channel that a frame goes to, and each refusal.
 void check_racks() {
     using tcrx::Status;
     const tcrx::Settings five = {5, 10, 4, 7}, eight = {8, 10, 4, 7};
@@ -224,13 +225,13 @@ void check_racks() {
     expect(tcrx::Rack(675, {nullptr, 1}).frame(frame_to(675, 5, false)).status() == Status::null, "a rack nowhere");
 }
 
-// Whether these are the fields of a row.
+// Returns whether these are the fields of a row.
 template <std::size_t Count>
 bool are_fields(const std::array<std::size_t, Count> &found, const std::uint32_t (&wanted)[Count]) {
     return std::equal(found.begin(), found.end(), std::begin(wanted));
 }
 
-// Each row of frames, whose kinds are in the order of the rows. A frame that was read is written again.
+// Checks each row of frames, whose kinds are in the order of the rows. A frame that was read is written again.
 void check_frames() {
     using tcrx::Arrival;
     constexpr Arrival arrivals[] = {Arrival::bd, Arrival::unlock, Arrival::set_vr, Arrival::ad, Arrival::invalid};
@@ -249,7 +250,7 @@ void check_frames() {
     }
 }
 
-// Each row of CLCWs and of packets.
+// Checks each row of CLCWs and of packets.
 void check_words_and_packets() {
     for (const clcw_row &row : clcw_rows) {
         const tcrx::Result<tcrx::Clcw> read = tcrx::read_clcw(row.word);
@@ -270,12 +271,12 @@ void check_words_and_packets() {
     }
 }
 
-// Whether these are the octets of a row.
+// Returns whether these are the octets of a row.
 bool is_made(const tcrx::Result<tcrx::Octets> &made, const made_row &row) {
     return made && Bytes(made->begin(), made->end()) == Bytes(row.octets, row.octets + row.count);
 }
 
-// Each row of frames that are made; then one of each making that is refused.
+// Checks each row of frames that are made, and then one failing call for each way to make a frame.
 void check_made() {
     using tcrx::Arrival;
     using tcrx::Status;
@@ -299,7 +300,8 @@ void check_made() {
     expect(tcrx::check_fecf(plain, {}).status() == Status::wrong_fecf, "a frame without a field");
 }
 
-// A CLTU amid other octets, without a wrong bit and with one, which is corrected in one mode, and rejected in the other.
+// Checks a CLTU between other octets, without a wrong bit and with one, which is corrected in one mode and rejected in
+// the other.
 void check_streams() {
     for (std::size_t i = 0; i < 3; i++) {
         tcrx::Decoder decoder(i != 2);
@@ -332,7 +334,7 @@ void check_streams() {
     }
 }
 
-// A CLTU, the random sequence and telemetry frames; then one of each that is refused.
+// Checks a CLTU, the random sequence and telemetry frames, and then one failing call for each of them.
 void check_ends_of_the_link() {
     using tcrx::Status;
     const tcrx::Octets plain = {frame_rows[0].octets, frame_rows[0].fields[5]};
@@ -355,7 +357,8 @@ void check_ends_of_the_link() {
     expect(tcrx::read_tm(false, tcrx::Octets(Bytes(11))).status() == Status::no_control, "one without a CLCW");
 }
 
-// What a channel reports after each step, whose states are in the order of the rows, and its CLCW with each flag of the link alone.
+// Checks what a channel reports after each step, whose states are in the order of the rows, and its CLCW with each flag
+// of the link alone.
 void check_reports() {
     using tcrx::State;
     const tcrx::Settings tried = {step_settings.vcid, step_settings.width, step_settings.buffer, step_settings.first_vr};
@@ -395,7 +398,8 @@ void check_settings() {
     const tcrx::Queue four[] = {{5, 8}, {6, 8}, {7, 8}, {8, 8}};
     const tcrx::Limit one[] = {{0, 1024}};
     expect(tcrx::storage(eight, four, {}, {0, one}).value() == 49624, "the storage of four queues of 8 with units of 1,024 octets");
-    // 1,051 for the buffer, 5,120 and 2 * 64 * 65,542 for open runs, 64 for each queue, 65,574 for each packet, and 4,096 for the table.
+    // 1,051 for the buffer, 5,120 and 2 * 64 * 65,542 for open runs, 64 for each queue, 65,574 for each packet, and
+    // 4,096 for the table.
     std::vector<tcrx::Queue> many;
     for (std::uint16_t apid = 0; apid < 256; apid++) {
         many.push_back({apid, 256});

@@ -1,4 +1,4 @@
-/* What the checks count: each comparison, of which the first 20 that fail are shown. And the numbers that they draw. */
+/* Counts the comparisons of the checks, and shows the first 20 that fail. Also draws the numbers of the checks. */
 #ifndef EXPECTING_H
 #define EXPECTING_H
 
@@ -18,13 +18,13 @@ static inline void expect(bool good, const char *what, uint64_t place) {
     }
 }
 
-/* Prints the last line; the status. */
+/* Prints the last line, and returns the status. */
 static inline int close_with(const char *what) {
     printf("%lu %s as they must be, %lu otherwise\n", passed, what, failed);
     return failed == 0 && passed > 0 ? 0 : 1;
 }
 
-/* A number below `end`, by Marsaglia's shifts. */
+/* Draws a number below `end`, by Marsaglia's shifts. */
 static inline size_t below(size_t end) {
     state ^= state << 13;
     state ^= state >> 7;

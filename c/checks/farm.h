@@ -1,6 +1,7 @@
 /*
- * FARM-1 as a table that is written here from CCSDS 232.1-B, 6.3, and shares nothing with the library; and what is counted of its
- * comparisons. The place of an N(S) in the window is found by searching for how far it is ahead of V(R) or behind it.
+ * FARM-1 as a table that is written here from CCSDS 232.1-B, 6.3, and shares nothing with the library. Also the counts
+ * of its comparisons. The place of an N(S) in the window is found by searching for how far it is ahead of V(R) or
+ * behind it.
  */
 #ifndef FARM_H
 #define FARM_H
@@ -13,7 +14,7 @@
 
 enum { EXPECTED, AHEAD, BEHIND, OUTSIDE };
 
-/* The states with the flags Lockout, Wait and Retransmit that FARM-1 can have in them. */
+/* The states of FARM-1, with the flags Lockout, Wait and Retransmit that it can have in them. */
 static const uint8_t states[6][4] = {
     {TCRX_OPEN, 0, 0, 0}, {TCRX_OPEN, 0, 0, 1}, {TCRX_WAIT, 0, 1, 1},
     {TCRX_LOCKOUT, 1, 0, 0}, {TCRX_LOCKOUT, 1, 0, 1}, {TCRX_LOCKOUT, 1, 1, 1},
@@ -30,7 +31,8 @@ static inline void expect(bool good, const char *what, tcrx_farm farm, unsigned 
     }
 }
 
-/* Where N(S) is in the sliding window of this width: its positive part is ahead of V(R), its negative part behind. */
+/* Returns where N(S) is in the sliding window of this width. The positive part of the window is ahead of V(R), and its
+ * negative part behind. */
 static inline uint8_t place_of(unsigned width, unsigned vr, unsigned ns) {
     if (ns == vr) {
         return EXPECTED;
@@ -42,7 +44,7 @@ static inline uint8_t place_of(unsigned width, unsigned vr, unsigned ns) {
     return OUTSIDE;
 }
 
-/* The place depends on the difference of the two numbers alone, so the steps can look it up. */
+/* Looks up all places once. A place depends only on the difference of the two numbers. */
 static inline void find_places(void) {
     const tcrx_farm none = {0, 0, 0, 0, 0, 0, 0};
     for (unsigned width = 2; width <= 254; width += 2) {
@@ -69,7 +71,7 @@ static inline unsigned event_of(tcrx_farm farm, unsigned arrival, unsigned numbe
     }
 }
 
-/* FARM-1 after a Type-AD frame, by the rows E1 to E5. */
+/* Returns FARM-1 after a Type-AD frame, by the rows E1 to E5. */
 static inline tcrx_farm after_frame(tcrx_farm farm, unsigned event) {
     if (farm.state == TCRX_LOCKOUT) {
         return farm;
@@ -95,7 +97,7 @@ static inline tcrx_farm after_frame(tcrx_farm farm, unsigned event) {
     return farm;
 }
 
-/* FARM-1 after a Type-B frame or a release, by the rows E6 to E10. */
+/* Returns FARM-1 after a Type-B frame or a release, by the rows E6 to E10. */
 static inline tcrx_farm after_other(tcrx_farm farm, unsigned event, unsigned number) {
     const bool reset = event == 7 || (event == 8 && farm.state != TCRX_LOCKOUT);
     if (event >= 6 && event <= 8) {

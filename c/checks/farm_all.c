@@ -1,7 +1,7 @@
 /*
- * FARM-1 and CLCWs by exhaustion: each step that there is (every width of the window, state with its flags, V(R), arrival, N(S) and
- * room), each CLCW that can be written, and each word of 32 bits that can be read. The wanted answers are those of farm.h, and of the
- * fields of CCSDS 232.0-B, 4.2. It takes about half a minute.
+ * Tests FARM-1 and CLCWs exhaustively: each possible step (every width of the window, state with its flags, V(R),
+ * arrival, N(S) and room), each CLCW that can be written, and each word of 32 bits that can be read. The wanted answers
+ * are those of farm.h, and of the fields in CCSDS 232.0-B, 4.2. It takes about half a minute.
  */
 #include "farm.h"
 
@@ -49,7 +49,8 @@ static void check_written(unsigned vcid, tcrx_farm farm) {
     }
 }
 
-/* Type and version, COP and both spares of a CLCW (CCSDS 232.0-B, 4.2.1): all 0, but COP 1. */
+/* Returns whether a word has the fixed fields of a CLCW (CCSDS 232.0-B, 4.2.1): type, version and both spares are 0,
+ * and COP is 1. */
 static bool is_clcw(uint32_t word) { return (word & UINT32_C(0xe3030100)) == UINT32_C(0x01000000); }
 
 static bool is_none(tcrx_clcw_fields read) {
@@ -58,7 +59,7 @@ static bool is_none(tcrx_clcw_fields read) {
     return read.status == TCRX_NO_CLCW && any == 0;
 }
 
-/* The fields of a CLCW from its first bit on, each with its number of bits. */
+/* Compares the fields of a CLCW, from its first bit on, each with its number of bits. */
 static bool is_read(uint32_t word, tcrx_clcw_fields read) {
     const uint8_t fields[9] = {read.status_field, read.vcid, read.no_rf, read.no_bit_lock, read.lockout, read.wait, read.retransmit,
                                read.farm_b, read.vr};

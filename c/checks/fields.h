@@ -1,8 +1,10 @@
 /*
- * Frames, CLCWs and packets with their fields, frames that are made, and the steps of a channel with FARM-1 after each, for fields.c and
- * ends.cc. All of it is worked out by hand, from CCSDS 232.0-B, 4.1 and 4.2, CCSDS 133.0-B, 4.1, and CCSDS 232.1-B, 6.3. Fill follows each frame and packet.
+ * Frames, CLCWs and packets with their fields, frames that are made, and the steps of a channel with FARM-1 after each,
+ * for fields.c and ends.cc. All of it was worked out by hand, from CCSDS 232.0-B, 4.1 and 4.2, CCSDS 133.0-B, 4.1, and
+ * CCSDS 232.1-B, 6.3. Fill follows each frame and packet.
  *
- * Fields are numbers here, in no record of the header, so that a record whose fields have each other's names is found.
+ * Fields are numbers here, and not in a record of the header, so that a record whose fields have each other's names is
+ * found.
  */
 #ifndef FIELDS_H
 #define FIELDS_H
@@ -11,14 +13,16 @@
 
 enum { MOST_OCTETS = 308, OF_FRAME = 8, OF_CLCW = 9, OF_PACKET = 6, OF_FARM = 7 };
 
-/* Spacecraft id, virtual channel id, N(S), bypass flag, control command flag, length; then the kind and its number. */
+/* Spacecraft id, virtual channel id, N(S), bypass flag, control command flag and length. Then the kind and its number.
+ * */
 typedef struct {
     uint8_t octets[MOST_OCTETS];
     size_t count;
     uint32_t fields[OF_FRAME];
 } frame_row;
 
-/* Type-BD has bypass alone, Type-BC both flags (Unlock, and Set V(R) to 9), Type-AD none, and Type-AC control alone. */
+/* Type-BD has only the bypass flag, Type-BC has both flags (Unlock, and Set V(R) to 9), Type-AD has none, and Type-AC
+ * has only the control command flag. */
 static const frame_row frame_rows[] = {
     {{0x22, 0xa3, 0x94, 0x07, 0xc8, 0xc0, 0xaa, 0xbb, 0x55, 0x55}, 10, {675, 37, 200, 1, 0, 8, TCRX_BD, 0}},
     {{0x32, 0xa3, 0x30, 0x05, 0x11, 0x00, 0x55}, 7, {675, 12, 17, 1, 1, 6, TCRX_UNLOCK, 0}},
@@ -47,7 +51,8 @@ typedef struct {
     uint32_t fields[OF_PACKET];
 } packet_row;
 
-/* With each value of the sequence flags, and the type and the secondary header flag each with and without the other. */
+/* Each value of the sequence flags, and the packet type and the secondary header flag each with and without the other.
+ * */
 static const packet_row packet_rows[] = {
     {{0x1d, 0xa5, 0x12, 0x34, 0x00, 0x02, 0xaa, 0xbb, 0xcc, 0x55}, 10, {9, 1445, 4660, 1, 1, 0}},
     {{0x00, 0x05, 0x40, 0x01, 0x00, 0x00, 0xaa, 0x55}, 8, {7, 5, 1, 0, 0, 1}},
@@ -62,9 +67,10 @@ typedef struct {
 } made_row;
 
 /*
- * For spacecraft 675: a unit in segments of three octets for MAP 37, over Type-AD frames of channel 37 from N(S) 255 on, and whole over
- * one Type-BD frame with N(S) 200; Unlock and Set V(R) to 9 for channel 12; and the first frame of frame_rows with its frame error
- * control field, by the CRC of another implementation (Python's binascii.crc_hqx, preset to ones).
+ * For spacecraft 675. A unit is sent in segments of three octets for MAP 37, over Type-AD frames of channel 37 from
+ * N(S) 255 on, and whole over one Type-BD frame with N(S) 200. Unlock and Set V(R) to 9 are sent for channel 12. Then
+ * comes the first frame of frame_rows with its frame error control field, by the CRC of another implementation
+ * (Python's binascii.crc_hqx, preset to ones).
  */
 static const uint8_t made_unit[] = {1, 2, 3, 4, 5, 6, 7};
 static const made_row segment_rows[] = {
@@ -80,9 +86,10 @@ static const made_row command_rows[] = {
 static const made_row fecf_row = {{0x22, 0xa3, 0x94, 0x09, 0xc8, 0xc0, 0xaa, 0xbb, 0x4c, 0x91}, 10};
 
 /*
- * The frame of the first of frame_rows in a CLTU, and with the random sequence: the parity bits by long division of the polynomials, and
- * the sequence bit by bit, in Python, from CCSDS 231.0-B. The CLCW of all of whose fields but one are others than 0 in telemetry frames of
- * 13 and 15 octets, for spacecraft 675, virtual channel 5, with counts 200 and 77 (CCSDS 132.0-B, 4.1).
+ * The frame of the first of frame_rows in a CLTU, and with the random sequence. The parity bits were worked out by long
+ * division of the polynomials, and the sequence bit by bit, in Python, from CCSDS 231.0-B. Then the CLCW with all
+ * fields but one other than 0, in telemetry frames of 13 and 15 octets, for spacecraft 675, virtual channel 5, with
+ * counts 200 and 77 (CCSDS 132.0-B, 4.1).
  */
 static const uint8_t cltu_octets[] = {0xeb, 0x90, 0x22, 0xa3, 0x94, 0x07, 0xc8, 0xc0, 0xaa, 0xf0, 0xbb, 0x55, 0x55,
                                       0x55, 0x55, 0x55, 0x55, 0x3e, 0xc5, 0xc5, 0xc5, 0xc5, 0xc5, 0xc5, 0xc5, 0x79};
@@ -91,15 +98,16 @@ enum { TM_CLCW = 0x1d9484b5 };
 static const made_row tm_row = {{0x2a, 0x3b, 0xc8, 0x4d, 0x1f, 0xfe, 0x55, 0x55, 0x55, 0x1d, 0x94, 0x84, 0xb5}, 13};
 static const made_row tm_fecf_row = {{0x2a, 0x3b, 0xc8, 0x4d, 0x1f, 0xfe, 0x55, 0x55, 0x55, 0x1d, 0x94, 0x84, 0xb5, 0x7e, 0xe3}, 15};
 
-/* Width, state, V(R), FARM-B counter, Lockout, Wait, Retransmit: of FARM-1 after the frame. */
+/* Width, state, V(R), FARM-B counter, Lockout, Wait and Retransmit of FARM-1 after the frame. */
 typedef struct {
     uint8_t octets[6];
     uint32_t fields[OF_FARM];
 } step_row;
 
 /*
- * On virtual channel 1, whose buffer has room for one data field, from V(R) 250 on: a Type-AD frame ahead of V(R) (E3), the expected
- * one with room (E1) and without (E2), Unlock (E7), and a Type-AD frame outside the window (E5).
+ * Steps on virtual channel 1, whose buffer has room for one data field, from V(R) 250 on. The arrivals are a Type-AD
+ * frame ahead of V(R) (E3), the expected one with room (E1) and without (E2), Unlock (E7), and a Type-AD frame outside
+ * the window (E5).
  */
 static const tcrx_settings step_settings = {1, 10, 1, 250, 1};
 static const step_row step_rows[] = {

@@ -1,11 +1,12 @@
 /*
- * Refuses each block that the making of a channel asks for in turn: the first one, then the second, until it asks for no more. Each
- * time the answer must be TCRX_NO_MEMORY, no channel may be held, and no block may be left of it. Then each kind of call is made once
- * with its first block refused: none may ask for any. Packets and units that are taken must be those that were sent. Nothing may be
- * left of a channel that was freed, and the address must not be null where no block is given. What makes no channel is in storage.c.
+ * Refuses each block that the creation of a channel requests in turn: first the first one, then the second, until the
+ * creation requests no more. Each time the status must be TCRX_NO_MEMORY, no channel may be held, and no block of it
+ * may be left. Then each kind of call is made once with its first block refused, and none may request any. Packets and
+ * units that are taken must be those that were sent. Nothing may be left of a channel that was freed, and the address
+ * must not be null when no block is given. Settings that create no channel are in storage.c.
  *
- * The memory is that of tcrx_memory.c, which is linked with this. What is refused are its calls of malloc, which the linker leads here:
- * by --wrap=malloc and --wrap=free. The last line says how many blocks were refused.
+ * The memory is that of tcrx_memory.c, which is linked with this program. Its calls of malloc are refused, which the
+ * linker leads here by --wrap=malloc and --wrap=free. The last line of the output is the number of refused blocks.
  */
 #include "../tcrx.h"
 
@@ -19,7 +20,8 @@ void __real_free(void *at);
 void *__wrap_malloc(size_t count);
 void __wrap_free(void *at);
 
-/* How many blocks are given before one is refused, and how many were refused; how many are out. */
+/* The number of blocks that are given before one is refused, the number of blocks that were refused, and the number of
+ * blocks that are in use. */
 static unsigned long given_first, refusals, blocks;
 static bool refusing, met;
 
@@ -49,7 +51,7 @@ void __wrap_free(void *at) {
 
 static tcrx_channel channel = TCRX_HOLDS_NONE;
 
-/* All that can be asked of the channel. */
+/* All that a channel can report. */
 typedef struct {
     tcrx_status status;
     uint32_t clcw;
@@ -81,7 +83,7 @@ static const tcrx_map maps[] = {{2, 3}, {7, 1}};
 static const tcrx_limit limits[] = {{0, 64}, {2, 128}, {7, 16}};
 
 static tcrx_status make(void) { return tcrx_channel_new_with_limits(&channel, settings, queues, 3, maps, 2, 0, limits, 3); }
-#ifdef LIMITED /* for machines that are slow */
+#ifdef LIMITED /* for slow machines */
 static tcrx_status make_unlimited(void) { return tcrx_channel_new_with_limits(&channel, settings, queues, 2, maps, 1, 16, NULL, 0); }
 #else
 static tcrx_status make_unlimited(void) { return tcrx_channel_new(&channel, settings, queues, 2, maps, 1); }
@@ -114,7 +116,8 @@ static const uint8_t joined[] = {0x10, 0x05, 0xc0, 0x00, 0x00, 0x02, 0x11, 0x22,
 static const uint8_t halves[] = {0xaa, 0xbb, 0xcc, 0x01, 0x02, 0x03, 0x04, 0x05, 0x06, 0x07, 0xaa, 0xbb, 0xcc};
 static uint8_t octets[64];
 
-/* Of the frames that were sent, the packets of queue 5 and the units of MAP 2 in their order; each take must give the next. */
+/* The packets of queue 5 and the units of MAP 2 that the sent frames carry, in their order. Each take must give the
+ * next one. */
 static const struct { const uint8_t *octets; size_t count; } packets[] = {
     {bd + 6, 7}, {ad0 + 6, 7}, {joined, sizeof joined}, {bd + 6, 7}}, units[] = {{unit + 6, 3}, {halves, sizeof halves}};
 static size_t packets_taken, units_taken;
@@ -138,7 +141,7 @@ static tcrx_status take_unit(void) {
 }
 
 #ifdef PORTABLE
-/* What the portable form asks for is inside it. */
+/* The requests of the portable form for memory stay inside it. */
 static bool is_never_null(void) {
     return true;
 }
@@ -160,7 +163,8 @@ static bool is_never_null(void) {
 }
 #endif
 
-/* Makes the call with the first block refused, then with the second, until it asks for no more. One that grows nothing asks for none. */
+/* Makes the call with the first block refused, then with the second, until it requests no more. A call that doesn't
+ * grow requests none. */
 static bool done(tcrx_status (*call)(void), bool grows) {
     for (unsigned long n = 0; n < 10000; n++) {
         const state before = look();

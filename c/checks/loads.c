@@ -1,13 +1,16 @@
 /*
- * Brings loads on a channel whose memory is the array of tcrx_static.c, sealed once it is made, so that a request for memory by any
- * call ends it. Each packet that is taken must be the one that was sent.
+ * Brings loads on a channel whose memory is the array of tcrx_static.c. The array is sealed once the channel is
+ * created, so that a request for memory by any call ends the program. Each packet that is taken must be the one that
+ * was sent.
  *
  *   loads SETTINGS LOAD CALLS SEED
  *
- * SETTINGS: `plain`, without segment headers; `two`, two queues; `maps`, eight queues and two chosen MAPs; `small`, as `two` with units
- * of 1,500 octets on each MAP.
- * LOAD: `random`; `hostile`, which fills everything with the largest packets, units and open runs, lets some go and fills it anew in
- * other sizes; `comb`, small packets between large ones, of which the large ones go.
+ * SETTINGS is `plain` (without segment headers), `two` (two queues), `maps` (eight queues and two chosen MAPs), or
+ * `small` (as `two`, with units of 1,500 octets on each MAP).
+ *
+ * LOAD is `random`, `hostile` or `comb`. The load `hostile` fills everything with the largest packets, units and open
+ * runs, lets some go, and fills it again in other sizes. The load `comb` puts small packets between large ones, and
+ * lets the large ones go.
  */
 #include "../tcrx.h"
 #include "expecting.h"
@@ -21,7 +24,7 @@ enum { FIRST = 1, CONTINUING = 0, LAST = 2, UNSEGMENTED = 3, MOST_FRAME = 1024, 
 #define tcrx_storage_used() ((size_t)0)
 #define tcrx_storage_seal() ((void)0)
 #else
-/* For each of the loads: at most 8 queues and 2 chosen MAPs, with room for 140 items together. */
+/* Enough for each of the loads: at most 8 queues and 2 chosen MAPs, with room for 140 items together. */
 TCRX_STATIC_STORAGE(TCRX_STORAGE_OF(TCRX_STORAGE_BUFFER(64) + TCRX_STORAGE_SEGMENTED(MAPS * MOST_PACKET) + TCRX_STORAGE_QUEUES(8, 0, 0)
                                     + TCRX_STORAGE_TABLE + TCRX_STORAGE_MAPS(2, 70, MOST_PACKET)));
 #endif
@@ -48,7 +51,7 @@ static void count(tcrx_status status) {
 
 static uint8_t content(size_t place) { return (uint8_t)(place * 31 + place / 251); }
 
-/* A telecommand packet of so many octets at the front of these; its length. */
+/* Writes a telecommand packet of this length to the front of octets, and returns its length. */
 static size_t write_packet(uint8_t *octets, uint16_t apid, size_t length) {
     const size_t field = length - 7;
     const uint8_t header[6] = {(uint8_t)(0x10 | apid >> 8), (uint8_t)apid, 0xc0, 0, (uint8_t)(field >> 8), (uint8_t)field};
@@ -75,7 +78,8 @@ static void bring(bool bypass, unsigned flags, size_t map, const uint8_t *part, 
 
 static void release(void) { count(tcrx_channel_release(&channel).status); }
 
-/* Sends so many octets of the unit on a service and MAP; `whole` with its last segment, else the run stays open. */
+/* Sends this many octets of the unit on a service and MAP. If `whole`, the last segment is among them, otherwise the
+ * run stays open. */
 static void send(bool bypass, size_t map, size_t length, bool whole) {
     const size_t part = with.settings.segmented == 1 ? 1018 : 1019;
     if (length <= part && (whole || with.settings.segmented == 0)) {
@@ -107,7 +111,7 @@ static bool has_room(size_t queue) {
     return tcrx_channel_queued(&channel, with.queues[queue].apid).count < with.queues[queue].capacity;
 }
 
-/* A length of a packet that the channel can be given, often small. */
+/* Returns a length that a packet for the channel may have, often a small one. */
 static size_t any_length(void) {
     const size_t ends[] = {10, 300, 1012, 5000, 65536, (size_t)1 << below(16)};
     return 7 + below(with.settings.segmented == 1 ? ends[below(6)] : ends[below(3)]);
@@ -132,7 +136,7 @@ static void load_random(void) {
     send(bypass, map, write_packet(unit, with.queues[queue].apid, any_length()), below(4) != 0);
 }
 
-/* Fills each queue and each unit queue with the largest. */
+/* Fills each packet queue and each unit queue with the largest items. */
 static void fill(void) {
     const size_t most = with.settings.segmented == 1 ? with.limit : 1019;
     for (size_t i = 0; i < with.queue_count; i++) {
@@ -144,7 +148,7 @@ static void fill(void) {
     }
 }
 
-/* Takes some packets and puts others of any length into their place. */
+/* Takes some packets, and puts others of any length into their place. */
 static void change(void) {
     for (size_t i = 0; i < with.queue_count; i++) {
         for (size_t k = 0; k < with.queues[i].capacity; k++) {
@@ -172,7 +176,8 @@ static void load_hostile(void) {
     }
 }
 
-/* Small packets in every second queue, packets of any length in the others, which alone are taken. */
+/* Sends small packets to every second queue and packets of any length to the others, from which alone packets are
+ * taken. */
 static void load_comb(void) {
     for (size_t i = 0; i < with.queue_count; i++) {
         while (has_room(i) && below(8) != 0) {

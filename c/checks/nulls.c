@@ -1,6 +1,7 @@
 /*
- * The guards of tcrx.h, plain C over the library, of which no proof speaks: each call with a null pointer in each place, and each call of
- * a channel where none is held. The answer has that status and nothing else, and no buffer changes.
+ * Checks the guards of tcrx.h, which are plain C over the library and aren't proved. Each call is made with a null
+ * pointer in each place, and each call of a channel is made without a channel. The record that is returned must have
+ * the right status and nothing else, and no buffer may change.
  */
 #include "../tcrx.h"
 #include "expecting.h"
@@ -17,7 +18,7 @@ static const tcrx_decoder decoder = {1, 0, 0, 0, 0};
 static uint8_t octets[ROOM], kept[ROOM];
 static char text[TCRX_TEXT_ROOM];
 
-/* The status of an answer, and all of it behind the status, which must be 0. */
+/* The status of a returned record, and everything behind the status, which must be 0. */
 typedef struct {
     const char *call;
     tcrx_status status;
@@ -69,7 +70,7 @@ static void check_single(void) {
     compare(rows, sizeof rows / sizeof rows[0], TCRX_NULL);
 }
 
-/* The lists of a channel that is to be made, and of its storage. */
+/* Checks the lists of a channel that is to be created, and of its storage. */
 static void check_lists(void) {
     tcrx_channel channel = TCRX_HOLDS_NONE;
     const row rows[] = {
@@ -88,7 +89,7 @@ static void check_lists(void) {
     expect(channel.held == 0, "a channel that isn't made", 0);
 }
 
-/* Each call of a channel, where none is given or none is held. */
+/* Checks each call of a channel if no channel is given or held. */
 static void check_none(tcrx_channel *channel, tcrx_status status) {
     static const uint8_t unlock[] = {0x30, 0x2a, 0x04, 0x05, 0x00, 0x00};
     const tcrx_reply frame = tcrx_channel_frame(channel, unlock, sizeof unlock);
@@ -112,7 +113,7 @@ static void check_none(tcrx_channel *channel, tcrx_status status) {
     compare(rows, sizeof rows / sizeof rows[0], status);
 }
 
-/* What a channel that is held is given. */
+/* Checks the calls of a channel that is held. */
 static void check_held(tcrx_channel *channel) {
     const row rows[] = {
         {"tcrx_channel_frame without octets", tcrx_channel_frame(channel, NULL, 6).status, 0},

@@ -1,11 +1,12 @@
 /*
- * Calls that are refused, of each with each status one: records that no FARM-1 has, lengths beyond the octets, fields out of range, short
- * buffers, settings and limits of a channel, frames for no channel of a rack; and each text. Each must have its status, and leave the
- * buffer and the channel as they were. In the proved build the statuses are those of its clauses; this is for builds that no proof is of.
- * The guards of tcrx.h are in nulls.c, takes into short buffers in channels.c.
+ * Makes one failing call for each status of each call: with records that no FARM-1 has, lengths beyond the octets,
+ * fields out of range, short buffers, settings and limits of a channel, and frames for no channel of a rack. Each must
+ * have its status, and leave the buffer and the channel as they were. The text of each status is checked, too. In the
+ * proved build the statuses are those of its clauses; this is for builds about which nothing is proved. The guards of
+ * tcrx.h are in nulls.c, and takes into short buffers in channels.c.
  *
- * Where it is compiled with LIMITED, channels without limits have units of 16 octets, for machines that are slow; and with STATIC it is
- * over an array of so many octets.
+ * If this is compiled with LIMITED, channels without limits have units of 16 octets, for slow machines. If it is
+ * compiled with STATIC, it uses an array of that many bytes.
  */
 #include "../tcrx.h"
 #include "expecting.h"
@@ -26,7 +27,8 @@ static bool is_filled(const uint8_t *octets, size_t count) {
     return true;
 }
 
-/* Records that are refused, each with its status, as they are given to a step and to a CLCW; and steps of one that isn't. */
+/* Checks records that are rejected, each with its status, in a step and in a CLCW. Then checks steps of a record that
+ * isn't. */
 static void check_records(void) {
     static const struct { tcrx_farm farm; tcrx_status status; } rows[] = {
         {{0, 0, 7, 4, 2, 0, 0}, TCRX_BAD_WIDTH}, {{3, 1, 7, 0, 0, 0, 0}, TCRX_BAD_WIDTH}, {{255, 1, 7, 0, 0, 0, 0}, TCRX_BAD_WIDTH},
@@ -64,7 +66,7 @@ static void check_clcws(void) {
     }
 }
 
-/* As many octets as are asked for, in a block of just that size, so that a tool sees what lies beyond. */
+/* Returns these octets in a block of exactly their size, so that a tool sees what lies beyond. */
 static uint8_t *block(const uint8_t *from, size_t count) {
     uint8_t *at = (uint8_t *)malloc(count == 0 ? 1 : count);
     if (at == NULL) {
@@ -130,7 +132,7 @@ static void check_writing(void) {
     check_write(bypass, 0, 0, TCRX_BAD_FLAG, 0, 36);
 }
 
-/* What is made goes here. */
+/* The buffer for what is made. */
 static uint8_t made[1030];
 
 static uint8_t *fresh(void) {
@@ -273,7 +275,7 @@ static void check_text(tcrx_status status, const char *wanted) {
 
 static void check_texts(void) {
     static const struct { tcrx_status status; const char *text; } texts[] = {
-#include "texts.inc" /* the texts of crates/tc_c/specs/Status.antt, as whoever compiles this writes them */
+#include "texts.inc" /* the texts of crates/tc_c/specs/Status.antt, which the check that compiles this file writes */
     };
     unsigned long there = 0;
     for (size_t i = 0; i < sizeof texts / sizeof texts[0]; i++) {
@@ -301,7 +303,7 @@ static tcrx_status new_channel(tcrx_channel *channel, tcrx_settings settings, co
 #endif
 }
 
-/* The status of a new channel; one that is made is freed. */
+/* Returns the status of a new channel. A channel that is created is freed. */
 static tcrx_status status_of(tcrx_settings settings, const tcrx_queue *queues, size_t q, const tcrx_map *maps, size_t m) {
     tcrx_channel channel = TCRX_HOLDS_NONE;
     const tcrx_status status = new_channel(&channel, settings, queues, q, maps, m);
@@ -328,7 +330,8 @@ static void check_lists(void) {
     expect(status_of(plain, NULL, 0, good_maps, 2) == TCRX_PLAIN_MAP, "a MAP of a plain channel", 0);
 }
 
-/* The status of a new channel within limits; one that is made is freed. What storage.c has of its storage isn't compared here. */
+/* Returns the status of a new channel within limits. A channel that is created is freed. What storage.c compares of its
+ * storage isn't compared here. */
 static tcrx_status limited(tcrx_settings settings, const tcrx_map *maps, size_t m, uint32_t others, const tcrx_limit *limits, size_t l) {
     tcrx_channel channel = TCRX_HOLDS_NONE;
     const tcrx_status status = tcrx_channel_new_with_limits(&channel, settings, good_queues, 2, maps, m, others, limits, l);
@@ -376,19 +379,20 @@ static void check_channel(void) {
     expect(tcrx_channel_free(&channel) == TCRX_DONE, "a channel freed", 0);
 }
 
-/* A rack: places of none, two channels of one id, one that is freed, and one of another id. */
+/* A rack that has places without a channel, two channels with one id, a channel that is freed, and one with another id.
+ * */
 enum { CRAFT = 675, PLACES = 6, FIRST = 1, SECOND = 2, FREED = 3, OTHER = 5 };
 
 static tcrx_channel rack[PLACES];
 
-/* The events of all places, each in digits of its own. */
+/* Returns the events of all places, each in digits of its own. */
 static uint64_t rack_events(void) {
     uint64_t all = 0;
     for (size_t i = 0; i < PLACES; i++) all = 100 * all + tcrx_channel_events(&rack[i]).count;
     return all;
 }
 
-/* A Type-AD frame with this N(S), with its frame error control field where it is to have one; its length. */
+/* Writes a Type-AD frame with this N(S), with a frame error control field if it is to have one. Returns its length. */
 static size_t rack_octets(uint16_t scid, uint8_t vcid, uint8_t ns, uint8_t fecf, uint8_t *octets) {
     const tcrx_header header = {scid, vcid, ns, 0, 0};
     const uint8_t field[] = {0xc0, 0xaa};
@@ -397,7 +401,8 @@ static size_t rack_octets(uint16_t scid, uint8_t vcid, uint8_t ns, uint8_t fecf,
     return fecf == 1 ? tcrx_add_fecf(plain, count, octets, 10).length : count;
 }
 
-/* A candidate is refused by a rack, which reports how long its frame is, and whether more follows; no channel has an event. */
+/* Expects that a rack rejects a candidate, and reports how long its frame is and whether more follows. No channel may
+ * have a new event. */
 static void expect_no_candidate(uint16_t scid, uint8_t fecf, const uint8_t *octets, size_t count, tcrx_status status, size_t length, unsigned more) {
     const uint64_t events = rack_events();
     const tcrx_candidate_reply reply = tcrx_rack_candidate(rack, PLACES, scid, fecf, octets, count);
@@ -406,7 +411,7 @@ static void expect_no_candidate(uint16_t scid, uint8_t fecf, const uint8_t *octe
     expect(rack_events() == events, "the events after a refused candidate", count);
 }
 
-/* So is a frame, of which nothing else is reported. */
+/* Expects that a rack rejects a frame, and reports nothing else. */
 static void expect_unracked(tcrx_rack_reply reply, tcrx_status status, unsigned long place) {
     static const tcrx_rack_reply none;
     tcrx_rack_reply bare = reply;
@@ -431,7 +436,8 @@ static void check_rack_refusals(uint8_t fecf) {
     expect_unracked(tcrx_rack_frame(NULL, 1, CRAFT, fecf, octets, count), TCRX_NULL, 33);
     expect_unracked(tcrx_rack_frame(NULL, 0, CRAFT, fecf, octets, count), TCRX_UNKNOWN_CHANNEL, 34);
     expect_unracked(tcrx_rack_frame(rack, FIRST, CRAFT, fecf, octets, count), TCRX_UNKNOWN_CHANNEL, 35);
-    /* Another spacecraft is refused before an unknown channel, and both behind the check. Up to six octets behind a frame are fill. */
+    /* Another spacecraft is rejected before an unknown channel, and both after the check. Up to six octets behind a
+     * frame are fill. */
     rack_octets(CRAFT, 9, 0, fecf, octets);
     for (size_t behind = 0; behind < 20; behind++) {
         expect_no_candidate(CRAFT, fecf, octets, count + behind, TCRX_UNKNOWN_CHANNEL, count, behind > 6);
@@ -451,7 +457,8 @@ static void check_rack_refusals(uint8_t fecf) {
     expect(rack_events() == events, "the events after refusals of a rack", fecf);
 }
 
-/* Three frames for the first channel of an id that is held, one after the other, and two octets of fill behind them. */
+/* Checks three frames for the first channel that is held with an id, one after the other, with two octets of fill
+ * behind them. */
 static void check_candidates(uint8_t fecf, uint8_t vcid, size_t place) {
     uint8_t octets[40];
     size_t all = 0;

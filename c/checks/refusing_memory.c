@@ -1,6 +1,6 @@
 /*
- * The memory of channels over malloc, for the checks of the bindings: tcrx_refuse() has one growth refused, of the calling thread.
- * Linked in place of tcrx_memory.c, into a program or into a shared library.
+ * The memory of channels over malloc, for the checks of the bindings. tcrx_refuse() makes one request of the calling
+ * thread fail. Link this in place of tcrx_memory.c, into a program or into a shared library.
  */
 #include <stdbool.h>
 #include <stddef.h>
@@ -17,13 +17,14 @@ long tcrx_refuse(long growth);
 long tcrx_blocks(void);
 
 static char nothing;
-/* How many growths are given before one is refused; none is where it is below 0. How many blocks are out. */
+/* The number of requests that succeed before one is refused. Below 0, none is refused. Then the number of blocks in
+ * use. */
 static _Thread_local long given_first = -1;
 static _Thread_local long blocks;
 
 /*
- * Has the growth of this number refused, 0 for the next one; a number below 0 has none refused. It answers what was left of the
- * number before: below 0 where that growth was met.
+ * Refuses the request with this number, counted from 0 for the next one. If the number is below 0, none is refused.
+ * Returns what was left of the number before, which is below 0 if that request was met.
  */
 long tcrx_refuse(long growth) {
     const long left = given_first;
@@ -31,7 +32,7 @@ long tcrx_refuse(long growth) {
     return left;
 }
 
-/* How many blocks are out. */
+/* Returns the number of blocks in use. */
 long tcrx_blocks(void) { return blocks; }
 
 static bool is_refused(void) {

@@ -1,6 +1,7 @@
 /*
- * Makes so many rounds on a channel that the library holds, with units of 1,024 octets on MAP 0: a Type-AD frame of 13 octets with the next N(S) is given to it,
- * released, and its packet taken. It prints how many packets were taken.
+ * Makes COUNT rounds on a channel that the library holds, with units of 1,024 octets on MAP 0. In a round, a Type-AD
+ * frame of 13 octets with the next N(S) is brought to the channel and released, and its packet is taken. The output is
+ * the number of packets that were taken.
  *
  *   rounds COUNT
  */

@@ -1,6 +1,6 @@
-// Makes so many rounds on a channel of tcrx.hpp: those of c/checks/rounds.c. It prints how many packets were taken.
+// Makes the rounds of c/checks/rounds.c on a channel of tcrx.hpp. The output is the number of packets that were taken.
 //
-//   rounds COUNT
+//    rounds COUNT
 #include "../tcrx.hpp"
 
 #include <array>

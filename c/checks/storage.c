@@ -1,18 +1,21 @@
 /*
- * Compares tcrx_storage and tcrx_storage_with_limits with the sum that docs/explanation/memory.md gives place by place, which is worked
- * out here anew, for the settings of that page and for others of all sorts; their refusals with those of the calls that make a channel;
- * and with the octets that the making of a channel then asks for: the storage, the channel's own block and the copies of the lists, and
- * no more than TCRX_STORAGE_OF says. The last line says how many answers were as they must be. With the word `rows` it prints the rows
- * of the table of c/README.md.
+ * Compares tcrx_storage and tcrx_storage_with_limits with the sum that docs/explanation/memory.md gives part by part,
+ * which is computed here anew, for the settings of that page and for others of all sorts. Compares their statuses with
+ * those of the calls that create a channel. Compares the storage with the bytes that the creation of a channel then
+ * requests: the storage, the channel's own block and the copies of the lists, and no more than TCRX_STORAGE_OF gives.
+ * The last line of the output is the number of results that were as they must be. With the word `rows` the program
+ * prints the rows of the table of c/README.md.
  *
- * The memory is that of tcrx_memory.c, whose calls of malloc and free the linker leads here: by --wrap=malloc and --wrap=free.
+ * The memory is that of tcrx_memory.c, whose calls of malloc and free the linker leads here by --wrap=malloc and
+ * --wrap=free.
  */
 #include "../tcrx.h"
 #include "expecting.h"
 
 enum { MOST_QUEUES = 2047, MOST_MAPS = 64, LARGEST = 65542, OWN = 296, MADE = 2000000 };
 
-/* The portable C asks for the memory of a whole instance, and makes few of the channels, since it is tried on machines that are slow. */
+/* The portable C requests the memory of a whole instance, and creates few of the channels, because it is tried on slow
+ * machines. */
 #ifdef PORTABLE
 static const bool is_exact = false;
 static bool is_made(uint64_t place) { return place % 100 == 0; }
@@ -26,7 +29,7 @@ void __real_free(void *at);
 void *__wrap_malloc(size_t count);
 void __wrap_free(void *at);
 
-/* How many octets were asked for, and how many blocks are out. */
+/* The number of bytes that were requested, and the number of blocks in use. */
 static uint64_t asked, blocks;
 
 void *__wrap_malloc(size_t count) {
@@ -52,7 +55,7 @@ typedef struct {
     size_t limit_count;
 } plan;
 
-/* The limit of a MAP, the largest of all, and all of them together. */
+/* The following functions return the limit of a MAP, the largest limit, and the sum of all limits. */
 static uint32_t limit_of(const plan *p, unsigned map) {
     for (size_t i = 0; p->limited && i < p->limit_count; i++) {
         if (p->limits[i].map == map) return p->limits[i].octets;
@@ -81,7 +84,7 @@ static uint64_t items_of(const plan *p) {
     return items;
 }
 
-/* What a static array has for the channel, by the names of the parts. */
+/* Returns what a static array has for the channel, by the macros for its parts. */
 static uint64_t static_storage(const plan *p) {
     uint64_t parts = TCRX_STORAGE_BUFFER(p->settings.buffer) + TCRX_STORAGE_LIMITS(p->limited ? p->limit_count : 0);
     if (p->settings.segmented == 1) parts += TCRX_STORAGE_SEGMENTED(all_limits(p));
@@ -92,7 +95,7 @@ static uint64_t static_storage(const plan *p) {
     return TCRX_STORAGE_OF(parts);
 }
 
-/* The sum, by the places of the table. */
+/* Computes the sum by the rows of the table. */
 static uint64_t sum(const plan *p) {
     const uint64_t buffer = p->settings.buffer * (UINT64_C(32) + 1019);
     const uint64_t runs = p->settings.segmented == 1 ? 128 * 40 + 2 * all_limits(p) : 0;
@@ -112,7 +115,8 @@ static tcrx_status make(tcrx_channel *channel, const plan *p) {
                       : tcrx_channel_new(channel, p->settings, p->queues, p->queue_count, p->maps, p->map_count);
 }
 
-/* The storage of settings that make a channel, or their refusal. A channel of much memory isn't made. */
+/* Checks the storage of settings that create a channel, or their status. A channel that needs much memory isn't
+ * created. */
 static void check(const plan *p, uint64_t place) {
     tcrx_channel channel = TCRX_HOLDS_NONE;
     asked = 0;
@@ -137,7 +141,7 @@ static void check(const plan *p, uint64_t place) {
     expect(blocks == 0 || !is_exact, "blocks that are left", place);
 }
 
-/* So many queues and MAPs of so many places each, without limits. */
+/* Returns a plan with this many queues and MAPs, each with room for this many items, without limits. */
 static plan *plan_of(tcrx_settings settings, size_t queues, size_t capacity, size_t maps, size_t units) {
     static plan p;
     p.settings = settings;
@@ -156,7 +160,7 @@ static plan *plan_of(tcrx_settings settings, size_t queues, size_t capacity, siz
     return &p;
 }
 
-/* The same within this limit on the first MAPs, and another one on the rest. */
+/* Limits a plan: one limit for the first MAPs, and another for the rest. */
 static plan *limited(plan *p, size_t maps, uint32_t octets, uint32_t others) {
     p->limited = true;
     p->others = others;
@@ -168,7 +172,8 @@ static plan *limited(plan *p, size_t maps, uint32_t octets, uint32_t others) {
     return p;
 }
 
-/* The channels in rooms that docs/explanation/memory.md names and c/README.md doesn't, and the largest that there is. */
+/* Checks the channels of fixed storage that docs/explanation/memory.md names and c/README.md doesn't, and the largest
+ * possible channel. */
 static void check_named(void) {
     const tcrx_settings one = {1, 10, 1, 0, 1}, many = {1, 10, 64, 0, 1};
     expect(ask(plan_of(one, 1, 1, 0, 0)).count == 8461185, "the channel `fixed_one`", 0);
@@ -177,7 +182,7 @@ static void check_named(void) {
            "the largest channel", 0);
 }
 
-/* Settings of all sorts, of which about half make a channel. */
+/* Checks settings of all sorts, of which about half create a channel. */
 static void check_any(uint64_t place) {
     const size_t odd = below(20);
     const tcrx_settings settings = {(uint8_t)below(odd == 0 ? 256 : 64), (uint8_t)(odd == 1 ? below(256) : 2 + 2 * below(127)),
@@ -217,7 +222,7 @@ static void check_nothing(void) {
     expect(others.status == TCRX_DONE && others.count == none.count, "the largest limit on each MAP", 0);
 }
 
-/* A number with commas. */
+/* Returns a number with commas. */
 static const char *number(uint64_t value, char *text) {
     char digits[24];
     const int count = snprintf(digits, sizeof digits, "%" PRIu64, value);
@@ -235,7 +240,7 @@ static void print_row(const char *settings, const char *limits, const plan *p) {
     printf("| %s | %s | %s | %s |\n", settings, limits, number(ask(p).count, storage), number(static_storage(p), array));
 }
 
-/* The rows of the table of c/README.md. */
+/* Prints the rows of the table of c/README.md. */
 static void print_rows(void) {
     const tcrx_settings two = {1, 10, 4, 0, 1}, plain = {1, 10, 4, 0, 0}, eight = {1, 10, 8, 0, 1};
     const char *of_two = "segmented, buffer 4, two queues of 4", *of_four = "segmented, buffer 8, four queues of 8";

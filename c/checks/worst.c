@@ -1,7 +1,8 @@
 /*
- * Makes one call of a channel that the library holds, once, behind what makes it cost most: on a channel of so many packet queues,
- * the last of which is used, 63 chosen MAPs, and units of as many octets as there may be. It prints what the call answers. The
- * program `tc_bench worst` does the same with a channel in rooms, and benchmarks/calls counts what both cost.
+ * Makes one call on a channel that the library holds, once, in the state in which the call costs most. The channel has
+ * QUEUES packet queues, the last of which is used, 63 chosen MAPs, and units of the largest size. Prints what the call
+ * returns. The program `tc_bench worst` does the same with a channel of fixed storage, and benchmarks/calls counts what
+ * both cost.
  *
  *   worst CALL QUEUES
  */
@@ -20,13 +21,13 @@ static uint8_t next_number;
 static uint8_t frame[1024];
 static uint8_t taken[LARGEST];
 
-/* The octet at a place of a unit: of one largest packet, or of packets of seven octets. */
+/* Returns the octet at a place of a unit, which is one largest packet, or packets of seven octets. */
 static uint8_t octet_at(int is_one, size_t place) {
     const uint8_t header[7] = {(uint8_t)(0x10 | apid >> 8), (uint8_t)(apid & 0xff), 0xc0, 0, is_one ? 0xff : 0, is_one ? 0xff : 0, 0};
     return header[is_one ? (place < 6 ? place : 6) : place % 7];
 }
 
-/* Makes a frame with this segment header and so many octets of a unit, from a place on; how many octets it has. */
+/* Makes a frame with this segment header and this many octets of a unit, from a place on. Returns its length. */
 static size_t make(uint8_t flags, uint8_t header, int is_one, size_t from, size_t count) {
     const uint8_t number = flags == AD ? next_number : 0, high = (uint8_t)(4 | (count + 5) >> 8), low = (uint8_t)((count + 5) & 0xff);
     const uint8_t front[6] = {flags, 42, high, low, number, header};
@@ -38,7 +39,7 @@ static size_t make(uint8_t flags, uint8_t header, int is_one, size_t from, size_
     return sizeof front + count;
 }
 
-/* Gives all segments of a largest unit but the last one, those of Type-AD with their releases. */
+/* Brings all segments of a largest unit but the last one, and releases those of Type-AD. */
 static int begin(uint8_t flags, uint8_t map, int is_one) {
     for (size_t part = 0; part < PARTS; part++) {
         const uint8_t header = (uint8_t)((part == 0 ? FIRST : CONTINUING) | map);
@@ -58,7 +59,7 @@ static size_t make_last(uint8_t flags, uint8_t map, int is_one) {
     return make(flags, (uint8_t)(LAST | map), is_one, (size_t)PARTS * BODY, LARGEST - (size_t)PARTS * BODY);
 }
 
-/* Makes the frame of a call: a full field of packets, the end of a unit of packets, or the end of a whole unit. */
+/* Makes the frame of a call: a full data field of packets, the end of a unit of packets, or the end of a whole unit. */
 static size_t make_for(const char *what, uint8_t flags) {
     if (strcmp(what, "field") == 0) {
         return make(flags, UNSEGMENTED | PACKETS, 0, 0, BODY);
@@ -72,7 +73,7 @@ static size_t make_for(const char *what, uint8_t flags) {
     return strcmp(what, "buffered") == 0 ? make(AD, FIRST | PACKETS, 0, 0, BODY) : 0;
 }
 
-/* A call of a queue, or one that reads, once a largest packet and a largest unit wait. */
+/* Makes a call on a queue, or one that reads, when a largest packet and a largest unit wait. */
 static unsigned long long call_of_a_queue(const char *call) {
     if (strcmp(call, "take") == 0) {
         return tcrx_channel_take(&channel, apid, taken, sizeof taken).length;
@@ -95,7 +96,7 @@ static unsigned long long call_of_a_queue(const char *call) {
     return strcmp(call, "buffered") == 0 ? tcrx_channel_buffered(&channel).count : tcrx_channel_events(&channel).count;
 }
 
-/* Each call without a channel, once; how many were refused. */
+/* Makes each call without a channel once. Returns how many failed. */
 static unsigned long long call_without_a_channel(void) {
     const tcrx_settings settings = {1, 10, 64, 0, 1};
     const tcrx_queue queue = {5, 1};

@@ -1,7 +1,9 @@
 /*
- * How an application of cFS (core Flight System) calls a rack: frames come in messages of the radio's, packets go out on the software
- * bus as they are, and a CLCW follows each message. All memory is that of tcrx_static.c, sealed once the channels are made.
- * It was tried over the stand-ins in c/checks/stand_ins alone, and not with cFS.
+ * Shows how an application of cFS (core Flight System) calls a rack. Frames arrive in the radio's messages, packets go
+ * out on the software bus as they are, and a CLCW follows each message. All memory is that of tcrx_static.c, which is
+ * sealed once the channels are created.
+ *
+ * It was tried only with the stand-ins in c/checks/stand_ins, and not with cFS.
  */
 #include "cfe.h"
 
@@ -46,7 +48,8 @@ static void receive(const radio_message *message) {
     }
 }
 
-/* Each packet goes onto the bus by the message id that its primary header spells. Whether the bus had a buffer for each. */
+/* Sends each packet on the bus, by the message id that its primary header spells. Returns whether the bus had a buffer
+ * for each. */
 static bool send_packets(void) {
     for (;;) {
         CFE_SB_Buffer_t *message = CFE_SB_AllocateMessageBuffer(MOST_UNIT);
@@ -63,7 +66,7 @@ static bool send_packets(void) {
     }
 }
 
-/* A data field is released only where all packets before it are sent: else the buffer fills, and the ground waits. */
+/* Releases a data field only when all packets before it are sent. Otherwise the buffer fills, and the ground waits. */
 static void hand_on(void) {
     while (send_packets() && tcrx_channel_release(&rack[0]).status == TCRX_DONE) {
     }

@@ -1,7 +1,8 @@
 /*
- * From octets of the radio to packets: decoder, randomiser, frames of their own length, check sum, channel. It takes a frame of each
- * length from 8 to 1,024 octets in a CLTU of its own, then CLTUs with 1 to 4 frames, in pieces and with a wrong bit each, and prints how
- * many frames didn't come through whole; then what a CLTU does that carries more than the receiver takes.
+ * Takes octets of the radio all the way to packets, through the decoder, the randomiser, frames of different lengths,
+ * the check sum and a channel. The program sends a frame of each length from 8 to 1,024 octets in a CLTU of its own,
+ * and then CLTUs with 1 to 4 frames. Each CLTU comes in pieces and with one wrong bit. The program prints how many
+ * frames didn't come through whole, and then what becomes of a CLTU that carries more than the receiver takes.
  */
 #include "../tcrx.h"
 
@@ -10,7 +11,7 @@
 
 enum { SPACECRAFT = 42, CHANNEL = 1, APID = 5, UNITS = 1, SHORTEST = 8, LONGEST = 1024, CARRIED = 1029, PIECE = 113 };
 
-/* The receiver: its channels, its decoder, how many frames it takes out of a CLTU, and what it counts. */
+/* The receiver: its channels, its decoder, the number of frames it takes out of a CLTU, and its counts. */
 typedef struct {
     tcrx_channel rack[1];
     tcrx_decoder decoder;
@@ -18,7 +19,8 @@ typedef struct {
     unsigned most, frames, refused, over_the_bound, overlong;
 } receiver;
 
-/* What a CLTU carried: the random sequence comes off, then frame after frame, each of its own length. */
+/* Takes in what a CLTU carried. The random sequence comes off, then one frame after another, each as long as its length
+ * field says. */
 static void receive_candidate(receiver *at) {
     static uint8_t plain[CARRIED];
     size_t left = tcrx_randomise(at->carried, at->decoder.carried, plain, sizeof plain).length;
@@ -36,7 +38,7 @@ static void receive_candidate(receiver *at) {
     at->over_the_bound++;
 }
 
-/* Octets of the radio, in pieces of any size. */
+/* Takes in octets of the radio, in pieces of any size. */
 static void receive(receiver *at, const uint8_t *octets, size_t count) {
     while (count > 0) {
         const tcrx_decoded answer = tcrx_cltu_octets(at->decoder, octets, count, at->carried, sizeof at->carried);
@@ -50,7 +52,8 @@ static void receive(receiver *at, const uint8_t *octets, size_t count) {
     }
 }
 
-/* The sender: a frame of this length, with its check sum where it has one, and what is to come out of the receiver's queues. */
+/* A frame that the sender sends, with its check sum if it has one, and the unit that must come out of the receiver's
+ * queues. */
 typedef struct {
     uint8_t octets[LONGEST], unit[LONGEST];
     size_t length, unit_length;
@@ -81,7 +84,7 @@ static void send_frame(sent *frame, size_t length, uint8_t fecf) {
     frame->length = fecf ? tcrx_add_fecf(plain, whole, frame->octets, sizeof frame->octets).length : whole;
 }
 
-/* One CLTU with these frames, with a bit turned in its first code block, in pieces. */
+/* Sends one CLTU with these frames, in pieces, and with one bit turned in its first code block. */
 static void transmit(receiver *at, const sent *frames, unsigned count) {
     static uint8_t carried[2 * CARRIED], random[2 * CARRIED], cltu[1200];
     size_t length = 0;
@@ -97,7 +100,7 @@ static void transmit(receiver *at, const sent *frames, unsigned count) {
     }
 }
 
-/* Whether what a frame carried is the oldest in its queue. */
+/* Returns whether the unit of a frame is the oldest item in its queue. */
 static unsigned is_taken(receiver *at, const sent *frame) {
     static uint8_t taken[LONGEST];
     if (frame->unit_length == 0) {
@@ -108,7 +111,7 @@ static unsigned is_taken(receiver *at, const sent *frame) {
     return answer.status == TCRX_DONE && answer.length == frame->unit_length && memcmp(taken, frame->unit, answer.length) == 0;
 }
 
-/* CLTUs of as many frames; how many frames were lost. */
+/* Sends a CLTU with this number of frames, and returns how many frames were lost. */
 static unsigned lost_of(receiver *at, unsigned count, size_t length) {
     static sent frames[4];
     size_t left = CARRIED;

@@ -1,7 +1,10 @@
 /*
- * The main loop of a receiver on board over a channel that the library holds: in each cycle a frame comes in, data fields are
- * released as far as the queues have room, packets go to their applications, and a CLCW goes out. All memory is asked for by start().
- * Where it is compiled with SEALED, it is linked with tcrx_static.c: the memory is an array, and a request for more would be a trap.
+ * Runs the main loop of a receiver on board, over a channel that the library holds. In each cycle a frame comes in,
+ * data fields are released as far as the queues have room, packets go to their applications, and a CLCW goes out. All
+ * memory is requested by start().
+ *
+ * If this file is compiled with SEALED, it is linked with tcrx_static.c. The memory is then an array, and a request for
+ * more traps.
  */
 #include <tcrx.h>
 
@@ -83,7 +86,7 @@ static void release_all(tcrx_channel *channel) {
     }
 }
 
-/* Packets to their applications, and units of the payload's MAP. */
+/* Delivers packets to their applications, and units of the payload's MAP. */
 static void deliver(tcrx_channel *channel) {
     uint8_t octets[MOST_UNIT];
     for (size_t i = 0; i < APPLICATIONS; i++) {

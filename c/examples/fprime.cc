@@ -1,5 +1,5 @@
 /*
- * How a component of F Prime calls a rack. Its base is what F Prime makes of this model:
+ * Shows how a component of F Prime calls a rack. F Prime generates the base class of the component from this model:
  *
  *     passive component TcReceiver {
  *       guarded input port frameIn: Fw.BufferSend
@@ -8,7 +8,8 @@
  *       telemetry Clcw: U32
  *     }
  *
- * with the ports that telemetry needs. It was tried over the stand-ins in c/checks/stand_ins alone, and not with F Prime.
+ * The model also has the ports that telemetry needs. It was tried only with the stand-ins in c/checks/stand_ins, and
+ * not with F Prime.
  */
 #include "TcReceiverComponentAc.hpp"
 
@@ -20,7 +21,7 @@ class TcReceiver final : public TcReceiverComponentBase {
 public:
     explicit TcReceiver(const char *name) : TcReceiverComponentBase(name) {}
 
-    /** Makes the channels, where the topology is set up: nothing asks for memory after it. */
+    /** Creates the channels when the topology is set up. Nothing requests memory after that. */
     bool start() {
         const tcrx_settings settings = {1, 10, 4, 0, 1};
         const tcrx_queue queue = {APPLICATION, 8};
@@ -31,7 +32,8 @@ public:
 private:
     enum : uint16_t { SPACECRAFT = 42, CHANNELS = 1, APPLICATION = 5, MOST_UNIT = 256 };
 
-    /** A guarded port holds the component's lock, so that no two threads are at the rack. */
+    /** Handles a frame. A guarded port holds the component's lock, so two threads are never at the rack at the same
+     * time. */
     void frameIn_handler(FwIndexType, Fw::Buffer &frame) override {
         (void)tcrx_rack_frame(m_rack, CHANNELS, SPACECRAFT, 0, frame.getData(), frame.getSize());
         frameReturn_out(0, frame);

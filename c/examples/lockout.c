@@ -1,6 +1,6 @@
 /*
- * Three telecommands to a channel: the third comes with an N(S) far outside the window, so that the channel is locked out. It is
- * unlocked, the third comes again with the N(S) that is expected, and all three packets are taken.
+ * Sends three telecommands to a channel. The third has an N(S) far outside the window, so FARM-1 goes to lockout. The
+ * channel is then unlocked, the third telecommand comes again with the expected N(S), and all three packets are taken.
  */
 #include <tcrx.h>
 
@@ -9,7 +9,7 @@
 
 enum { SPACECRAFT = 42, CHANNEL = 1, APPLICATION = 5, ROOM = 64 };
 
-/* Writes the frame with this N(S) that carries this packet into a buffer; its length. */
+/* Writes the frame with this N(S) that carries this packet into a buffer, and returns its length. */
 static size_t write_frame(uint8_t ns, uint8_t packet, uint8_t *octets) {
     const tcrx_header header = {SPACECRAFT, CHANNEL, ns, 0, 0};
     const uint8_t field[] = {0xc0, 0x10, APPLICATION, 0xc0, packet, 0x00, 0x00, 0xaa};

@@ -1,5 +1,5 @@
-// Three telecommands to a channel: the third comes with an N(S) far outside the window, so that the channel is locked out. It is
-// unlocked, the third comes again with the N(S) that is expected, and all three packets are taken.
+// Sends three telecommands to a channel. The third has an N(S) far outside the window, so FARM-1 goes to lockout. The
+// channel is then unlocked, the third telecommand comes again with the expected N(S), and all three packets are taken.
 #include <tcrx.hpp>
 
 #include <array>
@@ -16,7 +16,7 @@ void bring(tcrx::Channel &channel, tcrx::Octets octets) {
     std::printf("frame E%u\n", static_cast<unsigned>(channel.frame(octets)->event));
 }
 
-// Brings the frame with this N(S) that carries this packet.
+// Sends the frame with this N(S) that carries this packet.
 void send(tcrx::Channel &channel, std::uint8_t ns, std::uint8_t packet) {
     const std::uint8_t field[] = {0xc0, 0x10, application, 0xc0, packet, 0x00, 0x00, 0xaa};
     std::array<std::uint8_t, 64> room{};

@@ -1,5 +1,6 @@
-// A spacecraft's receiver in C++: two virtual channels behind one call, freed where their array ends. Frames end with their frame error
-// control field; a channel's packets are for one application.
+// A spacecraft's receiver in C++, with two virtual channels behind one call. The channels are freed when the lifetime
+// of their array ends. Frames end with their frame error control field, and the packets of a channel are for one
+// application.
 #include <tcrx.hpp>
 
 #include <array>
@@ -11,11 +12,11 @@
 namespace {
 
 constexpr std::uint16_t spacecraft = 42, longest_unit = 256;
-// Those of the channels 1 and 2.
+// The applications of channels 1 and 2.
 constexpr std::array<std::uint16_t, 2> applications = {5, 7};
 using Channels = std::array<tcrx::Channel, applications.size()>;
 
-// Makes each channel, which moves to its place; or prints why not.
+// Creates each channel, and moves it to its place. Prints the reason if that fails.
 bool start(Channels &channels) {
     const tcrx::Limit limits[] = {{0, longest_unit}};
     for (std::uint8_t i = 0; i < channels.size(); i++) {
@@ -30,7 +31,8 @@ bool start(Channels &channels) {
     return true;
 }
 
-// A ground test's end: an octet in a packet, in a frame, with its field, of which a bit may be turned on the way.
+// Does what a ground test does: sends an octet in a packet, in a frame, with its frame error control field. A bit of it
+// may be turned on the way.
 void send(tcrx::Rack &rack, const tcrx::Header &header, std::uint16_t application, std::uint8_t octet, std::uint8_t turned = 0) {
     std::array<std::uint8_t, 64> packet{}, frame{}, sent{};
     const auto unit = tcrx::Packet::write({application}, tcrx::Octets(&octet, 1), packet);

@@ -1,6 +1,7 @@
 /*
- * A receiver's main loop over single calls: octets come in, FARM-1 steps, the data field of an accepted Type-AD frame waits in a
- * buffer with room for one, and a CLCW goes out in each cycle. Of the packet in a released data field its application is printed.
+ * Runs a receiver's main loop over single calls. Octets come in, FARM-1 takes a step, the data field of an accepted
+ * Type-AD frame waits in a buffer with room for one, and a CLCW goes out in each cycle. For the packet in a released
+ * data field the program prints its application.
  */
 #include <tcrx.h>
 
@@ -29,7 +30,7 @@ static void print_clcw(const receiver *self) {
     printf("clcw %08" PRIx32 "\n", clcw.word);
 }
 
-/* The packet of a data field that is an unsegmented unit, which follows the segment header of one octet. */
+/* Prints the packet of a data field that is an unsegmented unit. It follows the segment header, which is one octet. */
 static void print_packet(const uint8_t *field, size_t count) {
     const tcrx_packet packet = tcrx_read_packet(field + 1, count - 1);
     if (packet.status != TCRX_DONE) {
@@ -39,7 +40,7 @@ static void print_packet(const uint8_t *field, size_t count) {
     printf("packet of application %u with %" PRIu32 " octets\n", (unsigned)packet.apid, packet.length);
 }
 
-/* Gives FARM-1 what came, and keeps its record. */
+/* Gives FARM-1 an arrival, and keeps its record. */
 static tcrx_step_answer step(receiver *self, uint8_t arrival, uint8_t number) {
     const tcrx_step_answer answer = tcrx_farm_step(self->farm, arrival, number, self->full ? 0 : 1);
     self->farm = answer.farm;

@@ -1,12 +1,13 @@
 /*
- * The receiver of a spacecraft at the command line, over the library for C: a program to start from. It answers in the words of the
- * programs tcrx and tclive, whose pages (docs/reference) say what the lines are, without the hints behind a colon.
+ * The receiver of a spacecraft at the command line, over the library for C. You can start your own program from it. It
+ * answers in the words of the programs tcrx and tclive, without the hints behind a colon. Their pages (docs/reference)
+ * describe the lines.
  *
  *   script run --scid N         runs the script on standard input, as tcrx does
  *   script --scid N [--fecf]    answers each line of standard input as it comes, as tclive does
  *
- * What a frame leads to is decided in the library, whose calls are proved. This file is not: it takes lines apart, keeps what they set
- * up, and prints. What it prints is compared with that of the proved programs.
+ * The library decides what a frame leads to, and its calls are proved. This file isn't proved. It takes lines apart,
+ * keeps what they set up, and prints. A check compares its output with that of the proved programs.
  */
 #include <tcrx.h>
 
@@ -33,7 +34,7 @@ static unsigned numbers[MOST_WORDS];
 static uint8_t octets[LONGEST_SCRIPT / 2];
 static size_t octet_count;
 
-/* A script is read whole; lines are read one by one. */
+/* Whether standard input is a script, which is read whole. Otherwise lines are read one by one. */
 static bool is_script;
 static char script[LONGEST_SCRIPT + 1];
 static size_t script_length, script_read;
@@ -45,7 +46,8 @@ static int next_octet(void) {
     return script_read == script_length ? EOF : (unsigned char)script[script_read++];
 }
 
-/* Reads a line into `line`, without its line feed: how long it is, of which no more is kept than a line may have. False at the end. */
+/* Reads a line into `line`, without its line feed, and sets its length. No more of it is kept than a line may have.
+ * Returns false at the end. */
 static bool next_line(size_t *length) {
     const size_t most = is_script ? LONGEST_SCRIPT : LONGEST;
     int octet = next_octet();
@@ -62,7 +64,7 @@ static bool next_line(size_t *length) {
     return true;
 }
 
-/* Words beyond the last that any line has are counted as one more. */
+/* Splits a line into words. Words beyond the last that any line has are counted as one more. */
 static void split(size_t length) {
     word_count = 0;
     for (size_t at = 0; at < length && word_count < MOST_WORDS;) {
@@ -82,7 +84,7 @@ static bool is_word(word given, const char *text) {
     return given.length == strlen(text) && memcmp(given.at, text, given.length) == 0;
 }
 
-/* A number of 1 to 5 decimal digits, up to a bound. */
+/* Reads a number of 1 to 5 decimal digits, up to a bound. */
 static bool read_number(word given, unsigned most, unsigned *number) {
     *number = 0;
     for (size_t i = 0; i < given.length; i++) {
@@ -123,17 +125,17 @@ typedef struct {
     uint8_t no_rf, no_bit_lock;
 } receiver;
 
-/* What is set up, and the rack, which has the channel of each at the place of its id once there was an operation. */
+/* What is set up, and the rack. From the first operation on, each channel is at the place of its id in the rack. */
 static receiver receivers[CHANNELS];
 static tcrx_channel rack[CHANNELS];
 static bool is_operating;
 static uint16_t scid;
 static uint8_t has_fecf;
 
-/* Why a line is bad, or null. */
+/* The reason why a line is bad, or null. */
 typedef const char *reason;
 
-/* The library says whether a channel can be made of what is set up. */
+/* Asks the library whether a channel can be created from what is set up. */
 static reason judge(const receiver *at) {
     switch (tcrx_storage(at->settings, at->queues, at->queue_count, at->maps, at->map_count).status) {
     case TCRX_DONE: return NULL;
@@ -165,7 +167,7 @@ static void free_all(void) {
     }
 }
 
-/* Makes all channels, or none. */
+/* Creates all channels, or none. */
 static reason make_all(void) {
     for (unsigned i = 0; i < CHANNELS; i++) {
         const receiver *at = find(i);
@@ -178,7 +180,7 @@ static reason make_all(void) {
     return NULL;
 }
 
-/* The first operation makes the channels. */
+/* Creates the channels at the first operation. */
 static reason begin(void) {
     bool is_any = false;
     for (unsigned i = 0; i < CHANNELS; i++) {
@@ -211,7 +213,7 @@ static reason set_up_channel(void) {
     return why;
 }
 
-/* An entry is tried at the end of its list, and counted if it is good. */
+/* Tries an entry at the end of its list, and counts it if it is good. */
 static reason set_up_queue(void) {
     receiver *at = find(numbers[1]);
     if (is_operating || at == NULL) {
@@ -254,7 +256,7 @@ static const char *refusal(tcrx_status status) {
     }
 }
 
-/* Whether a call was refused, which is printed. */
+/* Returns whether a call was refused, and prints the refusal. */
 static bool is_refused(tcrx_status status) {
     if (status != TCRX_DONE) {
         printf("refused %s\n", refusal(status));
@@ -285,8 +287,8 @@ static void print_counts(const char *begin_with, const char *end_with, const rec
     }
 }
 
-/* A frame is given to the channel that it is for. With its frame error control field that is checked first, and comes off: octets that
- * don't pass are no operation. */
+/* Brings a frame to the channel that it is for. If frames have a frame error control field, it is checked first and
+ * removed. Octets that don't pass the check are no operation. */
 static reason bring(void) {
     if (has_fecf) {
         static uint8_t plain[1024];
@@ -310,7 +312,8 @@ static reason bring(void) {
     return NULL;
 }
 
-/* What a CLTU carried: a frame, and fill behind it, at most six octets that begin with no frame. Where more follows nothing is done. */
+/* Brings what a CLTU carried: a frame, and fill behind it, which is at most six octets that begin with no frame. If
+ * more follows, nothing is done. */
 static reason bring_candidate(void) {
     const tcrx_frame frame = tcrx_read_frame(octets, octet_count);
     if (frame.status == TCRX_DONE) {
@@ -332,7 +335,8 @@ static void release(const receiver *at) {
     }
 }
 
-/* Prints a packet or a unit that is taken; or, where none is, its refusal, unless it is only asked whether one waits. */
+/* Prints a packet or a unit that is taken. If there is none, prints the refusal, unless the caller only asks whether
+ * one waits. */
 static bool take(const receiver *at, bool is_unit, unsigned key, bool is_asked) {
     static uint8_t taken[MOST_OCTETS];
     const tcrx_written found = is_unit ? tcrx_channel_take_unit(held_by(at), (uint8_t)key, taken, sizeof taken)
@@ -348,7 +352,7 @@ static bool take(const receiver *at, bool is_unit, unsigned key, bool is_asked) 
     return true;
 }
 
-/* All that waits in the queues, in the order of the set-up. */
+/* Takes everything that waits in the queues, in the order of the set-up. */
 static void collect(const receiver *at) {
     for (size_t i = 0; i < at->queue_count; i++) {
         while (take(at, false, at->queues[i].apid, true)) {
@@ -409,7 +413,7 @@ static reason operate(command what) {
 
 typedef struct {
     const char *name;
-    /* How many words it has, the command among them, and the bound of each number. */
+    /* The least and the largest number of words, with the command among them, and the bound of each number. */
     size_t least, most;
     unsigned bounds[4];
 } form;
@@ -430,7 +434,7 @@ static const form forms[COMMANDS] = {
     {"candidate", 2, 2, {0}},
 };
 
-/* Which command a line begins with. A script has those before `link`. */
+/* Returns the command with which a line begins. A script has those before `link`. */
 static command command_of(void) {
     const int last = is_script ? LINK : COMMANDS;
     for (int i = 0; i < last; i++) {
@@ -441,7 +445,7 @@ static command command_of(void) {
     return COMMANDS;
 }
 
-/* Does the line that was split, and says why it is bad. */
+/* Does the line that was split. Returns the reason if the line is bad. */
 static reason do_line(command what) {
     if (what == COMMANDS) {
         return "unknown command";
@@ -465,7 +469,7 @@ static reason do_line(command what) {
     }
 }
 
-/* Answers a line, and says why it is bad. */
+/* Answers a line. Returns the reason if the line is bad. */
 static reason answer(size_t length) {
     if (length > (is_script ? LONGEST_SCRIPT : LONGEST)) {
         return "too long";

@@ -1,4 +1,5 @@
-// What a ground test in C++ sends: commands, and a packet over both services, written into a buffer, printed, and read back.
+// Sends what a ground test sends, in C++: commands, and a packet over both services. Each frame is written into a
+// buffer, printed, and read back.
 #include <tcrx.hpp>
 
 #include <array>
@@ -10,7 +11,7 @@ namespace {
 constexpr std::uint16_t spacecraft = 42;
 constexpr std::uint8_t channel = 1;
 
-// Whether the frame was written and reads back.
+// Returns whether the frame was written and reads back.
 bool send(const tcrx::Result<tcrx::Octets> &frame) {
     if (!frame) {
         return false;

@@ -1,4 +1,5 @@
-/* The stand-in's bus: it brings c/examples/cfs.c two frames and octets that are none, and prints what that sends. */
+/* The stand-in's bus. It brings two frames, and octets that aren't a frame, to c/examples/cfs.c, and prints what that
+ * sends. */
 #include "cfe.h"
 
 #include <stdarg.h>
