@@ -1,10 +1,12 @@
 /*
- * The calls of the library by numbers of 32 bits and by addresses alone, which each machine passes in the same way, so that no
- * rule for records of a machine matters. It is compiled to the LLVM module of the library's own machine, and linked with that; the
- * whole becomes a WebAssembly module, of which tools/portable and tools/page make what they write.
+ * The calls of the library with only numbers of 32 bits and addresses, which each machine passes in the same way, so
+ * that no machine's rule for passing records matters. This file is compiled to the LLVM module of the library's own
+ * machine, and linked with that. The whole becomes a WebAssembly module, from which tools/portable and tools/page write
+ * their output.
  *
- * Each call answers a status, and puts the other fields of the answer into `numbers`: the record of a FARM-1 and a count into two of
- * them. Settings and headers that go in stand there, too. An instance of the module holds one channel.
+ * Each call returns a status, and puts the other fields of its record into `numbers`. The record of a FARM-1 and a
+ * count take two of these numbers. Settings and headers that go in stand there, too. An instance of the module holds
+ * one channel.
  */
 #include "tcrx.h"
 
@@ -12,11 +14,12 @@
 
 typedef uint32_t u32;
 
-/* The most octets of a frame with one more, which shows that octets follow it; those of telemetry are the longest. */
+/* One more than the most octets of a frame, so that a call sees that octets follow it. The longest frames are those of
+ * telemetry. */
 enum { MOST_FRAME = 2049 };
 
 static u32 numbers[16];
-/* Where a frame or a data field that a call reads stands, and then one that it writes. */
+/* The frame or data field that a call reads, and behind it the one that it writes. */
 static uint8_t frames[2 * MOST_FRAME] __attribute__((aligned(16)));
 static tcrx_channel channel = TCRX_HOLDS_NONE;
 
@@ -26,7 +29,7 @@ int heap_reserve(uint64_t count);
 void *heap_take(uint64_t count);
 void heap_give(void *at);
 
-/* What the library takes its memory by. In its LLVM module the two are numbers of 64 bits. */
+/* The form in which the library gets its memory. In its LLVM module the two are numbers of 64 bits. */
 typedef struct {
     uint64_t given;
     uint64_t at;
@@ -40,7 +43,8 @@ static rattle_block block_of(void *at) {
     return block;
 }
 
-/* Only the making of the channel asks for memory, and the instance ends with the channel, so that nothing is given again. */
+/* Cuts a block. Only the creation of the channel requests memory, and the instance ends with the channel, so nothing is
+ * reused. */
 rattle_block rattle_alloc(size_t count, size_t alignment) {
     return block_of(heap_cut(count, alignment));
 }
@@ -73,7 +77,7 @@ uint8_t *EXPORT(module_frames)(void) {
     return frames;
 }
 
-/* Room for so many octets or entries in the module, until it is given back; null where there is none. */
+/* Returns room in the module for this many octets or entries, until it is returned. Returns null if there is none. */
 void *EXPORT(module_room)(u32 count) {
     return heap_take(count);
 }
@@ -393,7 +397,8 @@ u32 EXPORT(module_rack_find)(u32 vcid) {
 }
 /* The lines that tools/c_interface writes end here. */
 
-/* Whether there is room for a channel of this storage, with its own block and a copy of each list; or it has a fault. */
+/* Returns whether there is room for a channel with this storage, with its own block and a copy of each list. Returns
+ * true if the settings have a fault. */
 static int is_reserved(tcrx_count storage, uint64_t entries) {
     return storage.status != TCRX_DONE || heap_reserve(storage.count + 1024 + 8 * entries);
 }

@@ -1,7 +1,8 @@
 /*
- * The heap of the module. What a channel asks for where it is made is cut from the memory behind the module's data, as large as it is,
- * and never given again. Room for octets and lists that come in is cut into slots of a few sizes, which are used again once they are
- * given back: nothing is ever moved to make room, and each call takes a bounded number of steps.
+ * The heap of the module. The memory that a channel requests when it is created is cut from the memory behind the
+ * module's data, at its exact size, and never reused. Room for octets and lists that come in is cut into slots of a few
+ * sizes, which are used again once they are returned. Nothing is ever moved to make room, and each call takes a bounded
+ * number of steps.
  */
 #include <stddef.h>
 #include <stdint.h>
@@ -11,7 +12,7 @@ int heap_reserve(uint64_t count);
 void *heap_take(uint64_t count);
 void heap_give(void *at);
 
-/* What stands before the octets of a slot: its size, and where it is free the next free one of its size. */
+/* The words before the octets of a slot: its size, and the next free slot of that size if the slot is free. */
 typedef struct slot {
     uint64_t size;
     struct slot *next;
@@ -26,10 +27,10 @@ enum { SIZES = sizeof sizes / sizeof sizes[0] };
 
 extern unsigned char __heap_base;
 static slot *free_slots[SIZES];
-/* From here on nothing has been cut yet; 0 before the first block is. */
+/* The place from which on nothing has been cut yet, or 0 before the first block is cut. */
 static uintptr_t cut;
 
-/* The size of the slot for a block: SIZES where no slot is large enough. */
+/* Returns the index of the size of slot for a block, or SIZES if no slot is large enough. */
 static uint64_t size_for(uint64_t count) {
     const uint64_t least = count <= FIELD ? FIELD : count;
     uint64_t size = 0;
@@ -39,14 +40,15 @@ static uint64_t size_for(uint64_t count) {
     return size;
 }
 
-/* A refusal to grow comes as 2^32 - 1 where addresses of 64 bits were lowered to 32, and as 2^64 - 1 else. */
+/* Returns whether there is room, for which the memory may grow. If it can't grow, the result is 2^32 - 1 where
+ * addresses of 64 bits were lowered to 32, and otherwise 2^64 - 1. */
 static int has_room(uint64_t count) {
     const uint64_t end = __builtin_wasm_memory_size(0) * PAGE;
     const uint64_t pages = cut + count <= end ? 0 : (cut + count - end + PAGE - 1) / PAGE;
     return pages == 0 || (uint32_t)__builtin_wasm_memory_grow(0, pages) != UINT32_MAX;
 }
 
-/* So many octets that are cut from the rest of the memory; NULL where the machine has no more. */
+/* Cuts this many octets from the rest of the memory. Returns NULL if the machine has no more. */
 void *heap_cut(uint64_t count, uint64_t alignment) {
     const uintptr_t from = cut == 0 ? (uintptr_t)&__heap_base : cut;
     const uintptr_t place = (from + (uintptr_t)alignment - 1) & ~((uintptr_t)alignment - 1);
@@ -60,7 +62,8 @@ void *heap_cut(uint64_t count, uint64_t alignment) {
     return (void *)place;
 }
 
-/* Has the memory grow at once for so many octets that are going to be asked for; whether there is room for them then. */
+/* Grows the memory at once for this many octets that are going to be requested. Returns whether there is room for them
+ * then. */
 int heap_reserve(uint64_t count) {
     if (cut == 0) {
         cut = (uintptr_t)&__heap_base;
@@ -68,7 +71,7 @@ int heap_reserve(uint64_t count) {
     return has_room(count);
 }
 
-/* A slot of this size that is cut so. */
+/* Cuts a slot of this size from the rest of the memory. */
 static slot *cut_slot(uint64_t size) {
     slot *made = (slot *)heap_cut(sizeof(slot) + sizes[size], 16);
     if (made != NULL) {
@@ -77,7 +80,7 @@ static slot *cut_slot(uint64_t size) {
     return made;
 }
 
-/* A free slot of this size, one of the rest of the memory, or a larger one. */
+/* Takes a free slot of this size, one from the rest of the memory, or a larger one. */
 static slot *take_slot(uint64_t size) {
     slot *taken = size < SIZES && free_slots[size] == NULL ? cut_slot(size) : NULL;
     for (; taken == NULL && size < SIZES; size++) {

@@ -1,6 +1,7 @@
 /*
- * What the three programs call besides the C library, for a processor for which the kit has none of it: the words of the command line,
- * the number of the last error, and the memory of channels with its growth. tools/target links it with them. It isn't proved.
+ * What the three programs call besides the C library, for a processor for which the kit doesn't have it: the words of
+ * the command line, the number of the last error, and the memory of channels with its growth. tools/target links this
+ * with the programs. It isn't proved.
  */
 #include "../c/tcrx_memory.c"
 
@@ -16,7 +17,7 @@ rattle_block rattle_realloc(void *at, size_t kept, size_t count, size_t alignmen
 static size_t word_count;
 static char **words;
 
-/* The GNU C library calls it before main, with what main gets. */
+/* Keeps the words of the command line. The GNU C library calls this before main, with the parameters of main. */
 __attribute__((constructor)) static void keep(int count, char **given) {
     word_count = (size_t)count;
     words = given;
@@ -30,7 +31,8 @@ void rattle_set_errno(int number) {
     errno = number;
 }
 
-/* The length of a word, which is copied; -1 where there is none, and -2 where the room is full before it ends. */
+/* Copies a word, and returns its length. Returns -1 if there is no such word, and -2 if the room is full before the
+ * word ends. */
 ssize_t rattle_arg(size_t at, char *room, size_t most) {
     if (at >= word_count) {
         return -1;
@@ -40,7 +42,8 @@ ssize_t rattle_arg(size_t at, char *room, size_t most) {
     return count <= most ? (ssize_t)count : -2;
 }
 
-/* A block of `count` octets with what the one at `at` had, which is gone; or that one as it was, where `given` is false. */
+/* Returns a block of `count` octets with the content of the block at `at`, which is freed. If `given` is false, returns
+ * that block unchanged. */
 rattle_block rattle_realloc(void *at, size_t kept, size_t count, size_t alignment) {
     (void)kept;
     return answer(realloc(at, count == 0 ? alignment : count));

@@ -7,7 +7,7 @@ enum { FIELD = 1019, UNIT = 65542, STREAMS = 128, KEYS = 2048, NONE = 0xffff };
 enum { OPEN = 1, WAITING, LOCKED_OUT };
 enum { CONTINUING, FIRST, LAST, UNSEGMENTED };
 
-/* Rooms, each with the number of its octets before them. */
+/* Rooms, each after the number of its octets. */
 typedef struct {
     uint32_t first, waiting, capacity, stride;
     uint8_t *rooms;
@@ -31,7 +31,7 @@ struct channel {
 #define INLINE static inline __attribute__((always_inline))
 #define RARE(x) __builtin_expect(!!(x), 0)
 
-/* Few octets by two moves that overlap, without a call. */
+/* Copies a few octets by two moves that overlap, without a call. */
 INLINE void copy(uint8_t *to, const uint8_t *from, size_t count) {
     uint64_t front[2], back[2];
     if (count > 32) {
@@ -69,7 +69,7 @@ INLINE void pop(ring *r) {
     r->waiting--;
 }
 
-/* Cuts a unit into packets, each to its queue. */
+/* Cuts a unit into packets, and puts each into its queue. */
 INLINE delivery deliver(channel *c, const uint8_t *unit, size_t count) {
     delivery result = {0, 0, false};
     while (count >= 7 && unit[0] >> 5 == 0) {
@@ -113,7 +113,7 @@ static reply answer(uint8_t event) {
     return result;
 }
 
-/* Type-AD: FARM-1's events 1 to 5. */
+/* Takes in a Type-AD frame, by FARM-1's events 1 to 5. */
 INLINE reply sequenced(channel *c, uint8_t number, const uint8_t *field, size_t count) {
     const uint8_t ahead = (uint8_t)(number - c->next);
     if (RARE(ahead != 0)) {
@@ -138,7 +138,7 @@ INLINE reply sequenced(channel *c, uint8_t number, const uint8_t *field, size_t 
     return result;
 }
 
-/* Control commands: Unlock, Set V(R), and what is neither. */
+/* Takes in a control command: Unlock, Set V(R), or a field that is neither. */
 static reply command(channel *c, const uint8_t *field, size_t count) {
     const bool is_unlock = count == 1 && field[0] == 0, is_set = count == 3 && field[0] == 0x82 && field[1] == 0;
     if (!is_unlock && !is_set) return answer(9);

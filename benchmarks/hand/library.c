@@ -1,4 +1,4 @@
-/* The calls of channel.h by the library for C, so that rounds.c makes the same loads on it. */
+/* The calls of channel.h over the library for C, so that rounds.c brings the same loads to it. */
 #include "../../c/tcrx.h"
 #include "channel.h"
 

@@ -1,5 +1,6 @@
 /*
- * Makes so many rounds of a load of tc_bench on the channel by hand (channel.c) or on one of the library (library.c), and prints its score.
+ * Makes COUNT rounds of a load of tc_bench on the channel by hand (channel.c) or on a channel of the library
+ * (library.c), and prints its score.
  *
  *   rounds sequenced|bypassing|packets|segments COUNT
  */
@@ -29,7 +30,7 @@ static void add_delivery(delivery it) {
     add(it.rest);
 }
 
-/* The octets of a small packet; of another one its first and its last. */
+/* Adds a packet to the score: all octets of a small packet, or the first octets and the last octet of another one. */
 static void add_packet(const uint8_t *octets, size_t count) {
     add(count > 16 ? 16 : count);
     for (size_t i = 0; i < count && i < 16; i++) add(octets[i]);
@@ -58,7 +59,7 @@ static void take(void) {
     if (count > 0) add_packet(packet, count);
 }
 
-/* A frame for spacecraft 42 and virtual channel 1, with this segment header and body. */
+/* Makes a frame for spacecraft 42 and virtual channel 1, with this segment header and body. */
 static void make(frame *it, uint8_t flags, uint8_t number, uint8_t header, const uint8_t *body, size_t count) {
     const uint8_t front[6] = {flags, 42, (uint8_t)(4 | (count + 5) >> 8), (uint8_t)(count + 5), number, header};
     memcpy(it->octets, front, sizeof front);

@@ -1,6 +1,7 @@
 /*
- * What c/checks/stream.c does, by hand: decodes so many times a stream of 32 CLTUs that carry frames of 1,024 octets, in pieces of
- * 4,096 octets, and prints the same line. With `sum` it reckons so many times the frame error control field of 1,022 octets.
+ * Does by hand what c/checks/stream.c does: decodes COUNT times a stream of 32 CLTUs that carry frames of 1,024 octets,
+ * in pieces of 4,096 octets, and prints the same line. With `sum` it computes COUNT times the frame error control field
+ * of 1,022 octets.
  *
  *   streams COUNT MODE WRONG
  *   streams COUNT sum
@@ -23,7 +24,8 @@ static uint8_t left_of[7][256], places[128], stream[CLTUS * CLTU], carried[MOST 
 static uint16_t sums[8][256];
 static unsigned long frames, corrected, rejected;
 
-/* What each octet leaves in its place of a code block and of eight octets, and the place of each wrong bit. */
+/* Fills the tables: what each octet adds at its place of a code block and of eight octets, and the place of each wrong
+ * bit. */
 static void fill_tables(void) {
     for (unsigned octet = 0; octet < 256; octet++) {
         unsigned left = octet << 7, sum = octet << 8;
@@ -46,7 +48,7 @@ static inline uint8_t parity(const uint8_t *o) {
     return 0x7f ^ left_of[0][o[0]] ^ left_of[1][o[1]] ^ left_of[2][o[2]] ^ left_of[3][o[3]] ^ left_of[4][o[4]] ^ left_of[5][o[5]] ^ left_of[6][o[6]];
 }
 
-/* Up to the next candidate frame, or the end of the piece; how many octets were taken. */
+/* Decodes up to the next candidate frame, or to the end of the piece. Returns how many octets were taken. */
 static size_t decode(decoder *d, const uint8_t *octets, size_t count) {
     size_t at = 0;
     while (at < count) {

@@ -13,8 +13,8 @@
 
 enum { MOST_OCTETS = 308, OF_FRAME = 8, OF_CLCW = 9, OF_PACKET = 6, OF_FARM = 7 };
 
-/* Spacecraft id, virtual channel id, N(S), bypass flag, control command flag and length. Then the kind and its number.
- * */
+/* Spacecraft id, virtual channel id, N(S), bypass flag, control command flag and length. Then the kind and its
+ * number. */
 typedef struct {
     uint8_t octets[MOST_OCTETS];
     size_t count;
@@ -51,8 +51,8 @@ typedef struct {
     uint32_t fields[OF_PACKET];
 } packet_row;
 
-/* Each value of the sequence flags, and the packet type and the secondary header flag each with and without the other.
- * */
+/* Each value of the sequence flags, and the packet type and the secondary header flag each with and without the
+ * other. */
 static const packet_row packet_rows[] = {
     {{0x1d, 0xa5, 0x12, 0x34, 0x00, 0x02, 0xaa, 0xbb, 0xcc, 0x55}, 10, {9, 1445, 4660, 1, 1, 0}},
     {{0x00, 0x05, 0x40, 0x01, 0x00, 0x00, 0xaa, 0x55}, 8, {7, 5, 1, 0, 0, 1}},

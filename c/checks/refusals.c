@@ -379,8 +379,8 @@ static void check_channel(void) {
     expect(tcrx_channel_free(&channel) == TCRX_DONE, "a channel freed", 0);
 }
 
-/* A rack that has places without a channel, two channels with one id, a channel that is freed, and one with another id.
- * */
+/* A rack that has places without a channel, two channels with one id, a channel that is freed, and one with another
+ * id. */
 enum { CRAFT = 675, PLACES = 6, FIRST = 1, SECOND = 2, FREED = 3, OTHER = 5 };
 
 static tcrx_channel rack[PLACES];

@@ -1,7 +1,8 @@
 /*
- * A program for a Cortex-M3 without an operating system and without a C library's heap or streams: does a script on one channel, and
- * prints its answers in the words of the program tcrx by semihosting, which qemu-system-arm and debuggers listen to; then how many
- * octets of the stack were used. checks/targets gives it the script, and compares what it prints.
+ * A program for a Cortex-M3 without an operating system and without a C library's heap or streams. It does a script on
+ * one channel, and prints its answers in the words of the program tcrx by semihosting, to which qemu-system-arm and
+ * debuggers listen. Then it prints how many bytes of the stack were used. checks/targets gives it the script, and
+ * compares its output.
  */
 #include "tcrx.h"
 
@@ -66,7 +67,7 @@ static void say_hex(uint32_t word, int digits) {
     say(text);
 }
 
-/* The words of the line at a place, each with its length; answers the place of the next line. */
+/* The words of a line, each with its length. read_line() returns the place of the next line. */
 typedef struct {
     const char *at[MOST_WORDS];
     size_t length[MOST_WORDS];
@@ -142,7 +143,7 @@ static void bring(const line *read) {
     say_field(" rest ", reply.rest);
 }
 
-/* Whether the call was refused, which is then said. */
+/* Returns whether the call was refused, and says so. */
 static bool is_refused(tcrx_status status) {
     if (status == TCRX_EMPTY) {
         say("refused empty");
@@ -182,7 +183,7 @@ static void say_clcw(const char *name, unsigned vcid) {
     say_hex(tcrx_channel_clcw(&channel, 0, 0).word, 8);
 }
 
-/* Whether the line sets something up. */
+/* Returns whether the line sets something up. */
 static bool sets_up(const line *read) {
     if (is_word(read, "channel")) {
         const tcrx_settings given = {(uint8_t)number(read, 1), (uint8_t)number(read, 2), (uint8_t)number(read, 3),
@@ -226,7 +227,8 @@ static void report(void) {
     }
 }
 
-/* The stack is filled below this function, and looked at in the end: so many octets of it were used. */
+/* The stack is filled below this function, and examined at the end. The words that changed are the ones that were
+ * used. */
 enum { FILLED_WORDS = 16384 };
 static const uint32_t filling = 0xdeadbeefu;
 

@@ -1,4 +1,4 @@
-/* The memory of an mps2-an385, as qemu-system-arm has it. */
+/* The memory of an mps2-an385 in qemu-system-arm. */
 MEMORY { code (rx) : ORIGIN = 0x00000000, LENGTH = 4M  data (rwx) : ORIGIN = 0x20000000, LENGTH = 4M }
 ENTRY(reset)
 SECTIONS {

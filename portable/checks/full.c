@@ -1,7 +1,8 @@
 /*
- * A memory of fixed size: a channel that doesn't fit isn't made, by TCRX_NO_MEMORY, and one that fits is made in its place. Then all
- * memory of the module is taken, up to the last slot of each size, and each call must be done all the same, since none asks for any.
- * In the end each packet is as it was sent. TCRX_MODULE_PAGES is to be given.
+ * Tests a memory of fixed size. A channel that doesn't fit isn't created, with TCRX_NO_MEMORY, and one that fits is
+ * created in its place. Then all memory of the module is taken, up to the last slot of each size. Each call must still
+ * succeed, because none requests memory. At the end each packet must be as it was sent. TCRX_MODULE_PAGES must be
+ * defined.
  */
 #include "tcrx.h"
 #include "tcrx_instance.h"
@@ -55,7 +56,7 @@ static const tcrx_settings settings = {1, 10, 4, 0, 1};
 static const tcrx_queue queue = {5, 16};
 static const tcrx_limit limit = {0, 1024};
 
-/* A channel without limits, of 8.4 MB and more, is refused; and then one within limits is made. */
+/* Creates a channel. One without limits, of 8.4 MB or more, must be refused before one within limits is created. */
 static tcrx_status make(void) {
     if (tcrx_channel_new(&channel, settings, &queue, 1, NULL, 0) != TCRX_NO_MEMORY || channel.held != 0) {
         fail("a channel that doesn't fit", 0);
@@ -63,7 +64,7 @@ static tcrx_status make(void) {
     return tcrx_channel_new_with_limits(&channel, settings, &queue, 1, NULL, 0, 0, &limit, 1);
 }
 
-/* Frames that open runs and go on with them on each MAP: each is answered. */
+/* Brings frames that open runs and continue them on each MAP. Each of these calls must succeed. */
 static void open_runs(void) {
     uint8_t run[] = {0x20, 0x2a, 0x04, 0x08, 0x00, 0x40, 0x11, 0x22, 0x33};
     for (unsigned map = 0; map < 64; map++) {
@@ -77,7 +78,8 @@ static void open_runs(void) {
     }
 }
 
-/* The octets of the module's stack that were used: it grows down to address 0, and a memory begins with zeros. */
+/* Returns how many bytes of the module's stack were used. The stack grows down to address 0, and a memory begins with
+ * zeros. */
 static uint32_t stack_used(void) {
     enum { STACK = 16384, MOST_USED = 4096 };
     tcrx_instance *at = channel.place;

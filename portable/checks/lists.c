@@ -1,6 +1,7 @@
 /*
- * Lists of queues, of MAPs and of limits that are longer than any channel takes: each entry is looked at, the last one, too. Prints the status
- * of each call, for checks/targets, which compares them with those of the library of this machine.
+ * Passes lists of queues, of MAPs and of limits that are longer than any channel takes. Each entry is examined,
+ * including the last one. Prints the status of each call, for checks/targets, which compares them with those of the
+ * library of this machine.
  */
 #include "tcrx.h"
 

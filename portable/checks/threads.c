@@ -1,6 +1,7 @@
 /*
- * Two channels at once: two threads, each with a channel of its own, make rounds side by side, each round another packet. Then one
- * thread makes rounds on both in turn. Each packet must come back as it was sent, and each CLCW must be that of its channel.
+ * Uses two channels at once. Two threads, each with a channel of its own, make rounds side by side, with another packet
+ * in each round. Then one thread makes rounds on both channels in turn. Each packet must come back as it was sent, and
+ * each CLCW must be that of its channel.
  *
  *   threads COUNT    rounds of each kind
  */
@@ -42,7 +43,7 @@ static void make_round(receiver *at, unsigned long i) {
     }
 }
 
-/* Where both threads meet before their first round. */
+/* The point at which both threads meet before their first round. */
 static pthread_barrier_t start;
 
 static void *make_rounds(void *given) {

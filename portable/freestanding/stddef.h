@@ -1,4 +1,4 @@
-/* What C's header of this name has, for a compiler that comes without headers. */
+/* The contents of C's header of this name, for a compiler that comes without headers. */
 #ifndef FREESTANDING_STDDEF_H
 #define FREESTANDING_STDDEF_H
 typedef __SIZE_TYPE__ size_t;

@@ -1,4 +1,4 @@
-/* What C's header of this name has, as far as the library's header and the module's C use it. */
+/* The contents of C's header of this name, as far as the library's header and the module's C use them. */
 #ifndef FREESTANDING_STDINT_H
 #define FREESTANDING_STDINT_H
 typedef __UINT8_TYPE__ uint8_t;

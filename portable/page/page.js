@@ -1,5 +1,5 @@
 "use strict";
-/* What is drawn, and what the reader does. All answers come from the file before this one. */
+/* Draws the page, and handles what the reader does. All answers come from the file before this one. */
 
 const by = (id) => document.getElementById(id);
 const given = JSON.parse(by("given").textContent);
@@ -8,7 +8,7 @@ let compiled = null;
 let maker = null;
 let run = null;
 
-/* An element with attributes and children. */
+/* Returns an element with attributes and children. */
 function make(name, attributes = {}, ...children) {
   const element = document.createElement(name);
   for (const [key, value] of Object.entries(attributes)) {
@@ -18,7 +18,7 @@ function make(name, attributes = {}, ...children) {
   return element;
 }
 
-/* A word that explains itself where it stands. */
+/* Returns a word that explains itself in its place. */
 function term(name, text = name) {
   if (!Object.hasOwn(given.words, name)) return document.createTextNode(text);
   return make("button", {type: "button", class: "term", popovertarget: `word-${Object.keys(given.words).indexOf(name)}`}, text);
@@ -32,7 +32,7 @@ function drawWords() {
   document.querySelectorAll("[data-term]").forEach((place, i) => {
     const label = place.closest("label");
     if (label !== null) {
-      // Else the label would be that of the word, which can be pressed, too.
+      // Otherwise the label would be that of the word, which can be pressed, too.
       const input = label.querySelector("input");
       input.id = input.id || `field-${i}`;
       label.htmlFor = input.id;
@@ -41,7 +41,7 @@ function drawWords() {
   });
 }
 
-/* The frame by its parts: their octets, and what they say. */
+/* Draws the frame by its parts, with their octets and what they say. */
 function drawParts(octets, isPlain) {
   const list = make("div", {class: "parts"});
   for (const {from, to, says} of maker.parts(octets, isPlain)) {
@@ -57,7 +57,7 @@ const isPlain = (octets) => {
   return frame.status === STATUS.DONE && channelOf(frame.vcid) !== undefined && channelOf(frame.vcid).settings.plain;
 };
 
-/* What FARM-1's table says of the step, in words. */
+/* Returns what FARM-1's table says of the step, in words. */
 function entryOf({event, before}) {
   const row = given.table.rows[event - 1];
   return event === 0 ? "" : `${row[0]}, in ${given.table.head[before.state]}: ${row[before.state]}`;
@@ -93,10 +93,10 @@ function drawTable() {
       return row;
     })),
   );
-  by("lit").textContent = last.event > 0 ? entryOf(last) : "The row that the last step met will be lit.";
+  by("lit").textContent = last.event > 0 ? entryOf(last) : "The row of the last step will be lit.";
 }
 
-/* Where a number stands in the window. */
+/* Returns where a number stands in the window. */
 function placeOf(number, {vr, width}) {
   const ahead = (number - vr + 256) % 256;
   if (ahead === 0) return "expected";
@@ -157,7 +157,7 @@ function drawChannels() {
   by("channels").replaceChildren(...(channels.length > 0 ? channels : [make("p", {}, "No channel is set up. A line such as ", make("code", {}, "channel 1 10 4 0"), " does it.")]));
 }
 
-/* The line that comes next is marked in the script, where the reader isn't typing. */
+/* Marks the next line in the script, unless the reader is typing there. */
 function markNext() {
   const place = by("script");
   if (document.activeElement === place) return;
@@ -179,7 +179,7 @@ function draw() {
   markNext();
 }
 
-/* Runs the script anew, so many steps far. */
+/* Runs the script anew, up to this many steps. */
 function runTo(steps) {
   const scid = Math.min(1023, Math.max(0, Number(by("scid").value) || 0));
   run = new Run(compiled, scid, by("script").value);
@@ -198,7 +198,7 @@ function insertLine(at, line) {
   by("script").value = lines.join("\n");
 }
 
-/* An operation of the reader's comes after the last one that was done, and is done. */
+/* Adds an operation of the reader's after the last one that was done, and does it. */
 function addOperation(...lines) {
   if (run.channels.size === 0) {
     by("fault").textContent = "Set up a channel first.";
@@ -215,7 +215,7 @@ function addSetting(line) {
   runTo(steps);
 }
 
-/* The frames that the fields make, with the line of tcmake that makes the same. */
+/* Returns the frames that the fields make, with the line of tcmake that makes the same. */
 function madeOfFields() {
   const kind = by("kind").value;
   const number = (id) => Number(by(id).value);
@@ -245,7 +245,7 @@ function drawMade() {
   by("made").replaceChildren(...(lines.length > 0 ? [`tcmake: ${line}`, make("br"), lines.join(" ")] : ["The fields make no frame."]));
 }
 
-/* The number that the channel expects is what a sender would give to its next frame. */
+/* Sets the field for N(S) to the number that the channel expects, which a sender would give to its next frame. */
 function expectNext() {
   const channel = channelOf(Number(by("vcid").value));
   if (channel !== undefined && channel.instance !== null) by("ns").value = channel.farm().vr;
@@ -253,7 +253,7 @@ function expectNext() {
 
 function drawTyped() {
   const octets = fromHex(by("octets").value.replace(/\s/g, ""));
-  by("taken-apart").replaceChildren(...(octets === null ? ["These are no pairs of hexadecimal digits."] : octets.length === 0 ? [] : [drawParts(octets, isPlain(octets))]));
+  by("taken-apart").replaceChildren(...(octets === null ? ["These aren't pairs of hexadecimal digits."] : octets.length === 0 ? [] : [drawParts(octets, isPlain(octets))]));
   return octets;
 }
 

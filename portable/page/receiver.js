@@ -1,8 +1,9 @@
 "use strict";
 /*
- * The receiver in a page: the library as a WebAssembly module, and what tcrx and tcmake make of its answers, without anything that
- * is drawn. All that FARM-1, the channels, frames, packets and CLCWs do is done by the module, and so is the choice of the channel that
- * a frame is for. This file reads scripts, in the way of docs/reference/scripts.md, and puts answers into words.
+ * The receiver in a page: the library as a WebAssembly module, and what tcrx and tcmake make of its answers, without
+ * anything that is drawn. The module does all that FARM-1, channels, frames, packets and CLCWs do, and it chooses the
+ * channel that a frame is for. This file reads scripts, as docs/reference/scripts.md describes them, and puts answers
+ * into words.
  */
 
 const STATUS = {
@@ -10,7 +11,7 @@ const STATUS = {
   BAD_BUFFER: 60, BAD_APID: 61, DOUBLE_APID: 62, BAD_CAPACITY: 63, BAD_MAP: 64, DOUBLE_MAP: 65, BAD_UNITS: 66, PLAIN_MAP: 67,
   NO_MEMORY: 13, BAD_VCID: 30, NO_QUEUE: 72, NO_MAP: 73, EMPTY: 74, OTHER_SPACECRAFT: 75, UNKNOWN_CHANNEL: 76,
 };
-/* The words of refusals, and of faults of a channel's settings. */
+/* The words of refusals, and of faults in a channel's settings. */
 const REFUSALS = {
   [STATUS.SHORT]: "short", [STATUS.BAD_VERSION]: "version", [STATUS.SPARE]: "spare", [STATUS.LENGTH_SMALL]: "length",
   [STATUS.TRUNCATED]: "truncated", [STATUS.NO_QUEUE]: "no queue", [STATUS.NO_MAP]: "no map", [STATUS.EMPTY]: "empty",
@@ -24,13 +25,13 @@ const MOST = {SCRIPT: 1048576, FRAME: 1024, FIELD: 1019, PACKET: 65542};
 const toHex = (octets) => Array.from(octets, (octet) => octet.toString(16).padStart(2, "0")).join("");
 const word = (number) => (number >>> 0).toString(16).padStart(8, "0");
 
-/* Octets of pairs of hexadecimal digits, or null. */
+/* Returns the octets of pairs of hexadecimal digits, or null. */
 function fromHex(digits) {
   if (!/^(?:[0-9a-fA-F]{2})*$/.test(digits)) return null;
   return Uint8Array.from(digits.match(/../g) || [], (pair) => parseInt(pair, 16));
 }
 
-/* An instance of the module: it holds one channel, or is for calls without a channel. */
+/* An instance of the module, which holds one channel, or is for calls without a channel. */
 class Instance {
   constructor(compiled) {
     this.calls = new WebAssembly.Instance(compiled, {}).exports;
@@ -44,7 +45,7 @@ class Instance {
   numbers() {
     return new Uint32Array(this.calls.memory.buffer, this.numbersAt, 16);
   }
-  /* Octets in the memory, until they are given back: null where it has no room. */
+  /* Returns room for octets in the memory until it is returned, or null if there is none. */
   room(count) {
     const at = Number(this.calls.module_room(count));
     return at === 0 ? null : at;
@@ -54,7 +55,7 @@ class Instance {
     this.octets(this.read, count).set(octets.subarray(0, count));
     return count;
   }
-  /* The header of the frame at the front of octets. */
+  /* Reads the header of the frame at the front of octets. */
   readFrame(octets) {
     const status = this.calls.module_read_frame(BigInt(this.read), this.putFrame(octets));
     const [scid, vcid, ns, bypass, control, length] = this.numbers();
@@ -106,7 +107,7 @@ class Channel {
     });
     return at;
   }
-  /* Makes the channel of the lists so far, and answers the status. */
+  /* Creates the channel with the lists so far, and returns the status. */
   make() {
     const {vcid, width, buffer, first, plain} = this.settings;
     this.instance = new Instance(this.compiled);
@@ -118,7 +119,7 @@ class Channel {
     for (const at of [queues, maps]) calls.module_room_back(BigInt(at));
     return status;
   }
-  /* Brings octets to the rack of this channel alone, for a spacecraft. */
+  /* Brings octets to the rack that has only this channel, for a spacecraft. */
   bring(scid, octets) {
     const status = this.instance.calls.module_rack_frame(scid, 0, BigInt(this.instance.read), this.instance.putFrame(octets));
     const [queued, dropped, event, accepted, rest, vcid] = this.instance.numbers();
@@ -156,7 +157,7 @@ class Channel {
     const [low, high] = this.instance.numbers();
     return low + high * 2 ** 32;
   }
-  /* All that is shown of it. */
+  /* Returns all that is shown of the channel. */
   look() {
     return {
       settings: this.settings, farm: this.farm(), clcw: this.clcw(), events: this.count("events"), buffered: this.count("buffered"),
@@ -166,14 +167,14 @@ class Channel {
   }
 }
 
-/* Of each command the most that each of its numbers may be. */
+/* The largest value of each number of each command. */
 const NUMBERS = {
   channel: [255, 255, 255, 255], queue: [255, 65535, 65535], map: [255, 255, 65535], frame: [], release: [255],
   take: [255, 65535], unit: [255, 255], clcw: [255],
 };
 const SETTING_UP = ["channel", "queue", "map"];
 
-/* A line of a script: its words, and the fault that it has by itself. */
+/* Returns a line of a script: its words, and the fault that it has by itself. */
 function readLine(text) {
   const words = text.split(/[ \t\r]+/).filter((it) => it !== "");
   const line = {text, words, what: words[0] || "", numbers: [], fault: null};
@@ -191,7 +192,7 @@ function readLine(text) {
   return line;
 }
 
-/* How many letters two words differ by: those that are left out, added or changed. */
+/* Returns by how many letters two words differ, which are left out, added or changed. */
 function distance(one, other) {
   let row = Array.from({length: other.length + 1}, (_, i) => i);
   for (let i = 1; i <= one.length; i += 1) {
@@ -204,13 +205,13 @@ function distance(one, other) {
   return row[other.length];
 }
 
-/* What a number may be for which the settings are bad. */
+/* The bounds of a number, for each fault of the settings. */
 const BOUNDS = {
   "bad channel": "VC is 0 to 63", "bad window": "WIDTH is even, 2 to 254", "bad buffer": "BUFFER is 1 to 64",
   "bad application": "APID is 0 to 2046", "bad capacity": "CAPACITY is 1 to 256", "bad map": "MAP is 0 to 63", "bad units": "CAPACITY is 1 to 256",
 };
 
-/* What may help with a bad line, beside its fault. */
+/* Returns what may help with a bad line, besides its fault. */
 function hintFor(line, why) {
   if (Object.hasOwn(BOUNDS, why)) return ` (${BOUNDS[why]})`;
   if (line.fault === "unknown command") {
@@ -221,14 +222,14 @@ function hintFor(line, why) {
   return line.what === "frame" && line.words.length > 2 ? " (octets are written without spaces)" : "";
 }
 
-/* The settings of a channel have a fault by themselves: the first one of its own line. */
+/* Returns the first fault that a channel's own line has by itself. */
 function channelFault([vcid, width, buffer]) {
   if (vcid > 63) return "bad channel";
   if (width % 2 === 1 || width < 2 || width > 254) return "bad window";
   return buffer < 1 || buffer > 64 ? "bad buffer" : null;
 }
 
-/* A script that is run line by line for a spacecraft. First it is set up; then each step is an operation. */
+/* A script that is run line by line for a spacecraft. First it is set up. Then each step is an operation. */
 class Run {
   constructor(compiled, scid, script) {
     this.compiled = compiled;
@@ -291,13 +292,13 @@ class Run {
     if (isBadCount) return "bad units";
     return channel.settings.plain ? "map on plain channel" : null;
   }
-  /* The library looks at the settings once more, which have no fault any more. */
+  /* Creates all channels. The library checks their settings once more, in which there is no fault any more. */
   makeAll() {
     for (const channel of this.channels.values()) {
       if (channel.make() !== STATUS.DONE) this.fault = `line ${this.at}: no memory`;
     }
   }
-  /* Does the next operation, and passes over lines without words before it. Answers what was done, or null at the end. */
+  /* Does the next operation, and skips lines without words before it. Returns what was done, or null at the end. */
   step() {
     while (!this.isAtEnd() && this.lines[this.at].what === "") this.at += 1;
     if (this.isAtEnd()) return null;
@@ -344,7 +345,7 @@ class Run {
     this.fault = `line ${this.at}: no memory`;
     return "refused by a memory that is full";
   }
-  /* The channels as they are now, in rising order. */
+  /* Returns the channels as they are now, in rising order. */
   look() {
     const channels = [...this.channels.values()].filter((it) => it.instance !== null);
     return channels.sort((one, other) => one.settings.vcid - other.settings.vcid).map((it) => it.look());
@@ -358,7 +359,7 @@ class Run {
   }
 }
 
-/* What tcrx prints for a script, and the fault that it ends with. */
+/* Returns what tcrx prints for a script, and the fault that it ends with. */
 function runWhole(compiled, scid, script) {
   const run = new Run(compiled, scid, script);
   while (run.step() !== null);
@@ -366,7 +367,7 @@ function runWhole(compiled, scid, script) {
   return {output: lines.map((it) => `${it}\n`).join(""), fault: run.fault};
 }
 
-/* A maker of frames and packets, and what takes them apart, in the lines of tcmake. */
+/* A maker of frames and packets, which also takes them apart, in the lines of tcmake. */
 class Maker {
   constructor(compiled) {
     this.library = new Instance(compiled);
@@ -376,7 +377,7 @@ class Maker {
     const octets = this.library.writeFrame({...header, bypass, control}, field);
     return octets === null ? [] : [octets];
   }
-  /* A data field of a segment header and octets; without the header on a plain channel. */
+  /* Returns a data field of a segment header and octets, or of octets alone on a plain channel. */
   field(part, map, octets) {
     return map === "plain" ? octets : Uint8Array.from([(PARTS.indexOf(part) << 6) | map, ...octets]);
   }
@@ -435,7 +436,7 @@ class Maker {
     if (part === "unsegmented") return [...lines, ...this.packets(body)];
     return body.length === 0 ? lines : [...lines, `body ${toHex(body)}`];
   }
-  /* What octets say as a frame, line by line. */
+  /* Returns what octets say as a frame, line by line. */
   explain(octets) {
     const frame = this.library.readFrame(octets);
     if (frame.status !== STATUS.DONE) return [`refused ${REFUSALS[frame.status]}`];
@@ -445,7 +446,7 @@ class Maker {
     const head = `header ${kind} scid ${frame.scid} vc ${frame.vcid} ns ${frame.ns} octets ${frame.length} fill ${fill}`;
     return [head, ...this.explainField({...frame, octets}, field)];
   }
-  /* The parts of a frame by their octets, with what each says. */
+  /* Returns the parts of a frame by their octets, with what each says. */
   parts(octets, isPlain) {
     const frame = this.library.readFrame(octets);
     if (frame.status !== STATUS.DONE) return [{from: 0, to: octets.length, name: "no frame", says: REFUSALS[frame.status]}];
