@@ -1,4 +1,4 @@
-"""A telecommand receiver in a Python program: starts `tclive`, writes its lines, and reads its answers as values.
+"""A telecommand receiver in a Python program. It starts `tclive`, writes its lines, and reads its answers as values.
 
     with Receiver(42) as receiver:
         receiver.channel(1, width=10, buffer=2, first=0)
@@ -9,23 +9,25 @@
             ...
     print(receiver.final[1].events)
 
-What the lines and answers mean is in docs/reference/scripts.md, how a receiver is put on a link in docs/howto/bench.md. `Channel`
-is a virtual channel in this process, without a program; it is in tcrx_channel.py, which this file is whole without.
+docs/reference/scripts.md describes the lines and their answers, and docs/howto/bench.md shows how to put a receiver on
+a link. `Channel` is a virtual channel in this process, without a program. It is in tcrx_channel.py, which this file
+doesn't need.
 
-What of the proofs reaches a caller: what is proved of `tclive` (README.md says what), whose answers are read here. Nothing of this
-file is proved.
+The proofs reach a caller as far as `tclive` does, whose answers are read here (README.md says what is proved of it).
+Nothing in this file is proved.
 
-- What a receiver refuses is an answer, `Refused`, with the reason. It is false, and each other answer is true.
-- What leaves a call without an answer is an exception, a `Fault`. After a `BadLine` or `NotSetUp` the receiver goes on as it
-  was; after each other fault, and after an interrupt amid a call, it has ended.
-- A line that sets something up has no answer unless it is bad. So this client writes a second line behind it, `?`, which is
-  no command and is always answered `bad unknown command`, and maybe a hint: where that comes first the line was good, and
-  where something else comes before it, that is what was wrong. No line of this client's own begins with an unknown word.
-- Calls may come from several threads: each waits until the one before it has its answer. After a fork only the process that
-  started the receiver can use it.
-- With a timeout, a call has so many seconds as a whole, from when it is its turn; after that it raises `TimedOut`.
+- A refusal of the receiver's is an answer, `Refused`, with its reason. It is false, and each other answer is true.
+- If a call has no answer, it raises an exception, a `Fault`. After a `BadLine` or `NotSetUp` the receiver goes on as it
+  was. After any other fault, and after an interrupt during a call, it has ended.
+- A line that sets something up has no answer unless it is bad. So this client writes a second line after it, `?`, which
+  is no command and is always answered `bad unknown command`, maybe with a hint. If that answer comes first, the line
+  was good. If another answer comes before it, that answer is the fault of the line. No line that this client writes
+  otherwise begins with an unknown word.
+- Calls may come from several threads. Each waits until the call before it has its answer. After a fork only the process
+  that started the receiver can use it.
+- With a timeout, a whole call has this number of seconds, from when it is its turn. After that it raises `TimedOut`.
 
-Standard library alone, Python 3.9 or later.
+The client needs only the standard library, and Python 3.9 or later.
 """
 from __future__ import annotations
 
@@ -48,9 +50,9 @@ from typing import (TYPE_CHECKING, Callable, Dict, FrozenSet, Iterator, List, Li
                     Union)
 
 if TYPE_CHECKING:
-    from tcrx_channel import Channel as Channel, Rack as Rack  # pylint: disable=useless-import-alias  # they are handed on
+    from tcrx_channel import Channel as Channel, Rack as Rack  # pylint: disable=useless-import-alias  # they are re-exported
 
-# That of the programs, and of the newest heading of CHANGELOG.md.
+# The version of the programs, and of the newest heading of CHANGELOG.md.
 __version__ = "0.3.0"
 
 __all__ = ["BadLine", "Brought", "Clcw", "Delivered", "Delivery", "Ended", "Event", "Fault", "Final", "NotSetUp", "NotStarted", "Outcome", "Packet",
@@ -58,19 +60,20 @@ __all__ = ["BadLine", "Brought", "Clcw", "Delivered", "Delivery", "Ended", "Even
 
 if not TYPE_CHECKING:
     def __getattr__(name: str) -> object:
-        """`Channel` and `Rack`, which are read from their own file where one is asked for."""
+        """Returns `Channel` or `Rack`, which are imported from their own file when they are first used."""
         if name in ("Channel", "Rack"):
             import tcrx_channel  # pylint: disable=import-outside-toplevel  # this file is whole without it
             return getattr(tcrx_channel, name)
         raise AttributeError(f"module {__name__!r} has no attribute {name!r}")
 
 PROBE, PROBE_ANSWER = "?", "bad unknown command"
-# Octets after which an answer, a final report and the end of standard error aren't read on. The longest answer is a unit of 65,542
-# octets, two digits each; a final report has at most a line for each of 64 channels, 2,047 applications and 64 MAPs of each.
+# The number of octets after which an answer, a final report and the end of standard error aren't read on. The longest
+# answer is a unit of 65,542 octets, each in two digits. A final report has at most a line for each of 64 channels, and for
+# each of their 2,047 applications and 64 MAPs.
 LONGEST_ANSWER, LONGEST_REPORT, LONGEST_ERROR = 1 << 20, 1 << 23, 1 << 16
-# Seconds that a program has to end by itself, and once it was asked to.
+# The seconds that a program has to end by itself, and again when it was asked to.
 GRACE = 5.0
-# Has a `tclive` of the repository that isn't built end with this status and say what builds it.
+# Makes a `tclive` of the repository that isn't built exit with this status and say how to build it.
 NO_BUILD, NOT_BUILT = {"TCRX_BUILD": "no"}, 70
 
 
@@ -82,9 +85,9 @@ class Event(enum.Enum):
     E2 = "E2"
     """Type-AD, expected, with no room in the buffer."""
     E3 = "E3"
-    """Type-AD, ahead of V(R): one before it was lost."""
+    """Type-AD, ahead of V(R), because a frame before it was lost."""
     E4 = "E4"
-    """Type-AD, behind V(R): it came before."""
+    """Type-AD, behind V(R), because it came before."""
     E5 = "E5"
     """Type-AD, outside the window."""
     E6 = "E6"
@@ -94,21 +97,22 @@ class Event(enum.Enum):
     E8 = "E8"
     """Type-BC, Set V(R)."""
     E9 = "E9"
-    """Invalid: Type-AC, or a control command that is none."""
+    """Invalid: Type-AC, or a Type-BC frame that carries no control command."""
 
 
 class Outcome(enum.Enum):
-    """What became of a frame."""
+    """The outcome for a frame."""
 
     ACCEPTED = "accepted"
-    """Its data was accepted."""
+    """The frame's data was accepted."""
     DISCARDED = "discarded"
-    """It was discarded."""
+    """The frame was discarded."""
     LOCKOUT = "lockout"
-    """It was outside the window (E5) and was discarded, and the channel is in lockout. A frame that meets another event in lockout is
-    `DISCARDED`: whether the channel is in lockout is said by `lockout` of its CLCW."""
+    """The frame was outside the window (E5) and was discarded, and the channel is in lockout. A frame that meets
+    another event in lockout is `DISCARDED`. Look at `lockout` of the channel's CLCW to know whether the channel is in
+    lockout."""
     COMMAND = "control command"
-    """It was a control command: obeyed, but for a Set V(R) in lockout, which is counted and nothing else."""
+    """The frame was a control command. It was obeyed, except that a Set V(R) in lockout is only counted."""
 
 
 class State(enum.Enum):
@@ -120,7 +124,7 @@ class State(enum.Enum):
 
 
 class Refusal(enum.Enum):
-    """Why an operation can't be done. docs/reference/scripts.md says what to do about each."""
+    """The reason why an operation can't be done. docs/reference/scripts.md says what to do about each."""
 
     SHORT = "short"
     VERSION = "version"
@@ -142,7 +146,7 @@ OF_CHANNELS = frozenset({Refusal.CHANNEL})
 
 @dataclass(frozen=True)
 class Refused:
-    """The operation can't be done and changed nothing. It is false where a truth is asked for."""
+    """A refusal: the operation can't be done, and changed nothing. It is false as a truth value."""
 
     reason: Refusal
 
@@ -150,8 +154,8 @@ class Refused:
         return False
 
 
-class Answered:  # pylint: disable=too-few-public-methods  # it gives its truth to what has more
-    """An answer that is no refusal. It is true where a truth is asked for."""
+class Answered:  # pylint: disable=too-few-public-methods  # it passes its truth on to classes that have more
+    """An answer that isn't a refusal. It is true as a truth value."""
 
     def __bool__(self) -> Literal[True]:
         return True
@@ -159,29 +163,29 @@ class Answered:  # pylint: disable=too-few-public-methods  # it gives its truth 
 
 @dataclass(frozen=True)
 class Delivery:
-    """What became of the unit that an operation ended; where none ended, nothing was queued or dropped."""
+    """The outcome for the unit that an operation ended. If it ended none, nothing was queued or dropped."""
 
     queued: int
-    """How many of its packets were put into queues; 1 for a unit that was queued whole."""
+    """The number of packets that were queued, or 1 for a unit that was queued whole."""
     dropped: int
-    """How many were not."""
+    """The number of packets that were dropped, or 1 for a whole unit that was dropped."""
     rest: bool
-    """Whether octets were left that begin with no packet."""
+    """Whether octets were left that don't begin with a packet."""
 
 
 @dataclass(frozen=True)
 class Brought(Answered):
-    """A frame was answered."""
+    """The answer to a frame."""
 
     channel: int
     event: Event
     accepted: bool
-    """Whether its data was accepted."""
+    """Whether the frame's data was accepted."""
     delivery: Delivery
 
     @property
     def outcome(self) -> Outcome:
-        """What became of the frame."""
+        """The outcome for the frame."""
         if self.accepted:
             return Outcome.ACCEPTED
         if self.event in (Event.E7, Event.E8):
@@ -191,7 +195,7 @@ class Brought(Answered):
 
 @dataclass(frozen=True)
 class Released(Answered):
-    """The oldest data field went out of the buffer."""
+    """The answer to a release: the oldest data field left the buffer."""
 
     channel: int
     delivery: Delivery
@@ -199,22 +203,22 @@ class Released(Answered):
 
 @dataclass(frozen=True)
 class Packet(Answered):
-    """A packet was taken out of a queue."""
+    """A packet that was taken out of a queue."""
 
     channel: int
     apid: int
     octets: bytes
-    """The packet, whole, with its header."""
+    """The whole packet, with its header."""
 
 
 @dataclass(frozen=True)
 class Unit(Answered):
-    """A unit was taken out of the queue of a MAP."""
+    """A unit that was taken out of the queue of a MAP."""
 
     channel: int
     map: int
     octets: bytes
-    """The unit, whole; it may be of no octets."""
+    """The whole unit, which may have no octets."""
 
 
 @dataclass(frozen=True)
@@ -226,32 +230,32 @@ class Clcw(Answered):
 
     @property
     def channel(self) -> int:
-        """The virtual channel's id."""
+        """The virtual channel id."""
         return self.word >> 18 & 63
 
     @property
     def no_rf(self) -> bool:
-        """No RF Available."""
+        """The No RF Available flag."""
         return bool(self.word >> 15 & 1)
 
     @property
     def no_bit_lock(self) -> bool:
-        """No Bit Lock."""
+        """The No Bit Lock flag."""
         return bool(self.word >> 14 & 1)
 
     @property
     def lockout(self) -> bool:
-        """An Unlock is needed."""
+        """The Lockout flag: an Unlock is needed."""
         return bool(self.word >> 13 & 1)
 
     @property
     def wait(self) -> bool:
-        """The buffer has no room: sending again is of no use before a release."""
+        """The Wait flag: the buffer has no room. Sending again is useless before a release."""
         return bool(self.word >> 12 & 1)
 
     @property
     def retransmit(self) -> bool:
-        """Frames from V(R) on are wanted again."""
+        """The Retransmit flag: frames from V(R) on are wanted again."""
         return bool(self.word >> 11 & 1)
 
     @property
@@ -271,20 +275,22 @@ class Clcw(Answered):
 
 @dataclass(frozen=True)
 class Delivered(Answered):
-    """A release, and all that came of it: nothing waits in the queues of the channel."""
+    """A release, and everything that was taken after it, so that nothing waits in the queues of the channel."""
 
     channel: int
     released: Union[Released, Refused]
-    """The answer to the release: `EMPTY` where no data field waited, as behind a Type-BD frame, whose packets wait at once."""
+    """The answer to the release. It is a refusal by `EMPTY` if no data field waited, as after a Type-BD frame, whose
+    packets wait at once."""
     taken: Tuple[Union[Packet, Unit], ...]
-    """The packets of each queue and then the units of each MAP, in the order of the set-up, the oldest of each first."""
+    """The packets of each queue, and then the units of each MAP, in the order of the set-up, with the oldest of each
+    first."""
     clcw: Clcw
-    """The CLCW behind all of these, with the flags of the link."""
+    """The CLCW after all of these, with the flags of the link."""
 
 
 @dataclass(frozen=True)
 class Report(Answered):
-    """What a channel is at the moment, without its events."""
+    """The present state of a channel, without its events."""
 
     channel: int
     state: State
@@ -294,30 +300,30 @@ class Report(Answered):
     retransmit: bool
     farm_b: int
     buffered: int
-    """How many data fields wait in the buffer."""
+    """The number of data fields that wait in the buffer."""
     queues: Dict[int, int]
-    """How many packets wait in the queue of each application."""
+    """The number of packets that wait in the queue of each application."""
     maps: Dict[int, int]
-    """How many units wait in the queue of each MAP."""
+    """The number of units that wait in the queue of each MAP."""
 
 
 @dataclass(frozen=True)
 class Final:
-    """What a channel was when the lines had ended."""
+    """The state of a channel at the end of the lines."""
 
     clcw: Clcw
     events: int
-    """How many frames, releases, takes and units were answered."""
+    """The number of frames, releases, takes and units that were answered."""
     buffered: int
-    """How many data fields waited in the buffer."""
+    """The number of data fields that waited in the buffer."""
     queues: Dict[int, int] = field(default_factory=dict)
-    """How many packets waited in the queue of each application."""
+    """The number of packets that waited in the queue of each application."""
     maps: Dict[int, int] = field(default_factory=dict)
-    """How many units waited in the queue of each MAP."""
+    """The number of units that waited in the queue of each MAP."""
 
 
 class Fault(Exception):
-    """What leaves a call without an answer."""
+    """The reason why a call has no answer."""
 
 
 class NotStarted(Fault):
@@ -325,8 +331,8 @@ class NotStarted(Fault):
 
 
 class BadLine(Fault):
-    """A line was answered `bad`; the receiver goes on as it was. docs/reference/scripts.md has the reasons. Where a hint follows the
-    reason, it is in the message alone."""
+    """A line was answered `bad`. The receiver goes on as it was. docs/reference/scripts.md lists the reasons. If a hint
+    follows the reason, only the message has it."""
 
     def __init__(self, line: str, reason: str) -> None:
         super().__init__(f"{reason}: {shorten(line)}")
@@ -334,20 +340,20 @@ class BadLine(Fault):
 
 
 class Ended(Fault):
-    """The program ended before its answer, or the connection to it."""
+    """The program, or the connection to it, ended before its answer."""
 
     def __init__(self, status: Optional[int], error: str) -> None:
         super().__init__(f"the receiver has ended{'' if status is None else f' with status {status}'}{': ' if error else ''}{error}")
         self.status, self.error = status, error
-        """The exit status, where it is known (negative for a signal), and the last 64 KiB of standard error."""
+        """The exit status if it is known (negative for a signal), and the last 64 KiB of standard error."""
 
 
 class TimedOut(Fault):
-    """No whole answer came within the timeout; the receiver was ended, as the answer may still come."""
+    """No whole answer came within the timeout. The receiver was ended, because the answer may still come."""
 
 
 class Unexpected(Fault):
-    """An answer isn't one to its line, so the two ends are out of step; the receiver was ended."""
+    """An answer doesn't fit its line, so the two ends are out of step. The receiver was ended."""
 
     def __init__(self, line: str, answer: str) -> None:
         super().__init__(f"`{shorten(line)}` was answered `{shorten(answer)}`")
@@ -355,7 +361,7 @@ class Unexpected(Fault):
 
 
 class NotSetUp(Fault):
-    """There is no such channel, queue or MAP to take from; the receiver goes on as it was."""
+    """There is no such channel, queue or MAP to take from. The receiver goes on as it was."""
 
     def __init__(self, refused: Refused) -> None:
         super().__init__(refused.reason.value)
@@ -363,49 +369,51 @@ class NotSetUp(Fault):
 
 
 def without_hint(answer: str) -> str:
-    """A bad answer, or a reason, up to the hint that may follow it: what to write instead."""
+    """Returns a bad answer, or a reason, without the hint that may follow it, which says what to write instead."""
     return answer.partition(": ")[0]
 
 
 def why_bad(answer: str) -> str:
-    """What a bad answer says: a reason that begins with `bad` has it once, and is of one more word."""
+    """Returns the reason of a bad answer. A reason that begins with `bad` has that word only once, and has one more
+    word."""
     return answer if without_hint(answer).count(" ") == 1 else answer[4:]
 
 
 def shorten(text: str) -> str:
-    """A text for a message: at most 80 characters of it."""
+    """Returns at most 80 characters of a text, for a message."""
     return text if len(text) <= 80 else text[:77] + "..."
 
 
 class Link:
-    """The way to a program: lines go out by one socket and answers come in by another, which may be the same."""
+    """The way to a program. Lines go out by one socket, and answers come in by another, which may be the same."""
 
     def __init__(self, writer: socket.socket, reader: socket.socket, flags: int = 0) -> None:
         self.writer, self.reader, self.flags = writer, reader, flags
         self.left = bytearray()
 
     def send(self, octets: bytes, until: Optional[float]) -> None:
-        """Sends octets; raises `TimeoutError`, as `socket.timeout`, where the time passes that is given."""
+        """Sends octets. Raises `TimeoutError`, as `socket.timeout`, when the given time passes."""
         rest = memoryview(octets)
         while rest:
             set_time(self.writer, until)
             rest = rest[self.writer.send(rest, self.flags):]
 
     def receive(self, until: Optional[float]) -> int:
-        """Receives more octets into what is left; how many, 0 at the end."""
+        """Receives more octets into `left`. Returns how many, which is 0 at the end."""
         set_time(self.reader, until)
         more = self.reader.recv(65536)
         self.left += more
         return len(more)
 
     def take(self, count: int) -> bytes:
-        """The first octets of what is left."""
+        """Takes the first octets out of `left`."""
         taken = bytes(self.left[:count])
         del self.left[:count]
         return taken
 
     def read_line(self, until: Optional[float]) -> bytes:
-        """The next answer with its line feed; without one where all has ended or the answer is over its bound."""
+        """Returns the next answer with its line feed. There is no line feed if everything has ended, or if the answer
+        is over its bound."""
         searched = 0
         while (end := self.left.find(b"\n", searched)) < 0 and len(self.left) <= LONGEST_ANSWER:
             searched = len(self.left)
@@ -414,17 +422,17 @@ class Link:
         return self.take(end + 1 if end >= 0 else len(self.left))
 
     def read_rest(self, until: Optional[float]) -> bytes:
-        """All that comes until the end; more than the bound of a final report isn't read."""
+        """Returns everything that comes until the end. It doesn't read more than the bound of a final report."""
         while len(self.left) <= LONGEST_REPORT and self.receive(until):
             pass
         return self.take(len(self.left))
 
     def say_end(self) -> None:
-        """Says to the other end that no more lines come. Copies of the socket that a fork made don't keep it open."""
+        """Tells the other end that no more lines come. Copies of the socket that a fork made don't keep it open."""
         self.writer.shutdown(socket.SHUT_WR)
 
     def end(self, kill: bool) -> Tuple[Optional[int], str]:
-        """The exit status where there is one, and what was on standard error; all is closed then."""
+        """Closes everything. Returns the exit status if there is one, and what was on standard error."""
         del kill
         for each in (self.writer, self.reader):
             try:
@@ -435,7 +443,7 @@ class Link:
 
 
 def set_time(given: socket.socket, until: Optional[float]) -> None:
-    """Lets a socket wait until then at most."""
+    """Lets a socket wait no longer than until then."""
     if until is not None:
         left = until - time.monotonic()
         if left <= 0:
@@ -446,21 +454,22 @@ def set_time(given: socket.socket, until: Optional[float]) -> None:
 
 
 def socket_pair(opened: ExitStack) -> Tuple[socket.socket, socket.socket]:
-    """A pair of sockets, which are closed with the stack."""
+    """Returns a pair of sockets, which are closed with the stack."""
     ours, theirs = socket.socketpair()
     return opened.enter_context(ours), opened.enter_context(theirs)
 
 
 class Process(Link):
-    """A program that this one starts, behind two pairs of sockets: unlike a pipe, the end of one can be said after a fork."""
+    """A program that this one starts, behind two pairs of sockets. Unlike the end of a pipe, that of a socket can be
+    sent even after a fork."""
 
     def __init__(self, words: List[str]) -> None:
         with ExitStack() as opened:
             try:
-                # Into a file, so that a program that writes a lot there isn't kept waiting.
+                # Standard error goes into a file, so that a program that writes a lot there doesn't have to wait.
                 self.errors = opened.enter_context(tempfile.TemporaryFile())
                 (writer, its_input), (reader, its_output) = socket_pair(opened), socket_pair(opened)
-                # In a session of its own, so that Ctrl-C ends this program alone.
+                # The program has a session of its own, so that Ctrl-C ends only this program.
                 # pylint: disable-next=consider-using-with  # it is ended in `end`
                 self.child = subprocess.Popen(words, stdin=its_input.fileno(), stdout=its_output.fileno(), stderr=self.errors,
                                               start_new_session=True, env={**os.environ, **NO_BUILD})
@@ -472,7 +481,8 @@ class Process(Link):
         super().__init__(writer, reader, getattr(socket, "MSG_NOSIGNAL", 0))
 
     def wait(self, asked: bool) -> int:
-        """The exit status. A program that doesn't end by itself is asked to end, and one that was asked to is made to."""
+        """Waits for the program, and returns its exit status. A program that doesn't end by itself is asked to end, and
+        one that was already asked is killed."""
         for ending in (self.child.terminate, self.child.kill)[asked:]:
             try:
                 return self.child.wait(GRACE)
@@ -481,7 +491,8 @@ class Process(Link):
         return self.child.wait()
 
     def end(self, kill: bool) -> Tuple[Optional[int], str]:
-        """The exit status, and the end of what was on standard error; all is closed then. To kill is to ask first."""
+        """Closes everything. Returns the exit status, and the end of what was on standard error. With `kill` the
+        program is asked to end first."""
         if kill:
             self.child.terminate()
         super().end(kill)
@@ -489,7 +500,7 @@ class Process(Link):
             try:
                 status = self.wait(kill)
             except BaseException:
-                # An interrupt while it is waited for: it isn't left behind.
+                # If an interrupt comes during the wait, the program isn't left behind.
                 self.child.kill()
                 self.child.wait()
                 raise
@@ -498,8 +509,9 @@ class Process(Link):
 
 
 def find_program(name: str = "tclive", named_by: str = "program=") -> str:
-    """Where a program is: at the root of the repository where this file is in its folder there, in the folder bin of what it was
-    installed or unpacked with, or else on the path. Who asks says by what it can be named."""
+    """Returns the path of a program. It is looked for at the root of the repository, if this file is in its folder
+    there, in the folder bin of what it was installed or unpacked with, and otherwise on the path. `named_by` is the way
+    in which the caller can name it."""
     here = Path(__file__).resolve()
     at_root = here.parents[2] / name if here.parts[-3:-1] == ("clients", "python") else None
     if here.parts[-4:-1] == ("share", "dekorihe", "python"):
@@ -514,19 +526,19 @@ def find_program(name: str = "tclive", named_by: str = "program=") -> str:
 
 
 Answer = TypeVar("Answer")
-# No number of an answer is longer, and Python refuses to read one of thousands of digits.
+# No number in an answer is longer, and Python refuses to read a number of thousands of digits.
 NUMBER = r"(\d{1,20})"
 COUNTS = rf"queued {NUMBER} dropped {NUMBER} rest ([01])"
 OCTETS, WORD = r"((?:[0-9a-f]{2})+)", r"([0-9a-f]{8})"
 
 
 def number(value: int) -> int:
-    """A whole number, as which no text, fraction or `None` passes."""
+    """Returns a whole number. No text, fraction or `None` passes as one."""
     return int(index(value))
 
 
 def octets_of(given: Union[bytes, bytearray, memoryview]) -> bytes:
-    """Octets, as which neither digits nor a number pass, of which `bytes` would make so many zeros."""
+    """Returns octets. Neither digits nor a number pass as octets, although `bytes` would make zeros from a number."""
     try:
         return given if isinstance(given, bytes) else memoryview(given).tobytes()
     except TypeError:
@@ -534,17 +546,17 @@ def octets_of(given: Union[bytes, bytearray, memoryview]) -> bytes:
 
 
 def delivery_of(queued: str, dropped: str, rest: str) -> Delivery:
-    """A delivery of its words."""
+    """Returns the delivery that these words describe."""
     return Delivery(int(queued), int(dropped), rest == "1")
 
 
 def counts_of(words: str, kind: str) -> Dict[int, int]:
-    """The counts behind each word of this kind, by application or MAP."""
+    """Returns the counts after each word of this kind, by application or MAP."""
     return {int(place): int(count) for place, count in re.findall(rf"\b{kind} {NUMBER} {NUMBER}", words)}
 
 
 def clcw_of(channel: int, digits: str) -> Clcw:
-    """A channel's CLCW. Raises `ValueError` where it is that of another one."""
+    """Returns a channel's CLCW. Raises `ValueError` if it is that of another channel."""
     clcw = Clcw(int(digits, 16))
     if clcw.channel != channel:
         raise ValueError(digits)
@@ -552,7 +564,7 @@ def clcw_of(channel: int, digits: str) -> Clcw:
 
 
 def taken_of(channel: int, answer: str) -> Union[Packet, Unit, Clcw]:
-    """What a line of a delivery hands on, or the CLCW, which is the last. Raises `ValueError` where it is another line."""
+    """Returns what a line of a delivery has, or the CLCW, which comes last. Raises `ValueError` for any other line."""
     if found := re.fullmatch(rf"take {channel} {NUMBER} {OCTETS}", answer):
         return Packet(channel, int(found[1]), bytes.fromhex(found[2]))
     if found := re.fullmatch(rf"unit {channel} {NUMBER} (-|{OCTETS})", answer):
@@ -563,7 +575,8 @@ def taken_of(channel: int, answer: str) -> Union[Packet, Unit, Clcw]:
 
 
 def reader_of(pattern: str, refusals: FrozenSet[Refusal], made: Callable[[Match[str]], Answer]) -> Callable[[str], Union[Answer, Refused]]:
-    """Reads an answer to an operation: made of the words that the pattern finds, or one of these refusals."""
+    """Returns a reader of the answers to an operation. It makes a value from the words that the pattern finds, or
+    returns one of these refusals."""
     def read(answer: str) -> Union[Answer, Refused]:
         if answer.startswith("refused ") and Refusal(answer[8:]) in refusals:
             return Refused(Refusal(answer[8:]))
@@ -575,7 +588,7 @@ def reader_of(pattern: str, refusals: FrozenSet[Refusal], made: Callable[[Match[
 
 
 def final_of(lines: List[str]) -> Dict[int, Final]:
-    """The final report, by channel. Raises `ValueError` where these aren't the lines of one."""
+    """Returns the final report by channel. Raises `ValueError` if these aren't the lines of one."""
     report: Dict[int, Final] = {}
     for line in lines:
         if found := re.fullmatch(rf"final {NUMBER} {WORD} events {NUMBER} buffered {NUMBER}", line):
@@ -589,7 +602,7 @@ def final_of(lines: List[str]) -> Dict[int, Final]:
 
 
 def check_timeout(timeout: Optional[float]) -> None:
-    """Raises `ValueError` where this is no limit of time."""
+    """Raises `ValueError` if this isn't a limit of time."""
     if timeout is not None and not timeout > 0:
         raise ValueError("a timeout is a number of seconds over 0, or None for no limit")
 
@@ -597,16 +610,18 @@ def check_timeout(timeout: Optional[float]) -> None:
 class Receiver:
     """A receiver of one spacecraft."""
 
-    # pylint: disable=attribute-defined-outside-init  # both ways to a receiver begin by `_begin`, which has them all
+    # pylint: disable=attribute-defined-outside-init  # both ways to a receiver call `_begin`, which defines them all
     # pylint: disable=redefined-builtin  # MAP is the standard's word
 
     def __init__(self, scid: int, *, fecf: bool = False, program: Union[str, "os.PathLike[str]", None] = None,
                  timeout: Optional[float] = None) -> None:
-        """Starts `tclive` for the spacecraft with the id `scid` (0 to 1,023). With `fecf` each frame must carry the frame error
-        control field. `program` is the path of `tclive`; without it, it is looked for at the root of this repository, and then on the
-        path. With a `timeout` each call, this one as well, has so many seconds.
+        """Starts `tclive` for the spacecraft with the id `scid` (0 to 1,023). With `fecf` each frame must carry the
+        frame error control field. `program` is the path of `tclive`. Without it, `tclive` is looked for at the root of
+        this repository, and then on the path. With a `timeout`, each call has this number of seconds, including this
+        one.
 
-        Raises `NotStarted` where it isn't there or isn't built, and `Ended`, with what it said, where it ends at once.
+        Raises `NotStarted` if `tclive` isn't there or isn't built. Raises `Ended`, with its error output, if `tclive`
+        ends at once.
         """
         check_timeout(timeout)
         words = [find_program() if program is None else os.fspath(program), "--scid", str(number(scid))]
@@ -614,22 +629,24 @@ class Receiver:
 
     @classmethod
     def over(cls, connection: socket.socket) -> Receiver:
-        """A receiver behind a connected stream socket, at whose other end `tclive` reads the lines and answers. The socket is the
-        receiver's from now on, and is closed with it. Where the socket has a timeout, each call has so many seconds."""
+        """Returns a receiver over a connected stream socket, at whose other end `tclive` reads the lines and answers.
+        The socket belongs to the receiver from now on, and is closed with it. If the socket has a timeout, each call
+        has this number of seconds."""
         receiver = cls.__new__(cls)
         check_timeout(connection.gettimeout())
         receiver._begin(Link(connection, connection), connection.gettimeout())
         return receiver
 
     def _begin(self, link: Link, timeout: Optional[float]) -> None:
-        """Sees by the probe that the other end answers."""
+        """Begins, and checks by the probe that the other end answers."""
         self._link, self._lock, self._owner = link, threading.Lock(), os.getpid()
         self._final: Optional[Dict[int, Final]] = None
-        # Makes the fault of each later call, anew each time: an exception that is raised again keeps all of its traces.
+        # Makes the fault of each later call. It is made anew each time, because an exception that is raised again keeps all
+        # of its traces.
         self._over: Optional[Callable[[], Fault]] = None
         self._channels: List[int] = []
         self._until: Optional[float] = None
-        # How many seconds each call has, or `None` for no limit. It may be changed between calls.
+        # The number of seconds that each call has, or `None` for no limit. It may be changed between calls.
         self.timeout = timeout
         try:
             self._ask(PROBE, lambda answer: [PROBE_ANSWER].index(without_hint(answer)))
@@ -641,7 +658,8 @@ class Receiver:
     # --- Lines and answers ---
 
     def _end(self, fault: Optional[Callable[[], Fault]], kill: bool) -> Fault:
-        """Ends the other end; the fault of this call and each later one, which without another is that it ended."""
+        """Ends the other end. Returns the fault of this call, which each later call raises as well. Without a given
+        fault it says that the receiver ended."""
         self._over = fault or partial(Ended, None, "")
         status, error = self._link.end(kill)
         self._over = fault or partial(Ended, status, error)
@@ -649,7 +667,8 @@ class Receiver:
 
     @contextmanager
     def _link_faults(self) -> Iterator[None]:
-        """Ends the receiver where the link fails. A program that ended by itself is on its way out, and its status is what counts."""
+        """Ends the receiver if the link fails. If the program ended by itself, it is about to exit, and its status is
+        what counts."""
         try:
             yield
         except socket.timeout:
@@ -658,11 +677,11 @@ class Receiver:
             raise self._end(None, kill=False) from None
 
     def _give_up(self, line: str, answer: str) -> NoReturn:
-        """Ends the other end, which is out of step."""
+        """Ends the other end, because it is out of step."""
         raise self._end(partial(Unexpected, line, answer[:1000]), kill=True) from None
 
     def _read(self, line: str) -> str:
-        """The answer to a line, without its end."""
+        """Returns the answer to a line, without its line feed."""
         with self._link_faults():
             octets = self._link.read_line(self._until)
         if len(octets) > LONGEST_ANSWER:
@@ -672,7 +691,7 @@ class Receiver:
         return octets[:-1].decode("ascii", errors="replace")
 
     def _write(self, lines: str) -> None:
-        """Writes lines, which end with a line feed each."""
+        """Writes lines, each of which ends with a line feed."""
         if self._over:
             raise self._over()
         if self._final is not None:
@@ -685,8 +704,8 @@ class Receiver:
 
     @contextmanager
     def _turn(self) -> Iterator[None]:
-        """One line and its answer at a time. Where something else than a fault comes between, as an interrupt, the answer would be taken
-        for that of the next line; so the other end is ended."""
+        """Lets only one line at a time have its answer. If anything but a fault comes between them, such as an
+        interrupt, the answer would be taken for that of the next line, so the other end is ended."""
         if os.getpid() != self._owner:
             raise Ended(None, "only the process that started the receiver can use it")
         with self._lock:
@@ -700,13 +719,14 @@ class Receiver:
                 raise
 
     def _ask(self, line: str, read: Callable[[str], Answer]) -> Answer:
-        """The answer to a line, as it is read, which raises `ValueError` where it isn't one to this line."""
+        """Returns the answer to a line, as `read` returns it. `read` raises `ValueError` if it isn't an answer to this
+        line."""
         with self._turn():
             self._write(line + "\n")
             return self._answer(line, read)
 
     def _answer(self, line: str, read: Callable[[str], Answer]) -> Answer:
-        """The next answer to a line that was written."""
+        """Returns the next answer to a line that was written."""
         answer = self._read(line)
         try:
             return read(answer)
@@ -716,11 +736,11 @@ class Receiver:
         raise BadLine(line, why_bad(answer))
 
     def _operate(self, line: str, pattern: str, refusals: FrozenSet[Refusal], made: Callable[[Match[str]], Answer]) -> Union[Answer, Refused]:
-        """The answer to an operation, made of the words that the pattern finds."""
+        """Returns the answer to an operation, made from the words that the pattern finds."""
         return self._ask(line, reader_of(pattern, refusals, made))
 
     def _set_up(self, line: str) -> None:
-        """Writes a line that has no answer unless it is bad, and the probe behind it."""
+        """Writes a line that has no answer unless it is bad, and the probe after it."""
         with self._turn():
             self._write(f"{line}\n{PROBE}\n")
             answer = self._read(line)
@@ -734,30 +754,34 @@ class Receiver:
     # --- Setting up, before any operation ---
 
     def channel(self, vcid: int, *, width: int, buffer: int, first: int, plain: bool = False) -> None:
-        """Sets up a virtual channel (0 to 63): the width of its window (even, 2 to 254), how many data fields its buffer holds (1 to
-        64), its first V(R) (0 to 255), and whether its data fields have no segment headers."""
+        """Sets up a virtual channel (0 to 63). `width` is the width of its window (even, 2 to 254), `buffer` the number
+        of data fields that its buffer holds (1 to 64), and `first` its first V(R) (0 to 255). With `plain` its data
+        fields have no segment headers."""
         self._set_up(f"channel {number(vcid)} {number(width)} {number(buffer)} {number(first)}{' plain' if plain else ''}")
         self._channels.append(vcid)
 
     def queue(self, vcid: int, apid: int, capacity: int) -> None:
-        """Gives a channel a queue for the packets of an application (0 to 2,046), with room for so many (1 to 256)."""
+        """Gives a channel a queue for the packets of an application (0 to 2,046). `capacity` is the number of packets
+        that it holds (1 to 256)."""
         self._set_up(f"queue {number(vcid)} {number(apid)} {number(capacity)}")
 
     def map(self, vcid: int, map: int, capacity: int) -> None:
-        """Gives a channel a queue for the units of a MAP (0 to 63), with room for so many (1 to 256)."""
+        """Gives a channel a queue for the units of a MAP (0 to 63). `capacity` is the number of units that it holds (1
+        to 256)."""
         self._set_up(f"map {number(vcid)} {number(map)} {number(capacity)}")
 
     # --- Operations ---
 
     def bring(self, octets: Union[bytes, bytearray, memoryview]) -> Union[Brought, Refused]:
-        """Brings octets that arrive, with the frame at their front. For no octets at all there is no line, so a single one is brought
-        in their place, which is refused just the same. With a frame error control field every fault of the octets is `CHECK`."""
+        """Brings octets that arrive, with the frame at their front. There is no line for no octets at all, so a single
+        octet is brought in that case, which is refused in the same way. With the frame error control field, every fault
+        of the octets is `CHECK`."""
         digits = octets_of(octets).hex() or "00"
         return self._operate(f"frame {digits}", rf"frame {NUMBER} (E[1-9]) accepted ([01]) {COUNTS}", OF_FRAMES,
                              lambda found: Brought(int(found[1]), Event(found[2]), found[3] == "1", delivery_of(*found.groups()[3:])))
 
     def release(self, vcid: int) -> Union[Released, Refused]:
-        """Lets the oldest data field out of the buffer, to reassembly."""
+        """Releases the oldest data field from the buffer to reassembly."""
         return self._operate(f"release {number(vcid)}", rf"release {number(vcid)} {COUNTS}", OF_CHANNELS | {Refusal.EMPTY},
                              lambda found: Released(vcid, delivery_of(*found.groups())))
 
@@ -772,27 +796,28 @@ class Receiver:
                              OF_CHANNELS | {Refusal.NO_MAP, Refusal.EMPTY}, lambda found: Unit(vcid, map, bytes.fromhex(found[1].strip("-"))))
 
     def packets(self, vcid: int, apid: int) -> Iterator[bytes]:
-        """The packets that wait for an application, oldest first, each taken when it is asked for, until none waits. Raises `NotSetUp`
-        where there is no such channel or queue."""
+        """Yields the packets that wait for an application, the oldest first. Each is taken when it is asked for, until
+        none waits. Raises `NotSetUp` if there is no such channel or queue."""
         while isinstance(packet := self.take(vcid, apid), Packet):
             yield packet.octets
         if packet.reason is not Refusal.EMPTY:
             raise NotSetUp(packet)
 
     def units(self, vcid: int, map: int) -> Iterator[bytes]:
-        """The units that wait in the queue of a MAP, likewise."""
+        """Yields the units that wait in the queue of a MAP, as `packets` does."""
         while isinstance(unit := self.take_unit(vcid, map), Unit):
             yield unit.octets
         if unit.reason is not Refusal.EMPTY:
             raise NotSetUp(unit)
 
     def clcw(self, vcid: int) -> Union[Clcw, Refused]:
-        """The channel's CLCW, with the flags of the link as they were last set."""
+        """Returns the channel's CLCW, with the flags of the link as they were last set."""
         return self._operate(f"clcw {number(vcid)}", rf"clcw {number(vcid)} {WORD}", OF_CHANNELS,
                              lambda found: clcw_of(number(vcid), found[1]))
 
     def deliver(self, vcid: int) -> Union[Delivered, Refused]:
-        """Lets the oldest data field out of the buffer, if one waits, and takes all that waits in the queues of the channel then."""
+        """Releases the oldest data field from the buffer, if one waits, and then takes everything that waits in the
+        queues of the channel."""
         line, channel = f"deliver {number(vcid)}", number(vcid)
         taken: List[Union[Packet, Unit]] = []
         with self._turn():
@@ -806,12 +831,12 @@ class Receiver:
         return Delivered(channel, released, tuple(taken), answer)
 
     def link(self, vcid: int, no_rf: bool, no_bit_lock: bool) -> Union[bool, Refused]:
-        """Sets the flags of the link in later CLCWs of a channel: No RF Available and No Bit Lock. True where this was done."""
+        """Sets the flags No RF Available and No Bit Lock in later CLCWs of a channel. Returns True if that was done."""
         line = f"link {number(vcid)} {int(bool(no_rf))} {int(bool(no_bit_lock))}"
         return self._operate(line, re.escape(line), OF_CHANNELS, lambda found: True)
 
     def report(self, vcid: int) -> Union[Report, Refused]:
-        """What the channel is at the moment."""
+        """Returns the present state of the channel."""
         pattern = (rf"report {number(vcid)} state (open|wait|lockout) vr {NUMBER} lockout ([01]) wait ([01]) retransmit ([01]) farm-b ([0-3])"
                    rf" buffered {NUMBER}((?: queue \d{{1,20}} \d{{1,20}})*(?: map \d{{1,20}} \d{{1,20}})*)")
         return self._operate(f"report {number(vcid)}", pattern, OF_CHANNELS,
@@ -828,9 +853,9 @@ class Receiver:
         return self._final
 
     def close(self) -> Dict[int, Final]:
-        """Ends the lines, and returns the final report by channel. Called again it returns the same.
+        """Ends the lines, and returns the final report by channel. A second call returns the same report.
 
-        Raises `Ended` where the other end fails or its report isn't whole, and `Unexpected` where it says something else.
+        Raises `Ended` if the other end fails or its report isn't whole, and `Unexpected` if it answers anything else.
         """
         with self._turn():
             if self._final is not None:
@@ -856,7 +881,7 @@ class Receiver:
         return self
 
     def __exit__(self, kind: Optional[Type[BaseException]], error: Optional[BaseException], trace: Optional[TracebackType]) -> None:
-        """Closes the receiver; where an exception is on its way the program is ended, and there is no report."""
+        """Closes the receiver. If an exception is on its way, the program is ended, and there is no report."""
         if error is None:
             self.close()
         elif self._over is None and self._final is None:

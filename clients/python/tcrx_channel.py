@@ -9,22 +9,23 @@
             ...
     print(channel.final.events)
 
-What of the proofs reaches a caller: the functions of the library are proved, each answers what its definition says. This module
-is not proved: that its records are built as in the header, that it passes each argument on, makes a value of each answer and
-frees a channel once is tested, by the same cases as the calls from C. Nothing is proved of Python, ctypes or libffi.
+The functions of the library are proved: each returns what its definition says. This module is not proved. It builds its
+records as in the header, passes each argument on, makes a value from each record that is returned, and frees a channel
+once. That is tested, by the same cases as the calls from C. Nothing is proved about Python, ctypes or libffi.
 
-`tcrx_c` declares the records and calls of the library. The values are those of `tcrx`: an operation is answered by `Brought`,
-`Released`, `Packet`, `Unit`, `Clcw` or `Report`, or by `Refused` with its reason. What leaves a call without an answer is an
-exception.
+`tcrx_c` declares the records and calls of the library. The values are those of `tcrx`: the answer to an operation is
+`Brought`, `Released`, `Packet`, `Unit`, `Clcw` or `Report`, or `Refused` with its reason. If a call has no answer, it
+raises an exception.
 
-- Threads. A call of the library keeps the GIL, since it takes about a microsecond. So calls of one channel from several threads
-  take turns, and each is whole; channels of several threads don't run at the same time. Where Python has no GIL a lock in
-  each channel makes its calls take turns.
-- An interrupt (Ctrl-C) never comes amid a call of the library. The channel goes on, but the answer may be lost.
+- Threads. A call of the library keeps the GIL, because it takes about a microsecond. So calls on one channel from
+  several threads take turns, and each is whole. Channels of several threads don't run at the same time. In a Python
+  without a GIL, a lock in each channel makes its calls take turns.
+- An interrupt (Ctrl-C) never comes during a call of the library. The channel goes on, but the answer may be lost.
 - After a fork each process has the channel as it was then, and the two have nothing in common from then on.
-- A channel that is neither closed nor in a `with` is freed by its finaliser, when nothing refers to it or when Python ends.
+- A channel that is neither closed nor in a `with` is freed by its finaliser, when nothing refers to it or when Python
+  ends.
 
-Standard library alone, Python 3.9 or later.
+The module needs only the standard library, and Python 3.9 or later.
 """
 from __future__ import annotations
 
@@ -43,7 +44,7 @@ from typing import Any, Dict, Iterable, Iterator, List, Mapping, NoReturn, Optio
 
 from tcrx import (Brought, Clcw, Delivery, Ended, Event, Fault, Final, NotSetUp, NotStarted, Packet, Refusal, Refused, Released, Report,
                   State, Unit, octets_of)
-from tcrx_c import *  # pylint: disable=wildcard-import,unused-wildcard-import  # all that the header declares
+from tcrx_c import *  # pylint: disable=wildcard-import,unused-wildcard-import  # everything that the header declares
 from tcrx_c import _Channel, _Decoder, _Header, _Limit, _Map, _PacketHeader, _Queue, _Settings, _TmHeader
 
 __all__ = ["BadSettings", "Carried", "Channel", "Decoder", "Frame", "NoMemory", "NotRead", "NotWritten", "Rack", "Tm", "add_fecf", "check_fecf",
@@ -53,7 +54,7 @@ __all__ = ["BadSettings", "Carried", "Channel", "Decoder", "Frame", "NoMemory", 
 LIBRARY = "libtcrx.so.0"
 Octets = Union[bytes, bytearray, memoryview]
 Library = Union[str, "os.PathLike[str]", None]
-# The statuses that are answers.
+# The statuses that are refusals, each with its answer.
 REFUSED = {SHORT: Refused(Refusal.SHORT), BAD_VERSION: Refused(Refusal.VERSION), SPARE: Refused(Refusal.SPARE),
            LENGTH_SMALL: Refused(Refusal.LENGTH), TRUNCATED: Refused(Refusal.TRUNCATED), NO_QUEUE: Refused(Refusal.NO_QUEUE),
            NO_MAP: Refused(Refusal.NO_MAP), EMPTY: Refused(Refusal.EMPTY), OTHER_SPACECRAFT: Refused(Refusal.SPACECRAFT),
@@ -62,25 +63,26 @@ REFUSED = {SHORT: Refused(Refusal.SHORT), BAD_VERSION: Refused(Refusal.VERSION),
 UNCHECKED = (SHORT, BAD_VERSION, SPARE, LENGTH_SMALL, TRUNCATED, FILL, NO_FECF, WRONG_FECF)
 EVENTS = dict(enumerate(Event, 1))
 STATES = {OPEN: State.OPEN, WAIT: State.WAIT, LOCKOUT: State.LOCKOUT}
-# What becomes of most units, made once.
+# The outcomes for most units, which are created once.
 NOTHING, ONE_QUEUED = Delivery(0, 0, False), Delivery(1, 0, False)
-# Octets that a packet or a unit is taken into; a longer one is taken again into as many as it needs.
+# The size of the room into which packets and units are taken. A longer one is taken again into a larger room.
 FIRST_ROOM = 4096
-# Octets of a stream that a decoder is given at a time.
+# The number of octets of a stream that a decoder is given at a time.
 PIECE = 4096
 
 
 class BadSettings(Fault):
-    """No channel is made of these settings."""
+    """No channel is created from these settings."""
 
 
 class NoMemory(Fault, MemoryError):
-    """There is no memory for a channel. Once one is made, none of its calls asks for any."""
+    """There is too little memory for a channel. Once a channel is created, none of its calls requests any."""
 
 
 def find_library() -> str:
-    """Where the shared library is: in the folder that TCRX_LIB_DIR names; or next to this file, where pip made it; or in `lib` next
-    to the folder of the path that has `tclive`, as tools/install puts it; or else by its name alone, where the loader finds it."""
+    """Returns the path of the shared library. It is looked for in the folder that TCRX_LIB_DIR names, next to this
+    file, where pip builds it, and in `lib` next to the folder of the path that has `tclive`, where tools/install puts
+    it. Otherwise its name alone is returned, by which the loader looks for it."""
     named = os.environ.get("TCRX_LIB_DIR")
     if named:
         return str(Path(named) / LIBRARY)
@@ -96,7 +98,7 @@ _libraries: Dict[str, ctypes.PyDLL] = {}
 
 
 def load(path: Library) -> ctypes.PyDLL:
-    """The library, with the types of its calls. Raises `NotStarted` where it isn't there."""
+    """Returns the library, with the types of its calls. Raises `NotStarted` if it isn't there."""
     name = find_library() if path is None else os.fspath(path)
     if name not in _libraries:
         try:
@@ -105,14 +107,14 @@ def load(path: Library) -> ctypes.PyDLL:
                 function = getattr(library, call)
                 function.restype, function.argtypes = answer, arguments
         except (OSError, AttributeError) as error:
-            raise NotStarted(f"there is no library {name}: {error}; name it by library=, or its folder by TCRX_LIB_DIR; or "
-                             "install the client by pip from a clone, where there are a C compiler and make") from error
+            raise NotStarted(f"there is no library {name}: {error}. Name it by library=, or its folder by TCRX_LIB_DIR, or "
+                             "install the client by pip from a clone, on a machine with a C compiler and make") from error
         _libraries[name] = library
     return _libraries[name]
 
 
 def in_range(value: int, most: int, what: str) -> int:
-    """A whole number that the type in C can have."""
+    """Returns a whole number that the type in C can have."""
     number = int(index(value))
     if not 0 <= number <= most:
         raise ValueError(f"{what} is {number}, and must be 0 to {most}")
@@ -120,7 +122,7 @@ def in_range(value: int, most: int, what: str) -> int:
 
 
 def text_of(library: ctypes.PyDLL, status: int) -> str:
-    """The library's text of a status."""
+    """Returns the library's text of a status."""
     room = ctypes.create_string_buffer(TEXT_ROOM)
     written = library.tcrx_text_at(status, room, TEXT_ROOM)
     return room.value.decode("ascii") if written.status == DONE else f"status {status}"
@@ -129,7 +131,7 @@ def text_of(library: ctypes.PyDLL, status: int) -> str:
 # pylint: disable-next=too-many-arguments  # they are the settings of a channel
 def lists_of(vcid: int, width: int, buffer: int, first: int, plain: bool, queues: Optional[Mapping[int, int]],
              maps: Optional[Mapping[int, int]]) -> Tuple[Any, ...]:
-    """The arguments that settings are passed by. A list of no entries still needs a place."""
+    """Returns the arguments for settings. Even a list without entries needs a place in memory."""
     settings = _Settings(in_range(vcid, 255, "vcid"), in_range(width, 255, "width"), in_range(buffer, 255, "buffer"),
                          in_range(first, 255, "first"), 0 if plain else 1)
     its_queues = [_Queue(in_range(apid, 65535, "an APID"), in_range(room, 65535, "a capacity")) for apid, room in (queues or {}).items()]
@@ -139,13 +141,13 @@ def lists_of(vcid: int, width: int, buffer: int, first: int, plain: bool, queues
 
 
 def limits_of(limits: Mapping[int, int], others: int) -> Tuple[Any, ...]:
-    """The arguments that limits are passed by."""
+    """Returns the arguments for limits."""
     listed = [_Limit(in_range(map_id, 255, "a MAP"), in_range(octets, 2**32 - 1, "a limit")) for map_id, octets in limits.items()]
     return (in_range(others, 2**32 - 1, "others"), (_Limit * max(1, len(listed)))(*listed), len(listed))
 
 
 def check_made(library: ctypes.PyDLL, status: int) -> None:
-    """Raises why settings were refused."""
+    """Raises the reason why settings were rejected."""
     if status == NO_MEMORY:
         raise NoMemory(text_of(library, status))
     if status != DONE:
@@ -157,7 +159,8 @@ def storage(vcid: int, *, width: int, buffer: int, first: int, plain: bool = Fal
             queues: Optional[Mapping[int, int]] = None, maps: Optional[Mapping[int, int]] = None,
             limits: Optional[Mapping[int, int]] = None, others: int = 0,
             library: Library = None) -> int:
-    """How many octets the making of a channel of these settings and limits asks for. No other call of the channel asks for any."""
+    """Returns how many bytes the creation of a channel with these settings and limits requests. No other call of the
+    channel requests any."""
     loaded = load(library)
     lists = lists_of(vcid, width, buffer, first, plain, queues, maps)
     answer = (loaded.tcrx_storage_at(*lists) if limits is None else
@@ -168,21 +171,22 @@ def storage(vcid: int, *, width: int, buffer: int, first: int, plain: bool = Fal
 
 @dataclass(frozen=True)
 class Frame:
-    """The header of the frame at the front of octets, and how many octets it has."""
+    """The header of the frame at the front of octets, and the number of octets in the frame."""
 
     scid: int
     vcid: int
     ns: int  # pylint: disable=invalid-name  # the standard's N(S)
     """N(S), the frame sequence number."""
     bypass: bool
-    """Type-B in place of Type-A."""
+    """Whether the frame is of Type-B, and not of Type-A."""
     control: bool
-    """Type-C in place of Type-D."""
+    """Whether the frame is of Type-C, and not of Type-D."""
     length: int
 
 
 def read_frame(octets: Octets, *, library: Library = None) -> Union[Frame, Refused]:
-    """The header of the frame at the front of octets, by which a caller gives it to the channel that it is for."""
+    """Reads the header of the frame at the front of octets, by which a caller can find the channel that the frame is
+    for."""
     whole = octets_of(octets)
     frame = load(library).tcrx_read_frame_at(whole, len(whole))
     if frame.status != DONE:
@@ -191,24 +195,24 @@ def read_frame(octets: Octets, *, library: Library = None) -> Union[Frame, Refus
     return Frame(read.scid, read.vcid, read.ns, read.bypass == 1, read.control == 1, frame.length)
 
 
-# --- What a sender makes ---
+# --- What a sender writes ---
 
 MOST_FRAME, MOST_CLTU, MOST_TM = 1024, 1186, 2048
 
 
 class NotWritten(Fault):
-    """Nothing is written of these values."""
+    """Nothing is written from these values."""
 
 
 def written_by(library: ctypes.PyDLL, name: str, *given: Any, room: int = MOST_FRAME) -> Tuple[int, bytes]:
-    """The status of a call that writes, and what it wrote."""
+    """Returns the status of a call that writes, and what it wrote."""
     octets = ctypes.create_string_buffer(room)
     written = getattr(library, name)(*given, octets, room)
     return written.status, octets.raw[:written.length] if written.status == DONE else b""
 
 
 def made_by(library: ctypes.PyDLL, name: str, *given: Any, room: int = MOST_FRAME) -> bytes:
-    """What a call writes. Raises `NotWritten` with the reason why it writes nothing."""
+    """Returns what a call writes. Raises `NotWritten` with the reason if it writes nothing."""
     status, octets = written_by(library, name, *given, room=room)
     if status != DONE:
         raise NotWritten(text_of(library, status))
@@ -216,14 +220,14 @@ def made_by(library: ctypes.PyDLL, name: str, *given: Any, room: int = MOST_FRAM
 
 
 def header_of(scid: int, vcid: int, ns: int, bypass: bool, control: bool) -> _Header:
-    """The record of a header."""
+    """Returns the record of a header."""
     return _Header(in_range(scid, 65535, "scid"), in_range(vcid, 255, "vcid"), in_range(ns, 255, "ns"), int(bool(bypass)), int(bool(control)))
 
 
 # pylint: disable-next=too-many-arguments  # they are the fields of a header
 def write_packet(apid: int, count: int, field: Octets, *, telecommand: bool = True, secondary: bool = False, sequence: int = 3,
                  library: Library = None) -> bytes:
-    """A packet with a packet data field of 1 to 65,536 octets. Raises `NotWritten`."""
+    """Returns a packet with a packet data field of 1 to 65,536 octets. Raises `NotWritten`."""
     whole = octets_of(field)
     header = _PacketHeader(in_range(apid, 65535, "apid"), in_range(count, 65535, "count"), int(bool(telecommand)), int(bool(secondary)),
                            in_range(sequence, 255, "sequence"))
@@ -232,7 +236,7 @@ def write_packet(apid: int, count: int, field: Octets, *, telecommand: bool = Tr
 
 # pylint: disable-next=too-many-arguments  # they are the fields of a header
 def write_frame(scid: int, vcid: int, ns: int, field: Octets, *, bypass: bool = False, control: bool = False, library: Library = None) -> bytes:
-    """A frame with a data field of 1 to 1,019 octets. Raises `NotWritten`."""
+    """Returns a frame with a data field of 1 to 1,019 octets. Raises `NotWritten`."""
     whole = octets_of(field)
     return made_by(load(library), "tcrx_write_frame_at", header_of(scid, vcid, ns, bypass, control), whole, len(whole))
 
@@ -240,8 +244,9 @@ def write_frame(scid: int, vcid: int, ns: int, field: Octets, *, bypass: bool = 
 # pylint: disable-next=too-many-arguments,redefined-builtin  # they are the fields of two headers, by their names in tcrx
 def write_segments(unit: Octets, *, scid: int, vcid: int, ns: int, map: int, size: int = 1018, bypass: bool = False,
                    library: Library = None) -> List[bytes]:
-    """The frames of a unit of 1 to 65,542 octets in segments, of which each carries `size` octets (1 to 1,018), and the last one what is
-    left. The N(S) of Type-AD frames counts up from `ns`. Raises `NotWritten`."""
+    """Returns the frames that carry a unit of 1 to 65,542 octets in segments. Each carries `size` octets of it (1 to
+    1,018), and the last one carries the octets that are left. The N(S) of Type-AD frames counts up from `ns`. Raises
+    `NotWritten`."""
     loaded, whole = load(library), octets_of(unit)
     frames: List[bytes] = []
     given = (header_of(scid, vcid, ns, bypass, False), in_range(map, 255, "map"), in_range(size, 65535, "size"))
@@ -255,49 +260,52 @@ def write_segments(unit: Octets, *, scid: int, vcid: int, ns: int, map: int, siz
 
 
 def write_unlock(scid: int, vcid: int, *, library: Library = None) -> bytes:
-    """The Type-BC frame with the control command Unlock. Raises `NotWritten`."""
+    """Returns the Type-BC frame with the control command Unlock. Raises `NotWritten`."""
     return made_by(load(library), "tcrx_write_command_at", in_range(scid, 65535, "scid"), in_range(vcid, 255, "vcid"), UNLOCK, 0)
 
 
 def write_set_vr(scid: int, vcid: int, vr: int, *, library: Library = None) -> bytes:
-    """The Type-BC frame with the control command Set V(R). Raises `NotWritten`."""
+    """Returns the Type-BC frame with the control command Set V(R). Raises `NotWritten`."""
     given = in_range(scid, 65535, "scid"), in_range(vcid, 255, "vcid"), SET_VR, in_range(vr, 255, "vr")
     return made_by(load(library), "tcrx_write_command_at", *given)
 
 
 def add_fecf(frame: Octets, *, library: Library = None) -> bytes:
-    """A frame with its frame error control field. Raises `NotWritten`."""
+    """Returns a frame with its frame error control field. Raises `NotWritten`."""
     whole = octets_of(frame)
     return made_by(load(library), "tcrx_add_fecf_at", whole, len(whole))
 
 
 def check_fecf(frame: Octets, *, library: Library = None) -> Union[bytes, Refused]:
-    """A frame without its frame error control field, where that is right, and `CHECK` where it isn't, as with `fecf` of a `Receiver`."""
+    """Returns a frame without its frame error control field if that is right. Otherwise returns a refusal by `CHECK`,
+    as a `Receiver` with `fecf` does."""
     whole = octets_of(frame)
     status, plain = written_by(load(library), "tcrx_check_fecf_at", whole, len(whole))
     return plain if status == DONE else Refused(Refusal.CHECK)
 
 
 def write_cltu(frame: Octets, *, library: Library = None) -> bytes:
-    """The CLTU that carries a frame, or 1 to 1,029 other octets. Raises `NotWritten`."""
+    """Returns the CLTU that carries a frame, or 1 to 1,029 other octets. Raises `NotWritten`."""
     whole = octets_of(frame)
     return made_by(load(library), "tcrx_write_cltu_at", whole, len(whole), room=MOST_CLTU)
 
 
 class Decoder:
-    """Finds CLTUs in a stream that comes in any pieces. Its attributes `corrected` and `rejected` count the code blocks that it corrected
-    and rejected, apart from tail sequences, and `overlong` the CLTUs that carried more than 1,029 octets, which give nothing."""
+    """A decoder that finds CLTUs in a stream, which may come in pieces of any size. Its attributes `corrected` and
+    `rejected` count the code blocks that it corrected and rejected, apart from tail sequences. Its attribute `overlong`
+    counts the CLTUs that carried more than 1,029 octets, which give no candidate."""
 
     def __init__(self, *, correct: bool, library: Library = None) -> None:
-        """With correction of one wrong bit in each code block, or with detection alone."""
+        """Creates a decoder. If `correct` is true, it corrects one wrong bit in each code block. Otherwise it only
+        detects wrong bits."""
         self._library = load(library)
         self._kept = _Decoder(int(bool(correct)), 0, 0, 0, 0)
         self._carried = ctypes.create_string_buffer(DECODER_ROOM)
         self.corrected = self.rejected = self.overlong = 0
 
     def feed(self, octets: Octets) -> List[bytes]:
-        """The candidates that end in these octets: what each CLTU carried, which is a frame with fill behind it, or several. A `Rack` brings
-        them as they are."""
+        """Returns the candidates that end in these octets. A candidate is what a CLTU carried: a frame with fill behind
+        it, or several frames. A `Rack` brings candidates as they are."""
         frames: List[bytes] = []
         whole = octets_of(octets)
         for at in range(0, len(whole), PIECE):
@@ -313,7 +321,8 @@ class Decoder:
         return frames
 
     def search(self) -> bool:
-        """Looks for a start sequence anew, as after a loss of bit lock. Says whether that cuts short what began as a CLTU."""
+        """Looks for a start sequence anew, as after a loss of bit lock. Returns whether that cuts short what began as a
+        CLTU."""
         was_decoding = bool(self._kept.decoding)
         self._kept = self._library.tcrx_cltu_search(self._kept).decoder
         return was_decoding
@@ -323,15 +332,17 @@ class Decoder:
 
 
 def randomise(frame: Octets, *, library: Library = None) -> bytes:
-    """A frame, or what a CLTU carried, with the random sequence added; added twice, it changes nothing. Raises `NotWritten`."""
+    """Returns a frame, or what a CLTU carried, with the random sequence added. A sequence that is added twice changes
+    nothing. Raises `NotWritten`."""
     whole = octets_of(frame)
     return made_by(load(library), "tcrx_randomise_at", whole, len(whole), room=MOST_CLTU)
 
 
 @dataclass(frozen=True)
 class Tm:
-    """What a telemetry frame says: the first header pointer is 2,046 where all data are idle, and 2,047 where no packet begins. The
-    operational control field has a CLCW, or else a Type-2 report, whose four octets are that number."""
+    """The fields of a telemetry frame. The first header pointer is 2,046 if all data are idle, and 2,047 if no packet
+    begins. The operational control field has a CLCW, or else a Type-2 report, whose four octets are the number
+    `report`."""
     scid: int
     vcid: int
     master_count: int
@@ -342,13 +353,14 @@ class Tm:
 
 
 class NotRead(Fault):
-    """Octets are no telemetry frame."""
+    """The octets aren't a telemetry frame."""
 
 
 # pylint: disable-next=too-many-arguments  # they are the fields of a header
 def write_tm(scid: int, vcid: int, master_count: int, channel_count: int, clcw: Clcw, *, size: int, fecf: bool = False,
              library: Library = None) -> bytes:
-    """A telemetry frame of so many octets that carries a CLCW, with idle data for the rest. Raises `NotWritten`."""
+    """Returns a telemetry frame of `size` octets that carries a CLCW. All other data in it are idle. Raises
+    `NotWritten`."""
     header = _TmHeader(in_range(scid, 65535, "scid"), in_range(vcid, 255, "vcid"), in_range(master_count, 255, "master_count"),
                        in_range(channel_count, 255, "channel_count"))
     given = header, int(bool(fecf)), clcw.word, in_range(size, 65535, "size")
@@ -356,7 +368,7 @@ def write_tm(scid: int, vcid: int, master_count: int, channel_count: int, clcw: 
 
 
 def read_tm(octets: Octets, *, fecf: bool = False, library: Library = None) -> Tm:
-    """Reads octets that are one telemetry frame. Raises `NotRead` with the reason why they are none."""
+    """Reads octets that are one telemetry frame. Raises `NotRead` with the reason if they aren't one."""
     loaded, whole = load(library), octets_of(octets)
     answer = loaded.tcrx_read_tm_at(int(bool(fecf)), whole, len(whole))
     if answer.status != DONE:
@@ -367,7 +379,7 @@ def read_tm(octets: Octets, *, fecf: bool = False, library: Library = None) -> T
 
 
 def delivery_of(answer: Any) -> Delivery:
-    """What an answer says of a unit."""
+    """Returns the outcome for a unit that a record gives."""
     queued, dropped, rest = answer.queued, answer.dropped, answer.rest
     if queued > 1 or dropped or rest:
         return Delivery(queued, dropped, rest == 1)
@@ -375,11 +387,11 @@ def delivery_of(answer: Any) -> Delivery:
 
 
 def free(library: ctypes.PyDLL, held: _Channel) -> None:
-    """Frees a channel that is held; none is left then."""
+    """Frees a channel that is held, after which none is held."""
     library.tcrx_channel_free_at(byref(held))
 
 
-# pylint: disable-next=too-many-instance-attributes  # what a call needs is found once, where the channel is made
+# pylint: disable-next=too-many-instance-attributes  # what a call needs is found once, when the channel is created
 class Channel:
     """A virtual channel of a receiver, in this process. Its attribute `vcid` is its virtual channel id."""
 
@@ -387,13 +399,16 @@ class Channel:
                  queues: Optional[Mapping[int, int]] = None, maps: Optional[Mapping[int, int]] = None,
                  limits: Optional[Mapping[int, int]] = None, others: int = 0,
                  library: Library = None) -> None:
-        """Makes a virtual channel (0 to 63): the width of its window (even, 2 to 254), how many data fields its buffer holds (1 to
-        64), its first V(R) (0 to 255), and whether its data fields have no segment headers; the room of its queues by application,
-        and of those by MAP, 1 to 256 each. `limits` has the most octets of a unit by MAP, 1 to 65,542, and `others` is the limit of
-        each MAP that it doesn't list; without `limits` each unit may have 65,542. `library` is the path of libtcrx.so.0; without
-        it, it is looked for by `find_library`.
+        """Creates a virtual channel (0 to 63). `width` is the width of its window (even, 2 to 254), `buffer` the number
+        of data fields that its buffer holds (1 to 64), and `first` its first V(R) (0 to 255). With `plain` its data
+        fields have no segment headers. `queues` has the capacity of the packet queues by application, and `maps` that
+        of the unit queues by MAP, 1 to 256 each.
 
-        Raises `NotStarted` where the library isn't there, `BadSettings`, and `NoMemory`.
+        `limits` has the most octets of a unit by MAP, 1 to 65,542, and `others` is the limit of each MAP that isn't
+        listed there. Without `limits` each unit may have 65,542 octets. `library` is the path of libtcrx.so.0. Without
+        it, the library is looked for by `find_library`.
+
+        Raises `NotStarted` if the library isn't there, `BadSettings`, and `NoMemory`.
         """
         self._library, self._lock = load(library), threading.Lock()
         self.vcid = in_range(vcid, 255, "vcid")
@@ -422,18 +437,18 @@ class Channel:
         raise TypeError("a channel can't be copied or pickled: a copy of it is no second channel")
 
     def _raise(self, status: int) -> NoReturn:
-        """Raises what leaves a call without an answer."""
+        """Raises the reason why a call has no answer."""
         if status == NO_CHANNEL:
             raise Ended(None, "it was closed")
         raise Fault(text_of(self._library, status))
 
     def _refuse(self, status: int) -> Refused:
-        """A status that is an answer; each other one is raised."""
+        """Returns the refusal that a status stands for. Raises any other status."""
         refused = REFUSED.get(status)
         return self._raise(status) if refused is None else refused
 
     def _count(self, answer: Any) -> int:
-        """A count that was asked for."""
+        """Returns the count in a record."""
         if answer.status != DONE:
             self._raise(answer.status)
         return int(answer.count)
@@ -441,8 +456,8 @@ class Channel:
     # --- Operations ---
 
     def bring(self, octets: Octets) -> Union[Brought, Refused]:
-        """Brings octets that arrive, with the frame at their front. Which spacecraft and channel it is for isn't looked at: a `Rack` does
-        that."""
+        """Brings octets that arrive, with the frame at their front. The call doesn't look at the spacecraft and the
+        channel that the frame is for. A `Rack` does that."""
         whole = octets_of(octets)
         with self._lock:
             reply = self._library.tcrx_channel_frame_at(self._at, whole, len(whole))
@@ -451,7 +466,7 @@ class Channel:
         return Brought(self.vcid, EVENTS[reply.event], reply.accepted == 1, delivery_of(reply))
 
     def release(self) -> Union[Released, Refused]:
-        """Lets the oldest data field out of the buffer, to reassembly."""
+        """Releases the oldest data field from the buffer to reassembly."""
         with self._lock:
             answer = self._library.tcrx_channel_release_at(self._at)
         if answer.status:
@@ -459,7 +474,8 @@ class Channel:
         return Released(self.vcid, delivery_of(answer))
 
     def _taken(self, call: Any, key: int) -> Union[bytes, Refused]:
-        """What a call takes out of a queue: into the channel's own room, or into as much as it needs."""
+        """Returns what a call takes out of a queue. It is taken into the channel's own room, or into as much as it
+        needs."""
         with self._lock:
             written = call(self._at, key, self._room, FIRST_ROOM)
             if not written.status:
@@ -482,8 +498,8 @@ class Channel:
         return Unit(self.vcid, map, taken) if isinstance(taken, bytes) else taken
 
     def packets(self, apid: int) -> Iterator[bytes]:
-        """The packets that wait for an application, oldest first, each taken when it is asked for, until none waits. Raises `NotSetUp`
-        where there is no such queue."""
+        """Yields the packets that wait for an application, the oldest first. Each is taken when it is asked for, until
+        none waits. Raises `NotSetUp` if there is no such queue."""
         while isinstance(packet := self.take(apid), Packet):
             yield packet.octets
         if packet.reason is not Refusal.EMPTY:
@@ -491,14 +507,14 @@ class Channel:
 
     # pylint: disable-next=redefined-builtin  # as in tcrx
     def units(self, map: int) -> Iterator[bytes]:
-        """The units that wait in the queue of a MAP, likewise."""
+        """Yields the units that wait in the queue of a MAP, as `packets` does."""
         while isinstance(unit := self.take_unit(map), Unit):
             yield unit.octets
         if unit.reason is not Refusal.EMPTY:
             raise NotSetUp(unit)
 
     def clcw(self) -> Clcw:
-        """Its CLCW, with the flags of the link as they were last set."""
+        """Returns the channel's CLCW, with the flags of the link as they were last set."""
         with self._lock:
             answer = self._library.tcrx_channel_clcw_at(self._at, *self._link)
         if answer.status:
@@ -506,11 +522,11 @@ class Channel:
         return Clcw(answer.word)
 
     def link(self, no_rf: bool, no_bit_lock: bool) -> None:
-        """Sets the flags of the link in later CLCWs: No RF Available and No Bit Lock."""
+        """Sets the flags No RF Available and No Bit Lock of the link in later CLCWs."""
         self._link = (int(bool(no_rf)), int(bool(no_bit_lock)))
 
     def report(self) -> Report:
-        """What the channel is at the moment."""
+        """Returns the present state of the channel."""
         with self._lock:
             answer = self._library.tcrx_channel_report_at(self._at)
             if answer.status:
@@ -520,7 +536,7 @@ class Channel:
                       buffered, queues, maps)
 
     def _counts(self) -> Tuple[int, Dict[int, int], Dict[int, int]]:
-        """How much waits in the buffer and in each queue."""
+        """Returns how much waits in the buffer and in each queue."""
         library, at = self._library, self._at
         queues = {apid: self._count(library.tcrx_channel_queued_at(at, apid)) for apid in self._queues}
         maps = {map: self._count(library.tcrx_channel_units_at(at, map)) for map in self._maps}
@@ -528,7 +544,7 @@ class Channel:
 
     @property
     def events(self) -> int:
-        """How many frames, releases and takes were answered."""
+        """The number of frames, releases and takes that were answered."""
         with self._lock:
             return self._count(self._library.tcrx_channel_events_at(self._at))
 
@@ -536,13 +552,13 @@ class Channel:
 
     @property
     def final(self) -> Final:
-        """What the channel was when it was closed."""
+        """The state of the channel when it was closed."""
         if self._final is None:
             raise ValueError("the channel isn't closed")
         return self._final
 
     def close(self) -> Final:
-        """Frees the channel, and returns what it was then. Called again it returns the same."""
+        """Frees the channel, and returns its last state. A second call returns the same."""
         if self._final is None:
             clcw, events = self.clcw(), self.events
             with self._lock:
@@ -561,25 +577,27 @@ class Channel:
 
 @dataclass(frozen=True)
 class Carried:
-    """What became of the frames that a CLTU carried, in their order; and the octets behind the last of them, where they aren't fill."""
+    """The outcome for the frames that a CLTU carried, in their order, and the octets behind the last of them if they
+    aren't fill."""
     frames: List[Union[Brought, Refused]]
     more: bytes = b""
 
 
 class Rack:
-    """The channels of a spacecraft, in this process: which of them a frame is for. Each is asked and closed by itself; one that is closed
-    is of the rack no more. A channel is of one rack at a time, that which was made of it last. Its attributes `scid` and `fecf` are as it
-    was made."""
+    """The channels of a spacecraft, in this process. A rack finds the channel that a frame is for. Each channel is used
+    and closed by itself, and a channel that is closed isn't in the rack any more. A channel is in one rack at a time,
+    which is the last one that was created with it. The attributes `scid` and `fecf` are those with which the rack was
+    created."""
 
     def __init__(self, scid: int, channels: Iterable[Channel], *, fecf: bool = False) -> None:
-        """Makes a rack of channels for the spacecraft with the id `scid` (0 to 1,023). With `fecf` each frame must carry the frame error
-        control field, which is checked and taken off."""
+        """Creates a rack of channels for the spacecraft with the id `scid` (0 to 1,023). With `fecf` each frame must
+        carry the frame error control field, which is checked and removed."""
         self.scid, self.fecf = in_range(scid, 65535, "scid"), bool(fecf)
         self._channels = tuple(channels)
         self._held = (_Channel * max(1, len(self._channels)))()
-        # pylint: disable=protected-access  # a rack has its channels' memory, and takes turns with them
+        # pylint: disable=protected-access  # a rack has the memory of its channels, and takes turns with them
         self._library = self._channels[0]._library if self._channels else load(None)
-        # Each once, and in one order for all racks, so that no two calls wait for each other.
+        # Each lock is taken once, and in one order for all racks, so that no two calls wait for each other.
         self._locks = [lock for _, lock in sorted({id(channel): channel._lock for channel in self._channels}.items())]
         for held, channel in zip(self._held, self._channels):
             channel._move_to(held)
@@ -588,21 +606,23 @@ class Rack:
         raise TypeError("a rack can't be copied or pickled: its channels are in its memory alone")
 
     def _call(self, name: str, *given: Any) -> Any:
-        """A call of the library, in turn with those of each channel."""
+        """Calls the library, in turn with the calls on each channel."""
         with ExitStack() as locked:
             for lock in self._locks:
                 locked.enter_context(lock)
             return getattr(self._library, name)(self._held, len(self._channels), *given)
 
     def bring(self, octets: Octets) -> Union[Brought, Refused]:
-        """Brings octets that arrive, with the frame at their front, to the first channel that it is for. With `fecf` octets that aren't one
-        frame with the right field at its end are refused by `CHECK`, as of a `Receiver`."""
+        """Brings octets that arrive, with the frame at their front, to the first channel that the frame is for. With
+        `fecf`, octets that aren't one frame with the right field at its end are refused by `CHECK`, as a `Receiver`
+        does."""
         whole = octets_of(octets)
         return self._brought(self._call("tcrx_rack_frame_at", self.scid, int(self.fecf), whole, len(whole)))
 
     def bring_candidate(self, octets: Octets, *, most: int = 1) -> Carried:
-        """Brings the frames of a candidate, which a `Decoder` gives, one after the other and at most so many. Each is as long as its length
-        field says; with `fecf` its field is checked then. Where octets that aren't fill begin with no frame, that is the last answer."""
+        """Brings the frames of a candidate, which a `Decoder` gives, one after the other, and at most `most` of them.
+        Each is as long as its length field says. With `fecf` its field is then checked. If octets that aren't fill
+        don't begin with a frame, their refusal is the last answer."""
         answers: List[Union[Brought, Refused]] = []
         rest = octets_of(octets)
         for _ in range(in_range(most, 255, "most")):
@@ -614,12 +634,12 @@ class Rack:
         return Carried(answers, rest)
 
     def _brought(self, reply: Any) -> Union[Brought, Refused]:
-        """What a reply of a rack says."""
+        """Returns the answer that a reply of a rack stands for."""
         if reply.status:
             return Refused(Refusal.CHECK) if self.fecf and reply.status in UNCHECKED else REFUSED[reply.status]
         return Brought(reply.vcid, EVENTS[reply.event], reply.accepted == 1, delivery_of(reply))
 
     def channel(self, vcid: int) -> Optional[Channel]:
-        """The first channel with this virtual channel id; None where there is none."""
+        """Returns the first channel with this virtual channel id, or None if there is none."""
         found = self._call("tcrx_rack_find_at", in_range(vcid, 255, "vcid"))
         return self._channels[found.place] if found.status == DONE else None
