@@ -1,4 +1,7 @@
-"""Sends packets over a bad link until each has come, by what CLCWs say. Usage: python3 examples/bench.py SEED [--fecf]"""
+"""Sends packets over a bad link until each has arrived, guided by CLCWs.
+
+Usage: python3 examples/bench.py SEED [--fecf]
+"""
 import random
 import subprocess
 import sys
@@ -10,13 +13,14 @@ sys.path.insert(0, str(TOP / "clients/python"))
 from tcrx import NotStarted, Receiver
 
 def link(dice: random.Random, past: List[bytes], turning: bool) -> Iterator[bytes]:
-    """What comes out for the newest frame: one in five is lost, an old one comes again, and bits are turned, up to 16 in a row."""
+    """Yields what the link makes of the newest frame: one in five is lost, an old one comes again, and up to 16 bits in
+    a row are turned."""
     for octets in [past[-1]] * (dice.random() > 0.2) + [dice.choice(past[-40:])] * (dice.random() < 0.2):
         turned = dice.randrange(1, 1 << 16) << dice.randrange(8 * len(octets) - 15) if turning and dice.random() < 0.2 else 0
         yield (int.from_bytes(octets, "big") ^ turned).to_bytes(len(octets), "big")
 
 def start(fecf: bool, tclive: Optional[Path]) -> Receiver:
-    """A receiver with a small buffer."""
+    """Starts a receiver with a small buffer."""
     receiver = Receiver(42, fecf=fecf, program=tclive)
     receiver.channel(1, width=20, buffer=4, first=0)
     receiver.queue(1, apid=5, capacity=4)
@@ -24,7 +28,7 @@ def start(fecf: bool, tclive: Optional[Path]) -> Receiver:
 
 def run(seed: int, fecf: bool, count: int = 300, tclive: Optional[Path] = None, tcmake: Path = TOP / "tcmake",
         begin: Callable[[bool, Optional[Path]], ContextManager[Any]] = start) -> str:
-    """Sends so many packets over what `begin` begins, and says how many frames it took."""
+    """Sends `count` packets over what `begin` begins, and returns how many frames that took."""
     # pylint: disable=too-many-locals  # one loop, from the CLCW to the packets
     dice, acknowledged, sent = random.Random(seed), 0, 0
     past: List[bytes] = []
@@ -38,8 +42,8 @@ def run(seed: int, fecf: bool, count: int = 300, tclive: Optional[Path] = None, 
             clcw = receiver.clcw(1)
             assert clcw  # channel 1 is there
             moved = (clcw.vr - acknowledged) % 256
-            acknowledged += moved  # N(R): each frame before it was accepted
-            first = acknowledged if clcw.retransmit or not moved else sent  # nothing moved: as if a timer ran out
+            acknowledged += moved  # as N(R): each frame before it was accepted
+            first = acknowledged if clcw.retransmit or not moved else sent  # if nothing moved, as after a timer
             sent = first if clcw.lockout or clcw.wait else min(acknowledged + 10, count)
             for frame in [unlock] * clcw.lockout + frames[first:sent]:
                 past.append(frame)
@@ -51,7 +55,7 @@ def run(seed: int, fecf: bool, count: int = 300, tclive: Optional[Path] = None, 
     return f"{count} packets came in their order, each once; {len(past)} frames were sent, {past.count(unlock)} of them Unlocks"
 
 def say(what: Callable[[], str]) -> None:
-    """Prints what comes of it. A program that isn't there is named, and one that isn't built has said so."""
+    """Prints the result. A program that isn't there is named, and one that isn't built has said so itself."""
     try:
         print(what())
     except (NotStarted, OSError) as error:

@@ -1,5 +1,8 @@
-"""The sender of bench.py over both edges of tcrx-bench: CLTUs go up, and telemetry frames bring CLCWs down. One CLTU in five is lost, and
-of all other octets one bit in a thousand is turned. Usage: python3 examples/bench_cltu.py SEED [--udp] [--detect] [--randomised]"""
+"""Sends the packets of bench.py over both edges of tcrx-bench: CLTUs go up, and telemetry frames bring CLCWs down. One
+CLTU in five is lost, and of all other octets one bit in a thousand is turned.
+
+Usage: python3 examples/bench_cltu.py SEED [--udp] [--detect] [--randomised]
+"""
 import random
 import select
 import socket
@@ -16,18 +19,19 @@ import bench
 import bench_udp
 from tcrx import Clcw
 
-# The share of CLTUs that are lost, and of bits that are turned; octets between CLTUs; telemetry frames a second.
+# The share of CLTUs that are lost, the share of bits that are turned, the octets between CLTUs, and the telemetry frames per second.
 LOST, TURNED, IDLE, RATE = 0.2, 0.001, b"\x55" * 16, "250"
 
 
 def turned(dice: random.Random, octets: bytes) -> bytes:
-    """What a bad link makes of octets."""
+    """Returns what a bad link makes of octets."""
     wrong = sum((dice.random() < TURNED) << bit for bit in range(8 * len(octets)))
     return (int.from_bytes(octets, "big") ^ wrong).to_bytes(len(octets), "big")
 
 
 class Edges(bench_udp.Remote):
-    """What the sender needs of a receiver, over CLTUs and telemetry frames. A tcmake makes the ones and reads the others."""
+    """What the sender needs from a receiver, over CLTUs and telemetry frames. A tcmake makes the CLTUs and reads the
+    telemetry frames."""
 
     # pylint: disable-next=too-many-arguments  # the bench, and what was chosen
     def __init__(self, ports: Dict[str, int], clcws: socket.socket, seed: int, randomised: bool, tcmake: Path) -> None:
@@ -37,19 +41,20 @@ class Edges(bench_udp.Remote):
         self.maker = subprocess.Popen([tcmake, "--fecf"], stdin=subprocess.PIPE, stdout=subprocess.PIPE, text=True, bufsize=1)
 
     def ask(self, line: str) -> List[str]:
-        """The words of the answer to a line."""
+        """Returns the words of the answer to a line."""
         assert self.maker.stdin and self.maker.stdout
         self.maker.stdin.write(line + "\n")
         return self.maker.stdout.readline().split()
 
     def bring(self, octets: bytes) -> None:
-        """Sends what the link makes of a frame in its CLTU, or of what is between CLTUs alone."""
+        """Sends what the link makes of a frame in its CLTU, or only of the octets between CLTUs."""
         digits = self.ask(f"random {octets.hex()}")[1] if self.randomised else octets.hex()
         cltu = bytes.fromhex(self.ask(f"cltu {digits}")[1])
         self.frames.send(turned(self.dice, IDLE + (b"" if self.dice.random() < LOST else cltu) + IDLE))
 
     def clcw(self, vcid: int) -> Clcw:
-        """The CLCW of a telemetry frame that was made when all that was sent had come: the second one from now on."""
+        """Returns the CLCW of a telemetry frame that was made when everything that was sent had come. It is the second
+        frame from now on."""
         while select.select([self.clcws], [], [], 0)[0]:
             self.clcws.recv(2048)
         self.clcws.recv(2048)
@@ -65,7 +70,7 @@ class Edges(bench_udp.Remote):
 
 
 def through(dice: random.Random, past: List[bytes], turning: bool) -> Iterator[bytes]:
-    """A link over which each frame comes, as CLTUs have their own."""
+    """Yields each frame as it is, because CLTUs have a link of their own."""
     del dice, turning
     yield past[-1]
 
@@ -73,7 +78,8 @@ def through(dice: random.Random, past: List[bytes], turning: bool) -> Iterator[b
 # pylint: disable-next=too-many-arguments  # what may be chosen
 def run(seed: int, udp: bool = False, mode: str = "correct", randomised: bool = False, tclive: Optional[Path] = None,
         tcmake: Path = TOP / "tcmake") -> str:
-    """Sends packets until each has come, and says how many frames it took, and what the bench says of the sender."""
+    """Sends packets until each has arrived. Returns how many frames that took, and what the bench says of the
+    sender."""
     said: List[str] = []
     words = ["--tc-udp" if udp else "--tc-tcp", "0", "--cltu", mode, *["--randomised"] * randomised, "--tcmake", str(tcmake), "--tm-udp", "PLACE",
              "--tm-rate", RATE, "--tm-length", "64", "--tm-fecf", "--sender", "1", "10"]

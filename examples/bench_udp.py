@@ -1,4 +1,7 @@
-"""The sender of bench.py, which sends its frames to tcrx-bench by UDP. Usage: python3 examples/bench_udp.py SEED [--fecf]"""
+"""Sends the packets of bench.py to tcrx-bench by UDP.
+
+Usage: python3 examples/bench_udp.py SEED [--fecf]
+"""
 import select
 import signal
 import socket
@@ -15,14 +18,14 @@ sys.path[:0] = [str(TOP / "examples"), str(TOP / "clients/python")]
 import bench
 from tcrx import Clcw  # pylint: disable=wrong-import-position
 
-# Seconds without a CLCW after which no more are expected, and between two that follow no frame.
+# The seconds without a CLCW after which no more are expected, and the seconds between two CLCWs that follow no frame.
 QUIET, PERIOD = 0.004, "0.02"
-# How frames come to the bench, and CLCWs to the place that is put there.
+# The options by which frames come to the bench, and CLCWs go to the address that replaces PLACE.
 PORTS = ("--tc-udp", "0", "--clcw-udp", "PLACE", "--period", PERIOD)
 
 
 class Remote:
-    """What the sender needs of a receiver, over the ports of a bench that releases and takes by itself."""
+    """What the sender needs from a receiver, over the ports of a bench that releases and takes by itself."""
 
     def __init__(self, ports: Dict[str, int], clcws: socket.socket) -> None:
         self.clcws = clcws
@@ -36,7 +39,8 @@ class Remote:
         self.frames.send(octets)
 
     def clcw(self, vcid: int) -> Clcw:
-        """The newest CLCW, once all frames that were sent are answered: no other one comes for a moment."""
+        """Returns the newest CLCW once all frames that were sent are answered, which is when no other one comes for a
+        moment."""
         octets = self.clcws.recv(4)
         while select.select([self.clcws], [], [], QUIET)[0]:
             octets = self.clcws.recv(4)
@@ -45,11 +49,11 @@ class Remote:
         return clcw
 
     def release(self, _: int) -> bool:
-        """Whether packets came: the bench released them."""
+        """Returns whether packets came, which the bench released."""
         return bool(select.select([self.packets_link], [], [], 0)[0])
 
     def packets(self, _: int, apid: int) -> Iterator[bytes]:
-        """The packets that came, each as long as its length field says."""
+        """Yields the packets that came, each as long as its length field says."""
         self.left += self.packets_link.recv(65536)
         while len(self.left) >= 7 and len(self.left) >= (end := 7 + int.from_bytes(self.left[4:6], "big")):
             assert int.from_bytes(self.left[:2], "big") & 0x7FF == apid
@@ -65,7 +69,7 @@ class Remote:
 @contextmanager
 def start(fecf: bool, tclive: Optional[Path], words: Sequence[str] = PORTS,
           made: Callable[[Dict[str, int], socket.socket], Remote] = Remote, said: Optional[List[str]] = None) -> Iterator[Remote]:
-    """Starts a bench on free ports. What it says at its end is added to `said`."""
+    """Starts a bench on free ports. Adds what the bench prints at its end to `said`."""
     clcws = socket.socket(socket.AF_INET, socket.SOCK_DGRAM)
     clcws.bind(("127.0.0.1", 0))
     clcws.settimeout(60)

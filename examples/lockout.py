@@ -1,12 +1,12 @@
-"""Three telecommands to a channel: the third comes with an N(S) far outside the window, so that the channel is locked out. It is
-unlocked, the third comes again with the N(S) that is expected, and all three packets are taken."""
+"""Sends three telecommands to a channel. The third has an N(S) far outside the window, so FARM-1 goes to lockout. The
+channel is then unlocked, the third telecommand comes again with the expected N(S), and all three packets are taken."""
 from tcrx import Brought, Channel
 
 UNLOCK = bytes.fromhex("302a04050000")
 
 
 def frame(number: int, packet: int) -> bytes:
-    """The frame with this N(S) that carries this packet."""
+    """Returns the frame with this N(S) that carries this packet."""
     return bytes.fromhex(f"002a040c{number:02x}c01005c0{packet:02x}0000aa")
 
 
@@ -17,7 +17,7 @@ def bring(channel: Channel, octets: bytes) -> None:
 
 
 def main() -> None:
-    """The pass."""
+    """Makes the pass."""
     with Channel(1, width=10, buffer=4, first=0, queues={5: 8}) as channel:
         for number, packet in ((0, 0), (1, 1), (50, 2)):
             bring(channel, frame(number, packet))

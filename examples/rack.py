@@ -1,5 +1,5 @@
-"""A spacecraft's receiver in Python: two virtual channels behind one call. Frames end with their frame error control field; a channel's
-packets are for one application."""
+"""A spacecraft's receiver in Python, with two virtual channels behind one call. Frames end with their frame error
+control field, and the packets of a channel are for one application."""
 from contextlib import ExitStack
 
 from tcrx import Brought, Channel, Rack
@@ -11,7 +11,8 @@ APPLICATIONS = {1: 5, 2: 7}
 
 # pylint: disable-next=too-many-arguments  # they are what a frame has
 def send(rack: Rack, vcid: int, application: int, octet: int, *, ns: int = 0, bypass: bool = False, turned: int = 0) -> None:
-    """A ground test's end: an octet in a packet, in a frame, with its field, of which a bit may be turned on the way."""
+    """Does what a ground test does: sends an octet in a packet, in a frame, with its frame error control field. A bit
+    of it may be turned on the way."""
     packet = write_packet(application, 0, bytes([octet]))
     frames = write_segments(packet, scid=SPACECRAFT, vcid=vcid, ns=ns, map=0, bypass=bypass)
     sent = bytearray(add_fecf(frames[0]))
@@ -30,7 +31,7 @@ def serve(channel: Channel, application: int) -> None:
 
 
 def main() -> None:
-    """Makes the channels, which are freed at the end of the block."""
+    """Creates the channels, which are freed at the end of the block."""
     with ExitStack() as made:
         channels = [made.enter_context(Channel(vcid, width=10, buffer=4, first=0, queues={application: 8}, limits={0: 256}))
                     for vcid, application in APPLICATIONS.items()]
