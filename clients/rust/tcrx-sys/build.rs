@@ -1,11 +1,12 @@
-//! Says where the library is: in the folder that TCRX_LIB_DIR names, or where the command pkg-config finds it; or else makes it of the
-//! text in the folder `dist` of the repository, by a C compiler and `make`.
+//! Finds the library, in the folder that TCRX_LIB_DIR names, or where the command pkg-config finds it. Otherwise builds it from
+//! the folder `dist` of the repository, by a C compiler and `make`.
 
 use std::env;
 use std::path::{Path, PathBuf};
 use std::process::{exit, Command};
 
-/// The folder by pkg-config: that of the variable `libdir` of dekorihe-static.pc, which is there with each library.
+/// Returns the folder by pkg-config, which is the variable `libdir` of dekorihe-static.pc. That file is installed with each
+/// library.
 fn found_by_pkg_config() -> Option<PathBuf> {
     let program = env::var_os("PKG_CONFIG").unwrap_or_else(|| "pkg-config".into());
     let ran = Command::new(program).args(["--variable=libdir", "dekorihe-static"]).output().ok()?;
@@ -13,7 +14,7 @@ fn found_by_pkg_config() -> Option<PathBuf> {
     (ran.status.success() && !text.trim().is_empty()).then(|| PathBuf::from(text.trim()))
 }
 
-/// The folder of what is made here. For another machine CC and AR name the tools.
+/// Builds the library, and returns its folder. For another machine CC and AR name the tools.
 fn made() -> Option<PathBuf> {
     let dist = Path::new(&env::var_os("CARGO_MANIFEST_DIR")?).join("../../../dist");
     let folder = PathBuf::from(env::var_os("OUT_DIR")?);
@@ -32,8 +33,8 @@ fn main() {
         println!("cargo:rerun-if-env-changed={name}");
     }
     let Some(folder) = env::var_os("TCRX_LIB_DIR").map(PathBuf::from).or_else(found_by_pkg_config).or_else(made) else {
-        eprintln!("tcrx-sys: there is no library, and it can't be made here, by cc, ar and make (for another machine CC and AR name them).");
-        eprintln!("Set TCRX_LIB_DIR to its folder, PREFIX/lib of what was installed, or PKG_CONFIG_PATH to PREFIX/lib/pkgconfig.");
+        eprintln!("tcrx-sys: there is no library, and it can't be built here by cc, ar and make (for another machine CC and AR name them).");
+        eprintln!("Set TCRX_LIB_DIR to its folder, PREFIX/lib of an installation, or PKG_CONFIG_PATH to PREFIX/lib/pkgconfig.");
         exit(1);
     };
     let (kind, file) =

@@ -1,12 +1,12 @@
 //! The calls of `tcrx.h`: records, statuses and functions, as the header declares them. The crate `tcrx` has safe calls over them.
 //!
-//! **What of the proofs reaches a caller.** The functions of the library are proved. These declarations are not: a test compares
-//! each record's size, each field's place and size, and each number with what a C program says of the header. All calls are unsafe
-//! here, since a pointer must point to as many octets as the count says, may never be null, and a channel is given to one call at a
-//! time.
+//! **Proofs.** The functions of the library are proved. These declarations are not. A test compares each record's size, each
+//! field's place and size, and each number with what a C program reports about the header. All calls are unsafe here, because a
+//! pointer must point to as many octets as the count says and may never be null, and because only one call at a time may use a
+//! channel.
 //!
-//! **Memory.** The library is linked with `libtcrx.a`, and this crate defines its two functions of memory over `malloc`. With the
-//! feature `own-memory` the program defines them, and with `shared` the crate is linked with `libtcrx.so`, which has its own.
+//! **Memory.** The crate links `libtcrx.a`, and defines its two memory functions over `malloc`. With the feature `own-memory`
+//! the program defines them. With the feature `shared` the crate links `libtcrx.so`, which has its own.
 #![no_std]
 
 use core::ffi::c_void;
@@ -14,7 +14,7 @@ use core::ffi::c_void;
 #[cfg(not(any(feature = "shared", feature = "own-memory")))]
 mod memory;
 
-/// What a call came to. The header says what each means.
+/// The outcome of a call. The header describes each status.
 pub type Status = u32;
 
 /// The initial value of a [`Channel`], `TCRX_HOLDS_NONE`.
@@ -23,7 +23,7 @@ pub const HOLDS_NONE: Channel = Channel { held: 0, place: core::ptr::null_mut() 
 macro_rules! numbers {
     ($($(#[$about:meta])* $name:ident: $kind:ty = $value:expr;)*) => {
         $($(#[$about])* pub const $name: $kind = $value;)*
-        /// Each number with its name, as the header has it behind `TCRX_`.
+        /// Each number with its name, which follows `TCRX_` in the header.
         pub const NUMBERS: &[(&str, u32)] = &[$((stringify!($name), $name as u32)),*];
     };
 }

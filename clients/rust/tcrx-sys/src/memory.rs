@@ -8,7 +8,7 @@ extern "C" {
     fn free(at: *mut c_void);
 }
 
-/// A block, and whether it was given.
+/// A block, and whether it could be allocated.
 #[repr(C)]
 pub(crate) struct Block {
     given: bool,
@@ -18,24 +18,24 @@ pub(crate) struct Block {
 static mut NOTHING: u8 = 0;
 
 fn answer(at: *mut c_void) -> Block {
-    // Where nothing is given the place is one that nobody writes to, and not null.
+    // If nothing is allocated, the address is that of an octet that nobody writes to, and not null.
     Block { given: !at.is_null(), at: if at.is_null() { addr_of_mut!(NOTHING).cast() } else { at } }
 }
 
-/// A new block. A block of no octets is one all the same.
+/// Returns a new block. A block of no octets is also a block.
 #[no_mangle]
 extern "C" fn rattle_alloc(count: usize, alignment: usize) -> Block {
-    // SAFETY: any count may be asked for.
+    // SAFETY: any count may be requested.
     answer(unsafe { malloc(if count == 0 { alignment } else { count }) })
 }
 
-/// Takes a block back.
+/// Frees a block.
 ///
 /// # Safety
 ///
-/// The block is one that `rattle_alloc` gave, and has not been given back.
+/// The block must be one that `rattle_alloc` returned and that hasn't been freed.
 #[no_mangle]
 unsafe extern "C" fn rattle_dealloc(at: *mut c_void) {
-    // SAFETY: the block is one of malloc's, by the caller's word.
+    // SAFETY: the caller promises that the block comes from malloc.
     unsafe { free(at) }
 }

@@ -1,5 +1,5 @@
-//! The declarations against the header: a C program says the size of each record, the place and size of each field, and each number.
-//! That all of the header is declared is seen by what writes the declarations (tools/c_interface --check).
+//! Compares the declarations with the header. A C program prints the size of each record, the place and size of each field, and
+//! each number. tools/c_interface --check sees that everything in the header is declared.
 
 use std::fmt::Write;
 use std::path::PathBuf;
@@ -11,7 +11,8 @@ fn folder_of_header() -> PathBuf {
     PathBuf::from(env!("CARGO_MANIFEST_DIR")).join("../../../c")
 }
 
-/// What a C program prints of the header: of each record its size and its fields' places and sizes, of each name its number.
+/// Returns what a C program prints about the header: the size of each record with the places and sizes of its fields, and the
+/// number of each name.
 fn said_in_c() -> String {
     let mut lines = String::from("#include \"tcrx.h\"\n#include <stdio.h>\nint main(void) {\n");
     for (record, _, fields) in LAYOUTS {

@@ -1,5 +1,5 @@
-//! The crate's own memory where `malloc` gives nothing: each block of a channel that is made is refused in turn, by a `malloc` of
-//! this program that stands before the C library's. The call says `NO_MEMORY`, and no channel is held.
+//! Tests the crate's own memory when `malloc` returns null. Each block of a new channel is refused in turn, by a `malloc` of this
+//! program that is found before the C library's. The call must return `NO_MEMORY`, and no channel may be held.
 #![cfg(not(any(feature = "shared", feature = "own-memory")))]
 
 use std::cell::Cell;
@@ -9,12 +9,12 @@ use tcrx_sys::{tcrx_channel_free_at, tcrx_channel_new_with_limits_at, Channel, L
 use tcrx_sys::{DONE, HOLDS_NONE, NO_MEMORY};
 
 extern "C" {
-    /// The C library's `malloc`, by its other name.
+    /// The C library's `malloc` under its other name.
     fn __libc_malloc(count: usize) -> *mut c_void;
 }
 
 thread_local! {
-    /// How many blocks are given before one is refused; none is refused where it is none.
+    /// The number of blocks that are given before one is refused, or `None` if none is refused.
     static GIVEN_FIRST: Cell<Option<u32>> = const { Cell::new(None) };
 }
 
@@ -27,7 +27,7 @@ extern "C" fn malloc(count: usize) -> *mut c_void {
         }
         left => {
             GIVEN_FIRST.set(left.map(|blocks| blocks - 1));
-            // SAFETY: any count may be asked for.
+            // SAFETY: any count may be requested.
             unsafe { __libc_malloc(count) }
         }
     }

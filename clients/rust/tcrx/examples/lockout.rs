@@ -1,5 +1,5 @@
-//! Three telecommands to a channel: the third comes with an N(S) far outside the window, so that the channel is locked out. It is
-//! unlocked, the third comes again with the N(S) that is expected, and all three packets are taken.
+//! Sends three telecommands to a channel. The third has an N(S) far outside the window, so FARM-1 goes to lockout. The channel
+//! is then unlocked, the third telecommand comes again with the expected N(S), and all three packets are taken.
 
 use std::error::Error;
 use tcrx::{Channel, Header, Link, Queue, Settings};
@@ -14,7 +14,7 @@ fn bring(channel: &mut Channel, octets: &[u8]) -> Result<(), Box<dyn Error>> {
     Ok(())
 }
 
-/// Brings the frame with this N(S) that carries this packet.
+/// Sends the frame with this N(S) that carries this packet.
 fn send(channel: &mut Channel, ns: u8, packet: u8) -> Result<(), Box<dyn Error>> {
     let header = Header { scid: SPACECRAFT, vcid: CHANNEL, ns, bypass: false, control: false };
     let field = [0xc0, 0x10, APPLICATION as u8, 0xc0, packet, 0x00, 0x00, 0xaa];

@@ -1,4 +1,4 @@
-//! A simulated pass: a ground station sends commands over a link that loses a frame, reads the CLCWs that come down, and sends
+//! Simulates a pass. A ground station sends commands over a link that loses frames, reads the CLCWs that come down, and sends
 //! again from the number that the spacecraft expects, until each command has arrived.
 
 use tcrx::{Channel, Clcw, Frame, Header, Limit, Limits, Link, Packet, Queue, Settings};
@@ -6,7 +6,7 @@ use tcrx::{Channel, Clcw, Frame, Header, Limit, Limits, Link, Packet, Queue, Set
 const SPACECRAFT: u16 = 42;
 const CHANNEL: u8 = 1;
 const HEATER: u16 = 5;
-/// Frames that the link loses, by their place among all that are sent.
+/// The frames that the link loses, by their place among all frames that are sent.
 const LOST: [usize; 2] = [1, 4];
 
 /// The spacecraft's end.
@@ -15,7 +15,7 @@ struct Spacecraft {
 }
 
 impl Spacecraft {
-    /// Takes in what arrives, if it is for this channel, and says what it switches.
+    /// Takes in what arrives, if it is for this channel, and prints what it switches.
     fn receive(&mut self, octets: &[u8]) -> Result<(), Box<dyn std::error::Error>> {
         let header = Frame::read(octets)?.header();
         if (header.scid, header.vcid) != (SPACECRAFT, CHANNEL) {
@@ -33,7 +33,7 @@ impl Spacecraft {
     }
 }
 
-/// A telecommand packet that switches the heater.
+/// Returns a telecommand packet that switches the heater.
 fn command(count: u8, value: u8) -> [u8; 8] {
     [0xc0, 0x10, HEATER as u8, 0xc0, count, 0x00, 0x00, value]
 }

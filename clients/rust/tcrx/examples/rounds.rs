@@ -1,4 +1,4 @@
-//! Makes so many rounds on a channel, those of `c/checks/rounds.c`: a frame, its release and its take.
+//! Makes COUNT rounds of `c/checks/rounds.c` on a channel. A round is a frame, its release and its take.
 //!
 //! usage: rounds COUNT
 

@@ -7,7 +7,7 @@ use std::collections::BTreeMap;
 use std::io::Read;
 use tcrx::{Channel, Link, Map, Queue, Rack, RackError, ReleaseError, Settings, TakeError};
 
-/// The lines that a channel was set up by.
+/// The lines that set up a channel.
 #[derive(Default)]
 struct Receiver {
     numbers: [u8; 3],

@@ -6,18 +6,18 @@ use core::cell::UnsafeCell;
 use core::fmt;
 use tcrx_sys as sys;
 
-/// What a channel is made by.
+/// The settings from which a channel is created.
 #[derive(Clone, Copy, Debug, PartialEq, Eq)]
 pub struct Settings<'lists> {
     /// The virtual channel id, 0 to 63.
     pub vcid: u8,
     /// The width of the sliding window, even and 2 to 254.
     pub width: u8,
-    /// How many data fields the buffer holds, 1 to 64.
+    /// The number of data fields that the buffer holds, 1 to 64.
     pub buffer: u8,
     /// V(R) at the start.
     pub first_vr: u8,
-    /// Whether data fields begin with a segment header; where not, each is a unit by itself.
+    /// Whether data fields begin with a segment header. If not, each data field is a unit by itself.
     pub segmented: bool,
     /// The packet queues, by application.
     pub queues: &'lists [sys::Queue],
@@ -31,10 +31,11 @@ impl Settings<'_> {
         sys::Settings { vcid, width, buffer, first_vr, segmented: self.segmented.into() }
     }
 
-    /// How many octets the making of a channel of these settings asks for. No other call of the channel asks for any.
+    /// Returns how many bytes the creation of a channel with these settings requests. No other call of the channel
+    /// requests any.
     pub fn storage(&self) -> Result<u64, SettingsError> {
         let (queues, maps) = (self.queues, self.maps);
-        // SAFETY: both pointers are to as many entries as the counts say.
+        // SAFETY: both pointers point to as many entries as the counts say.
         let answer = unsafe { sys::tcrx_storage_at(self.record(), queues.as_ptr(), queues.len(), maps.as_ptr(), maps.len()) };
         if answer.status == sys::DONE {
             Ok(answer.count)
@@ -43,10 +44,10 @@ impl Settings<'_> {
         }
     }
 
-    /// The same within limits.
+    /// Returns how many bytes the creation of a channel with these settings and limits requests.
     pub fn storage_with_limits(&self, limits: &Limits<'_>) -> Result<u64, SettingsError> {
         let (queues, maps, listed) = (self.queues, self.maps, limits.maps);
-        // SAFETY: the pointers are to as many entries as the counts say.
+        // SAFETY: the pointers point to as many entries as the counts say.
         let answer = unsafe {
             sys::tcrx_storage_with_limits_at(
                 self.record(),
@@ -67,48 +68,48 @@ impl Settings<'_> {
     }
 }
 
-/// How long the units of each MAP may be. A longer unit is dropped where it ends, and no answer says so.
+/// The limits for the units of each MAP. A longer unit is dropped when it ends, and no reply reports that.
 #[derive(Clone, Copy, Debug, Default, PartialEq, Eq)]
 pub struct Limits<'list> {
-    /// The most octets of a unit of each MAP that isn't listed, at most 65,542. With segment headers it may be 0: such a MAP then
-    /// ends no unit but the empty one. Without them it is the limit of each data field.
+    /// The most octets of a unit of each MAP that isn't listed, at most 65,542. With segment headers it may be 0, and
+    /// such a MAP then ends no unit except the empty one. Without segment headers it is the limit of each data field.
     pub others: u32,
-    /// The MAPs with a limit of their own; none without segment headers.
+    /// The MAPs with a limit of their own. There must be none without segment headers.
     pub maps: &'list [sys::Limit],
 }
 
-/// What became of the unit that an operation ended. Where it ended none, nothing was queued or dropped.
+/// The outcome for the unit that an operation ended. If it ended none, nothing was queued or dropped.
 #[derive(Clone, Copy, Debug, Default, PartialEq, Eq, Hash)]
 pub struct Delivery {
-    /// How many packets were queued; 1 for a unit that was queued whole.
+    /// The number of packets that were queued, or 1 for a unit that was queued whole.
     pub queued: u32,
-    /// How many were dropped.
+    /// The number of packets that were dropped, or 1 for a whole unit that was dropped.
     pub dropped: u32,
-    /// Whether octets were left that begin with no packet.
+    /// Whether octets were left that don't begin with a packet.
     pub rest: bool,
 }
 
-/// What a frame came to.
+/// The outcome for a frame.
 #[derive(Clone, Copy, Debug, PartialEq, Eq, Hash)]
 pub struct Brought {
-    /// The row of FARM-1's table that it met.
+    /// The row of FARM-1's table that the frame met.
     pub event: Event,
-    /// Whether it was accepted.
+    /// Whether the frame was accepted.
     pub accepted: bool,
-    /// What became of the unit that it ended.
+    /// The outcome for the unit that the frame ended.
     pub delivery: Delivery,
 }
 
 /// The flags of the link that a CLCW reports.
 #[derive(Clone, Copy, Debug, Default, PartialEq, Eq, Hash)]
 pub struct Link {
-    /// No RF Available.
+    /// The No RF Available flag.
     pub no_rf: bool,
-    /// No Bit Lock.
+    /// The No Bit Lock flag.
     pub no_bit_lock: bool,
 }
 
-/// A virtual channel, with its buffer, its reassembly and its queues. It is freed where it is dropped.
+/// A virtual channel, with its buffer, its reassembly and its queues. It is freed when it is dropped.
 ///
 /// It can be sent to another thread. Two threads that share one need a lock:
 ///
@@ -118,15 +119,15 @@ pub struct Link {
 ///     shared(channel);
 /// }
 /// ```
-#[repr(transparent)] // a rack's array of channels is one of their records
+#[repr(transparent)] // a rack's array of channels is an array of their records
 pub struct Channel(UnsafeCell<sys::Channel>);
 
-// SAFETY: the library's calls of a channel may be made from any thread, and so may the functions of memory. The cell keeps two
-// threads from making one at the same time.
+// SAFETY: calls of the library on a channel may be made from any thread, and so may the memory functions. The cell
+// keeps two threads from making one at the same time.
 unsafe impl Send for Channel {}
 
 impl Channel {
-    /// Makes a channel. All memory that it ever has is asked for here; a unit has 65,542 octets at most.
+    /// Creates a channel. All memory that it ever has is requested here. A unit has at most 65,542 octets.
     pub fn new(settings: &Settings<'_>) -> Result<Self, SettingsError> {
         let mut held = sys::HOLDS_NONE;
         let (queues, maps) = (settings.queues, settings.maps);
@@ -141,7 +142,7 @@ impl Channel {
         }
     }
 
-    /// Makes a channel within limits, which asks for less memory.
+    /// Creates a channel within limits, which requests less memory.
     pub fn with_limits(settings: &Settings<'_>, limits: &Limits<'_>) -> Result<Self, SettingsError> {
         let mut held = sys::HOLDS_NONE;
         let (queues, maps, listed) = (settings.queues, settings.maps, limits.maps);
@@ -166,8 +167,8 @@ impl Channel {
         }
     }
 
-    /// Gives it the frame at the front of octets. Which spacecraft and channel the frame is for isn't looked at: a [`Rack`] does
-    /// that.
+    /// Brings the frame at the front of octets to the channel. The call doesn't look at the spacecraft and the channel
+    /// that the frame is for. A [`Rack`] does that.
     pub fn frame(&mut self, octets: &[u8]) -> Result<Brought, BringError> {
         // SAFETY: a channel is held, by nobody else, and there are as many octets as the count says.
         let reply = unsafe { sys::tcrx_channel_frame_at(self.0.get_mut(), octets.as_ptr(), octets.len()) };
@@ -178,7 +179,7 @@ impl Channel {
         Ok(Brought { event: Event::of(reply.event), accepted: reply.accepted == 1, delivery })
     }
 
-    /// Passes the oldest data field of the buffer on to reassembly and the queues.
+    /// Releases the oldest data field from the buffer to reassembly and the queues.
     pub fn release(&mut self) -> Result<Delivery, ReleaseError> {
         // SAFETY: a channel is held, by nobody else.
         let delivery = unsafe { sys::tcrx_channel_release_at(self.0.get_mut()) };
@@ -188,8 +189,8 @@ impl Channel {
         Ok(Delivery { queued: delivery.queued, dropped: delivery.dropped, rest: delivery.rest == 1 })
     }
 
-    /// Takes the oldest packet of a queue to the front of `room`; the answer is the packet, there. Where the room is too short the
-    /// packet stays, and the error says how many octets it needs.
+    /// Takes the oldest packet out of a queue, writes it to the front of `room`, and returns it from there. If the room
+    /// is too short, the packet stays in the queue, and the error says how many octets it needs.
     pub fn take<'room>(&mut self, apid: u16, room: &'room mut [u8]) -> Result<&'room [u8], TakeError> {
         // SAFETY: a channel is held, by nobody else, and the room is as long as it says.
         let written = unsafe { sys::tcrx_channel_take_at(self.0.get_mut(), apid, room.as_mut_ptr(), room.len()) };
@@ -200,7 +201,7 @@ impl Channel {
         }
     }
 
-    /// Takes the oldest unit of a chosen MAP in the same way. A unit may have no octets.
+    /// Takes the oldest unit out of the queue of a chosen MAP, as `take` takes a packet. A unit may have no octets.
     pub fn take_unit<'room>(&mut self, map: u8, room: &'room mut [u8]) -> Result<&'room [u8], TakeError> {
         // SAFETY: a channel is held, by nobody else, and the room is as long as it says.
         let written = unsafe { sys::tcrx_channel_take_unit_at(self.0.get_mut(), map, room.as_mut_ptr(), room.len()) };
@@ -211,45 +212,46 @@ impl Channel {
         }
     }
 
-    /// Its CLCW.
+    /// Returns the channel's CLCW.
     pub fn clcw(&self, link: Link) -> Clcw {
-        // SAFETY: a channel is held. No other thread has it, since the cell isn't `Sync`, and the call is over before another begins.
+        // SAFETY: a channel is held. No other thread has it, because the cell isn't `Sync`, and the call is over before
+        // another begins.
         Clcw::of(unsafe { sys::tcrx_channel_clcw_at(self.0.get(), link.no_rf.into(), link.no_bit_lock.into()) }.word)
     }
 
-    /// The record of its FARM-1.
+    /// Returns the record of the channel's FARM-1.
     pub fn report(&self) -> Farm {
         // SAFETY: as for `clcw`.
         Farm::of(unsafe { sys::tcrx_channel_report_at(self.0.get()) }.farm)
     }
 
-    /// How many data fields wait in the buffer.
+    /// Returns the number of data fields that wait in the buffer.
     pub fn buffered(&self) -> u64 {
         // SAFETY: as for `clcw`.
         unsafe { sys::tcrx_channel_buffered_at(self.0.get()) }.count
     }
 
-    /// How many packets wait in the queue of an application; none where it has no queue.
+    /// Returns the number of packets that wait in the queue of an application, or `None` if it has no queue.
     pub fn queued(&self, apid: u16) -> Option<u64> {
         // SAFETY: as for `clcw`.
         let answer = unsafe { sys::tcrx_channel_queued_at(self.0.get(), apid) };
         (answer.status == sys::DONE).then_some(answer.count)
     }
 
-    /// How many units wait in the queue of a MAP; none where it isn't chosen.
+    /// Returns the number of units that wait in the queue of a MAP, or `None` if the MAP isn't chosen.
     pub fn units(&self, map: u8) -> Option<u64> {
         // SAFETY: as for `clcw`.
         let answer = unsafe { sys::tcrx_channel_units_at(self.0.get(), map) };
         (answer.status == sys::DONE).then_some(answer.count)
     }
 
-    /// How many frames, releases and takes were done.
+    /// Returns the number of frames, releases and takes that were done.
     pub fn events(&self) -> u64 {
         // SAFETY: as for `clcw`.
         unsafe { sys::tcrx_channel_events_at(self.0.get()) }.count
     }
 
-    /// Frees it before the end of its scope. After that it can't be used:
+    /// Frees the channel before the end of its scope. After that it can't be used:
     ///
     /// ```compile_fail,E0382
     /// fn of(channel: tcrx::Channel) -> u64 {
@@ -260,14 +262,14 @@ impl Channel {
     pub fn close(self) {}
 }
 
-/// What the frame at the front of a candidate came to, and what follows it.
+/// The outcome for the frame at the front of a candidate, and what follows it.
 #[derive(Clone, Copy, Debug, PartialEq, Eq)]
 pub struct Carried<'octets> {
-    /// What a frame of a rack comes to.
+    /// The outcome for the frame, as for a frame of a rack.
     pub frame: Result<(u8, Brought), CandidateError>,
-    /// The octets behind the frame; all of them where none was found.
+    /// The octets behind the frame, or all octets if no frame was found.
     pub rest: &'octets [u8],
-    /// Whether they are more than can be fill.
+    /// Whether more octets follow the frame than can be fill.
     pub more: bool,
 }
 
@@ -276,19 +278,20 @@ pub struct Carried<'octets> {
 pub struct Rack<'channels> {
     /// The spacecraft id.
     pub scid: u16,
-    /// Whether frames end with the frame error control field, which is then checked, so that nothing may follow it. Where not, what
-    /// follows a frame is fill.
+    /// Whether frames end with the frame error control field. If so, it is checked, and nothing may follow it. If not,
+    /// octets that follow a frame are fill.
     pub fecf: bool,
-    /// The channels. Of several with one virtual channel id the first is found.
+    /// The channels. If several have the same virtual channel id, the first one is found.
     pub channels: &'channels mut [Channel],
 }
 
 impl Rack<'_> {
-    /// Gives the frame at the front of octets to the channel that it is for. The answer has the virtual channel id of that.
+    /// Brings the frame at the front of octets to the channel that it is for. Returns the virtual channel id of that
+    /// channel, too.
     pub fn frame(&mut self, octets: &[u8]) -> Result<(u8, Brought), RackError> {
         let (at, count) = (self.channels.as_mut_ptr().cast(), self.channels.len());
-        // SAFETY: the channels are records of the library, held by nobody else, and there are as many of them and of octets as the
-        // counts say.
+        // SAFETY: the channels are records of the library, held by nobody else, and there are as many of them and of
+        // octets as the counts say.
         let reply = unsafe { sys::tcrx_rack_frame_at(at, count, self.scid, self.fecf.into(), octets.as_ptr(), octets.len()) };
         if reply.status != sys::DONE {
             return Err(RackError::of(reply.status, 0));
@@ -297,8 +300,8 @@ impl Rack<'_> {
         Ok((reply.vcid, Brought { event: Event::of(reply.event), accepted: reply.accepted == 1, delivery }))
     }
 
-    /// Gives the frame at the front of a candidate, which a `Decoder` gives, to the channel that it is for. The frame is as long as its
-    /// length field says, which is looked at before its frame error control field.
+    /// Brings the frame at the front of a candidate, which a `Decoder` gives, to the channel that it is for. The frame
+    /// is as long as its length field says, which is read before its frame error control field is checked.
     pub fn candidate<'octets>(&mut self, octets: &'octets [u8]) -> Carried<'octets> {
         let (at, count) = (self.channels.as_mut_ptr().cast(), self.channels.len());
         // SAFETY: as for `frame`.
@@ -312,7 +315,7 @@ impl Rack<'_> {
         Carried { frame, rest: &octets[reply.length.into()..], more: reply.more == 1 }
     }
 
-    /// The channel with this virtual channel id.
+    /// Returns the channel with this virtual channel id.
     pub fn channel(&mut self, vcid: u8) -> Option<&mut Channel> {
         let (at, count) = (self.channels.as_mut_ptr().cast(), self.channels.len());
         // SAFETY: as for `frame`.

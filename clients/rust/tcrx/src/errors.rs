@@ -1,4 +1,4 @@
-//! Why calls are refused, by call. The text of each is the library's.
+//! The errors of the calls, by call. The text of each is the library's.
 
 use core::error::Error;
 use core::fmt;
@@ -7,7 +7,7 @@ use tcrx_sys as sys;
 /// Writes the library's text of a status.
 fn write_text(status: u32, to: &mut fmt::Formatter<'_>) -> fmt::Result {
     let mut text = [0; sys::TEXT_ROOM];
-    // SAFETY: the pointer is to as many octets as the room says.
+    // SAFETY: the pointer points to as many octets as the room says.
     let written = unsafe { sys::tcrx_text_at(status, text.as_mut_ptr(), text.len()) };
     // The length counts the 0 at the end.
     match core::str::from_utf8(&text[..written.length.saturating_sub(1)]) {
@@ -25,15 +25,15 @@ macro_rules! refusals {
         #[non_exhaustive]
         pub enum $name {
             $($(#[$said])* $variant $({
-                /// The octets that the room must have.
+                /// The number of octets that the room must have.
                 $needed: usize
             })?,)*
-            /// Another status, which this version of the library doesn't answer.
+            /// Another status, which this version of the library doesn't return.
             Other(u32),
         }
 
         impl $name {
-            /// By a status that isn't done, and the length that was answered with it.
+            /// Returns the error for a status other than done, with the length that was returned with it.
             #[allow(unused_variables)]
             pub(crate) fn of(status: u32, length: usize) -> Self {
                 match status {

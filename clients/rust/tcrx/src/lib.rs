@@ -1,10 +1,10 @@
 //! The spacecraft's end of a CCSDS telecommand link: transfer frames, FARM-1 (the frame acceptance and reporting mechanism), space
 //! packets and CLCWs (communications link control words), over the library of `tcrx.h`.
 //!
-//! **What of the proofs reaches a caller.** The functions of the library are proved: each answers what its definition says. This
-//! crate is not proved. It passes each argument on, makes a value of each answer, and frees a channel once; tests compare all of that
-//! with the cases that the library's other callers answer. What Rust adds is that a slice is as long as it says, that a channel isn't
-//! used after its end, and that two threads don't use one at the same time.
+//! **Proofs.** The functions of the library are proved: each returns what its definition says. This crate is not proved. It
+//! passes each argument on, makes a value from each record that is returned, and frees a channel once. Tests compare all of
+//! that with the cases of the library's other callers. Rust adds that a slice is as long as it says, that a channel isn't used
+//! after its end, and that two threads don't use one at the same time.
 //!
 //! ```
 //! use tcrx::{Channel, Event, Link, Queue, Settings};
@@ -23,8 +23,9 @@
 //! # }
 //! ```
 //!
-//! Without `std`, and without an allocator of Rust's: packets are taken into slices of the caller's. Which library is linked, and who
-//! gives it memory, is said by the crate `tcrx-sys`, whose features `shared` and `own-memory` are this crate's as well.
+//! The crate needs neither `std` nor an allocator of Rust's, because packets are taken into slices of the caller's. The crate
+//! `tcrx-sys` describes which library is linked and where it gets its memory. Its features `shared` and `own-memory` are also
+//! features of this crate.
 #![no_std]
 
 mod channel;

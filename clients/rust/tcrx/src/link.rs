@@ -1,10 +1,10 @@
-//! Single calls, which keep no state and ask for no memory: frames, packets, CLCWs, FARM-1, CLTUs and telemetry frames.
+//! Single calls, which keep no state and request no memory: frames, packets, CLCWs, FARM-1, CLTUs and telemetry frames.
 
 use crate::errors::{FarmError, FecfError, FrameError, TmError, WriteError};
 use core::fmt;
 use tcrx_sys as sys;
 
-/// The primary header of a frame, apart from the frame length.
+/// The primary header of a frame, without the frame length.
 #[derive(Clone, Copy, Debug, Default, PartialEq, Eq, Hash)]
 pub struct Header {
     /// The spacecraft id, 0 to 1,023.
@@ -13,13 +13,13 @@ pub struct Header {
     pub vcid: u8,
     /// The frame sequence number N(S).
     pub ns: u8,
-    /// Type-B in place of Type-A.
+    /// Whether the frame is of Type-B, and not of Type-A.
     pub bypass: bool,
-    /// Type-C in place of Type-D.
+    /// Whether the frame is of Type-C, and not of Type-D.
     pub control: bool,
 }
 
-/// What was written to the front of `room`.
+/// Returns what was written to the front of `room`.
 fn written(answer: sys::Written, room: &[u8]) -> Result<&[u8], WriteError> {
     match answer.status {
         sys::DONE => Ok(&room[..answer.length]),
@@ -32,30 +32,33 @@ impl Header {
         sys::Header { scid: self.scid, vcid: self.vcid, ns: self.ns, bypass: self.bypass.into(), control: self.control.into() }
     }
 
-    /// Writes a frame of this header and a data field of 1 to 1,019 octets to the front of `room`; the answer is the frame, there.
+    /// Writes a frame with this header and a data field of 1 to 1,019 octets to the front of `room`, and returns it
+    /// from there.
     pub fn write<'room>(&self, field: &[u8], room: &'room mut [u8]) -> Result<&'room [u8], WriteError> {
-        // SAFETY: both pointers are to as many octets as the counts say, and only one of them is written to.
+        // SAFETY: both pointers point to as many octets as the counts say, and only one of them is written to.
         let answer = unsafe { sys::tcrx_write_frame_at(self.record(), field.as_ptr(), field.len(), room.as_mut_ptr(), room.len()) };
         written(answer, room)
     }
 }
 
-/// How a unit is sent in segments.
+/// The way in which a unit is sent in segments.
 #[derive(Clone, Copy, Debug, PartialEq, Eq, Hash)]
 pub struct Segments {
-    /// The header of the first frame; the N(S) of Type-AD frames counts up.
+    /// The header of the first frame. The N(S) of Type-AD frames counts up from there.
     pub header: Header,
     /// The MAP, at most 63.
     pub map: u8,
-    /// How many octets of the unit a segment carries, 1 to 1,018; the last one carries what is left.
+    /// The number of octets of the unit that a segment carries, 1 to 1,018. The last segment carries the octets that
+    /// are left.
     pub size: u16,
 }
 
 impl Segments {
-    /// Writes the frame that carries the segment at a place of a unit, from 0 on, to the front of `room`; none behind the last one.
+    /// Writes the frame that carries the segment at a place of a unit, counted from 0, to the front of `room`. Returns
+    /// `None` if the unit has no segment there.
     pub fn write<'room>(&self, place: u32, unit: &[u8], room: &'room mut [u8]) -> Result<Option<&'room [u8]>, WriteError> {
         let (header, from, to) = (self.header.record(), unit.as_ptr(), room.as_mut_ptr());
-        // SAFETY: both pointers are to as many octets as the counts say, and only one of them is written to.
+        // SAFETY: both pointers point to as many octets as the counts say, and only one of them is written to.
         let answer = unsafe { sys::tcrx_write_segment_at(header, self.map, self.size, place, from, unit.len(), to, room.len()) };
         if answer.status == sys::NO_SEGMENT {
             return Ok(None);
@@ -69,26 +72,27 @@ impl Segments {
 pub enum Command {
     /// Unlock.
     Unlock,
-    /// Set V(R), to this number.
+    /// Set V(R) to this number.
     SetVr(u8),
 }
 
 impl Command {
-    /// Writes the Type-BC frame with this command to the front of `room`; the answer is the frame, there.
+    /// Writes the Type-BC frame with this command to the front of `room`, and returns it from there.
     pub fn write(self, scid: u16, vcid: u8, room: &mut [u8]) -> Result<&[u8], WriteError> {
         let (kind, number) = match self {
             Command::Unlock => (sys::UNLOCK, 0),
             Command::SetVr(vr) => (sys::SET_VR, vr),
         };
-        // SAFETY: the pointer is to as many octets as the room has.
+        // SAFETY: the pointer points to as many octets as the room has.
         let answer = unsafe { sys::tcrx_write_command_at(scid, vcid, kind, number, room.as_mut_ptr(), room.len()) };
         written(answer, room)
     }
 }
 
-/// Writes a frame, which is to stand alone, with its frame error control field to the front of `room`: two octets more.
+/// Writes a frame, which must stand alone, with its frame error control field to the front of `room`. The written frame
+/// has two octets more.
 pub fn add_fecf<'room>(frame: &[u8], room: &'room mut [u8]) -> Result<&'room [u8], FecfError> {
-    // SAFETY: both pointers are to as many octets as the counts say, and only one of them is written to.
+    // SAFETY: both pointers point to as many octets as the counts say, and only one of them is written to.
     let answer = unsafe { sys::tcrx_add_fecf_at(frame.as_ptr(), frame.len(), room.as_mut_ptr(), room.len()) };
     match answer.status {
         sys::DONE => Ok(&room[..answer.length]),
@@ -96,9 +100,10 @@ pub fn add_fecf<'room>(frame: &[u8], room: &'room mut [u8]) -> Result<&'room [u8
     }
 }
 
-/// Checks the frame error control field of a frame, which is to stand alone, and writes the frame without it to the front of `room`.
+/// Checks the frame error control field of a frame, which must stand alone, and writes the frame without it to the
+/// front of `room`.
 pub fn check_fecf<'room>(frame: &[u8], room: &'room mut [u8]) -> Result<&'room [u8], FecfError> {
-    // SAFETY: both pointers are to as many octets as the counts say, and only one of them is written to.
+    // SAFETY: both pointers point to as many octets as the counts say, and only one of them is written to.
     let answer = unsafe { sys::tcrx_check_fecf_at(frame.as_ptr(), frame.len(), room.as_mut_ptr(), room.len()) };
     match answer.status {
         sys::DONE => Ok(&room[..answer.length]),
@@ -106,25 +111,25 @@ pub fn check_fecf<'room>(frame: &[u8], room: &'room mut [u8]) -> Result<&'room [
     }
 }
 
-/// Writes the CLTU that carries a frame, or 1 to 1,029 other octets, to the front of `room`; the answer is the CLTU, there.
+/// Writes the CLTU that carries a frame, or 1 to 1,029 other octets, to the front of `room`, and returns it from there.
 pub fn write_cltu<'room>(frame: &[u8], room: &'room mut [u8]) -> Result<&'room [u8], WriteError> {
-    // SAFETY: both pointers are to as many octets as the counts say, and only one of them is written to.
+    // SAFETY: both pointers point to as many octets as the counts say, and only one of them is written to.
     let answer = unsafe { sys::tcrx_write_cltu_at(frame.as_ptr(), frame.len(), room.as_mut_ptr(), room.len()) };
     written(answer, room)
 }
 
-/// What octets of a stream came to.
+/// The outcome for octets of a stream.
 #[derive(Clone, Copy, Debug, PartialEq, Eq, Hash)]
 pub struct Fed<'decoder, 'octets> {
-    /// The candidate frame that the last of those that were taken ended, with fill behind it, if it ended one.
+    /// The candidate frame, with fill behind it, if the last octet that was taken ended one.
     pub frame: Option<&'decoder [u8]>,
     /// The octets behind those that were taken.
     pub rest: &'octets [u8],
-    /// How many code blocks ended of which one bit was corrected.
+    /// The number of code blocks that ended in these octets and had one bit corrected.
     pub corrected: u64,
-    /// How many ended that were rejected, and aren't the tail sequence.
+    /// The number of code blocks that were rejected in these octets, without tail sequences.
     pub rejected: u64,
-    /// How many CLTUs carried more than 1,029 octets, each of which ends no candidate frame.
+    /// The number of CLTUs that carried more than 1,029 octets. Each of them ends no candidate frame.
     pub overlong: u64,
 }
 
@@ -136,15 +141,16 @@ pub struct Decoder {
 }
 
 impl Decoder {
-    /// With correction of one wrong bit in each code block, or with detection alone.
+    /// Creates a decoder that corrects one wrong bit in each code block, or only detects wrong bits.
     pub fn new(correct: bool) -> Self {
         let kept = sys::Decoder { correct: correct.into(), decoding: 0, last: 0, count: 0, carried: 0 };
         Decoder { kept, carried: [0; sys::DECODER_ROOM] }
     }
 
-    /// Takes the next octets of the stream, up to and with the first that ends a candidate frame, or all.
+    /// Takes the next octets of the stream: all of them, or those up to the first octet that ends a candidate frame,
+    /// that octet included.
     pub fn feed<'decoder, 'octets>(&'decoder mut self, octets: &'octets [u8]) -> Fed<'decoder, 'octets> {
-        // SAFETY: both pointers are to as many octets as the counts say, and only one of them is written to.
+        // SAFETY: both pointers point to as many octets as the counts say, and only one of them is written to.
         let answer = unsafe {
             sys::tcrx_cltu_octets_at(self.kept, octets.as_ptr(), octets.len(), self.carried.as_mut_ptr(), self.carried.len())
         };
@@ -160,58 +166,61 @@ impl Decoder {
 
     /// Looks for a start sequence anew, as after a loss of bit lock.
     pub fn search(&mut self) {
-        // SAFETY: it takes a record by value.
+        // SAFETY: the call takes a record by value.
         self.kept = unsafe { sys::tcrx_cltu_search(self.kept) }.decoder;
     }
 }
 
-/// Writes a frame, or what a CLTU carried, with the random sequence added to the front of `room`. Added twice, it changes nothing.
+/// Writes a frame, or what a CLTU carried, with the random sequence added to the front of `room`. A sequence that is
+/// added twice changes nothing.
 pub fn randomise<'room>(frame: &[u8], room: &'room mut [u8]) -> Result<&'room [u8], WriteError> {
-    // SAFETY: both pointers are to as many octets as the counts say, and only one of them is written to.
+    // SAFETY: both pointers point to as many octets as the counts say, and only one of them is written to.
     let answer = unsafe { sys::tcrx_randomise_at(frame.as_ptr(), frame.len(), room.as_mut_ptr(), room.len()) };
     written(answer, room)
 }
 
-/// What the primary header of a telemetry frame says of whose frame it is, and which.
+/// The fields of a telemetry frame's primary header that give its spacecraft, its virtual channel, and its place among
+/// their frames.
 #[derive(Clone, Copy, Debug, Default, PartialEq, Eq, Hash)]
 pub struct TmHeader {
     /// The spacecraft id, 0 to 1,023.
     pub scid: u16,
     /// The virtual channel id, 0 to 7.
     pub vcid: u8,
-    /// The frames of the spacecraft before it, modulo 256.
+    /// The master channel frame count: the number of earlier frames of the spacecraft, modulo 256.
     pub master_count: u8,
-    /// The frames of the virtual channel before it, modulo 256.
+    /// The virtual channel frame count: the number of earlier frames of the virtual channel, modulo 256.
     pub channel_count: u8,
 }
 
 impl TmHeader {
-    /// Writes a telemetry frame of this header, of so many octets, that carries a CLCW, to the front of `room`. With `fecf` it ends with
-    /// a frame error control field.
+    /// Writes a telemetry frame of `size` octets with this header, which carries a CLCW, to the front of `room`. With
+    /// `fecf` it ends with a frame error control field.
     pub fn write(self, fecf: bool, clcw: Clcw, size: u16, room: &mut [u8]) -> Result<&[u8], WriteError> {
         let TmHeader { scid, vcid, master_count, channel_count } = self;
         let header = sys::TmHeader { scid, vcid, master_count, channel_count };
-        // SAFETY: the pointer is to as many octets as the room has.
+        // SAFETY: the pointer points to as many octets as the room has.
         let answer = unsafe { sys::tcrx_write_tm_at(header, fecf.into(), clcw.word(), size, room.as_mut_ptr(), room.len()) };
         written(answer, room)
     }
 }
 
-/// What a telemetry frame says.
+/// The fields of a telemetry frame.
 #[derive(Clone, Copy, Debug, PartialEq, Eq, Hash)]
 pub struct Tm {
-    /// Its primary header.
+    /// The primary header.
     pub header: TmHeader,
-    /// Its operational control field, for [`Clcw::read`].
+    /// The operational control field, for [`Clcw::read`].
     pub clcw: u32,
-    /// The first header pointer: 2,046 where all data are idle, 2,047 where no packet begins.
+    /// The first header pointer: 2,046 if all data are idle, 2,047 if no packet begins.
     pub pointer: u16,
 }
 
 impl Tm {
-    /// Reads octets that are one telemetry frame. With `fecf` it ends with a frame error control field, which is checked.
+    /// Reads octets that are one telemetry frame. With `fecf` it ends with a frame error control field, which is
+    /// checked.
     pub fn read(fecf: bool, octets: &[u8]) -> Result<Self, TmError> {
-        // SAFETY: the pointer is to as many octets as the count says.
+        // SAFETY: the pointer points to as many octets as the count says.
         let answer = unsafe { sys::tcrx_read_tm_at(fecf.into(), octets.as_ptr(), octets.len()) };
         if answer.status != sys::DONE {
             return Err(TmError::of(answer.status, 0));
@@ -222,7 +231,7 @@ impl Tm {
     }
 }
 
-/// What comes to FARM-1.
+/// An arrival at FARM-1.
 #[derive(Clone, Copy, Debug, PartialEq, Eq, Hash)]
 #[repr(u8)]
 pub enum Arrival {
@@ -234,18 +243,18 @@ pub enum Arrival {
     Unlock = sys::UNLOCK,
     /// A Type-BC frame with the control command Set V(R).
     SetVr = sys::SET_VR,
-    /// A Type-AC frame, or a Type-BC frame with no control command.
+    /// A Type-AC frame, or a Type-BC frame that carries no control command.
     Invalid = sys::INVALID,
-    /// A data field has left the buffer.
+    /// A buffer release, when a data field has left the buffer.
     Release = sys::RELEASE,
 }
 
 /// The kind of a frame, as [`Farm::step`] takes it.
 #[derive(Clone, Copy, Debug, PartialEq, Eq, Hash)]
 pub struct Kind {
-    /// What it is.
+    /// The arrival.
     pub arrival: Arrival,
-    /// The N(S) of a Type-AD frame, the new V(R) of a Set V(R), else 0.
+    /// The N(S) of a Type-AD frame, the new V(R) of a Set V(R), or 0 for other kinds.
     pub number: u8,
 }
 
@@ -257,9 +266,9 @@ pub struct Frame<'octets> {
 }
 
 impl<'octets> Frame<'octets> {
-    /// Reads it. What follows it is fill.
+    /// Reads the frame. Octets that follow it are fill.
     pub fn read(octets: &'octets [u8]) -> Result<Self, FrameError> {
-        // SAFETY: the pointer is to as many octets as the count says.
+        // SAFETY: the pointer points to as many octets as the count says.
         let frame = unsafe { sys::tcrx_read_frame_at(octets.as_ptr(), octets.len()) };
         if frame.status != sys::DONE {
             return Err(FrameError::of(frame.status, 0));
@@ -269,24 +278,24 @@ impl<'octets> Frame<'octets> {
         Ok(Frame { header, octets: &octets[..frame.length.into()] })
     }
 
-    /// Its primary header.
+    /// Returns the primary header of the frame.
     pub fn header(&self) -> Header {
         self.header
     }
 
-    /// All of its octets.
+    /// Returns all octets of the frame.
     pub fn octets(&self) -> &'octets [u8] {
         self.octets
     }
 
-    /// Its data field.
+    /// Returns the data field of the frame.
     pub fn field(&self) -> &'octets [u8] {
         &self.octets[5..]
     }
 
-    /// Its kind.
+    /// Returns the kind of the frame.
     pub fn kind(&self) -> Kind {
-        // SAFETY: the pointer is to as many octets as the count says.
+        // SAFETY: the pointer points to as many octets as the count says.
         let answer = unsafe { sys::tcrx_kind_at(self.octets.as_ptr(), self.octets.len()) };
         let arrival = match answer.kind {
             sys::AD => Arrival::Ad,
@@ -299,14 +308,14 @@ impl<'octets> Frame<'octets> {
     }
 }
 
-/// The primary header of a packet, apart from the packet length.
+/// The primary header of a packet, without the packet length.
 #[derive(Clone, Copy, Debug, PartialEq, Eq, Hash)]
 pub struct PacketHeader {
     /// The application process id, at most 2,047.
     pub apid: u16,
-    /// The sequence count or the name, at most 16,383.
+    /// The sequence count or the packet name, at most 16,383.
     pub count: u16,
-    /// Telecommand, not telemetry.
+    /// Whether the packet is a telecommand packet, and not a telemetry packet.
     pub telecommand: bool,
     /// The secondary header flag.
     pub secondary: bool,
@@ -315,7 +324,7 @@ pub struct PacketHeader {
 }
 
 impl PacketHeader {
-    /// That of a telecommand packet without a secondary header, unsegmented.
+    /// Returns the header of an unsegmented telecommand packet without a secondary header.
     pub fn telecommand(apid: u16, count: u16) -> Self {
         PacketHeader { apid, count, telecommand: true, secondary: false, sequence: 3 }
     }
@@ -326,22 +335,22 @@ impl PacketHeader {
 pub struct Packet<'octets> {
     /// The application process id, which is 2,047 for idle packets.
     pub apid: u16,
-    /// The sequence count or the name.
+    /// The sequence count or the packet name.
     pub count: u16,
-    /// Telecommand, not telemetry.
+    /// Whether the packet is a telecommand packet, and not a telemetry packet.
     pub telecommand: bool,
     /// The secondary header flag.
     pub secondary: bool,
     /// The sequence flags, at most 3.
     pub sequence: u8,
-    /// All of its octets, of which six are the primary header.
+    /// All octets of the packet, of which the first six are the primary header.
     pub octets: &'octets [u8],
 }
 
 impl<'octets> Packet<'octets> {
-    /// Reads it; none where the octets don't begin with a whole packet of version 0.
+    /// Reads the packet. Returns `None` if the octets don't begin with a whole packet of version 0.
     pub fn read(octets: &'octets [u8]) -> Option<Self> {
-        // SAFETY: the pointer is to as many octets as the count says.
+        // SAFETY: the pointer points to as many octets as the count says.
         let packet = unsafe { sys::tcrx_read_packet_at(octets.as_ptr(), octets.len()) };
         (packet.status == sys::DONE).then(|| Packet {
             apid: packet.apid,
@@ -353,8 +362,8 @@ impl<'octets> Packet<'octets> {
         })
     }
 
-    /// Writes a packet of this header and a packet data field of 1 to 65,536 octets to the front of `room`; the answer is the packet,
-    /// there.
+    /// Writes a packet with this header and a packet data field of 1 to 65,536 octets to the front of `room`, and
+    /// returns it from there.
     pub fn write<'room>(header: &PacketHeader, field: &[u8], room: &'room mut [u8]) -> Result<&'room [u8], WriteError> {
         let header = sys::PacketHeader {
             apid: header.apid,
@@ -363,13 +372,13 @@ impl<'octets> Packet<'octets> {
             secondary: header.secondary.into(),
             sequence: header.sequence,
         };
-        // SAFETY: both pointers are to as many octets as the counts say, and only one of them is written to.
+        // SAFETY: both pointers point to as many octets as the counts say, and only one of them is written to.
         let answer = unsafe { sys::tcrx_write_packet_at(header, field.as_ptr(), field.len(), room.as_mut_ptr(), room.len()) };
         written(answer, room)
     }
 }
 
-/// A CLCW of COP-1. Its `Debug` has its fields, and its `Display` the words that `tcmake` has for them.
+/// A CLCW of COP-1. Its `Debug` prints its fields, and its `Display` the words that `tcmake` prints for them.
 #[derive(Clone, Copy, PartialEq, Eq, Hash)]
 pub struct Clcw(u32);
 
@@ -378,14 +387,14 @@ impl Clcw {
         Clcw(word)
     }
 
-    /// Reads a word; none where it is no CLCW of COP-1.
+    /// Reads a word. Returns `None` if it isn't a CLCW of COP-1.
     pub fn read(word: u32) -> Option<Self> {
         // SAFETY: the call takes no pointer.
         let fields = unsafe { sys::tcrx_read_clcw(word) };
         (fields.status == sys::DONE).then_some(Clcw(word))
     }
 
-    /// All 32 bits.
+    /// Returns all 32 bits.
     pub fn word(self) -> u32 {
         self.0
     }
@@ -394,47 +403,47 @@ impl Clcw {
         (self.0 >> from & mask) as u8
     }
 
-    /// The status field, whose meaning is left to the mission.
+    /// Returns the status field, whose meaning is left to the mission.
     pub fn status_field(self) -> u8 {
         self.bits(26, 7)
     }
 
-    /// The virtual channel id.
+    /// Returns the virtual channel id.
     pub fn vcid(self) -> u8 {
         self.bits(18, 63)
     }
 
-    /// No RF Available.
+    /// Returns the No RF Available flag.
     pub fn no_rf(self) -> bool {
         self.bits(15, 1) == 1
     }
 
-    /// No Bit Lock.
+    /// Returns the No Bit Lock flag.
     pub fn no_bit_lock(self) -> bool {
         self.bits(14, 1) == 1
     }
 
-    /// An Unlock is needed.
+    /// Returns the Lockout flag, which says that an Unlock is needed.
     pub fn lockout(self) -> bool {
         self.bits(13, 1) == 1
     }
 
-    /// The buffer has no room.
+    /// Returns the Wait flag, which says that the buffer has no room.
     pub fn wait(self) -> bool {
         self.bits(12, 1) == 1
     }
 
-    /// Frames from V(R) on are wanted again.
+    /// Returns the Retransmit flag, which says that frames from V(R) on are wanted again.
     pub fn retransmit(self) -> bool {
         self.bits(11, 1) == 1
     }
 
-    /// The FARM-B counter, 0 to 3.
+    /// Returns the FARM-B counter, 0 to 3.
     pub fn farm_b(self) -> u8 {
         self.bits(9, 3)
     }
 
-    /// V(R), the number of the frame that is expected next.
+    /// Returns V(R), the number of the frame that is expected next.
     pub fn vr(self) -> u8 {
         self.bits(0, 255)
     }
@@ -459,24 +468,24 @@ impl fmt::Display for Clcw {
 #[derive(Clone, Copy, Debug, PartialEq, Eq, Hash)]
 #[repr(u8)]
 pub enum State {
-    /// S1.
+    /// State S1.
     Open = sys::OPEN,
-    /// S2.
+    /// State S2.
     Wait = sys::WAIT,
-    /// S3.
+    /// State S3.
     Lockout = sys::LOCKOUT,
 }
 
-/// The row of FARM-1's state table.
+/// A row of FARM-1's state table.
 #[derive(Clone, Copy, Debug, PartialEq, Eq, Hash)]
 pub enum Event {
     /// Type-AD, expected, with room in the buffer.
     E1,
     /// Type-AD, expected, with no room in the buffer.
     E2,
-    /// Type-AD, ahead of V(R): one before it was lost.
+    /// Type-AD, ahead of V(R), because a frame before it was lost.
     E3,
-    /// Type-AD, behind V(R): it came before.
+    /// Type-AD, behind V(R), because it came before.
     E4,
     /// Type-AD, outside the window.
     E5,
@@ -493,7 +502,7 @@ pub enum Event {
 }
 
 impl Event {
-    /// By its number. The library answers no other one.
+    /// Returns the event with this number. The library returns no other number.
     pub(crate) fn of(number: u8) -> Self {
         match number {
             1 => Event::E1,
@@ -515,7 +524,7 @@ impl Event {
 pub struct Farm {
     /// The width of the sliding window, even and 2 to 254.
     pub width: u8,
-    /// Its state.
+    /// The state.
     pub state: State,
     /// V(R), the number of the frame that is expected next.
     pub vr: u8,
@@ -532,16 +541,16 @@ pub struct Farm {
 /// A step of FARM-1.
 #[derive(Clone, Copy, Debug, PartialEq, Eq, Hash)]
 pub struct Step {
-    /// The record after it.
+    /// The record of FARM-1 after the step.
     pub farm: Farm,
-    /// Its row of the state table.
+    /// The row of the state table.
     pub event: Event,
     /// Whether the frame was accepted.
     pub accepted: bool,
 }
 
 impl Farm {
-    /// FARM-1 that starts.
+    /// Starts FARM-1.
     pub fn new(width: u8, first_vr: u8) -> Result<Self, FarmError> {
         // SAFETY: the call takes no pointer.
         let answer = unsafe { sys::tcrx_farm_start(width, first_vr) };
@@ -552,7 +561,7 @@ impl Farm {
         }
     }
 
-    /// The next step. `room` says whether the buffer has room for the data field of a Type-AD frame.
+    /// Takes the next step. `room` says whether the buffer has room for the data field of a Type-AD frame.
     pub fn step(self, kind: Kind, room: bool) -> Result<Step, FarmError> {
         // SAFETY: the call takes no pointer.
         let answer = unsafe { sys::tcrx_farm_step(self.record(), kind.arrival as u8, kind.number, room.into()) };
@@ -562,7 +571,7 @@ impl Farm {
         Ok(Step { farm: Farm::of(answer.farm), event: Event::of(answer.event), accepted: answer.accepted == 1 })
     }
 
-    /// The CLCW that reports it.
+    /// Returns the CLCW that reports this FARM-1.
     pub fn clcw(self, vcid: u8, no_rf: bool, no_bit_lock: bool) -> Result<Clcw, FarmError> {
         // SAFETY: the call takes no pointer.
         let answer = unsafe { sys::tcrx_clcw(self.record(), vcid, no_rf.into(), no_bit_lock.into()) };

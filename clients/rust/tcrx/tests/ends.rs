@@ -1,5 +1,5 @@
-//! Channels that are moved, dropped and sent to other threads, calls that are refused, and each field of what is read and reported,
-//! by values that are worked out by hand.
+//! Tests channels that are moved, dropped and sent to other threads, calls that fail, and each field of what is read and reported,
+//! by values that were worked out by hand.
 
 use std::error::Error;
 use std::thread;
@@ -150,7 +150,7 @@ fn single_calls() {
     assert!(channel.clcw(Link { no_rf: false, no_bit_lock: true }).no_bit_lock());
 }
 
-/// A frame of two octets to this spacecraft and channel, with its frame error control field where it is to have one.
+/// Returns a frame with two octets for this spacecraft and channel, with a frame error control field if it is to have one.
 fn located_frame(scid: u16, vcid: u8, fecf: bool) -> Vec<u8> {
     let (mut room, mut ended) = ([0; 16], [0; 16]);
     let header = Header { scid, vcid, ns: 7, bypass: false, control: false };
@@ -206,14 +206,15 @@ fn a_rack_gives_each_frame_to_its_channel() {
     assert_eq!(none.frame(&located_frame(675, 5, false)), Err(RackError::UnknownChannel));
 }
 
-/// Octets with these at their front, all others of which are 0.
+/// Returns octets that begin with these. All others are 0.
 fn octets_of(front: &[u8], count: usize) -> Vec<u8> {
     let mut octets = front.to_vec();
     octets.resize(count, 0);
     octets
 }
 
-/// Type-BD has bypass alone, Type-BC both flags, Type-AD none, and Type-AC control alone. Two octets of fill follow each frame.
+/// Type-BD has only the bypass flag, Type-BC has both flags, Type-AD has none, and Type-AC has only the control command flag. Two
+/// octets of fill follow each frame.
 #[test]
 fn frames_field_by_field() {
     let header = |vcid, ns, bypass, control| Header { scid: 675, vcid, ns, bypass, control };
@@ -252,7 +253,7 @@ fn clcws_field_by_field() {
     }
 }
 
-/// As in c/checks/fields.h: segments of a unit, commands, and a frame with its field; then one of each making that is refused.
+/// Makes what c/checks/fields.h has: segments of a unit, commands, and a frame with its field. Then makes one failing call of each.
 #[test]
 fn what_is_made() -> Result<(), Box<dyn Error>> {
     let (unit, mut room) = ([1, 2, 3, 4, 5, 6, 7], [0; 16]);
@@ -283,7 +284,7 @@ fn what_is_made() -> Result<(), Box<dyn Error>> {
     Ok(())
 }
 
-/// The parity bits and the random sequence are worked out by another implementation.
+/// The parity bits and the random sequence come from another implementation.
 #[test]
 fn ends_of_the_link() -> Result<(), Box<dyn Error>> {
     let mut room = [0; 32];
@@ -311,7 +312,8 @@ fn ends_of_the_link() -> Result<(), Box<dyn Error>> {
     Ok(())
 }
 
-/// The CLTU of `ends_of_the_link` amid other octets; with a wrong bit, which is corrected in one mode, and rejected in the other.
+/// The CLTU of `ends_of_the_link` stands between other octets. It also comes with a wrong bit, which is corrected in one mode and
+/// rejected in the other.
 #[test]
 fn streams_of_cltus() {
     let cltu = [
@@ -354,7 +356,7 @@ fn streams_of_cltus() {
     assert_eq!((fed.frame, fed.overlong), (None, 1));
 }
 
-/// With each value of the sequence flags. An octet of fill follows each packet.
+/// There is a packet with each value of the sequence flags. Another octet follows each packet.
 #[test]
 fn packets_field_by_field() {
     let packet =
@@ -374,8 +376,8 @@ fn packets_field_by_field() {
     }
 }
 
-/// After a Type-AD frame ahead of V(R) (E3), the expected one with room (E1) and without (E2), Unlock (E7), and a Type-AD frame
-/// outside the window (E5); then the CLCW with each flag of the link alone.
+/// Reports come after a Type-AD frame ahead of V(R) (E3), the expected one with room (E1) and without (E2), Unlock (E7), and a
+/// Type-AD frame outside the window (E5). Then comes the CLCW with each flag of the link alone.
 #[test]
 fn reports_field_by_field() {
     let mut channel = Channel::new(&Settings { buffer: 1, first_vr: 250, ..SETTINGS }).expect("settings");

@@ -1,5 +1,5 @@
-//! Each block of a channel that is made refused in turn, by memory of this program's own: the call says `NoMemory`, and no block is
-//! left. No other call asks for any.
+//! Refuses each block of a new channel in turn, by memory functions of this program's own. The call must fail with `NoMemory`, and
+//! no block may be left. No other call may request any.
 
 use std::alloc::{alloc, dealloc, Layout};
 use std::cell::Cell;
@@ -7,19 +7,19 @@ use std::ptr::null_mut;
 use tcrx::{Channel, Header, Limit, Limits, Map, Queue, Settings, SettingsError};
 
 thread_local! {
-    /// How many blocks are given before one is refused; none is refused where it is none.
+    /// The number of blocks that are given before one is refused, or `None` if none is refused.
     static GIVEN_FIRST: Cell<Option<u32>> = const { Cell::new(None) };
     static BLOCKS: Cell<i64> = const { Cell::new(0) };
 }
 
-/// A block, and whether it was given.
+/// A block, and whether it could be allocated.
 #[repr(C)]
 struct Block {
     given: bool,
     at: *mut u8,
 }
 
-/// In front of each block is its whole size, so that it can be given back.
+/// The octets in front of each block, which hold its whole size, so that it can be freed.
 const FRONT: usize = 16;
 
 fn layout(octets: usize) -> Layout {
@@ -35,7 +35,7 @@ fn is_refused() -> bool {
     left == Some(0)
 }
 
-/// The block behind the front, with its size written there.
+/// Returns the block behind its front, in which its size is written.
 unsafe fn answer(at: *mut u8, octets: usize) -> Block {
     if at.is_null() {
         return Block { given: false, at: FRONT as *mut u8 };
@@ -59,14 +59,14 @@ extern "C" fn rattle_alloc(count: usize, _alignment: usize) -> Block {
 #[no_mangle]
 unsafe extern "C" fn rattle_dealloc(at: *mut u8) {
     BLOCKS.set(BLOCKS.get() - 1);
-    // SAFETY: the block is one of these functions.
+    // SAFETY: the block comes from these functions.
     unsafe {
         let front = at.sub(FRONT);
         dealloc(front, layout(front.cast::<usize>().read()));
     }
 }
 
-/// Makes a call whose first block would be refused: it asks for none.
+/// Makes a call whose first block would be refused, and checks that it requests none.
 fn without_memory<Answer>(call: impl FnOnce() -> Answer) -> Answer {
     GIVEN_FIRST.set(Some(0));
     let answer = call();
@@ -79,7 +79,7 @@ fn frame(bypass: bool, field: &[u8]) -> Vec<u8> {
     Header { scid: 42, vcid: 1, ns: 0, bypass, control: false }.write(field, &mut room).expect("a frame").to_vec()
 }
 
-/// A channel once no block of it is refused, and how many were.
+/// Returns a channel once no block of it is refused, and how many blocks were refused.
 fn made(make: impl Fn() -> Result<Channel, SettingsError>) -> (Channel, u32) {
     let before = BLOCKS.get();
     let mut refused = 0;
