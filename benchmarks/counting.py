@@ -1,4 +1,4 @@
-"""What the measuring programs share: commands that must end well, and instructions, as callgrind counts them."""
+"""What the measuring programs share: commands that must succeed, and instructions as callgrind counts them."""
 from __future__ import annotations
 
 import os
@@ -11,9 +11,9 @@ from typing import NoReturn, Sequence
 
 sys.dont_write_bytecode = True
 TOP = Path(__file__).resolve().parent.parent
-# Callgrind counts a copy by one string instruction once an octet, so the C library is made to copy by moves.
+# Callgrind counts a copy by one string instruction once for each octet, so the C library is made to copy by moves.
 MOVES = "glibc.cpu.x86_rep_movsb_threshold=10000000"
-# The loads of a bare channel: what a round is, its word, and how many rounds are made at least and at most.
+# The loads of a bare channel: a round, its word, and the smaller and the larger number of rounds that are made.
 LOADS = (("a Type-AD frame of 13 octets, its release and its take", "sequenced", 1_000, 11_000),
          ("a Type-BD frame of 13 octets, and its take", "bypassing", 1_000, 11_000),
          ("a Type-BD frame with 100 packets, and each take", "packets", 100, 300),
@@ -21,12 +21,12 @@ LOADS = (("a Type-AD frame of 13 octets, its release and its take", "sequenced",
 
 
 def stop(why: str) -> NoReturn:
-    """Ends with the reason."""
+    """Exits with the reason."""
     sys.exit(f"benchmarks/{Path(sys.argv[0]).name}: {why}")
 
 
 def output(words: Sequence[object], given: str = "", folder: Path = TOP, **names: str) -> str:
-    """What a command prints over a text, which must end well."""
+    """Returns what a command prints for an input, and stops if it fails."""
     ran = subprocess.run([str(word) for word in words], cwd=folder, input=given, env={**os.environ, "GLIBC_TUNABLES": MOVES, **names},
                          capture_output=True, text=True, check=False)
     if ran.returncode != 0:
@@ -35,7 +35,7 @@ def output(words: Sequence[object], given: str = "", folder: Path = TOP, **names
 
 
 def instructions(words: Sequence[object], given: str = "", within: Sequence[str] = ()) -> int:
-    """How many instructions a program and those that it starts take, or these of its functions alone."""
+    """Returns how many instructions a program and its children take, or only these of its functions."""
     with tempfile.TemporaryDirectory() as room:
         counted = ["valgrind", "--tool=callgrind", "--callgrind-out-file=/dev/null", "--trace-children=yes", f"--log-file={room}/%p"]
         output([*counted, *(f"--toggle-collect={name}" for name in within), *words], given)

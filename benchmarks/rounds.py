@@ -1,6 +1,8 @@
-"""Makes so many rounds by the client in Python: those of c/checks/rounds.c, a frame, its release and its take.
+"""Makes COUNT rounds of c/checks/rounds.c by the client in Python. A round is a frame, its release and its take.
 
-usage: benchmarks/rounds.py channel|receiver COUNT     in the process, or by the program tclive
+usage: benchmarks/rounds.py channel|receiver COUNT
+
+The rounds are made by a channel in the process, or by a receiver over the program tclive.
 """
 from __future__ import annotations
 
@@ -20,7 +22,7 @@ FRAMES: List[bytes] = [bytes.fromhex(f"002a040c{number:02x}c01005c0000000aa") fo
 
 def packets_of(rounds: int, bring: Callable[[bytes], Brought | Refused], release: Callable[[], Released | Refused],
                take: Callable[[], Packet | Refused]) -> int:
-    """How many packets were taken by so many rounds that went as they must."""
+    """Makes rounds, and returns how many packets were taken by those that went as they must."""
     taken = 0
     for number in range(rounds):
         brought, released, packet = bring(FRAMES[number & 255]), release(), take()
@@ -29,7 +31,7 @@ def packets_of(rounds: int, bring: Callable[[bytes], Brought | Refused], release
 
 
 def main() -> int:
-    """The rounds that the words ask for."""
+    """Makes the rounds that the words ask for."""
     way, rounds = sys.argv[1], int(sys.argv[2])
     if way == "channel":
         with Channel(1, width=10, buffer=4, first=0, queues={5: 16}) as channel:

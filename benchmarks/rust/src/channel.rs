@@ -154,7 +154,7 @@ impl<J: Journal> Channel<J> {
         FrameReply { act, delivery }
     }
 
-    /// None where the buffer is empty.
+    /// Releases the oldest data field. Returns `None` if the buffer is empty.
     pub fn release(&mut self) -> Option<Delivery> {
         let field = self.buffer.pop_front()?;
         self.farm.step(Arrival::Release);

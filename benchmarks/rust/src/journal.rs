@@ -1,4 +1,4 @@
-//! What keeps a channel's events: a list, or their number alone.
+//! The journals that keep a channel's events: as a list, or only as their number.
 
 /// An operation that a channel answered.
 #[derive(Clone, Debug, PartialEq, Eq)]
@@ -16,7 +16,7 @@ pub trait Journal: Default + Send {
     fn add_release(&mut self);
     /// Adds a take from the queue of this application.
     fn add_take(&mut self, apid: u16);
-    /// How many events there are.
+    /// Returns the number of events.
     fn count(&self) -> u64;
 }
 

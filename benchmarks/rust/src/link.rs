@@ -209,7 +209,7 @@ impl Farm {
         self.report
     }
 
-    /// One step by the table of FARM-1.
+    /// Takes one step by the table of FARM-1.
     pub fn step(&mut self, arrival: Arrival) -> Act {
         match arrival {
             Arrival::Release => self.released(),

@@ -183,7 +183,7 @@ fn lines(text: &[u8]) -> impl Iterator<Item = (u32, &[u8])> {
     (1..).zip(some.into_iter().flatten())
 }
 
-/// Setup lines, until the first operation line.
+/// The lines that set up, until the first operation.
 struct Setup {
     settings: Vec<Settings>,
     is_open: bool,

@@ -1,5 +1,5 @@
-//! The load of `tc_bench`: with no argument it prints the same three scores, and with `rounds recorded COUNT` or
-//! `rounds counting COUNT` that of so many rounds on a bare channel, whose journal is recorded or counted.
+//! Makes the load of `tc_bench`. With no argument it prints the same three scores. With `rounds recorded COUNT` or
+//! `rounds counting COUNT` it prints the score of COUNT rounds on a bare channel, whose journal is recorded or counted.
 use plain_receiver::channel::{Channel, Delivery, FrameReply, QueueSetting, Settings};
 use plain_receiver::journal::{Counted, Journal, Kept};
 use plain_receiver::link::{Header, Link, read_frame, write_frame};
@@ -34,7 +34,7 @@ impl Score {
     }
 }
 
-/// The frames for one virtual channel, made before the load begins.
+/// The frames for one virtual channel, which are made before the load begins.
 struct Sender {
     vcid: u8,
     sequenced: Vec<Vec<u8>>,
@@ -59,7 +59,8 @@ impl Sender {
     fn first(&self, number: u8) -> &[u8] {
         &self.sequenced[usize::from(number)]
     }
-    /// The frame after the accepted one: the same again, one that bypasses the window, one that is ahead, or an Unlock.
+    /// Returns the frame after the accepted one: the same one again, one that bypasses the window, one that is ahead,
+    /// or an Unlock.
     fn second(&self, number: u8) -> &[u8] {
         match number % 4 {
             0 => self.first(number),
@@ -99,7 +100,7 @@ fn add_channels(score: &mut Score, channels: &[Channel<Kept>]) {
     }
 }
 
-/// One thread makes a round on each channel in turn, so many times.
+/// Makes a round on each channel in turn, `rounds` times, in one thread.
 fn in_turn(vcids: &[u8], rounds: u32) -> u64 {
     let senders: Vec<Sender> = vcids.iter().map(|it| Sender::new(*it)).collect();
     let mut station = new_station(vcids);
@@ -127,7 +128,7 @@ fn work_list(vcid: u8, rounds: u32) -> WorkList {
     WorkList { vcid, jobs }
 }
 
-/// A worker for each channel makes as many rounds there.
+/// Makes as many rounds on each channel, by one worker for each.
 fn by_workers(vcids: &[u8], rounds: u32) -> u64 {
     let lists: Vec<WorkList> = vcids.iter().map(|it| work_list(*it, rounds)).collect();
     let mut station = new_station(vcids);
@@ -138,7 +139,7 @@ fn by_workers(vcids: &[u8], rounds: u32) -> u64 {
     score.0
 }
 
-/// Rounds on a bare channel: a frame is taken in, its data field released, and its packet taken.
+/// Makes rounds on a bare channel: a frame is taken in, its data field released, and its packet taken.
 fn play<J: Journal>(count: u32) -> u64 {
     let sender = Sender::new(1);
     let mut channel: Channel<J> = Channel::new(settings(1)).expect("the settings make a channel");
