@@ -2,8 +2,8 @@
  * Makes one failing call for each status of each call: with records that no FARM-1 has, lengths beyond the octets,
  * fields out of range, short buffers, settings and limits of a channel, and frames for no channel of a rack. Each must
  * have its status, and leave the buffer and the channel as they were. The text of each status is checked, too. In the
- * proved build the statuses are those of its clauses; this is for builds about which nothing is proved. The guards of
- * tcrx.h are in nulls.c, and takes into short buffers in channels.c.
+ * proved build the statuses are those of its clauses. This program is for builds about which nothing is proved. The
+ * guards of tcrx.h are in nulls.c, and takes into short buffers in channels.c.
  *
  * If this is compiled with LIMITED, channels without limits have units of 16 octets, for slow machines. If it is
  * compiled with STATIC, it uses an array of that many bytes.

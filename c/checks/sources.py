@@ -1,12 +1,14 @@
 #!/usr/bin/env python3
 """Checks the header and the files in C and C++ by themselves, without the library.
 
-The headers must compile as each version of C and C++ that they are for, with all warnings as errors, and so must the lines of code
-that c/README.md shows. Its static assertions must refuse each record with two neighbouring fields swapped, and each with one field more
-in front. The version must be the same as a number and as a text. Where doxygen is installed it must read the header's comments
-without a warning.
+The headers must compile as each version of C and C++ that they are for, with all warnings as errors, and so must the
+lines of code that c/README.md shows. The static assertions of the header must reject each record with two neighbouring
+fields swapped, and each record with one more field in front. The version must be the same as a number and as a text. If
+doxygen is installed, it must read the header's comments without a warning.
 
-usage: c/checks/sources.py     from any folder; the last line says how many checks passed, and that doxygen isn't installed
+usage: c/checks/sources.py
+
+It can be started from any folder. The last line says how many checks passed, and whether doxygen isn't installed.
 """
 
 import re
@@ -22,19 +24,19 @@ WARNINGS = ["-Wall", "-Wextra", "-Werror", "-pedantic"]
 C = [["cc", f"-std={version}", "-x", "c"] for version in ("c99", "c11", "c17")]
 CXX = [["c++", f"-std={version}", "-x", "c++"] for version in ("c++11", "c++14", "c++17", "c++20")]
 RECORD = re.compile(r"^typedef struct \{\n(.*?)^\} (\w+);\n", re.M | re.S)
-# What the lines of code of the page use without a declaration.
+# The names that the lines of code of the page use without declaring them.
 GIVEN = "const uint8_t *octets, size_t count, uint8_t has_room, uint8_t buffer[256]"
 
 
 def compiled(compiler: list[str], lines: str, folder: Path, *flags: str) -> str:
-    """What the compiler says of these lines, with the header of a folder; nothing where they are good."""
+    """Returns what the compiler says about these lines, with the header of a folder. It is empty if they are good."""
     command = [*compiler, *flags, "-fsyntax-only", f"-I{folder}", "-"]
     done = subprocess.run(command, input=lines, capture_output=True, text=True, check=False)
     return "" if done.returncode == 0 else done.stderr or "no reason is given"
 
 
 def versions() -> list[tuple[str, str]]:
-    """The header by each version of each language, and that for C++ as flight software is built as well."""
+    """Compiles the header in each version of each language, and the header for C++ also as flight software is built."""
     said = [(compiler[1], compiled(compiler, '#include "tcrx.h"\n', HEADER.parent, *WARNINGS)) for compiler in C + CXX]
     for compiler in CXX[2:]:
         for flags in (("-fexceptions", "-frtti"), ("-fno-exceptions", "-fno-rtti")):
@@ -44,7 +46,7 @@ def versions() -> list[tuple[str, str]]:
 
 
 def shown_code() -> list[tuple[str, str]]:
-    """The lines of code of c/README.md, by the versions that it says."""
+    """Compiles the lines of code of c/README.md, in the versions that it names."""
     blocks = re.findall(r"^```c\n(.*?)^```$", (TOP / "c" / "README.md").read_text(), re.M | re.S)
     lines = '#include "tcrx.h"\n' + "".join(f"void shown_{i}({GIVEN}) {{\n{block}}}\n" for i, block in enumerate(blocks))
     said = [(f"the code of c/README.md, {compiler[1]}", compiled(compiler, lines, HEADER.parent)) for compiler in (C[0], CXX[-1])]
@@ -52,7 +54,8 @@ def shown_code() -> list[tuple[str, str]]:
 
 
 def changed_records(text: str) -> list[tuple[str, str]]:
-    """The header with one record changed in the ways that its assertions must refuse, each with the name of the record."""
+    """Returns the header with one record changed, for each way that its assertions must reject, with the name of the
+    record."""
     changed = []
     for record in RECORD.finditer(text):
         fields = record[1].splitlines(keepends=True)
@@ -64,7 +67,7 @@ def changed_records(text: str) -> list[tuple[str, str]]:
 
 
 def layouts() -> list[tuple[str, str]]:
-    """Whether each changed record is refused by its own assertion, in both languages."""
+    """Checks that each changed record is rejected by its own assertion, in both languages."""
     changed = changed_records(HEADER.read_text())
     said = [("the changed records", "" if len(changed) > 60 else f"there are {len(changed)}")]
     with tempfile.TemporaryDirectory() as folder:
@@ -78,7 +81,7 @@ def layouts() -> list[tuple[str, str]]:
 
 
 def same_version() -> list[tuple[str, str]]:
-    """Whether the version is the same as a text and as a number."""
+    """Checks that the version is the same as a text and as a number."""
     text = re.search(r'#define TCRX_API_TEXT "(\d+)\.(\d+)\.(\d+)"', HEADER.read_text())
     if text is None:
         return [("the version", "there is none")]
@@ -88,7 +91,7 @@ def same_version() -> list[tuple[str, str]]:
 
 
 def comments() -> list[tuple[str, str]]:
-    """What doxygen says of the comments."""
+    """Returns what doxygen says about the comments."""
     with tempfile.TemporaryDirectory() as folder:
         settings = (TOP / "c" / "Doxyfile").read_text() + f"OUTPUT_DIRECTORY = {folder}\n"
         done = subprocess.run(["doxygen", "-"], cwd=TOP, input=settings, capture_output=True, text=True, check=False)
@@ -98,7 +101,7 @@ def comments() -> list[tuple[str, str]]:
 
 
 def main() -> int:
-    """Makes each check, and says what was found."""
+    """Makes each check, and prints what was found."""
     said = versions() + shown_code() + layouts() + same_version()
     has_doxygen = shutil.which("doxygen") is not None
     said += comments() if has_doxygen else []
