@@ -76,7 +76,7 @@ fn suggest<R: AllocGlobal + Eprint>(rt: &R, program: &Program, words: &[String])
         let slips = osa_distance(rt.alloc(), word, name).unwrap_or(usize::MAX);
         let likeness = jaro(rt.alloc(), word, name).unwrap_or(1.0);
         if slips <= SLIPS && likeness <= UNALIKE {
-            let _ = eprintln!(rt; "{}: perhaps {name} is meant", program.name);
+            let _ = eprintln!(rt; "{}: did you mean {name}?", program.name);
         }
     }
 }

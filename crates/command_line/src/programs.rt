@@ -10,7 +10,7 @@ use std::process::ExitCode;
 
 const TCRX: Program = Program {
     name: "tcrx",
-    about: "Receives telecommand frames: runs a script, which it reads from standard input",
+    about: "Receives telecommand frames: runs a script that it reads from standard input",
     end: SCRIPTS,
     scid: false,
     fecf: None,
@@ -33,7 +33,7 @@ const TCLIVE: Program = Program {
     end: LIVE_LINES,
     scid: true,
     fecf: Some(
-        "Each frame must end with its frame error control field; one that doesn't is answered: refused check",
+        "Requires each frame to end with a valid frame error control field. The answer to any other is: refused check",
     ),
     strict: None,
     commands: &[],
@@ -44,8 +44,8 @@ const TCMAKE: Program = Program {
     about: "Makes and explains telecommand frames, packets, CLTUs and telemetry frames: answers the lines of standard input",
     end: MAKER_LINES,
     scid: false,
-    fecf: Some("Ends each frame with a frame error control field"),
-    strict: Some("Ends after the answer to the first bad line, with status 1"),
+    fecf: Some("Makes and explains frames that end with a frame error control field"),
+    strict: Some("Exits with status 1 after the answer to the first bad line"),
     commands: &[],
 };
 

@@ -67,7 +67,11 @@ impl fmt::Display for WordsFault {
     fn fmt<W: fmt::Write>(&self, f: &mut fmt::Formatter<W>) -> fmt::Result {
         match self {
             WordsFault::NotText { place, octets } => {
-                write!(f, "word {place} isn't text: {}", octets.escape_ascii())
+                write!(
+                    f,
+                    "word {place} isn't valid UTF-8: {}",
+                    octets.escape_ascii()
+                )
             }
             WordsFault::NoMemory => f.write_str("no memory"),
         }

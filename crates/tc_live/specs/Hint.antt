@@ -35,7 +35,7 @@ commands_text = codes ": use channel, queue, map, frame, release, take, unit, cl
 abbrev pub unknown_text : List (List ℕ) → List ℕ
 unknown_text [] = commands_text
 unknown_text (command ∷ arguments) =
-    if is_marked command then codes ": the line begins with a byte order mark, save the text without it" else commands_text
+    if is_marked command then codes ": the line begins with a byte order mark; save the file without it" else commands_text
 
 -- the form of the command with which the words begin
 unfoldable pub command_form_text : List (List ℕ) → List ℕ
@@ -113,7 +113,7 @@ line_hint_text line UnknownCommand = unknown_text line
 line_hint_text line WordCount = command_form_text line
 line_hint_text line BadNumber = number_hint_text line
 line_hint_text line BadHex = codes ": HEX is two hexadecimal digits for each octet"
-line_hint_text line BadOption = codes ": write plain or nothing behind VR"
+line_hint_text line BadOption = codes ": write plain or nothing after VR"
 line_hint_text line BadVcid = bounds_text Vcid
 line_hint_text line BadWindow = bounds_text Width
 line_hint_text line BadBuffer = bounds_text Buffer

@@ -36,7 +36,7 @@ pub(crate) fn hint_for(octets: &[u8], reason: Reason) -> &'static str
         Reason::WordCount => form(octets),
         Reason::BadNumber => number_hint(octets),
         Reason::BadHex => ": HEX is two hexadecimal digits for each octet",
-        Reason::BadOption => ": write plain or nothing behind VR",
+        Reason::BadOption => ": write plain or nothing after VR",
         Reason::BadVcid => Number::Vcid.bounds(),
         Reason::BadWindow => Number::Width.bounds(),
         Reason::BadBuffer => Number::Buffer.bounds(),
@@ -54,7 +54,7 @@ fn unknown(octets: &[u8]) -> &'static str
 {
     match next_word(octets) {
         Some((command, _arguments)) if begins_with_mark(command) => {
-            ": the line begins with a byte order mark, save the text without it"
+            ": the line begins with a byte order mark; save the file without it"
         }
         _ => {
             ": use channel, queue, map, frame, release, take, unit, clcw, link, report, deliver, collect or candidate"

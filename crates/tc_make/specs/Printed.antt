@@ -78,10 +78,10 @@ note_text form = codes ", octets without spaces"
 -- the name of a number in forms, and its bounds
 abbrev pub bounds_text : Number → List ℕ
 bounds_text numbers.Scid = codes "SCID is 0 to 1023"
-bounds_text numbers.Vcid = codes "VC is 0 to 63, of tm 0 to 7"
+bounds_text numbers.Vcid = codes "VC is 0 to 63, for tm 0 to 7"
 bounds_text numbers.Ns = codes "NS is 0 to 255"
 bounds_text numbers.Map = codes "MAP is 0 to 63"
-bounds_text numbers.Size = codes "SIZE is 1 to 1018, of tm 11 to 2048"
+bounds_text numbers.Size = codes "SIZE is 1 to 1018, for tm 11 to 2048"
 bounds_text numbers.Apid = codes "APID is 0 to 2047"
 bounds_text numbers.Count = codes "COUNT is 0 to 16383"
 bounds_text numbers.Vr = codes "X is 0 to 255"
@@ -95,7 +95,7 @@ within_text number = codes ": " ++ bounds_text number ++ codes "\n"
 -- the text that follows a reason: what to write, if that is known, and the end of the line
 abbrev pub hint_text : Reason → List ℕ
 hint_text UnknownCommand = codes ": use packet, ad, bd, unlock, setvr, segments, explain, clcw, cltu, random, tm, telemetry, decoder, octets, search or frames\n"
-hint_text Marked = codes ": the line begins with a byte order mark, save the text without it\n"
+hint_text Marked = codes ": the line begins with a byte order mark; save the file without it\n"
 hint_text (WordCount form) = codes ": write " ++ form_text form ++ note_text form ++ codes "\n"
 hint_text (BadNumber number) = within_text number
 hint_text BadHex = codes ": HEX is two hexadecimal digits for each octet\n"

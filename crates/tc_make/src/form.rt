@@ -85,10 +85,10 @@ impl Number {
     {
         match self {
             Number::Scid => "SCID is 0 to 1023",
-            Number::Vcid => "VC is 0 to 63, of tm 0 to 7",
+            Number::Vcid => "VC is 0 to 63, for tm 0 to 7",
             Number::Ns => "NS is 0 to 255",
             Number::Map => "MAP is 0 to 63",
-            Number::Size => "SIZE is 1 to 1018, of tm 11 to 2048",
+            Number::Size => "SIZE is 1 to 1018, for tm 11 to 2048",
             Number::Apid => "APID is 0 to 2047",
             Number::Count => "COUNT is 0 to 16383",
             Number::Vr => "X is 0 to 255",

@@ -21,7 +21,7 @@ pub(crate) fn write_bad<W: Write>(reason: Reason, writer: &mut W) -> io::Result<
         ),
         Reason::Marked => writeln!(
             writer,
-            "{reason}: the line begins with a byte order mark, save the text without it"
+            "{reason}: the line begins with a byte order mark; save the file without it"
         ),
         Reason::WordCount(form) => {
             let words = form.as_str();

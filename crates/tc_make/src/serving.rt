@@ -57,7 +57,7 @@ pub fn answer_lines<R: BufRead, W: Write>(
 pub enum MakingFault {
     #[error("{0}")]
     Serving(ServingFault),
-    #[error("a line is bad, and no other was answered")]
+    #[error("a line is bad, and no later line was answered")]
     BadLine,
 }
 

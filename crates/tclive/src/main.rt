@@ -38,7 +38,7 @@ fn report<R: Eprint>(rt: &R, served: Result<FrameEnds, ServingFault>) -> ExitCod
         Ok(ends) => {
             if ends == FrameEnds::EachWithField {
                 let _ = eprintln!(rt;
-                    "tclive: each frame ended with its frame error control field, which was data here; tclive --fecf checks it and takes it off"
+                    "tclive: each frame ended with a frame error control field, which was treated as data; tclive --fecf checks and removes it"
                 );
             }
             ExitCode::SUCCESS

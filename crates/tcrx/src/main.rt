@@ -44,7 +44,7 @@ fn report<R: Eprint>(rt: &R, done: Result<bool, ScriptFault>) -> ExitCode {
         Ok(has_fields) => {
             if has_fields {
                 let _ = eprintln!(rt;
-                    "tcrx: each frame ends with its frame error control field, which is data here; tclive --fecf checks it and takes it off"
+                    "tcrx: each frame ends with a frame error control field, which tcrx treats as data; tclive --fecf checks and removes it"
                 );
             }
             ExitCode::SUCCESS
