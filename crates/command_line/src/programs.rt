@@ -71,7 +71,7 @@ pub struct Making {
     pub strict: bool,
 }
 
-/// Returns the run that the words of `tcrx` ask for, or the exit status if help, the version or a fault was printed
+/// Returns the run that the words of `tcrx` request, or the exit status if help, the version or a fault was printed
 /// instead.
 pub fn asked_of_tcrx<R: Env + AllocGlobal + Print + Eprint>(rt: &R) -> Result<ScriptRun, ExitCode>
     ensures spacecraft { IfOk result (λ run. run.scid ≤ 1023) }
@@ -83,7 +83,7 @@ pub fn asked_of_tcrx<R: Env + AllocGlobal + Print + Eprint>(rt: &R) -> Result<Sc
     Ok(ScriptRun { scid, way })
 }
 
-/// Returns the reception that the words of `tclive` ask for, or the exit status if help, the version or a fault was
+/// Returns the reception that the words of `tclive` request, or the exit status if help, the version or a fault was
 /// printed instead.
 pub fn asked_of_tclive<R: Env + AllocGlobal + Print + Eprint>(rt: &R) -> Result<Reception, ExitCode>
     ensures spacecraft { IfOk result (λ reception. reception.scid ≤ 1023) }
@@ -95,7 +95,7 @@ pub fn asked_of_tclive<R: Env + AllocGlobal + Print + Eprint>(rt: &R) -> Result<
     Ok(Reception { scid, fecf })
 }
 
-/// Returns the way of making frames that the words of `tcmake` ask for, or the exit status if help, the version or a
+/// Returns the way of making frames that the words of `tcmake` request, or the exit status if help, the version or a
 /// fault was printed instead.
 pub fn asked_of_tcmake<R: Env + AllocGlobal + Print + Eprint>(rt: &R) -> Result<Making, ExitCode>
     ensures { IfErr result (λ status. exit_status status ≤ 2) }

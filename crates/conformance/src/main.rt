@@ -2,9 +2,9 @@
 //!
 //! The file `index` has a line for each case, in the order of their names: the name, the spacecraft id, and the text of
 //! the fault with which the script ends, if it does. `NAME.script` is the script, and `NAME.out` has its answers line
-//! by line, which a station and channels of each form must give alike, with the final report, which must also come if
-//! each channel has a worker. Scripts at the limit of their size are made here. The file `clcws` has words that another
-//! program built, each with its fields. Each of them is a case, too.
+//! by line, and then the final report. A station and channels of each form must give these answers and this report. If
+//! each channel has a worker, the report must be the same. Scripts at the limit of their size are made here. The file
+//! `clcws` has words that another program built, each with its fields. Each of them is a case, too.
 #![tactic(auto)]
 
 ghost use Rattle.std.specs.Prelude.{◌≤◌};
@@ -56,7 +56,7 @@ impl Tally {
     }
 }
 
-// Prints how many cases agree, and each that doesn't. Returns whether all do.
+// Prints the number of cases that agree, and each case that doesn't. Returns whether all cases agree.
 fn check_all<R: Files + AllocGlobal + Print + Threads + Wait + Sync>(rt: &R) -> Result<bool> {
     let mut tally = Tally {
         cases: 0,
@@ -133,8 +133,9 @@ fn check_clcws<R: Files + AllocGlobal + Print>(rt: &R, tally: &mut Tally) -> Res
     Ok(())
 }
 
-// Returns whether a script leads to these answers if it is run line by line, on a station and on channels of each form,
-// and to the report among them if each channel has a worker.
+// Returns whether a script leads to the expected answers in each way in which it is run. Line by line, on a station and
+// on channels of each form, these are `answers`. With a worker for each channel, they are only the report at the end of
+// `answers`.
 fn agrees_each_way<R: AllocGlobal + Print + Threads + Wait + Sync>(
     rt: &R,
     case: &Case,

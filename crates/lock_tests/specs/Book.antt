@@ -7,7 +7,7 @@ use Rattle.logged_lock.specs.Rule.{LockAt, IsIdle}
 use Rattle.lock_tests.specs.declared.book.Title.{Title}
 use Rattle.lock_tests.specs.declared.book.Book.{Book}
 
--- the title that stands for none
+-- the title for places where no book is meant
 abbrev pub untitled : Title
 untitled = record { number = 0 }
 

@@ -56,7 +56,7 @@ at_end (x ∷ xs) a b (suc j) e = ⊎_elim (λ h. inl h) (λ h. inr (ap suc h.0,
 abbrev bit : Bool → ℕ
 bit b = cond b 1 0
 
--- the number of makers stays if a seat's view changes, but not whether it is a maker
+-- if a seat's view changes, but not whether the seat is a maker, the number of makers stays the same
 makers-set : {D E : Type 0} (views : List (View D E)) (id : ℕ) (v w : View D E) → get_elem? views id ≡ some v → w.maker ≡ v.maker → makers_in (set views id w) ≡ makers_in views
 makers-set [] id v w here same = refl
 makers-set {D = D} {E = E} (x ∷ xs) zero v w here same = ap (λ (b : Bool). bit b + makers_in xs) (same ∙ ap (λ (u : View D E). u.maker) (sym (some-injective x v here)))
@@ -100,8 +100,8 @@ seat-there [] id lt = absurd (omega (arith, lt))
 seat-there (x ∷ xs) zero lt = (x, refl)
 seat-there (x ∷ xs) (suc id) lt = seat-there xs id (omega (arith, lt))
 
--- the facts about the first seat stay if a seat's view changes, but not its reports, the number of seats that it
--- issued, and whether it is a maker
+-- if a seat's view changes, and its reports, the number of seats that it issued and whether it is a maker stay the
+-- same, the facts about the first seat stay, too
 first-stays : {D E : Type 0} (views : List (View D E)) (id : ℕ) (p v w : View D E) → get_elem? views 0 ≡ some p → get_elem? views id ≡ some v → w.reported ≡ v.reported → w.maker ≡ v.maker → w.own.issued ≡ v.own.issued
     → AreCounted views p → (q : View D E) × (get_elem? (set views id w) 0 ≡ some q) × (q.reported ≡ p.reported) × AreCounted (set views id w) q
 first-stays [] id p v w at here same maker issued counted = absurd (some-ne-none p (sym at))

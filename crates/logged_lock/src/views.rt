@@ -18,7 +18,7 @@ pub struct Log<D, E> {
     pub entries: LinkedList<E>,
 }
 
-/// A type of heads, with a blank one for places where none is meant.
+/// A type of heads, with a blank one for places where no head is meant.
 pub trait Head {
     ghost blank: { Self };
 }

@@ -1,5 +1,5 @@
--- Operations on the channels of a spacecraft, one after the other, and those on one of the channels among them, also
--- those of a script.
+-- Operations on the channels of a spacecraft, or of the lines of a script, one after the other, and the operations
+-- among them that are on one channel.
 use Rattle.std.specs.Prelude.{◌≡◌, ◌==◌, ℕ, Bool, false, List, [], ◌∷◌, ◌++◌, filter, Option, Some, None}
 use Rattle.tc_text.specs.declared.line.Line.{Line}
 use Rattle.tc_text.specs.declared.line.Line.TheVariants as asks
@@ -21,7 +21,7 @@ pub record Answered : Type 0 where
 abbrev pub operation_of : Answered → Operation
 operation_of d = d.operation
 
--- the answer is one of this channel to a frame
+-- this is an answer of this channel to a frame
 abbrev pub answers_frame : ℕ → Answer → Bool
 answers_frame vcid (answers.Frame own reply) = own == vcid
 answers_frame vcid _ = false
@@ -43,7 +43,7 @@ abbrev pub ArePerformed : List Answered → Racked → Racked → Type 0
 ArePerformed [] old new = new ≡ old
 ArePerformed (d ∷ done) old new = (mid : Racked) × IsAnswerOf d.operation old d.answer mid × ArePerformed done mid new
 
--- an operation that was answered
+-- the operation with its answer, if it was answered
 abbrev pub with_answer : Operation → Option Answer → List Answered
 with_answer operation None = []
 with_answer operation (Some answer) = record { operation = operation; answer = answer } ∷ []

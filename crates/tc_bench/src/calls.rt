@@ -90,7 +90,7 @@ static FIRST_CALLS: [Call; 30] = [
     Bypassing(TWO, NOTHING, ", next segment"),
     Bypassing(LAST_TWO, ONE, ", last segment, one packet queued"),
     Take(PACKET, 1, "take"),
-    // The segments of such a unit, by way of the buffer.
+    // Segments, the last of which ends a unit that is one packet. They go through the buffer.
     Next(BEGUN),
     Next(FOURTEEN),
     Next(LAST_SIX),

@@ -1,6 +1,6 @@
 //! The command line.
 
-/// The form of a channel, by where its journal is kept and when the channel requests memory.
+/// The form of a channel, which determines whether its journal is kept, and when the channel requests memory.
 #[derive(Clone, Copy)]
 pub(crate) enum Kind {
     /// A channel whose journal is kept in memory.

@@ -89,8 +89,8 @@ static HOSTILE_ROWS: [Row; 16] = [
 ];
 
 // Returns rows that fill the queues with these packets and largest units, open a run on each MAP of each service, fill
-// the buffer, and then end units for which there is no room. Where the runs of these units are beyond their limits,
-// their last segments end nothing.
+// the buffer, and then end units for which there is no room. If the runs of these units are over their limits, their
+// last segments end nothing.
 fn filling_rows(plan: &Plan, packet: Piece, ended: Items) -> [Row; 8] {
     let (queues, packets) = plan.queues;
     let packets = queues.saturating_mul(packets);

@@ -1,4 +1,4 @@
-//! The forms of a channel, by where it keeps its journal and when it requests memory.
+//! The forms of a channel, which differ in whether the channel keeps its journal and in when it requests memory.
 
 use crate::score::Score;
 use crate::seen::{NO_FLAG, call_clcw, call_drop_oldest_unit, call_new, call_take};

@@ -71,7 +71,7 @@ pub(crate) const LOADED: Plan = Plan {
 };
 
 impl Plan {
-    /// Returns the settings of such a channel, with a window of width 10 and the first V(R) 0.
+    /// Returns the settings of a channel of this plan, with a window of width 10 and the first V(R) 0.
     pub(crate) fn settings(&self, alloc: Global, vcid: u8) -> Result<Settings, AllocError> {
         let mut queues = Vec::with_capacity(alloc, usize::from(self.queues.0))?;
         let capacity = self.queues.1;

@@ -15,7 +15,7 @@ vcid_of h = h.settings.vcid
 pub still : (seats : List Seat) (i : ℕ) (new d : Seat) → new.place.channel ≡ (get_or seats i d).place.channel → channels_in (set seats i new) ≡ channels_in seats
 still seats i new d same = map-set_same channel_of seats i new d same
 
--- there is a channel, or none, in the seat at a place
+-- the list of channels has, at the place of a seat, the channel in the seat, or none if the seat is empty
 pub there : (seats : List Seat) (i : ℕ) (d : Seat) → i < length seats → slice_get (channels_in seats) i ≡ Some (get_or seats i d).place.channel
 there seats i d here =
     let inside : i < length (channels_in seats) = omega (arith, here, length-map seats channel_of) in
@@ -64,7 +64,7 @@ passed seats i d old vcid inside same not later = λ place other is.
     not (ap (option_map vcid_of) (held seats i d old other inside same found) ∙ ap Some is.1) in
     omega (arith, below, apart)
 
--- if no seat is left, no channel has the id
+-- if a channel with the id can only stand behind the last seat, no channel has the id
 pub nowhere : (seats : List Seat) (n : ℕ) (old : List (Option LimitedHistory)) (vcid : ℕ) → length seats ≤ n → channels_in seats ≡ old → AreLater old vcid n → ¬ IsHeld old vcid
 nowhere seats n old vcid all same later = λ there.
     let at : there.0 < length old = slice_get_within old there.0 (Some there.1) there.2.0 in

@@ -39,7 +39,7 @@ reception_of decoder frame =
     if decoder.decoding == 0 then Searching decoder.last
     else Decoding (take decoder.carried frame) (take decoder.count (drop decoder.carried frame))
 
--- the candidate frames that a record of octets taken gives
+-- the candidate frames that a call has ended, by its record and its buffer: one, or none
 abbrev pub given_by : DecodedRecord → List ℕ → List (List ℕ)
 given_by answer frame = if answer.ended == 0 then [] else take answer.decoder.carried frame ∷ []
 
@@ -47,6 +47,6 @@ given_by answer frame = if answer.ended == 0 then [] else take answer.decoder.ca
 abbrev pub none_taken : Status → DecoderRecord → DecodedRecord
 none_taken fault decoder = record { status = code_of fault; decoder = decoder; ended = 0; taken = 0; corrected = 0; rejected = 0; overlong = 0 }
 
--- the decoder while it looks for a start sequence and no octet came before
+-- the decoder that looks for a start sequence, before its first octet
 abbrev pub searching : DecoderRecord → DecoderRecord
 searching decoder = record { correct = decoder.correct; decoding = 0; last = 0; count = 0; carried = 0 }

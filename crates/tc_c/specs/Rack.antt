@@ -93,7 +93,7 @@ IsEndedReplied old scid true frame reply new =
     ((plain : List ℕ) × IsWhole plain × (frame ≡ frame_with_field plain) × IsRackReplied old scid plain reply new)
     ⊎ ((fault : FieldFault) × (taking_fault_of frame ≡ Some fault) × (reply ≡ no_rack_reply (field_status fault)) × (new ≡ old))
 
--- a reply with the length of the frame, and the flag for more octets behind it than fill
+-- a reply with the length of the frame, and a flag that is set if more than fill follows the frame
 abbrev pub candidate_reply : RackReplyRecord → ℕ → Bool → CandidateReplyRecord
 candidate_reply reply length more = record {
   status = reply.status;
@@ -110,7 +110,8 @@ candidate_reply reply length more = record {
 abbrev pub no_candidate_reply : Status → CandidateReplyRecord
 no_candidate_reply fault = candidate_reply (no_rack_reply fault) 0 false
 
--- either the frame at the front is taken off by its length field and brought to its channel, or no frame stands there
+-- either the frame at the front of the octets is taken off by its length field and brought to its channel, or the
+-- octets begin with no frame
 abbrev pub IsCandidateReplied : List (Option LimitedHistory) → ℕ → Bool → List ℕ → CandidateReplyRecord → List (Option LimitedHistory) → Type 0
 IsCandidateReplied old scid ends octets reply new =
     ((frame : List ℕ) × (rest : List ℕ) × (brought : RackReplyRecord) × IsDelimited octets frame rest × IsEndedReplied old scid ends frame brought new

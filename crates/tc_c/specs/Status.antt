@@ -15,11 +15,11 @@ use Rattle.tc_fixed.specs.declared.limits.LimitsFault.TheVariants as limits
 use Rattle.tc_c.specs.declared.status.Status.{Status}
 use Rattle.tc_c.specs.declared.status.Status.TheVariants as st
 
--- The number of each status, and its text in ASCII. 0 means that the call is done. From 1 on, no frame stands there, or
--- none with a right frame error control field. From 10 on, nothing is written. The next ranges are for calls on FARM-1
--- (from 20 on), on CLCWs (30), on packets (40), and with buffers and pointers (50). From 60 on, no channel is created
--- from settings. From 70 on, a call on a channel fails. From 80 on, no channel is created with limits. From 90 on, the
--- status is one of CLTUs and telemetry frames.
+-- The number of each status, and its text in ASCII. 0 means that the call is done. From 1 on, the octets begin with no
+-- frame, or with none whose frame error control field is right. From 10 on, nothing is written. The next ranges are for
+-- calls on FARM-1 (from 20 on), on CLCWs (30), on packets (40), and with buffers and pointers (50). From 60 on, no
+-- channel is created from settings. From 70 on, a call on a channel fails. From 80 on, no channel is created with
+-- limits. From 90 on, the status is one of CLTUs and telemetry frames.
 abbrev pub entry_of : Status → ℕ × List ℕ
 entry_of st.Done = (0, codes "done")
 entry_of st.Short = (1, codes "fewer than 5 octets")

@@ -76,7 +76,7 @@ fn write_over(frame: &[u8], made: &mut [u8])
     put_at(made, end, &TAIL);
 }
 
-// Writes the code block of the octets that are left, with its fill, if any are left. Returns the place behind it.
+// Writes the code block of the remaining octets, with its fill, if any octets remain. Returns the place behind it.
 fn put_last(made: &mut [u8], at: usize, octets: &[u8]) -> usize
     requires few { length octets.now < 7 }
     requires room { at + 8 * ((length octets.now + 6) / 7) ≤ length made.old }

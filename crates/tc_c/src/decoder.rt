@@ -113,7 +113,7 @@ fn nothing_taken(status: Status, decoder: DecoderRecord) -> DecodedRecord
     }
 }
 
-// Returns the decoder while it looks for a start sequence and no octet came before.
+// Returns the decoder that looks for a start sequence, before its first octet.
 fn searching(decoder: DecoderRecord) -> DecoderRecord
     ensures { result ≡ searching decoder }
 {

@@ -33,8 +33,8 @@ pub struct HeaderRecord {
 pub struct FrameRecord {
     pub status: u32,
     pub header: HeaderRecord,
-    /// The number of octets in the frame, 6 to 1,024, of which the first 5 are its header. It is 0 if no frame stands
-    /// there.
+    /// The number of octets in the frame, 6 to 1,024, of which the first 5 are its header. It is 0 if the octets begin
+    /// with no frame.
     pub length: u16,
 }
 
@@ -43,8 +43,8 @@ pub struct FrameRecord {
 #[derive(Clone, Copy)]
 pub struct KindRecord {
     pub status: u32,
-    /// The number of the kind: 1 is Type-AD, 2 is Type-BD, 3 is Unlock, 4 is Set V(R), 5 is invalid. It is 0 if no
-    /// frame stands there.
+    /// The number of the kind: 1 is Type-AD, 2 is Type-BD, 3 is Unlock, 4 is Set V(R), 5 is invalid. It is 0 if the
+    /// octets begin with no frame.
     pub kind: u8,
     /// The N(S) of a Type-AD frame, the new V(R) of a Set V(R), or 0 for other kinds.
     pub number: u8,
@@ -53,8 +53,8 @@ pub struct KindRecord {
 /// Reads the frame at the front of the octets (CCSDS 232.0-B, 4.1). Octets that follow the frame are fill, whatever
 /// they are.
 ///
-/// If no frame stands there, the call fails with the first fault of the octets, which is Short, Version, Spare,
-/// LengthSmall or Truncated. Each other number of the record is then 0.
+/// If the octets begin with no frame, the call fails with the first fault of the octets, which is Short, Version,
+/// Spare, LengthSmall or Truncated. Each other number of the record is then 0.
 #[unsafe(no_mangle)]
 pub extern "C" fn tcrx_read_frame_at(octets: &[u8]) -> FrameRecord
     ensures frame { IfNone (fault_of octets.now) ((frame : List ℕ) × BeginsWith octets.now frame × (result ≡ frame_record frame)) }
@@ -95,8 +95,8 @@ fn reported(header: Header) -> HeaderRecord
 /// Returns the kind of the frame at the front of the octets, by its two flags and its data field (CCSDS 232.0-B,
 /// 4.1.2.3).
 ///
-/// `tcrx_farm_step` takes the kind and the number as they are returned. If no frame stands there, the call fails as
-/// `tcrx_read_frame` does.
+/// `tcrx_farm_step` takes the kind and the number as they are returned. If the octets begin with no frame, the call
+/// fails as `tcrx_read_frame` does.
 #[unsafe(no_mangle)]
 pub extern "C" fn tcrx_kind_at(octets: &[u8]) -> KindRecord
     ensures kind { IfNone (fault_of octets.now) ((frame : List ℕ) × BeginsWith octets.now frame × (result ≡ kind_record (kind_of (header_of frame) (drop 5 frame)))) }

@@ -14,8 +14,8 @@ use tc_packet::read_packet;
 #[derive(Clone, Copy)]
 pub struct PacketRecord {
     pub status: u32,
-    /// The number of octets in the packet, 7 to 65,542, of which the first 6 are its header. It is 0 if no packet
-    /// stands there.
+    /// The number of octets in the packet, 7 to 65,542, of which the first 6 are its header. It is 0 if the octets
+    /// begin with no packet.
     pub length: u32,
     /// The application process identifier, at most 2,047. The identifier 2,047 marks idle packets.
     pub apid: u16,
@@ -31,8 +31,8 @@ pub struct PacketRecord {
 
 /// Reads the packet at the front of the octets (CCSDS 133.0-B, 4.1). Octets that follow the packet don't matter.
 ///
-/// The secondary header, the sequence flags and the count aren't checked. If no whole packet of version 0 stands there,
-/// the call fails with NoPacket, and each other number of the record is 0.
+/// The secondary header, the sequence flags and the count aren't checked. If the octets don't begin with a whole packet
+/// of version 0, the call fails with NoPacket, and each other number of the record is 0.
 #[unsafe(no_mangle)]
 pub extern "C" fn tcrx_read_packet_at(octets: &[u8]) -> PacketRecord
     ensures packet { result.status ≡ code_of Status.Done → (packet : List ℕ) × IsPacket packet × (packet ≡ take (length packet) octets.now) × (result ≡ packet_record packet) }

@@ -1,4 +1,4 @@
-//! The place of a channel in memory, or of none.
+//! The place of a channel in memory, or the place of no channel.
 
 ghost use Rattle.std.specs.Prelude.{◌≡◌, Option, Some, None, IsSome};
 ghost use Rattle.std.specs.Borrow.{sem};
@@ -11,8 +11,8 @@ use std::marker::Model;
 use std::ptr;
 use tc_fixed::FixedChannel;
 
-/// The place of a channel, or of none. C passes it on, and never reads or copies it. It is dropped only if it has no
-/// channel.
+/// The place of a channel, or the place of no channel. C passes it on, and never reads or copies it. It is dropped only
+/// if it has no channel.
 #[repr(C)]
 #[derive(Drop)]
 pub struct Place {

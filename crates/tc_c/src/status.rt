@@ -10,7 +10,8 @@ use tc_link::{FrameFault, LocateFault, WriteFault};
 
 /// The outcome of a call: that it is done, or the first reason why it isn't.
 ///
-/// If no frame stands there, or none is written, the names are those of the faults of tc_link.
+/// The names of the statuses for octets that begin with no frame, and for a frame that isn't written, are those of the
+/// faults of tc_link.
 #[derive(Clone, Copy, Debug, PartialEq, Eq)]
 pub enum Status {
     Done,

@@ -34,7 +34,7 @@ abbrev units_over : ℕ → List (List ℕ) → List (List ℕ) → List (List �
 units_over limit before [] = []
 units_over limit before (f ∷ fs) = as_list (at_most limit (unit_at before f)) ++ units_over limit (before ++ f ∷ []) fs
 
--- the fields that are left of a stream have their shares, together with the run so far
+-- the run so far and the remaining fields of a stream have their shares
 record Parted (limit : ℕ) (before left : List (List ℕ)) (so_far : Run) : Type 0 where
   shares : List Share
   are : AreShares limit shares

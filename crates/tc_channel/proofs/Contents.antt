@@ -1,15 +1,17 @@
--- Everything that is staged in the queues is of the packets of a unit.
+-- Items are staged only in queues that a packet of the unit is for.
 use Rattle.tc_channel.proofs.Names.{◌≡◌, ℕ, zero, suc, ◌<◌, true, false, List, [], ◌∷◌, length, map, get_or, ◌⊎◌, inl, inr, refl, sym, ap, subst, ◌∙◌, arith, set, append-nil, is_for, keys_of, AreDistinct, slotted, Keyed, rings_in, AreCommitted, committed, IsAmong, AreStagedOf}
 use Rattle.tc_channel.proofs.Counted.{for-one}
 use Rattle.tc_channel.proofs.Passes.{NoneFor, apart-at, none-others}
 use Rattle.tc_channel.proofs.Tables.{keys-length}
 
--- at the start nothing is staged, so that it is of any packets
+-- at the start nothing is staged, so items are staged only in queues that one of these packets is for, whatever the
+-- packets are
 pub none-staged : (qs : List Keyed) (ps : List (List ℕ)) → AreCommitted qs → AreStagedOf ps qs
 none-staged [] ps all = tt
 none-staged (q ∷ qs) ps all = (inl all.0, none-staged qs ps all.1)
 
--- if a packet is staged in the queue that it is for, everything staged still is of the packets
+-- if one of the packets is staged in the queue that it is for, items still are staged only in queues that one of the
+-- packets is for
 pub staged-at : (qs : List Keyed) (i k : ℕ) (q next : Keyed) (ps : List (List ℕ)) → i < length qs → q ≡ get_or qs i q → next.key ≡ q.key → k ≡ get_or (keys_of (rings_in qs)) i k → IsAmong k ps → AreStagedOf ps qs → AreStagedOf ps (set qs i next)
 staged-at [] i k q next ps inside is key k_is among all = tt
 staged-at (r ∷ qs) zero k q next ps inside is key k_is among all = (inr (subst (λ (x : ℕ). IsAmong x ps) (k_is ∙ sym (key ∙ ap (λ (x : Keyed). x.key) is)) among), all.1)
@@ -40,7 +42,7 @@ committed-one [] i q next is next_is = refl
 committed-one (r ∷ qs) zero q next is next_is = ap (λ (x : Keyed). x ∷ map committed qs) (ap committed next_is ∙ committed-twice q ∙ ap committed is)
 committed-one (r ∷ qs) (suc i) q next is next_is = ap (λ (x : List Keyed). committed r ∷ x) (committed-one qs i q next is next_is)
 
--- if a queue doesn't take this packet, its staged items are of the packets that are left
+-- if this packet isn't for a queue, items are staged in the queue only if one of the remaining packets is for it
 passed-over : (q : Keyed) (p : List ℕ) (ps : List (List ℕ)) → is_for q.key p ≡ false → (q.slots.staged ≡ []) ⊎ IsAmong q.key (p ∷ ps) → (q.slots.staged ≡ []) ⊎ IsAmong q.key ps
 passed-over q p ps other (inl none) = inl none
 passed-over q p ps other (inr (inl for_it)) = absurd cc
@@ -50,7 +52,7 @@ pub passed-none : (qs : List Keyed) (p : List ℕ) (ps : List (List ℕ)) → No
 passed-none [] p ps none all = tt
 passed-none (q ∷ qs) p ps none all = (passed-over q p ps none.0 all.0, passed-none qs p ps none.1 all.1)
 
--- once the queue of this packet is committed, the staged items are of the packets that are left
+-- once the queue of this packet is committed, items are staged only in queues that one of the remaining packets is for
 pub passed-one : (qs : List Keyed) (i k : ℕ) (q next : Keyed) (p : List ℕ) (ps : List (List ℕ)) → AreDistinct (keys_of (rings_in qs)) → i < length qs → q ≡ get_or qs i q → next ≡ committed q → k ≡ get_or (keys_of (rings_in qs)) i k
     → is_for k p ≡ true → AreStagedOf (p ∷ ps) qs → AreStagedOf ps (set qs i next)
 passed-one [] i k q next p ps distinct inside is next_is k_is for_it all = tt

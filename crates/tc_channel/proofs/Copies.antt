@@ -80,7 +80,7 @@ put-copies wanted done ps (w ∷ ws) place at fit =
 pub shares-put : (wanted : ℕ → List ℕ → Bool) (ps : List (List ℕ)) (ws : List StoredQueue) → Fit ws → put_all ws (copies_from wanted 0 ps ws) ≡ map (λ (w : StoredQueue). with_items w (share wanted ps w)) ws
 shares-put wanted ps ws fit = put-copies wanted [] ps ws 0 refl fit
 
--- no copies are made of no items
+-- if there are no items, no copies are made
 pub copies-none : (wanted : ℕ → List ℕ → Bool) (place : ℕ) (ws : List StoredQueue) → copies_from wanted place [] ws ≡ []
 copies-none wanted place [] = refl
 copies-none wanted place (w ∷ ws) = rw (take-nil {A = List ℕ} (w.ring.capacity - length w.ring.items), copies-none wanted (place + 1) ws) refl

@@ -28,18 +28,18 @@ one-takes m place zero u (w ∷ ws) q apart lt is same =
     rw (others-take-none m (place + 1) u ws others, append-nil (map (copied_to place) (share (is_of_map m) (u ∷ []) w)), ← is) refl
 one-takes m place (suc i) u (w ∷ ws) q apart lt is same = one-takes m place i u ws q apart.1 (omega arith) is same
 
--- before the first packet, all packets are left
+-- before the first packet, all packets remain
 pub at-start : (base now : List StoredQueue) (all : List (List ℕ)) → now ≡ base → IsOnItsWay base all all 0 now
 at-start base now all is = record { made = []; free = map room_in base; way = under-way base all [] (map room_in base) refl refl; now_is = is; count = refl }
 
--- if no queue takes the packet, the others are left
+-- if no queue takes the packet, the packets after it remain
 pub way-none : (base now : List StoredQueue) (p : List ℕ) (left all : List (List ℕ)) (n : ℕ) → NoneFor p (keys_of now) → IsOnItsWay base (p ∷ left) all n now → IsOnItsWay base left all (n + 0) now
 way-none base now p left all n none k =
     let keys : keys_of now ≡ keys_of base = ap keys_of k.now_is ∙ k.way.keys in
     let count = k.count in
     record { made = k.made; free = k.free; way = none-on base p left all k.made k.free (subst (λ (x : List ℕ). NoneFor p x) keys none) k.way; now_is = k.now_is; count = omega arith }
 
--- if the packet's queue is full, the others are left
+-- if the packet's queue is full, the packets after it remain
 pub way-full : (base now : List StoredQueue) (p : List ℕ) (left all : List (List ℕ)) (n i a : ℕ) → AreDistinct (keys_of now) → i < length now → a ≡ get_or (keys_of now) i a → is_for a p ≡ true → room_at i now ≡ 0
     → IsOnItsWay base (p ∷ left) all n now → IsOnItsWay base left all (n + 0) now
 way-full base now p left all n i a distinct inside is for_it none k =
@@ -51,7 +51,7 @@ way-full base now p left all n i a distinct inside is for_it none k =
     let free_is : 0 ≡ get_or k.free i 0 = sym none ∙ ap (λ (x : List ℕ). get_or x i 0) rooms in
     record { made = k.made; free = k.free; way = full-on base p left all k.made k.free i a 0 (subst AreDistinct keys distinct) (omega arith) is_base for_it free_is refl k.way; now_is = k.now_is; count = omega arith }
 
--- if the packet goes into its queue, the others are left
+-- if the packet goes into its queue, the packets after it remain
 pub way-put : (base now later : List StoredQueue) (p : List ℕ) (left all : List (List ℕ)) (n i a : ℕ) → AreDistinct (keys_of now) → i < length now → a ≡ get_or (keys_of now) i a → is_for a p ≡ true → 0 < room_at i now
     → later ≡ put now i p → IsOnItsWay base (p ∷ left) all n now → IsOnItsWay base left all (n + 1) later
 way-put base now later p left all n i a distinct inside is for_it some put_is k =

@@ -55,6 +55,6 @@ abbrev pub IsAmong : ℕ → List (List ℕ) → Type 0
 IsAmong key [] = ⊥
 IsAmong key (packet ∷ packets) = (is_for key packet ≡ true) ⊎ IsAmong key packets
 
--- the items staged in the queues are of these packets: nothing is staged in a queue that none of the packets is for
+-- items are staged only in queues that one of these packets is for
 abbrev pub AreStagedOf : List (List ℕ) → List Keyed → Type 0
 AreStagedOf packets queues = AllByRecursion (λ (q : Keyed). (q.slots.staged ≡ []) ⊎ IsAmong q.key packets) queues

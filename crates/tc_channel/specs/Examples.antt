@@ -39,7 +39,7 @@ packet_octets ns = 0x00 ∷ 0x2a ∷ 0x04 ∷ 0x0c ∷ ns ∷ 0xc0 ∷ 0x10 ∷ 
 abbrev pub one_packet : ℕ → Event
 one_packet ns = Frame (packet_octets ns)
 
--- a frame with such a packet of application 6
+-- a frame with N(S) 0, whose data is an unsegmented packet of application 6 with the one octet aa
 abbrev pub packet_of_another : Event
 packet_of_another = Frame (0x00 ∷ 0x2a ∷ 0x04 ∷ 0x0c ∷ 0x00 ∷ 0xc0 ∷ 0x10 ∷ 0x06 ∷ 0xc0 ∷ 0x00 ∷ 0x00 ∷ 0x00 ∷ 0xaa ∷ [])
 

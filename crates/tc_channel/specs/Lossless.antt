@@ -1,4 +1,4 @@
--- What the replies of a channel report as dropped, over a journal.
+-- The packets and units that the replies of a channel report as dropped, over a journal.
 use Rattle.std.specs.Prelude.{◌≡◌, ℕ, List, [], ◌∷◌}
 use Rattle.tc_channel.specs.declared.settings.Settings.{Settings}
 use Rattle.tc_channel.specs.declared.event.Event.{Event}

@@ -9,7 +9,7 @@ IsFirst key place [] = ⊥
 IsFirst key zero (a ∷ rest) = key ≡ a
 IsFirst key (suc place) (a ∷ rest) = (key ≢ a) × IsFirst key place rest
 
--- a number shows the place of a key, or that it is none of the keys
+-- a number shows the place of a key among these keys, or shows that the key isn't among them
 abbrev pub ShowsFirst : List ℕ → ℕ → ℕ → ℕ → Type 0
 ShowsFirst keys none key n = IsFirst key n keys ⊎ ((n ≡ none) × AllByRecursion (λ other. key ≢ other) keys)
 

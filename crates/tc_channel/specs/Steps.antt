@@ -15,8 +15,8 @@ abbrev pub looks : List Keyed → List ℕ → ℕ
 looks queues [] = length queues
 looks queues (n ∷ table) = 1
 
--- the number of queues that are looked at to find one of this number of queues, which have a table if there are 8 or
--- more and the table can show their places
+-- the largest number of queues that are looked at to find one among `count` queues, which have a table if there are 8
+-- or more and the table can show their places
 abbrev pub most_looks : ℕ → ℕ
 most_looks count = if nat_lt count 8 then count else if nat_lt 65535 count then count else 1
 
@@ -28,8 +28,8 @@ looks_for key count = if nat_lt key apid_count then most_looks count else count
 abbrev pub pass_steps : ℕ → ℕ → ℕ
 pass_steps packets looks_for_one = packets * (looks_for_one + 1)
 
--- The steps of a unit. The queue of its MAP is looked for. Then the packets are staged in their queues, and these are
--- committed: one by one, or all of them.
+-- The steps of a unit. The queue of its MAP is looked for. Then the packets are staged in their queues, and the queues
+-- are committed: that of each packet, or all queues.
 abbrev pub unit_steps : ℕ → ℕ → ℕ → ℕ
 unit_steps packets looks_for_one looks_for_map = looks_for_map + (pass_steps packets looks_for_one + (pass_steps packets looks_for_one + looks_for_one))
 

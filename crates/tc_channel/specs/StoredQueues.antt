@@ -99,7 +99,7 @@ abbrev pub popped : ℕ → List StoredQueue → List StoredQueue
 popped key [] = []
 popped key (q ∷ qs) = if q.key == key then shorter q ∷ qs else q ∷ popped key qs
 
--- the items that a place for a unit gives: the item itself, or none
+-- the item that is put into a queue, as a list, which is empty if no item is put
 abbrev pub placed : Option Placed → List Placed
 placed None = []
 placed (Some one) = one ∷ []
@@ -115,7 +115,7 @@ pub record AreShares (wanted : ℕ → List ℕ → Bool) (items : List (List �
   pub count : length made ≡ shares_in wanted items queues
 
 -- The state after some of a unit's packets. It consists of the copies so far and the room that they leave in each
--- queue. The packets that are left share that room as all packets share the room that there was at first.
+-- queue. The remaining packets share that room in the way in which all packets share the room at the start.
 pub record IsUnderWay (queues : List StoredQueue) (left all : List (List ℕ)) (made : List Placed) (free : List ℕ) : Type 0 where
   pub places : HavePlaces (length queues) made
   pub keys : keys_of (put_all queues made) ≡ keys_of queues

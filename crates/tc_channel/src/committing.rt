@@ -17,7 +17,7 @@ use std::boxed::BoxedSlice;
 use tc_packet::{Packet, each_unit_has_one_cut, next_packet};
 use tc_rooms::Room;
 
-// Makes everything count that is staged in the queues.
+// Makes all staged items in the queues count.
 fn commit_all<R: Room, C: Tick>(queues: &mut BoxedSlice<Queue<R>>, steps: &mut C)
     ensures committed { boxed_slice_items queues.new ≡ map committed (boxed_slice_items queues.old) }
     ensures cost { C.taken steps.new ≤ C.taken steps.old + length (boxed_slice_items queues.old) }
@@ -28,7 +28,7 @@ fn commit_all<R: Room, C: Tick>(queues: &mut BoxedSlice<Queue<R>>, steps: &mut C
     }
 }
 
-// Makes the items count that are staged in the queue of this packet.
+// Makes the staged items in the queue of this packet count.
 #[inline(always)]
 #[tactic(auto, using(crate::proofs::Closing::passing))]
 fn commit_packet<R: Room, C: Tick>(

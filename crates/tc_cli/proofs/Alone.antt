@@ -59,8 +59,8 @@ pub record IsSound (m : Staffed) : Type 0 where
 abbrev pub IsAlone : Staffed → Type 0
 IsAlone m = AreAlone m.operator.desks × AreEach IsLevel m.operator.desks m.watchers
 
--- a step from the first station to the second keeps it sound; and if the operator is alone after the step, it was
--- before, and `Holds` holds
+-- The second station, which a step of the first leads to, is sound. If the operator is alone after the step, it was
+-- alone before the step, and `Holds` holds.
 abbrev pub Follows : Staffed → Staffed → Type 0 → Type 0
 Follows m new Holds = IsSound new × (IsAlone new → IsAlone m × Holds)
 
@@ -93,8 +93,9 @@ module _ (laws : AloneLaws) (Answers : Linked → Answer → Linked → Type 0) 
             (λ made. subst (board.IsEarlier (history_of a.next.own.seen)) (sym a.met.1) (beginning-self (history_of a.next.own.seen)));
       }
 
-  -- if the operator has made all events in the end, it had before this answer, which is the answer of the channel that
-  -- it had seen; and if each watcher has in the end seen exactly the events that the operator has, it had before
+  -- If the operator is alone after this answer, it was alone before the answer, which is that of the channel that it
+  -- had seen. `IsAlone` states that the operator has made all events, and that each watcher has seen exactly the events
+  -- that the operator has seen.
   changed : IsAlone new → IsAlone m × Changes (rack_of m) vcid (λ before after. Answers before answer after) (rack_of new)
   changed alone =
       let desks = m.operator.desks in

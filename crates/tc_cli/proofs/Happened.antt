@@ -91,8 +91,8 @@ desk_at place o = slice_index_or o.desks place nobody
 abbrev pub HasSeen : Settings → List Event → AtLock → Type 0
 HasSeen s journal d = (d.own.seen.head.settings ≡ s) × (d.own.seen.entries ≡ journal)
 
--- at one desk, if the worker has afterwards made all events that it has seen there, it had before, and the journal grew
--- so
+-- At one desk: if the worker has, after the jobs, made all events that it has seen there, this was also true before
+-- them, and if it had seen the old journal, it has now seen the new one.
 abbrev IsMadeOf : Settings → List Event → List Event → AtLock → AtLock → Type 0
 IsMadeOf s old new before after =
     HasSeenItsOwn before.own → HasSeenItsOwn after.own × (HasMadeAll after.own → HasMadeAll before.own × (HasSeen s old before → HasSeen s new after))
@@ -122,7 +122,7 @@ worked-more s place old mid new before between after first second = record {
       );
 }
 
--- the journal of a desk grew so, if these facts hold of the events that the operator has then seen and made
+-- `IsMadeOf` holds of a desk, if these facts hold of the events that the operator has seen and made afterwards
 desk-grown : (there next : AtLock) (now : Moment) (o : Own) (s : Settings) (old new : List Event) → next.own ≡ o → o.seen.head ≡ now.head → (HasSeenItsOwn there.own → HasSeenItsOwn o)
     → (HasSeenItsOwn there.own → HasMadeAll o → HasMadeAll there.own × (now ≡ there.own.seen)) → (now.head.settings ≡ s → now.entries ≡ old → o.seen.entries ≡ new) → IsMadeOf s old new there next
 desk-grown there next now o s old new is head its law journal = λ own. (

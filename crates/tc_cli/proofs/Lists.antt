@@ -53,7 +53,7 @@ set-elsewhere (z ∷ xs) zero zero y apart = absurd (apart refl)
 set-elsewhere (z ∷ xs) (suc k) (suc j) y apart = set-elsewhere xs k j y (λ e. apart (ap suc e))
 set-elsewhere _ _ _ y apart = refl
 
--- the element at the place then, and the element at another place
+-- the element at the place after the replacement, and the element at another place
 pub set-at : {X : Type 0} (xs more : List X) (place k : ℕ) (x y z : X) → more ≡ slice_set xs place y → slice_get xs place ≡ Some x → k ≡ place → slice_get more k ≡ Some z → y ≡ z
 set-at {X} xs more place k x y z is was here at = same_Some y z (sym (set-there xs place x y was) ∙ ((λ i. slice_get (sym is i) (sym here i)) ∙ at))
 

@@ -91,7 +91,7 @@ moved-planned found rack place l c new job planned at here same happens = record
   ];
 }
 
--- the channel has such an answer, after which its journal is the one that the job makes
+-- the channel has an answer that `Answers` allows, and its journal after the answer is the one that the job makes
 abbrev CanAnswer : (Linked → Answer → Linked → Type 0) → ℕ → Order → Linked → Type 0
 CanAnswer Answers scid order c =
     (answer : Answer) × (new : Linked) × Answers c answer new × (new.history.settings ≡ c.history.settings)
@@ -151,7 +151,8 @@ unit-can scid map_id c = elim (waits-or-not (waiting_units c.history.settings c.
   ]
 ]
 
--- an operation that has such an answer from these channels, and the plan with its job
+-- these channels give the operation an answer that `Answers` allows, and the channels after it are those of the plan
+-- with the operation's job
 abbrev IsAnsweredSo : (Racked → Answer → Racked → Type 0) → Parted → Racked → Type 0
 IsAnsweredSo Answers parted rack = (answer : Answer) × (new : Racked) × Answers rack answer new × IsPlanned parted new
 
@@ -281,7 +282,7 @@ line-planned scid number (TakeUnit vcid map_id) plan new progress matched does p
 line-planned scid number (Clcw vcid) plan new progress matched does parts =
     parts-planned scid (operations.Clcw vcid) (λ before after. after ≡ before) plan new progress matched parts (word-planned vcid)
 
--- lines whose jobs are sorted have answers, and come as far when they are carried out in order
+-- lines whose jobs are sorted have answers when they are carried out in order, which leads to the channels of the plan
 pub all-planned : (scid : ℕ) (script : List ℕ) (count : ℕ) (plan : Plan) (rest : List ℕ) → AreParted scid script count plan rest
     → (answers : List (Option Answer)) × (progress : Progress) × AreAnswers (IsPerformed scid) script answers progress rest × AreMatched plan progress
 all-planned scid script count plan rest none_parted = ([], SettingUp [], at_first, refl)

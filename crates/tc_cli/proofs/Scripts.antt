@@ -61,7 +61,7 @@ read-cause scid (Some script) TooLong why = tt
 read-cause scid (Some script) (Line number reason) why = tt
 read-cause scid (Some script) Write why = tt
 
--- if lines are good, the first of them are
+-- if the first `count` lines are good, so are the first `less` lines, for any `less` up to `count`
 pub first-good : (script : List ℕ) (count : ℕ) (phase : Phase) (rest : List ℕ) (less : ℕ) → Leads script count phase rest → less ≤ count → AreFirstGood script less
 first-good script count phase rest less starts le =
     let none : 0 ≡ less = omega (arith, le) in

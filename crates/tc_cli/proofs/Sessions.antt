@@ -23,8 +23,8 @@ phase-of : (s : Session) → phase_of s ≡ phase_of (progress_of s)
 phase-of (SettingUp list) = refl
 phase-of (Operating m) = refl
 
--- a step from the first session to the second keeps it sound; and if the operator is alone after the step, it was
--- before, and `Holds` holds
+-- The second session, which a step of the first leads to, is sound. If the operator is alone after the step, it was
+-- alone before the step, and `Holds` holds.
 abbrev GoesOn : Session → Session → Type 0 → Type 0
 GoesOn s new Holds = IsSoundSession new × (IsAloneSession new → IsAloneSession s × Holds)
 

@@ -13,14 +13,14 @@ use Rattle.tc_cli.specs.Written.{IsSessionReportWritten, IsScriptUnreported, IsS
 use Rattle.tc_cli.proofs.Alone.{AloneLaws}
 use Rattle.tc_cli.proofs.Sessions.{progress_of, reported-alone}
 
--- if two results are Ok at the same time, a fact that holds if the one is Ok holds if the other is
+-- if one result is Ok exactly when another is, a fact that holds if the one is Ok also holds if the other is Ok
 pub on-ok-same : {T U E F : Type 0} (r : Result T E) (s : Result U F) (A : Type 0) → is_ok s ≡ is_ok r → OnOk r A → OnOk s A
 on-ok-same (Ok x) (Ok y) A same holds = holds
 on-ok-same (Ok x) (Err f) A same holds = tt
 on-ok-same (Err e) (Ok y) A same holds = let no : ⊥ = cc in absurd no
 on-ok-same (Err e) (Err f) A same holds = tt
 
--- a fact follows from two others, all of which hold if a result is Ok
+-- if a fact follows from two others that hold if a result is Ok, it also holds if the result is Ok
 pub on-ok-both : {T E : Type 0} (r : Result T E) (A B C : Type 0) → (A → B → C) → OnOk r A → OnOk r B → OnOk r C
 on-ok-both (Ok x) A B C follows a b = follows a b
 on-ok-both (Err e) A B C follows a b = tt

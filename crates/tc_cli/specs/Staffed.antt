@@ -59,9 +59,9 @@ pub record IsStaffedCall {R F : Type 0} (place vcid : ℕ) (e : Event) (ok : Mom
   pub watchers : after.watchers ≡ slice_set before.watchers place late
   pub station : after.station ≡ before.station
 
--- The channel with this id, at the desk of this place, answered so at a moment whose journal continues all that the
--- operator had seen of it, and all that the channel's watcher had seen. If the operation is an event, it is the next
--- one of the journal, and one of the operator's own. After it, the watcher has seen all that the operator has. The
+-- The channel with this id, at the desk of this place, gave this answer at a moment whose journal continues all that
+-- the operator had seen of it, and all that the channel's watcher had seen. If the operation is an event, it is the
+-- next one of the journal, and one of the operator's own. After it, the watcher has seen all that the operator has. The
 -- other desks, and their watchers, are as they were.
 pub record IsAnsweredAt (place vcid : ℕ) (Answers : Linked → Answer → Linked → Type 0) (before : Staffed) (answer : Answer) (after : Staffed) : Type 0 where
   pub there : AtLock
@@ -84,7 +84,7 @@ pub record IsAnsweredAt (place vcid : ℕ) (Answers : Linked → Answer → Link
   pub watchers : after.watchers ≡ slice_set before.watchers place late
   pub station : after.station ≡ before.station
 
--- the channel with this id answers so at its desk, or there is no such channel
+-- the channel with this id gives this answer at its desk, or there is no such channel
 abbrev pub IsDeskAnswer : ℕ → (Linked → Answer → Linked → Type 0) → Staffed → Answer → Staffed → Type 0
 IsDeskAnswer vcid Answers m answer after =
     ((place : ℕ) × IsPlace m.station vcid place × IsAnsweredAt place vcid Answers m answer after)

@@ -109,8 +109,8 @@ IsScriptUnbalanced scid script old new =
     (answers : List (Option Answer)) × (session : Session) × AreAnswers (IsStaffedOperated scid) script answers session [] × IsSessionUnbalanced scid session
     × Appends old new (answers_text answers)
 
--- the text that was written if a script ends early: nothing if it wasn't read, the answers of the lines before if a
--- line ends it, and those of all lines if counts are out of balance; nothing is known if writing failed
+-- the text that was written if a script ends early: nothing if it wasn't read, the answers of the lines before the one
+-- that ends it, or those of all lines if counts are out of balance; nothing is known if writing failed
 abbrev pub IsScriptCutShort : ℕ → List ℕ → Option (List ℕ) → Option (List ℕ) → ScriptFault → Type 0
 IsScriptCutShort scid script old new (Line number reason) =
     ((reason ≡ NoMemory) × IsOutOfMemory scid script number old new)

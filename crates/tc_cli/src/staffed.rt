@@ -193,7 +193,7 @@ impl StaffedStation {
         }
     }
 
-    /// Reports a channel's CLCW, by its watcher, without the channel's lock.
+    /// Reports a channel's CLCW, through the channel's watcher and without the channel's lock.
     pub(crate) fn clcw(&mut self, vcid: u8) -> Answer
         ensures answer { IsWordAnswer vcid self.old result self.new }
     {

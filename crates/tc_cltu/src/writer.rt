@@ -71,7 +71,7 @@ fn coded(alloc: Global, frame: &[u8]) -> Result<Vec<u8>, AllocError>
     Ok(made)
 }
 
-// Adds the code block of the octets that are left, with its fill, if any are left.
+// Adds the code block of the remaining octets, with its fill, if any octets remain.
 fn push_last(made: &mut Vec<u8>, octets: &[u8])
     requires few { length octets.now < 7 }
     requires room { vec_len made.old + 8 * ((length octets.now + 6) / 7) + 8 ≤ vec_capacity made.old }

@@ -94,7 +94,7 @@ pub record IsMeeting (early : Watching) (before : AtLock) (late : Watching) (aft
 abbrev pub IsFramedWatched : List ℕ → Moment → FrameReply × Watching → Type 0
 IsFramedWatched frame m answer = IsFramed frame m answer.0 × HasSeen m (with_event (history_of m) (Frame frame)) answer.1
 
--- Memory ran out. If the journal takes none, this refuses only Type-BD frames.
+-- Memory ran out. If the journal takes no memory, only Type-BD frames are refused for this reason.
 abbrev pub IsFrameFault : Bool → List ℕ → Moment → NoMemory → Type 0
 IsFrameFault grows frame m fault = grows ≡ false → IsBypassData frame
 

@@ -63,7 +63,7 @@ impl<J: Journal> Logged<DeskHead, Event> for DeskSlot<J> {
 }
 
 impl<J: Journal> DeskSlot<J> {
-    /// Creates the slot of this desk, or of none.
+    /// Creates a slot with this desk in it, or an empty slot.
     pub(crate) fn new(desk: Option<DeskOf<J>>) -> DeskSlot<J>
         ensures { padded_value result.desk ≡ desk }
     {

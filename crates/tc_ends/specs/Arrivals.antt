@@ -1,5 +1,5 @@
--- A CLTU on its way, some of whose bits are turned (CCSDS 231.0-B), and the events that a stream of octets is to a
--- receiver.
+-- A CLTU on its way, some of whose bits are turned (CCSDS 231.0-B), and the events that a stream of octets brings about
+-- at a receiver.
 use Rattle.std.specs.Prelude.{◌≡◌, ℕ, ◌≤◌, ◌⊎◌, Bool, true, false, List, [], ◌∷◌, ◌++◌, length, map, None}
 use Rattle.tc_link.specs.Frame.{IsWhole}
 use Rattle.tc_fecf.specs.Candidate.{IsDelimited, is_fill}
@@ -58,7 +58,7 @@ pub data Coming : Type 0 where
   Octets : List ℕ → Coming
   Asks : Event → Coming
 
--- the events that this input is to the receiver, whose decoder is in this state
+-- the events that this input brings about at the receiver, whose decoder is in this state
 abbrev pub AreEventsAt : Mode → Bool → Reception → Coming → List Event → Type 0
 AreEventsAt mode field state (Octets octets) events = (frames : List (List ℕ)) × AreBrought field (frames_of mode most_octets state octets) frames × (events ≡ map Frame frames)
 AreEventsAt mode field state (Asks e) events = events ≡ e ∷ []
@@ -74,9 +74,9 @@ AreEventsOf mode field state [] events = events ≡ []
 AreEventsOf mode field state (c ∷ coming) events =
     (now : List Event) × (later : List Event) × AreEventsAt mode field state c now × (events ≡ now ++ later) × AreEventsOf mode field (state_behind mode state c) coming later
 
--- Detection lets nothing through that was altered: at each moment of a session, the input is to the receiver the event
--- that the session's action is. So a CLTU that is refused is a loss, and octets that bring nothing may come at any
--- moment at which nothing arrives.
+-- Detection lets nothing through that was altered: at each moment of a session, the input brings about exactly the
+-- events of the session's action at the receiver. So a CLTU that is refused is a loss, and octets that bring nothing
+-- may come at any moment at which nothing arrives.
 abbrev pub AltersNothing : Mode → Bool → (ℕ → List ℕ) → Reception → List Action → List Coming → Type 0
 AltersNothing mode field frames state [] [] = Unit {0}
 AltersNothing mode field frames state (action ∷ session) (c ∷ coming) =

@@ -128,7 +128,7 @@ pub fn numbered_frames_send_packets()
 /// This law leads from a ground system's packets to the packets that takes give, over the start of an era and over
 /// links that lose, repeat and delay frames, but keep their order. The sender sends Set V(R) and then its packets, in
 /// units on any MAPs. It numbers the frames, sends them by its window, and sends no others. When it believes that Set
-/// V(R) was obeyed, it was. Then takes gave what [`packets_that_are_sent_are_given`] promises.
+/// V(R) was obeyed, this is true. Then takes gave what [`packets_that_are_sent_are_given`] promises.
 pub fn packets_from_a_start_are_given()
     ensures { (s : Start) (header : Header) (units : List UnitSent) (frames : List (List ℕ)) (apid : ℕ) (q : Queue) → IsStart s
         → AllByRecursion (CanBeSent s.loop.limits s.loop.settings.segmented) units → AreNumbered s.loop.settings.segmented header units frames → AreFrom (era s).frames frames → SendsOnly (length frames) (era_session s)

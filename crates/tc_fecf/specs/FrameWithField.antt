@@ -10,7 +10,7 @@ use Rattle.tc_fecf.specs.declared.frames.FieldFault.TheVariants.{NoFrame, Fill, 
 abbrev pub spelled : ℕ → List ℕ
 spelled n = n / 256 ∷ n % 256 ∷ []
 
--- the octets before the field: those of the frame, but with a length field, which ends with the fourth octet, that
+-- the octets before the field: those of the frame, except that the length field, which ends with the fourth octet,
 -- counts two octets more
 unfoldable pub octets_before_field : List ℕ → List ℕ
 octets_before_field (a ∷ b ∷ c ∷ d ∷ rest) = a ∷ b ∷ (256 * c + d + 2) / 256 ∷ (256 * c + d + 2) % 256 ∷ rest

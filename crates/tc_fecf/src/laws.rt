@@ -34,27 +34,27 @@ pub fn just_frames_with_room_for_the_field_have_no_fault()
     ensures taking { (octets : List ℕ) → IsOctets octets → (taking_fault_of octets ≡ None) ↔ (IsWhole octets × (8 ≤ length octets) × Passes octets) }
 {}
 
-/// Two lists of equally many octets that differ only within 16 consecutive bits don't both pass.
+/// Two lists with the same number of octets that differ only within 16 consecutive bits don't both pass.
 ///
 /// So each change of one bit is detected, and each burst of up to 16 bits.
 pub fn a_burst_of_16_bits_is_detected()
     ensures { (one other : List ℕ) (i : ℕ) → SameOctets one other → SameBits one other (λ k. (k < i) ⊎ (i + 16 ≤ k)) → Passes one → Passes other → one ≡ other }
 {}
 
-/// Two lists of equally many octets that differ in two bits, less than 32,767 bits apart, don't both pass. Any two bits
-/// of a frame are closer than that, since a frame has at most 8,192 bits.
+/// Two lists with the same number of octets that differ in two bits, less than 32,767 bits apart, don't both pass. Any
+/// two bits of a frame are closer than that, since a frame has at most 8,192 bits.
 pub fn a_change_of_two_bits_is_detected()
     ensures { (one other : List ℕ) (i j : ℕ) → j < i + 32767 → i < j + 32767 → SameOctets one other → SameBits one other (λ k. (k ≢ i) × (k ≢ j))
         → Passes one → Passes other → one ≡ other }
 {}
 
-/// Two lists of equally many octets that differ in three bits, less than 32,767 bits apart, don't both pass.
+/// Two lists with the same number of octets that differ in three bits, less than 32,767 bits apart, don't both pass.
 pub fn a_change_of_three_bits_is_detected()
     ensures { (one other : List ℕ) (i j k : ℕ) → i < j → j < k → k < i + 32767 → SameOctets one other → SameBits one other (λ p. (p ≢ i) × (p ≢ j) × (p ≢ k))
         → Passes one → Passes other → one ≡ other }
 {}
 
-/// Two lists of equally many octets that differ in an odd number of bits don't both pass.
+/// Two lists with the same number of octets that differ in an odd number of bits don't both pass.
 pub fn a_change_of_an_odd_number_of_bits_is_detected()
     ensures { (one other : List ℕ) → SameOctets one other → differences (bits_of one) (bits_of other) % 2 ≡ 1 → Passes one → Passes other → ⊥ }
 {}

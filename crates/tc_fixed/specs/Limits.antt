@@ -108,6 +108,7 @@ of_settings fault = faults.Settings fault
 abbrev pub IsFaultWithLimits : Settings → Limits → LimitsFault → Type 0
 IsFaultWithLimits s limits fault = ((its : SettingsFault) × (fault ≡ of_settings its) × IsFaultOfSettings s its) ⊎ (IsAllowed s × IsLimitsFault s limits fault)
 
--- the reason why no channel was created, which is running out of memory only if there is no fault
+-- the reason why no channel was created: the first fault of the settings and limits, or running out of memory if they
+-- have none
 abbrev pub IsRefusalWithLimits : Settings → Limits → LimitsFault → Type 0
 IsRefusalWithLimits s limits fault = IsFaultWithLimits s limits fault ⊎ ((fault ≡ of_settings settings_faults.NoMemory) × IsAllowed s × AreLimits s limits)

@@ -20,7 +20,7 @@ carried r octets frame rest found e = (
   λ other. is-more r rest e (ap is_fill (one-frame frame other.0 rest other.1 found.whole other.2.whole (sym found.parts ∙ other.2.parts)).1 ∙ other.3),
 )
 
--- a candidate that carries no more is carried out as the line that passed
+-- a candidate that carries no more than a frame and its fill is carried out as the line that the check returns for it
 pub passed-done : (old new : Receiving) (check : FrameCheck) (ends : FrameEnds) (scid : ℕ) (stage : Stage Racked) (octets shown : List ℕ) (r : Bool) (o : Option Line) (passed : Line) (answer : LiveAnswer)
     → ◌≡◌ {A = Receiving} (record { check = check; ends = ends; scid = scid; stage = stage }) old → shown ≡ octets → IsTrue r ↔ CarriesMore shown → r ≡ false
     → MatchOption o (FailsCandidate check octets) (IsCandidatePassed check octets) → o ≡ Some passed → IsPassedDone old passed new answer → IsCandidateDone old octets new answer

@@ -1,4 +1,4 @@
--- The end of the lines, at which the report was written, or not.
+-- The end of the lines, and whether the report was written there.
 use Rattle.tc_live.proofs.Names.{◌≡◌, ◌⊎◌, ℕ, Bool, false, List, Option, None, Some, IfSome, Result, Ok, Err, inl, inr, sym, subst, both_ways, All-permutation, Appends-trans, Appends-kept, ◌↔◌, All, IsPermutation, IsTrue, OnOk, IfOk, IfErr, Keeps, histories, Receiving, rack_at, IsClosingFault, IsReceptionCutShort, IsLineSaid, IsReportWritten, IsNumberUnreported, IsReceptionWritten, fault_at_lines, line_limit, FrameEnds}
 use Rattle.tc_lines.specs.Answering as lines
 use Rattle.tc_lines.specs.declared.answering.ServingFault.{ServingFault as AnsweringFault}
@@ -39,7 +39,7 @@ lines-cut answering.Read receiver last (Some octets) a b cut = (last, cut)
 lines-cut answering.Write receiver last (Some octets) a b cut = tt
 lines-cut answering.NoMemory receiver last (Some octets) a b cut = inl cut.1
 
--- if not all channels report their numbers in one order, not all channels of the receiver do
+-- if not all channels report their numbers of events after they were put in order, not all channels of the receiver do
 pub is-number-unreported : (receiver : Receiving) (reported : Bool) (shown before after : List History) → IsTrue reported ↔ All IsNumberReported shown → reported ≡ false
     → shown ≡ after → IsPermutation before after → before ≡ histories (rack_at receiver) → IsNumberUnreported receiver
 is-number-unreported receiver reported shown before after just not same shuffled is all =

@@ -8,7 +8,7 @@ use tc_channel::Octets;
 use tc_fecf::{FieldFault, delimit, is_fill, without_field};
 use tc_text::{Line, Reason};
 
-/// The check that octets must pass, by the end that frames have.
+/// The check that octets must pass, which depends on whether frames end with a frame error control field.
 #[derive(Clone, Copy, Debug, PartialEq, Eq)]
 pub enum FrameCheck {
     /// No check, since frames have no frame error control field. All octets are brought.

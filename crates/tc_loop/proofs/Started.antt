@@ -172,7 +172,7 @@ module _ (s : Start) (k : IsStart s) where
   lawful-at t = lawful-before s.loop.limits s.loop.settings (journal s.loop (take t s.session)) (events s.loop (drop t s.session))
       (subst (IsLawfulWithin s.loop.limits s.loop.settings) (ap (journal s.loop) (sym (take-append-drop t s.session)) ∙ journal-append s.loop (take t s.session) (drop t s.session)) k.lawful)
 
-  -- each CLCW that the sender hears since it believes was made after Set V(R) was obeyed
+  -- once the sender believes that Set V(R) was obeyed, each CLCW that it hears was made after that
   made-later : (t m : ℕ) → s.believed ≤ t → slice_get s.session t ≡ Some (Hear m) → s.obeyed < m
   made-later t m since here =
       let made = k.believes in
@@ -184,7 +184,7 @@ module _ (s : Start) (k : IsStart s) where
         | inr other ↦ let behind = k.links.reports_in_order s.believed t made.0 m (omega arith) made.1 here in omega arith
       ]
 
-  -- the report value of such a CLCW is the same in the era's loop
+  -- the report value of a CLCW that the sender hears then is the same in the era's loop
   same-report : (t m : ℕ) → s.believed ≤ t → slice_get s.session t ≡ Some (Hear m) → reported (era s) (era_session s) m ≡ reported s.loop s.session m
   same-report t m since here = elim (cases_lt s.again m) [
     | inl late ↦ ap (λ es. (fields_of (clcw_within s.loop.limits s.loop.settings es (s.loop.links m))).vr) (journal-late s m late)
@@ -204,8 +204,8 @@ module _ (s : Start) (k : IsStart s) where
   untaught (Arrive j r) n a early = grind (arith, nat_tests)
   untaught _ n a early = grind (arith, nat_tests)
 
-  -- from the moment at which it believes, the sender knows the frames that it knows in the era's loop, and before that
-  -- it knows none
+  -- the frames of the era that the sender knows in the session are those that it knows in the era's loop; before it
+  -- believes that Set V(R) was obeyed, it knows none
   pub known-in-era : (t : ℕ) → known (era s) (era_session s) t ≡ known_since s t
   known-in-era zero = ap (known_from s.loop s.session 0) (sym (drop_all {X = Action} s.believed [] (omega arith)))
   known-in-era (suc t) = by (slice_get s.session t) refl (known-in-era t) where

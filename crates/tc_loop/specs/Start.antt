@@ -31,7 +31,7 @@ IsObeyed s t = (sent : ℕ) × (slice_get s.session t ≡ Some (Arrive s.directi
     × (set_by s.loop.settings (receiver s.loop (take t s.session)) (Frame (s.loop.frames s.directive)) ≡ Some s.loop.first)
 
 -- the number of frames of the era that the sender knows to be accepted at a moment (CLCWs that it heard before it
--- believed don't count)
+-- believed that Set V(R) was obeyed don't count)
 abbrev pub known_since : Start → ℕ → ℕ
 known_since s t = known_from s.loop s.session 0 (drop s.believed (take t s.session))
 
@@ -54,7 +54,7 @@ era_actions s t (action ∷ rest) = era_action s t action ∷ era_actions s (suc
 abbrev pub era_session : Start → List Action
 era_session s = era_actions s 0 s.session
 
--- a start by FOP-1's rules, in which the sender believes Set V(R) to be obeyed when it was
+-- a start by FOP-1's rules, in which the sender believes that Set V(R) was obeyed only when this is true
 pub record IsStart (s : Start) : Type 0 where
   pub window : s.loop.window < 256
   pub directive : kind_of (header_of (s.loop.frames s.directive)) (field_of (s.loop.frames s.directive)) ≡ Bc (SetVr s.loop.first)
@@ -64,10 +64,10 @@ pub record IsStart (s : Start) : Type 0 where
   pub obeyed : IsObeyed s s.obeyed
   pub again : (s.obeyed ≤ s.again) × IsObeyed s s.again
   pub last : NoneSetsWithin s.loop.limits s.loop.settings (journal s.loop (take (suc s.again) s.session)) (events s.loop (drop (suc s.again) s.session))
-  -- The CLCW by which the sender believes was made after Set V(R) was obeyed.
+  -- The CLCW by which the sender believes that Set V(R) was obeyed was made after that.
   pub believes : (made : ℕ) × (slice_get s.session s.believed ≡ Some (Hear made)) × (s.obeyed < made)
-  -- From the directive on, the sender sends no earlier frame. Once it believes, it no longer sends the directive, and
-  -- it sends the era's frames by its window.
+  -- From the directive on, the sender sends no earlier frame. Once it believes that Set V(R) was obeyed, it no longer
+  -- sends the directive, and it sends the era's frames by its window.
   pub stops : (t u j : ℕ) → slice_get s.session t ≡ Some (Send j) → j < s.directive → slice_get s.session u ≡ Some (Send s.directive) → t < u
   pub asks : (t : ℕ) → slice_get s.session t ≡ Some (Send s.directive) → t < s.believed
   pub sends : (t i : ℕ) → slice_get s.session t ≡ Some (Send (s.directive + 1 + i)) → (s.believed < t) × (known_since s t ≤ i) × (i < known_since s t + s.loop.window)

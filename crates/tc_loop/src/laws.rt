@@ -75,8 +75,8 @@ pub fn each_receiver_can_be_in_a_loop()
 
 /// The era that a sender's own Set V(R) starts is a loop, too, whatever earlier frames and CLCWs are still on their
 /// way. The condition is that the CLCW by which the sender believes that Set V(R) was obeyed was made after that. The
-/// loop has the receiver and the journal of the session, and the sender knows in it the frames of which it heard since
-/// it believes.
+/// loop has the receiver and the journal of the session, and the frames that the sender knows in it are those of which
+/// it heard after it believed that Set V(R) was obeyed.
 pub fn an_era_that_set_v_r_starts_is_a_loop()
     ensures loop_again { (s : Start) → IsStart s → IsLoop (era s) (era_session s) }
     ensures journal { (s : Start) → IsStart s → journal (era s) (era_session s) ≡ journal s.loop s.session }

@@ -97,7 +97,7 @@ Before ending p place a b = (frames : List (List ℕ)) × AreSent ending p 0 fra
 pub none-before : (ending : Ending) (p : Parting) (a : Option (List ℕ)) → Before ending p 0 a a
 none-before ending p a = ([], tt, refl, Appends-nil a)
 
--- once the frame at a place is written, the frames before the next place are
+-- once the frame at a place is written, all frames before the next place are written
 frame-sent : (ending : Ending) (p : Parting) (place : ℕ) (a b c : Option (List ℕ)) → Before ending p place a b
     → Writes b c (IsPartSaid true ending p place) → Before ending p (place + 1) a c
 frame-sent ending p place a b c (frames, all, count, was) (text, (sent, is, spelled), now) = (

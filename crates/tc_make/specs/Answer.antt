@@ -121,7 +121,7 @@ abbrev pub AreFramesSaid : ℕ → List ℕ → List ℕ → Type 0
 AreFramesSaid most octets text =
     (frames : List (List ℕ)) × (rest : List ℕ) × AreDelimited most octets frames rest × (text ≡ frames_text frames ++ rest_text rest)
 
--- the explanation of a word as a CLCW, or its refusal
+-- the explanation of a word as a CLCW, or the text that refuses the word if it is none
 abbrev pub IsWordSaid : ℕ → List ℕ → Type 0
 IsWordSaid word text = (IsClcw word × (text ≡ clcw_text (fields_of word))) ⊎ ((IsClcw word → ⊥) × (text ≡ refused_text (codes "clcw")))
 
@@ -129,7 +129,7 @@ IsWordSaid word text = (IsClcw word × (text ≡ clcw_text (fields_of word))) �
 abbrev pub IsClcwSaid : List ℕ → List ℕ → Type 0
 IsClcwSaid octets = Unless (if length octets == 4 then None else Some BadClcw) (IsWordSaid (from_be_bytes w32 octets))
 
--- the answer to a line that was parsed so, and its effect on the counts and the decoders
+-- the answer to this parsed line, and its effect on the counts and the decoders
 abbrev pub IsSaid : Maker → Line → Maker → List ℕ → Type 0
 IsSaid old Blank new = OrNoMemory (λ text. text ≡ [])
 IsSaid old (Packet apid count octets) new = OrNoMemory (IsMadePacketSaid apid count octets)

@@ -22,7 +22,7 @@ pub record Store : Type 0 where
 abbrev pub open_runs : Store → OpenRuns
 open_runs store = record { segmented = store.segmented; runs = map open_in store.runs }
 
--- the first `n` runs, filled up with none where there are fewer
+-- the runs at the first `n` places, with no run at a place past the end of the list
 abbrev pub first_runs : ℕ → List (Option (List ℕ)) → List (Option (List ℕ))
 first_runs zero runs = []
 first_runs (suc n) [] = None ∷ first_runs n []

@@ -10,6 +10,7 @@ abbrev pub phase_of : {O : Type 0} → Stage O → Phase
 phase_of (SettingUp list) = Setup list
 phase_of (Operating operating) = Operation
 
--- a line that is refused for this reason leaves everything as it is, unless memory is refused before operation
+-- a line that is refused for this reason leaves everything as it is, unless memory ran out before the channels were in
+-- operation
 abbrev pub IsStageKept : {O : Type 0} → Reason → Stage O → Stage O → Type 0
 IsStageKept reason old new = (new ≡ old) ⊎ ((reason ≡ NoMemory) × (phase_of old ≢ Operation))

@@ -1,6 +1,6 @@
-//! The channels of one spacecraft for one thread, which needs no lock. Operations, their answers and the final report
-//! are also here, for threads that share channels, too. A [`Stage`] has the set-up of a script, and later the channels
-//! that operate.
+//! The channels of one spacecraft for one thread, which needs no lock. The crate also has operations, their answers and
+//! the final report, which are also used for channels that threads share. A [`Stage`] has the set-up of a script, and
+//! later the channels that operate.
 //!
 //! A contract sees each channel of a [`Rack`] with its journal and the flags of its link. So the answer to an operation
 //! is given by an equation: it is the reply of the channel that the operation names, after the journal that this

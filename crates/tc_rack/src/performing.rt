@@ -139,8 +139,8 @@ fn operate<F: Backend>(
     }
 }
 
-/// Creates the channels if no operation came before. It does so from a copy of the set-up, which stays if memory runs
-/// out.
+/// Creates the channels from a copy of the set-up, if no operation came before. If memory runs out, the set-up stays as
+/// it was.
 #[inline(always)]
 pub fn begin<F: Backend>(
     backend: &F,

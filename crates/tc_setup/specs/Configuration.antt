@@ -29,7 +29,7 @@ abbrev pub with_addition : Settings → Addition → Settings
 with_addition s (Queue queue) = record s { queues = s.queues ++ queue ∷ [] }
 with_addition s (Map chosen) = record s { maps = s.maps ++ chosen ∷ [] }
 
--- one more channel is set up, with the id of no other
+-- one more channel is set up, with an id that no other has
 abbrev pub AddsChannel : List Settings → Settings → List Settings → Type 0
 AddsChannel list s new = ¬ HasSettings list s.vcid × IsAllowed s × (new ≡ list ++ s ∷ [])
 

@@ -79,7 +79,7 @@ IsReplied vcid frame m brought = (brought.vcid ≡ vcid) × IsFramed frame m bro
 abbrev pub IsRepliedWatched : ℕ → List ℕ → Moment → Brought × Watching → Type 0
 IsRepliedWatched vcid frame m answer = (answer.0.vcid ≡ vcid) × IsFramedWatched frame m (answer.0.reply, answer.1)
 
--- Memory ran out. If the journal takes none, this refuses only Type-BD frames.
+-- Memory ran out. If the journal takes no memory, only Type-BD frames are refused for this reason.
 abbrev pub IsNotBrought : Bool → List ℕ → Moment → BringFault → Type 0
 IsNotBrought grows frame m fault = (fault ≡ NoMemory) × (grows ≡ false → IsBypassData frame)
 

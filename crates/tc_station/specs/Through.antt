@@ -57,7 +57,8 @@ IsAnsweredAmong station vcid operator closed e Answers =
 abbrev pub IsWordRead : Link → Watching → ℕ → Watching → Type 0
 IsWordRead link early word late = board.IsEarlier early.seen late.seen × (word ≡ clcw late.seen.settings late.seen.journal link)
 
--- the CLCW is that of a place in the channel's journal, which isn't before all that the watcher had seen
+-- the CLCW is that of a place in the channel's journal, and the part of the journal that the watcher had seen doesn't
+-- go beyond this place
 abbrev pub IsShownIn : History → Watching → Link → ℕ → Type 0
 IsShownIn channel early link word =
     (n : ℕ) × (length early.seen.journal ≤ n) × (n ≤ length channel.journal) × (word ≡ clcw channel.settings (take n channel.journal) link)

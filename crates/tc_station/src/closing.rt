@@ -43,8 +43,8 @@ pub(crate) fn are_in_balance(vcids: &[u8], operators: &[Operator], channels: &[C
     true
 }
 
-// Returns whether a channel is in balance and reports the number of its events, which the largest number of 64 bits is
-// not.
+// Returns whether a channel is in balance and reports the true number of its events. The largest number of 64 bits
+// isn't taken for the true number, since it may stand for more.
 fn is_in_reported_balance(
     vcids: &[u8],
     operators: &[Operator],

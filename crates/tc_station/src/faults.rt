@@ -90,7 +90,7 @@ pub enum TakeUnitRefused {
     NoMemory,
 }
 
-/// The reason why not all lists were done.
+/// The reason why not all lists were carried out.
 #[derive(Clone, Copy, Debug, PartialEq, Eq, Error)]
 pub enum WorkFault {
     /// The lowest line whose job was refused because memory ran out.
@@ -106,8 +106,8 @@ pub enum CloseFault {
     Missing(Station, Vec<Operator>),
     #[error("no memory")]
     NoMemory(Station, Vec<Operator>),
-    /// The channels are out of their locks. One of them has another virtual channel id than its place, or another
-    /// number of events than the operators counted for it.
+    /// The channels are out of their locks. The virtual channel id of one of them isn't that of its place, or its
+    /// number of events isn't the one that the operators counted for it.
     #[error("the operators' counts and the journals differ")]
     Unbalanced(Vec<Channel>, Vec<Operator>),
 }
@@ -130,8 +130,8 @@ pub enum CountingCloseFault {
     Missing(CountingStation, Vec<Operator>),
     #[error("no memory")]
     NoMemory(CountingStation, Vec<Operator>),
-    /// The channels are out of their locks. One of them has another virtual channel id than its place, or another
-    /// number of events than the operators counted for it, or 2^64 - 1 events or more.
+    /// The channels are out of their locks. The virtual channel id of one of them isn't that of its place, or its
+    /// number of events isn't the one that the operators counted for it, or it has 2^64 - 1 events or more.
     #[error("the operators' counts and the numbers of events differ")]
     Unbalanced(Vec<CountingChannel>, Vec<Operator>),
 }

@@ -487,9 +487,9 @@ impl StationOf<Recorded> {
 
     /// Ends the station: takes the channels out of their locks and compares their journals with the operators' counts.
     /// Two lists are allocated before any lock is taken. Any operators with counts for these channels may be given,
-    /// also those of another station. For this station's own operators, [`StationOf::close_together`] promises more. A
-    /// lock that isn't free would be reported as [`CloseFault::NoMemory`], but the owner of the station never sees
-    /// that.
+    /// including those of another station. For this station's own operators, [`StationOf::close_together`] promises
+    /// more. A lock that isn't free would be reported as [`CloseFault::NoMemory`], but the owner of the station never
+    /// sees that.
     pub fn close(self, operators: Vec<Operator>) -> Result<Vec<Channel>, CloseFault>
         requires ours { All (λ o. o.vcids ≡ self.vcids) operators.items }
         ensures all { IfOk result (λ _. self.issued ≤ vec_len operators) }
@@ -634,7 +634,7 @@ fn rooms(alloc: Global, vcids: &[u8], n: u16) -> Result<Vec<Room>, AllocError>
     Ok(rooms)
 }
 
-// Issues `n` operators that have made nothing, or none.
+// Issues `n` operators that have made nothing. If memory runs out, it issues none.
 fn issue<J: Journal>(
     alloc: Global,
     vcids: &[u8],

@@ -41,7 +41,7 @@ use tc_desk::each_event_stands_at_its_place;
 ///   operator has made at that time. So one thread could have made all calls, in the journal's order, and got the same
 ///   answers.
 /// - `words`: Each CLCW that a watcher read before a meeting, however often it read again in between, is that of a
-///   place in that journal. This place isn't before all that the watcher had seen.
+///   place in that journal. The part of the journal that the watcher had seen doesn't go beyond this place.
 /// - `sent`: An era is the journal's part since a Set V(R) was last obeyed, or else all of it. Suppose that the Type-AD
 ///   frames of an era are those of one sender, numbered on from the V(R) with which the era starts, and that none came
 ///   256 or more numbers early or late. Then the Type-AD data fields of the era that were released are what was sent,

@@ -1,4 +1,4 @@
-//! Workers: lists of jobs, each done by a thread of its own.
+//! Workers: lists of jobs, each carried out by a thread of its own.
 
 ghost use Rattle.std.specs.Prelude.{◌≡◌, ◌<◌, ℕ, All, Option, None, Some, length, map, slice_index_or, OnOk, OnErr, MatchResult};
 ghost use Rattle.std.specs.Thread.{IsSend, IsSync};
@@ -12,7 +12,7 @@ use std::sync::Wait;
 use std::thread::{Threads, join_mut};
 use tc_channel::{Items, Journal, NoMemory, Octets};
 
-/// A gate that each worker passes once, under the lock of its list's channel, before it does its jobs.
+/// A gate that each worker passes once, under the lock of its list's channel, before it carries out its jobs.
 pub trait Gate {
     fn pass(&self, vcid: u8);
 }
@@ -61,10 +61,11 @@ where
     ghost use Rattle.tc_station.specs.Tried.{IsListMade, IsJobMade, HasMadeTheSame};
     ghost use Rattle.tc_station.specs.Work.{IsDone, MayWantMemory, IsWorked, AreStaffed, AreWorked, IsTallyOf, NoCountFalls, IsRaised, line_of_fault};
 
-    /// Does each list of jobs in a thread of its own, with the operator at the list's place. A refusal for any reason
-    /// but memory is passed over. A list is given up at the first job that is refused because memory ran out. The other
-    /// lists are done in full, and the lowest such line is reported. If no further thread starts, the running thread
-    /// works off the remaining lists, one by one. Only the operations themselves request memory.
+    /// Carries out each list of jobs in a thread of its own, with the operator at the list's place. A refusal for any
+    /// reason but memory is passed over. A list is given up at the first job that is refused because memory ran out.
+    /// The other lists are carried out in full, and the lowest line of such a job is reported. If no further thread
+    /// starts, the running thread works off the remaining lists, one by one. Only the operations themselves request
+    /// memory.
     pub fn work<G: Gate + Sync, R: Threads + Wait + Sync>(
         &self,
         rt: &R,
@@ -89,7 +90,7 @@ where
         }
     }
 
-    // Does the lists, and returns the lowest line that was refused because memory ran out.
+    // Carries out the lists, and returns the lowest line whose job was refused because memory ran out.
     #[cycle(work)]
     fn work_all<G: Gate + Sync, R: Threads + Wait + Sync>(
         &self,
@@ -110,7 +111,7 @@ where
         self.work_halves(rt, gate, front_lists, back_lists, front, back)
     }
 
-    // Does one half of the lists in a thread of its own.
+    // Carries out one half of the lists in a thread of its own.
     #[cycle(work)]
     fn work_halves<G: Gate + Sync, R: Threads + Wait + Sync>(
         &self,
@@ -140,7 +141,7 @@ where
         lower_line(a, b)
     }
 
-    // Does the list, if there is one.
+    // Carries out the list, if there is one.
     fn work_one<G: Gate, R: Wait>(
         &self,
         rt: &R,
@@ -158,7 +159,8 @@ where
         self.do_list(rt, gate, &lists[0], &mut operators[0])
     }
 
-    // Passes the gate, and does the jobs of a list in order, up to the first that is refused because memory ran out.
+    // Passes the gate, and carries out the jobs of a list in order, up to the first that is refused because memory ran
+    // out.
     fn do_list<G: Gate, R: Wait>(
         &self,
         rt: &R,
@@ -183,7 +185,7 @@ where
         None
     }
 
-    // Does a job, and returns an error only if memory ran out. Any other refusal is passed over.
+    // Carries out a job, and returns an error only if memory ran out. Any other refusal is passed over.
     fn do_job<R: Wait>(
         &self,
         rt: &R,

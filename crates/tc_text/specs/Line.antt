@@ -9,7 +9,7 @@ use Rattle.tc_text.specs.declared.fault.Reason.TheVariants.{UnknownCommand, Word
 use Rattle.tc_text.specs.declared.line.Line.{Line}
 use Rattle.tc_text.specs.declared.line.Line.TheVariants.{Blank, Channel, Queue, Map, Frame, Release, Take, Unit as TakeUnit, Clcw}
 
--- the word that is left, if there is one; more than one are too many
+-- the word that remains, if there is one; more than one is too many
 abbrev pub last_of : List (List ℕ) → Result (Option (List ℕ)) Reason
 last_of [] = Ok None
 last_of (word ∷ []) = Ok (Some word)

@@ -52,7 +52,7 @@ fn closed(rt: &impl Abort, station: Station, operators: Vec<Operator>) -> Vec<Ch
     station.close(operators).expect(rt, "channels")
 }
 
-// Closes the station, once without the last operator, which leaves the others as they were, and then with all.
+// Closes the station without the last operator, which is refused, and then with all operators.
 fn close(rt: &impl Abort, station: Station, others: Vec<Operator>, last: Operator) -> Vec<Channel>
     requires others { All (λ o. o.vcids ≡ station.vcids) others.items }
     requires last { last.vcids ≡ station.vcids }

@@ -72,7 +72,7 @@ static EACH_CALL: [Step<'static>; 9] = [
     Holds(0, 0, Some(0)),
 ];
 
-// Different numbers of discarded frames come before, so that the journal grows once in each of the calls.
+// Different numbers of discarded frames come before the calls, so that the journal grows once in each of the calls.
 #[test]
 fn growth_of_each_call_of_a_channel(rt: HostRuntime) {
     for earlier in 0..5 {
@@ -219,7 +219,7 @@ fn growth_of_units_of_a_chosen_map(rt: HostRuntime) {
 
 static TAKE_OF_A_UNIT: [Step<'static>; 2] = [Frame(&BD_UNIT, DELIVERED), TakeUnit(3, &UNIT)];
 
-// Different numbers of discarded frames come before, so that the journal grows once in a take of a unit.
+// Different numbers of discarded frames come before the calls, so that the journal grows once in a take of a unit.
 #[test]
 fn growth_of_a_take_of_a_unit(rt: HostRuntime) {
     for earlier in 0..4 {

@@ -35,7 +35,7 @@ static OCTETS: [(Wanted<'static>, u64); 4] = [
     (USUAL, 10_501_528),
 ];
 
-// Without limits by MAP, all three functions return the same number, be the lists owned or lent.
+// Without limits by MAP, all three functions return the same number, whether the lists are owned or lent.
 #[test]
 fn octets_without_limits(rt: HostRuntime) {
     let none = Limits::none(rt.alloc());

@@ -30,7 +30,7 @@ fn push(
     reassembler.push(service, field)
 }
 
-// Checks that this unit was ended, or none, and that no memory was refused.
+// Checks that exactly the expected unit was ended, if any is expected, and that no memory was refused.
 fn check_unit(rt: &impl Abort, answer: Result<Option<Vec<u8>>, NoMemory>, expected: Option<&[u8]>) {
     let unit = answer.expect(rt, "an answer");
     assert_eq!(rt; unit.as_deref(), expected);

@@ -38,7 +38,7 @@ pub(super) fn new_channel(rt: &impl Abort, alloc: Global, row: &Row, vcid: u8) -
     }
 }
 
-// Prints the call for which memory was refused, by the answer that it has then.
+// Prints the call for which memory was refused, which is known by the answer that the repeated call got.
 fn call_of(rt: &impl Print, who: &str, answer: &Asked) {
     let _ = match answer {
         Ok(Answer::Frame { vcid: _, reply }) => {

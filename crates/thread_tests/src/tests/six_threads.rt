@@ -330,7 +330,7 @@ fn check_closed(rt: &impl Abort, channel: &Channel, counted: u64, status: u32) {
     check_frames(rt, channel.journal());
 }
 
-// The channel that is left, and the answers that each operator got.
+// The channel of the closed station, and the answers that each operator got.
 #[derive(Drop)]
 struct Closed {
     channel: Channel,

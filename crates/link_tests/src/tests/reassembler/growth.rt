@@ -107,7 +107,7 @@ fn growth_of_units_and_open_runs(rt: HostRuntime) {
     }
 }
 
-// Checks that with `SHORT_RUN` open, the field would end this unit, or none, and that the run stays.
+// Checks that with `SHORT_RUN` open, the field would end this unit, or no unit if it is `None`, and that the run stays.
 fn check_asked(
     rt: &(impl Abort + Print),
     reassembler: &Reassembler,

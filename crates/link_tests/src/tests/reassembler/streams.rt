@@ -4,7 +4,7 @@ ghost use Rattle.std.specs.Prelude.{◌<◌};
 
 use super::*;
 
-// Checks that on a new reassembler the field ends this unit, or none.
+// Checks that on a new reassembler the field ends this unit, or no unit if it is `None`.
 fn check_alone(rt: &impl Abort, alloc: Global, field: &[u8], expected: Option<&[u8]>) {
     let unit = Watched::new(rt, alloc).push(rt, Service::Ad, field);
     assert_eq!(rt; unit.as_deref(), expected);
@@ -27,8 +27,8 @@ fn bounds_an_unsegmented_unit(rt: HostRuntime) {
     check_alone(&rt, rt.alloc(), &longer, None)
 }
 
-// Checks that a first segment, 63 continuing ones of 1,018 octets and a last one of `last` octets end this unit, or
-// none.
+// Checks that a first segment, 63 continuing ones of 1,018 octets and a last one of `last` octets end this unit, or no
+// unit if it is `None`.
 fn check_long(rt: &impl Abort, alloc: Global, last: usize, expected: Option<&[u8]>) {
     let mut watched = Watched::new(rt, alloc);
     let first = with_zeros(rt, alloc, b"\x40\x10\x05\xc0\x00\xff\xff", 1_012);

@@ -1,4 +1,4 @@
--- Each fault is compared with each fault: it has its own status, and every other fault has another.
+-- Each fault is compared with each fault. Two different faults have different statuses.
 use Rattle.tc_link.specs.declared.frame.FrameFault.TheVariants as frames
 use Rattle.tc_link.specs.declared.location.LocateFault.TheVariants as locations
 use Rattle.tc_link.specs.declared.writing.WriteFault.TheVariants as writing

@@ -1,7 +1,7 @@
 use Rattle.tc_channel.proofs.Names.{◌≡◌, ◌+◌, ◌≤◌, length, map, boxed_slice_items, packets_of, keys_of, AreStagedOf, rings_in, committed, looks, pass_steps}
 use Rattle.tc_channel.proofs.committing.commit_packets.Given as goal
 
--- everything that is staged still is of the packets that are left
+-- items are staged only in queues that one of the remaining packets is for
 abbrev pub invariant-loop-packet : goal.invariant-loop-packet
 invariant-loop-packet g l = record {
   among : AreStagedOf (packets_of l.rest) (boxed_slice_items l.queues);

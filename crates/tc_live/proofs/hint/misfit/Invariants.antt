@@ -2,6 +2,6 @@ use Rattle.tc_live.proofs.Names.{◌≡◌, drop, first_misfit}
 use Rattle.tc_lines.specs.Word.{words}
 use Rattle.tc_live.proofs.hint.misfit.Given as goal
 
--- the numbers that are left have the same first misfit in the words that are left
+-- the first misfit of the remaining numbers in the remaining words is that of all numbers
 abbrev pub invariant-loop-number : goal.invariant-loop-number
 invariant-loop-number l = first_misfit (drop l.number-index l.numbers) (words l.rest) ≡ first_misfit l.numbers (words l.arguments)
