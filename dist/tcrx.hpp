@@ -1,20 +1,21 @@
 /**
  * @file tcrx.hpp
- * @brief The receiver for C++17, over tcrx.h: header only, without exceptions, without RTTI, without memory of its own.
+ * @brief The receiver for C++17, over tcrx.h. It is header only, and needs no exceptions, no RTTI and no memory of its own.
  *
- * @par What of the proofs reaches a caller
- * The functions of the library are proved: each answers what its definition says, for all input that the C header allows. This
- * header is not proved. It passes each argument on, makes a value of each answer, and frees a channel once; that is tested, by the
- * same cases as the calls from C. Nothing is proved of the memory that a view says is there, of a view that outlives its memory, or
- * of two threads that use one channel at the same time.
+ * @par Proofs
+ * The functions of the library are proved: each returns what its definition says, for all input that the C header
+ * allows. This header is not proved. It passes each argument on, makes a value from each record that is returned, and
+ * frees a channel once. That is tested, by the same cases as the calls from C. Nothing is proved about the memory to
+ * which a view refers, about a view that outlives its memory, or about two threads that use one channel at the same
+ * time.
  *
  * @par Results
- * A call that can be refused answers with a tcrx::Result: a value, or an tcrx::Error with the first reason why not. The value of a
- * refused call is that of an empty answer, so reading it is no fault, and says nothing.
+ * A call that can fail returns a tcrx::Result, which is a value, or a tcrx::Error with the first reason why the call
+ * failed. If the call failed, the value is empty. Reading it is no fault, but means nothing.
  *
  * @par Memory
- * A channel takes its memory where it is made, by rattle_alloc and rattle_dealloc, as tcrx.h says. libtcrx.so has them over malloc;
- * with libtcrx.a you link tcrx_memory.c, tcrx_static.c or two functions of your own.
+ * A channel requests its memory when it is created, by rattle_alloc and rattle_dealloc, as tcrx.h says. libtcrx.so has
+ * these functions over malloc. With libtcrx.a, link tcrx_memory.c, tcrx_static.c, or two functions of your own.
  */
 #pragma once
 
@@ -29,9 +30,9 @@
 
 namespace tcrx {
 
-/** What a call came to: the statuses of tcrx.h, which says what each means. */
+/** The outcome of a call: the statuses of tcrx.h, which describes each. */
 enum class Status : tcrx_status {
-    // What follows is written by tools/c_interface of c/tcrx.h.
+    // tools/c_interface writes the following lines from c/tcrx.h.
     done = TCRX_DONE,
     too_short = TCRX_SHORT,
     bad_version = TCRX_BAD_VERSION,
@@ -89,21 +90,22 @@ enum class Status : tcrx_status {
     bad_length = TCRX_BAD_LENGTH,
     no_control = TCRX_NO_CONTROL,
     bad_decoder = TCRX_BAD_DECODER
-    // This is the end of what tools/c_interface writes.
+    // The lines that tools/c_interface writes end here.
 };
 
-/** Elements that are somewhere else, and how many there are: a std::span for C++17. */
+/** A view of elements that are elsewhere, with their number. It is a std::span for C++17. */
 template <typename Element>
 class View {
 public:
     constexpr View() noexcept = default;
     constexpr View(Element *at, std::size_t count) noexcept : at_(at), count_(count) {}
 
-    /** Of an array. */
+    /** Creates a view of an array. */
     template <std::size_t Count>
     constexpr View(Element (&array)[Count]) noexcept : at_(array), count_(Count) {}
 
-    /** Of what has data() and size(), as std::array, std::vector, std::span and another view. */
+    /** Creates a view of something that has data() and size(), such as std::array, std::vector, std::span and another
+     * view. */
     template <typename Holder, typename = std::enable_if_t<
                                    std::is_convertible_v<decltype(std::declval<Holder &>().data()), Element *>>>
     constexpr View(Holder &holder) noexcept : at_(holder.data()), count_(holder.size()) {}
@@ -118,7 +120,7 @@ public:
     constexpr Element *end() const noexcept { return at_ + count_; }
     constexpr Element &operator[](std::size_t place) const noexcept { return at_[place]; }
 
-    /** The elements from a place on, at most so many; none where there are none. */
+    /** Returns the elements from a place on, at most `most` of them. The view is empty if there are none. */
     constexpr View part(std::size_t from, std::size_t most = static_cast<std::size_t>(-1)) const noexcept {
         const std::size_t left = from < count_ ? count_ - from : 0;
         return left == 0 ? View() : View(at_ + from, most < left ? most : left);
@@ -129,19 +131,19 @@ private:
     std::size_t count_ = 0;
 };
 
-/** Octets to be read. */
+/** Octets that a call reads. */
 using Octets = View<const std::uint8_t>;
-/** Room that a call writes octets to. */
+/** Room to which a call writes octets. */
 using Room = View<std::uint8_t>;
 
-/** Why a call was refused. */
+/** The reason why a call failed. */
 struct Error {
     Status status = Status::done;
-    /** The octets that the room must have, at Status::no_room; else 0. */
+    /** The number of octets that the room must have if the status is Status::no_room, otherwise 0. */
     std::size_t needed = 0;
 };
 
-/** A value, or why there is none: the part of std::expected that works without exceptions. */
+/** A value, or the reason why there is none. It is the part of std::expected that works without exceptions. */
 template <typename Value>
 class [[nodiscard]] Result {
 public:
@@ -158,10 +160,10 @@ public:
     constexpr Value &&operator*() && noexcept { return std::move(value_); }
     constexpr Value *operator->() noexcept { return &value_; }
     constexpr const Value *operator->() const noexcept { return &value_; }
-    /** The value, or another one where the call was refused. */
+    /** Returns the value, or another one if the call failed. */
     constexpr Value value_or(Value other) const & noexcept { return has_value() ? value_ : std::move(other); }
     constexpr const Error &error() const noexcept { return error_; }
-    /** Status::done, or the status of the error. */
+    /** Returns Status::done, or the status of the error. */
     constexpr Status status() const noexcept { return error_.status; }
 
 private:
@@ -175,7 +177,7 @@ struct Text {
     const char *c_str() const noexcept { return characters.data(); }
 };
 
-/** The text of a status; an empty one for a number that is none. */
+/** Returns the text of a status. The text is empty if the number isn't a status. */
 inline Text text(Status status) noexcept {
     Text answer;
     tcrx_text(static_cast<tcrx_status>(status), answer.characters.data(), answer.characters.size());
@@ -185,7 +187,7 @@ inline Text text(Status status) noexcept {
 /** A state of FARM-1. */
 enum class State : std::uint8_t { open = TCRX_OPEN, wait = TCRX_WAIT, lockout = TCRX_LOCKOUT };
 
-/** What comes to FARM-1. */
+/** An arrival at FARM-1. */
 enum class Arrival : std::uint8_t {
     ad = TCRX_AD,
     bd = TCRX_BD,
@@ -195,7 +197,7 @@ enum class Arrival : std::uint8_t {
     release = TCRX_RELEASE
 };
 
-/** The row E1 to E10 of FARM-1's state table. */
+/** A row E1 to E10 of FARM-1's state table. */
 enum class Event : std::uint8_t { none = 0, e1, e2, e3, e4, e5, e6, e7, e8, e9, e10 };
 
 /** The kind of a frame, and the N(S) of a Type-AD frame or the new V(R) of a Set V(R). */
@@ -204,7 +206,7 @@ struct Kind {
     std::uint8_t number = 0;
 };
 
-/** A CLCW, by its word. */
+/** A CLCW, as a word. */
 struct Clcw {
     std::uint32_t word = 0;
     constexpr std::uint8_t status_field() const noexcept { return bits(26, 7); }
@@ -234,13 +236,14 @@ constexpr std::uint8_t flag(bool given) noexcept {
     return given ? 1 : 0;
 }
 
-/** A view of nothing has no pointer; the library is given one all the same. A count without a pointer stays a fault. */
+/** Returns a pointer for a call. An empty view has no pointer, but the library must be given one. A count without a
+ * pointer stays a fault. */
 inline const std::uint8_t *pointer(Octets octets) noexcept {
     static constexpr std::uint8_t nothing = 0;
     return octets.data() == nullptr && octets.empty() ? &nothing : octets.data();
 }
 
-/** Room of no octets, to which nothing is written, in the same way. */
+/** Returns a pointer for room. Room of no octets, to which nothing is written, gets one as well. */
 inline std::uint8_t *pointer(Room room, std::uint8_t &nothing) noexcept {
     return room.data() == nullptr && room.empty() ? &nothing : room.data();
 }
@@ -251,7 +254,7 @@ constexpr Result<Octets> written(tcrx_written answer, Room room) noexcept {
 
 }  // namespace detail
 
-/** FARM-1: the width of its window and its six components. */
+/** The record of FARM-1: the width of its window and its six components. */
 struct Farm {
     std::uint8_t width = 0;
     State state = State::open;
@@ -276,13 +279,14 @@ struct Step {
     bool accepted = false;
 };
 
-/** FARM-1 that starts: tcrx_farm_start(). */
+/** Starts FARM-1: tcrx_farm_start(). */
 inline Result<Farm> start_farm(std::uint8_t width, std::uint8_t first_vr) noexcept {
     const tcrx_farm_answer answer = tcrx_farm_start(width, first_vr);
     return answer.status == TCRX_DONE ? Result<Farm>(Farm::of(answer.farm)) : detail::refused(answer.status);
 }
 
-/** One step of FARM-1: tcrx_farm_step(). `room` says whether the buffer has room for the data field of a Type-AD frame. */
+/** Takes one step of FARM-1: tcrx_farm_step(). `room` says whether the buffer has room for the data field of a Type-AD
+ * frame. */
 inline Result<Step> step(const Farm &farm, Kind kind, bool room) noexcept {
     const tcrx_step_answer answer = tcrx_farm_step(farm.record(), static_cast<std::uint8_t>(kind.arrival), kind.number, detail::flag(room));
     if (answer.status != TCRX_DONE) {
@@ -291,26 +295,26 @@ inline Result<Step> step(const Farm &farm, Kind kind, bool room) noexcept {
     return Step{Farm::of(answer.farm), static_cast<Event>(answer.event), answer.accepted == 1};
 }
 
-/** The CLCW that reports a FARM-1: tcrx_clcw(). */
+/** Returns the CLCW that reports a FARM-1: tcrx_clcw(). */
 inline Result<Clcw> clcw(const Farm &farm, std::uint8_t vcid, bool no_rf = false, bool no_bit_lock = false) noexcept {
     const tcrx_clcw_answer answer = tcrx_clcw(farm.record(), vcid, detail::flag(no_rf), detail::flag(no_bit_lock));
     return answer.status == TCRX_DONE ? Result<Clcw>(Clcw{answer.word}) : detail::refused(answer.status);
 }
 
-/** A word that must be a CLCW of COP-1: tcrx_read_clcw(). */
+/** Reads a word that must be a CLCW of COP-1: tcrx_read_clcw(). */
 inline Result<Clcw> read_clcw(std::uint32_t word) noexcept {
     const tcrx_clcw_fields answer = tcrx_read_clcw(word);
     return answer.status == TCRX_DONE ? Result<Clcw>(Clcw{word}) : detail::refused(answer.status);
 }
 
-/** The primary header of a frame, apart from the frame length. */
+/** The primary header of a frame, without the frame length. */
 struct Header {
     std::uint16_t scid = 0;
     std::uint8_t vcid = 0;
     std::uint8_t ns = 0;
-    /** Type-B in place of Type-A. */
+    /** Whether the frame is of Type-B, and not of Type-A. */
     bool bypass = false;
-    /** Type-C in place of Type-D. */
+    /** Whether the frame is of Type-C, and not of Type-D. */
     bool control = false;
 
     constexpr tcrx_header record() const noexcept { return {scid, vcid, ns, detail::flag(bypass), detail::flag(control)}; }
@@ -319,12 +323,12 @@ struct Header {
 /** The frame at the front of octets. */
 struct Frame {
     Header header;
-    /** The frame, of which the first five octets are its header. */
+    /** The octets of the frame, of which the first five are its header. */
     Octets octets;
     constexpr Octets field() const noexcept { return octets.part(5); }
 };
 
-/** Reads the frame at the front of octets: tcrx_read_frame(). The answer refers to these octets. */
+/** Reads the frame at the front of octets: tcrx_read_frame(). The result refers to these octets. */
 inline Result<Frame> read_frame(Octets octets) noexcept {
     const tcrx_frame answer = tcrx_read_frame(detail::pointer(octets), octets.size());
     if (answer.status != TCRX_DONE) {
@@ -334,31 +338,32 @@ inline Result<Frame> read_frame(Octets octets) noexcept {
     return Frame{Header{read.scid, read.vcid, read.ns, read.bypass == 1, read.control == 1}, octets.part(0, answer.length)};
 }
 
-/** The kind of the frame at the front of octets: tcrx_kind(). */
+/** Determines the kind of the frame at the front of octets: tcrx_kind(). */
 inline Result<Kind> kind(Octets octets) noexcept {
     const tcrx_kind_answer answer = tcrx_kind(detail::pointer(octets), octets.size());
     return answer.status == TCRX_DONE ? Result<Kind>(Kind{static_cast<Arrival>(answer.kind), answer.number}) : detail::refused(answer.status);
 }
 
-/** Writes a frame to the front of room: tcrx_write_frame(). The answer is the frame, there. */
+/** Writes a frame to the front of room, and returns it from there: tcrx_write_frame(). */
 inline Result<Octets> write_frame(const Header &header, Octets field, Room room) noexcept {
     std::uint8_t nothing = 0;
     std::uint8_t *const to = detail::pointer(room, nothing);
     return detail::written(tcrx_write_frame(header.record(), detail::pointer(field), field.size(), to, room.size()), room);
 }
 
-/** How a unit is sent in segments. */
+/** The way in which a unit is sent in segments. */
 struct Segments {
-    /** The header of the first frame; the N(S) of Type-AD frames counts up. */
+    /** The header of the first frame. The N(S) of Type-AD frames counts up from there. */
     Header header;
     /** The MAP, at most 63. */
     std::uint8_t map = 0;
-    /** How many octets of the unit a segment carries, 1 to 1,018; the last one carries what is left. */
+    /** The number of octets of the unit that a segment carries, 1 to 1,018. The last segment carries the octets that
+     * are left. */
     std::uint16_t size = 1018;
 };
 
-/** Writes the frame that carries the segment at a place of a unit, from 0 on: tcrx_write_segment(). Behind the last one the status is
- * Status::no_segment. */
+/** Writes the frame that carries the segment at a place of a unit, counted from 0: tcrx_write_segment(). Behind the
+ * last segment the status is Status::no_segment. */
 inline Result<Octets> write_segment(const Segments &how, std::uint32_t place, Octets unit, Room room) noexcept {
     std::uint8_t nothing = 0;
     const std::uint8_t *const from = detail::pointer(unit);
@@ -366,7 +371,8 @@ inline Result<Octets> write_segment(const Segments &how, std::uint32_t place, Oc
     return detail::written(tcrx_write_segment(how.header.record(), how.map, how.size, place, from, unit.size(), to, room.size()), room);
 }
 
-/** Writes the Type-BC frame with a control command, of the kind Arrival::unlock or Arrival::set_vr: tcrx_write_command(). */
+/** Writes the Type-BC frame with a control command, of the kind Arrival::unlock or Arrival::set_vr:
+ * tcrx_write_command(). */
 inline Result<Octets> write_command(std::uint16_t scid, std::uint8_t vcid, Kind command, Room room) noexcept {
     std::uint8_t nothing = 0;
     std::uint8_t *const to = detail::pointer(room, nothing);
@@ -385,11 +391,11 @@ inline Result<Octets> check_fecf(Octets frame, Room room) noexcept {
     return detail::written(tcrx_check_fecf(detail::pointer(frame), frame.size(), detail::pointer(room, nothing), room.size()), room);
 }
 
-/** The primary header of a packet, apart from the packet length. Unless others are named, it is that of a telecommand packet without a
- * secondary header, unsegmented. */
+/** The primary header of a packet, without the packet length. By default it is that of an unsegmented telecommand
+ * packet without a secondary header. */
 struct PacketHeader {
     std::uint16_t apid = 0;
-    /** The sequence count or the name. */
+    /** The sequence count or the packet name. */
     std::uint16_t count = 0;
     bool telecommand = true;
     bool secondary = false;
@@ -400,7 +406,7 @@ struct PacketHeader {
 /** The packet at the front of octets, of which the first six are its primary header. */
 struct Packet {
     std::uint16_t apid = 0;
-    /** The sequence count or the name. */
+    /** The sequence count or the packet name. */
     std::uint16_t count = 0;
     bool telecommand = false;
     bool secondary = false;
@@ -408,7 +414,7 @@ struct Packet {
     std::uint8_t sequence = 0;
     Octets octets;
 
-    /** Writes a packet to the front of room: tcrx_write_packet(). The answer is the packet, there. */
+    /** Writes a packet to the front of room, and returns it from there: tcrx_write_packet(). */
     static Result<Octets> write(const PacketHeader &header, Octets field, Room room) noexcept {
         std::uint8_t nothing = 0;
         const tcrx_packet_header record = {header.apid, header.count, detail::flag(header.telecommand), detail::flag(header.secondary),
@@ -418,7 +424,7 @@ struct Packet {
     }
 };
 
-/** Reads the packet at the front of octets: tcrx_read_packet(). The answer refers to these octets. */
+/** Reads the packet at the front of octets: tcrx_read_packet(). The result refers to these octets. */
 inline Result<Packet> read_packet(Octets octets) noexcept {
     const tcrx_packet answer = tcrx_read_packet(detail::pointer(octets), octets.size());
     if (answer.status != TCRX_DONE) {
@@ -427,35 +433,36 @@ inline Result<Packet> read_packet(Octets octets) noexcept {
     return Packet{answer.apid, answer.count, answer.telecommand == 1, answer.secondary == 1, answer.sequence, octets.part(0, answer.length)};
 }
 
-/** Writes the CLTU that carries a frame to the front of room: tcrx_write_cltu(). The answer is the CLTU, there. */
+/** Writes the CLTU that carries a frame to the front of room, and returns it from there: tcrx_write_cltu(). */
 inline Result<Octets> write_cltu(Octets frame, Room room) noexcept {
     std::uint8_t nothing = 0;
     return detail::written(tcrx_write_cltu(detail::pointer(frame), frame.size(), detail::pointer(room, nothing), room.size()), room);
 }
 
-/** What octets of a stream came to. */
+/** The outcome for octets of a stream. */
 struct Fed {
-    /** Whether the last of those that were taken ended a candidate frame. */
+    /** Whether the last octet that was taken ended a candidate frame. */
     bool ended = false;
-    /** That frame, with fill behind it, until the next octets. */
+    /** That frame, with fill behind it. It is valid until the next octets are fed. */
     Octets frame;
     /** The octets behind those that were taken. */
     Octets rest;
-    /** How many code blocks ended of which one bit was corrected. */
+    /** The number of code blocks that ended in these octets and had one bit corrected. */
     std::uint64_t corrected = 0;
-    /** How many ended that were rejected, and aren't the tail sequence. */
+    /** The number of code blocks that were rejected in these octets, without tail sequences. */
     std::uint64_t rejected = 0;
-    /** How many CLTUs carried more than 1,029 octets, each of which ends no candidate frame. */
+    /** The number of CLTUs that carried more than 1,029 octets. Each of them ends no candidate frame. */
     std::uint64_t overlong = 0;
 };
 
 /** A decoder of CLTUs in a stream, with the octets that it holds: tcrx_cltu_octets(). */
 class Decoder {
 public:
-    /** With correction of one wrong bit in each code block, or with detection alone. */
+    /** Creates a decoder that corrects one wrong bit in each code block, or only detects wrong bits. */
     explicit Decoder(bool correct) noexcept { kept_.correct = detail::flag(correct); }
 
-    /** Takes the next octets of the stream, up to and with the first that ends a candidate frame, or all. */
+    /** Takes the next octets of the stream: all of them, or those up to the first octet that ends a candidate frame,
+     * that octet included. */
     Fed feed(Octets octets) noexcept {
         const tcrx_decoded answer = tcrx_cltu_octets(kept_, detail::pointer(octets), octets.size(), carried_.data(), carried_.size());
         kept_ = answer.decoder;
@@ -479,26 +486,27 @@ inline Result<Octets> randomise(Octets frame, Room room) noexcept {
     return detail::written(tcrx_randomise(detail::pointer(frame), frame.size(), detail::pointer(room, nothing), room.size()), room);
 }
 
-/** What the primary header of a telemetry frame says of whose frame it is, and which. */
+/** The fields of a telemetry frame's primary header that give its spacecraft, its virtual channel, and its place among
+ * their frames. */
 struct TmHeader {
     std::uint16_t scid = 0;
     std::uint8_t vcid = 0;
-    /** The frames of the spacecraft before it, modulo 256. */
+    /** The master channel frame count: the number of earlier frames of the spacecraft, modulo 256. */
     std::uint8_t master_count = 0;
-    /** The frames of the virtual channel before it, modulo 256. */
+    /** The virtual channel frame count: the number of earlier frames of the virtual channel, modulo 256. */
     std::uint8_t channel_count = 0;
 };
 
-/** What a telemetry frame says. */
+/** The fields of a telemetry frame. */
 struct Tm {
     TmHeader header;
-    /** Its operational control field, for read_clcw(). */
+    /** The operational control field, for read_clcw(). */
     std::uint32_t clcw = 0;
-    /** The first header pointer: 2,046 where all data are idle, 2,047 where no packet begins. */
+    /** The first header pointer: 2,046 if all data are idle, 2,047 if no packet begins. */
     std::uint16_t pointer = 0;
 };
 
-/** Writes a telemetry frame of so many octets that carries a CLCW to the front of room: tcrx_write_tm(). */
+/** Writes a telemetry frame of `size` octets that carries a CLCW to the front of room: tcrx_write_tm(). */
 inline Result<Octets> write_tm(const TmHeader &header, bool fecf, Clcw clcw, std::uint16_t size, Room room) noexcept {
     std::uint8_t nothing = 0;
     const tcrx_tm_header record = {header.scid, header.vcid, header.master_count, header.channel_count};
@@ -516,13 +524,13 @@ inline Result<Tm> read_tm(bool fecf, Octets octets) noexcept {
     return Tm{TmHeader{read.scid, read.vcid, read.master_count, read.channel_count}, answer.clcw, answer.pointer};
 }
 
-/** What a channel is made by, apart from its queues. */
+/** The settings from which a channel is created, apart from its queues. */
 struct Settings {
     /** The virtual channel id, 0 to 63. */
     std::uint8_t vcid = 0;
     /** The width of the sliding window, even and 2 to 254. */
     std::uint8_t width = 0;
-    /** How many data fields the buffer holds, 1 to 64. */
+    /** The number of data fields that the buffer holds, 1 to 64. */
     std::uint8_t buffer = 0;
     /** V(R) at the start. */
     std::uint8_t first_vr = 0;
@@ -532,45 +540,45 @@ struct Settings {
     constexpr tcrx_settings record() const noexcept { return {vcid, width, buffer, first_vr, detail::flag(segmented)}; }
 };
 
-/** A queue for the packets of an application, by its APID, and how many it holds. */
+/** A queue for the packets of an application: its APID, and the number of packets that it holds. */
 using Queue = tcrx_queue;
-/** A chosen MAP, and how many units its queue holds. */
+/** A chosen MAP, and the number of units that its queue holds. */
 using Map = tcrx_map;
-/** The limit of one MAP: a longer unit is dropped where it ends. */
+/** The limit of one MAP. A longer unit is dropped when it ends. */
 using Limit = tcrx_limit;
 using Queues = View<const Queue>;
 using Maps = View<const Map>;
 
-/** How long the units of each MAP may be. */
+/** The limits for the units of each MAP. */
 struct Limits {
-    /** The most octets of a unit of each MAP that isn't listed, at most 65,542; it may be 0 with segment headers. */
+    /** The most octets of a unit of each MAP that isn't listed, at most 65,542. With segment headers it may be 0. */
     std::uint32_t others = 0;
-    /** The MAPs with a limit of their own; none without segment headers. */
+    /** The MAPs with a limit of their own. There must be none without segment headers. */
     View<const Limit> maps;
 };
 
-/** What became of the unit that an operation ended; where it ended none, each number is 0. */
+/** The outcome for the unit that an operation ended. If it ended none, each number is 0. */
 struct Delivery {
     std::uint32_t queued = 0;
     std::uint32_t dropped = 0;
-    /** Whether octets were left that begin with no packet. */
+    /** Whether octets were left that don't begin with a packet. */
     bool rest = false;
 };
 
-/** What a frame came to. */
+/** The outcome for a frame. */
 struct Brought {
     Event event = Event::none;
     bool accepted = false;
     Delivery delivery;
 };
 
-/** How many octets the making of a channel of these settings asks for: tcrx_storage(). */
+/** Returns how many bytes the creation of a channel with these settings requests: tcrx_storage(). */
 inline Result<std::uint64_t> storage(const Settings &settings, Queues queues, Maps maps = {}) noexcept {
     const tcrx_count answer = tcrx_storage(settings.record(), queues.data(), queues.size(), maps.data(), maps.size());
     return answer.status == TCRX_DONE ? Result<std::uint64_t>(answer.count) : detail::refused(answer.status);
 }
 
-/** The same within limits: tcrx_storage_with_limits(). */
+/** Returns how many bytes the creation of a channel within limits requests: tcrx_storage_with_limits(). */
 inline Result<std::uint64_t> storage(const Settings &settings, Queues queues, Maps maps, const Limits &limits) noexcept {
     const tcrx_count answer = tcrx_storage_with_limits(settings.record(), queues.data(), queues.size(), maps.data(), maps.size(),
                                                        limits.others, limits.maps.data(), limits.maps.size());
@@ -578,14 +586,15 @@ inline Result<std::uint64_t> storage(const Settings &settings, Queues queues, Ma
 }
 
 /**
- * A virtual channel, or none. It can be moved and not copied, and is freed where it ends. One that was moved from, freed or never
- * made holds none, and each call of it is refused by Status::no_channel.
+ * A virtual channel, or none. It can be moved but not copied, and is freed when its lifetime ends. A channel that was
+ * moved from, freed or never created holds none, and each call on it fails with Status::no_channel.
  *
- * A channel is given to one call at a time, also for its counts: threads that share one need a lock.
+ * Only one call at a time may use a channel, including the calls for its counts. Threads that share a channel need a
+ * lock.
  */
 class Channel {
 public:
-    /** Makes a channel. Refused as tcrx_channel_new() is. */
+    /** Creates a channel. The call fails as tcrx_channel_new() does. */
     static Result<Channel> make(const Settings &settings, Queues queues, Maps maps = {}) noexcept {
         Channel made;
         const tcrx_status status =
@@ -596,7 +605,7 @@ public:
         return made;
     }
 
-    /** Makes a channel within limits. Refused as tcrx_channel_new_with_limits() is. */
+    /** Creates a channel within limits. The call fails as tcrx_channel_new_with_limits() does. */
     static Result<Channel> make(const Settings &settings, Queues queues, Maps maps, const Limits &limits) noexcept {
         Channel made;
         const tcrx_status status = tcrx_channel_new_with_limits(&made.held_, settings.record(), queues.data(), queues.size(),
@@ -620,10 +629,11 @@ public:
     }
     ~Channel() { free(); }
 
-    /** Whether a channel is held. */
+    /** Returns whether a channel is held. */
     bool is_held() const noexcept { return held_.held == 1; }
 
-    /** Gives it the frame at the front of octets. Which spacecraft and channel the frame is for isn't looked at: a Rack does that. */
+    /** Brings the frame at the front of octets to the channel. The call doesn't look at the spacecraft and the channel
+     * that the frame is for. A Rack does that. */
     Result<Brought> frame(Octets octets) noexcept {
         const tcrx_reply answer = tcrx_channel_frame(&held_, detail::pointer(octets), octets.size());
         if (answer.status != TCRX_DONE) {
@@ -632,7 +642,7 @@ public:
         return Brought{static_cast<Event>(answer.event), answer.accepted == 1, Delivery{answer.queued, answer.dropped, answer.rest == 1}};
     }
 
-    /** Passes the oldest data field of the buffer on to reassembly and the queues. */
+    /** Releases the oldest data field from the buffer to reassembly and the queues. */
     Result<Delivery> release() noexcept {
         const tcrx_delivery answer = tcrx_channel_release(&held_);
         if (answer.status != TCRX_DONE) {
@@ -641,43 +651,44 @@ public:
         return Delivery{answer.queued, answer.dropped, answer.rest == 1};
     }
 
-    /** Takes the oldest packet of a queue to the front of room; the answer is the packet, there. At Status::no_room it stays. */
+    /** Takes the oldest packet out of a queue, writes it to the front of room, and returns it from there. If the status
+     * is Status::no_room, it stays in its queue. */
     Result<Octets> take(std::uint16_t apid, Room room) noexcept {
         std::uint8_t nothing = 0;
         return detail::written(tcrx_channel_take(&held_, apid, detail::pointer(room, nothing), room.size()), room);
     }
 
-    /** Takes the oldest unit of a chosen MAP in the same way. A unit may have no octets. */
+    /** Takes the oldest unit out of the queue of a chosen MAP, as take() takes a packet. A unit may have no octets. */
     Result<Octets> take_unit(std::uint8_t map, Room room) noexcept {
         std::uint8_t nothing = 0;
         return detail::written(tcrx_channel_take_unit(&held_, map, detail::pointer(room, nothing), room.size()), room);
     }
 
-    /** Its CLCW, with the flags of the link. */
+    /** Returns the channel's CLCW, with the flags of the link. */
     Result<Clcw> clcw(bool no_rf = false, bool no_bit_lock = false) noexcept {
         const tcrx_clcw_answer answer = tcrx_channel_clcw(&held_, detail::flag(no_rf), detail::flag(no_bit_lock));
         return answer.status == TCRX_DONE ? Result<Clcw>(Clcw{answer.word}) : detail::refused(answer.status);
     }
 
-    /** The record of its FARM-1. */
+    /** Returns the record of the channel's FARM-1. */
     Result<Farm> report() noexcept {
         const tcrx_farm_answer answer = tcrx_channel_report(&held_);
         return answer.status == TCRX_DONE ? Result<Farm>(Farm::of(answer.farm)) : detail::refused(answer.status);
     }
 
-    /** How many data fields wait in the buffer. */
+    /** Returns the number of data fields that wait in the buffer. */
     Result<std::uint64_t> buffered() noexcept { return counted(tcrx_channel_buffered(&held_)); }
-    /** How many packets wait in the queue of an application. */
+    /** Returns the number of packets that wait in the queue of an application. */
     Result<std::uint64_t> queued(std::uint16_t apid) noexcept { return counted(tcrx_channel_queued(&held_, apid)); }
-    /** How many units wait in the queue of a chosen MAP. */
+    /** Returns the number of units that wait in the queue of a chosen MAP. */
     Result<std::uint64_t> units(std::uint8_t map) noexcept { return counted(tcrx_channel_units(&held_, map)); }
-    /** How many frames, releases and takes were done. */
+    /** Returns the number of frames, releases and takes that were done. */
     Result<std::uint64_t> events() noexcept { return counted(tcrx_channel_events(&held_)); }
 
-    /** Frees it before its end. Refused by Status::no_channel where none is held. */
+    /** Frees the channel before its lifetime ends. Returns Status::no_channel if none is held. */
     Status free() noexcept { return static_cast<Status>(tcrx_channel_free(&held_)); }
 
-    /** For calls of tcrx.h. */
+    /** Returns the record for calls of tcrx.h. */
     tcrx_channel *get() noexcept { return &held_; }
 
 private:
@@ -688,46 +699,47 @@ private:
     tcrx_channel held_ = {0, nullptr};
 };
 
-/** What a frame came to, and the virtual channel id of the channel that took it in. */
+/** The outcome for a frame, and the virtual channel id of the channel that took it in. */
 struct Located {
     std::uint8_t vcid = 0;
     Brought brought;
 };
 
-/** What the frame at the front of a candidate came to, and what follows it. */
+/** The outcome for the frame at the front of a candidate, and what follows it. */
 struct Carried {
     Result<Located> frame;
-    /** The octets behind the frame; all of them where none was found. */
+    /** The octets behind the frame, or all octets if no frame was found. */
     Octets rest;
-    /** Whether they are more than can be fill. */
+    /** Whether more octets follow the frame than can be fill. */
     bool more = false;
 };
 
 /**
- * The channels of a spacecraft, in an array that is somewhere else and outlives this. Those that hold none are passed over.
+ * The channels of a spacecraft, in an array that is elsewhere and outlives the rack. Channels that hold none are
+ * skipped.
  *
- * A rack is for one call at a time, and none of its channels is for another one meanwhile.
+ * Only one call at a time may use a rack, and no other call may use one of its channels meanwhile.
  */
 class Rack {
 public:
-    /** `fecf` says whether frames end with the frame error control field, which is then checked. */
+    /** Creates a rack. `fecf` says whether frames end with the frame error control field, which is then checked. */
     Rack(std::uint16_t scid, View<Channel> channels, bool fecf = false) noexcept : channels_(channels), scid_(scid), fecf_(fecf) {}
 
-    /** Gives the frame at the front of octets to the channel that it is for: tcrx_rack_frame(). */
+    /** Brings the frame at the front of octets to the channel that it is for: tcrx_rack_frame(). */
     Result<Located> frame(Octets octets) noexcept {
         const tcrx_rack_reply answer =
             tcrx_rack_frame(first(), channels_.size(), scid_, detail::flag(fecf_), detail::pointer(octets), octets.size());
         return located(answer);
     }
 
-    /** Gives the frame at the front of a candidate to the channel that it is for: tcrx_rack_candidate(). */
+    /** Brings the frame at the front of a candidate to the channel that it is for: tcrx_rack_candidate(). */
     Carried candidate(Octets octets) noexcept {
         const tcrx_candidate_reply answer =
             tcrx_rack_candidate(first(), channels_.size(), scid_, detail::flag(fecf_), detail::pointer(octets), octets.size());
         return {located(answer), Octets(octets.data() + answer.length, octets.size() - answer.length), answer.more == 1};
     }
 
-    /** The first channel with this virtual channel id, or a null pointer: tcrx_rack_find(). */
+    /** Returns the first channel with this virtual channel id, or a null pointer: tcrx_rack_find(). */
     Channel *find(std::uint8_t vcid) noexcept {
         const tcrx_place answer = tcrx_rack_find(first(), channels_.size(), vcid);
         return answer.status == TCRX_DONE ? channels_.data() + answer.place : nullptr;
@@ -742,7 +754,7 @@ private:
         return Located{answer.vcid, Brought{static_cast<Event>(answer.event), answer.accepted == 1, delivery}};
     }
 
-    // To the library an array of channels is one of their records.
+    // For the library, an array of channels is an array of their records.
     static_assert(std::is_standard_layout_v<Channel> && sizeof(Channel) == sizeof(tcrx_channel), "a channel is its record alone");
 
     tcrx_channel *first() noexcept { return channels_.empty() || channels_.data() == nullptr ? nullptr : channels_.data()->get(); }

@@ -2,7 +2,7 @@
  * @file tcrx_at.h
  * @brief The layouts of the records of tcrx.h, and the calls that the library exports.
  *
- * Written by tools/c_interface of c/tcrx.h, which includes it behind its records. Include that one.
+ * tools/c_interface writes this file from c/tcrx.h, which includes it after its records. Include tcrx.h in your program.
  */
 #ifndef TCRX_AT_H
 #define TCRX_AT_H
@@ -12,7 +12,7 @@
 #endif
 
 /** @cond */
-/* The layout that the library has for each record. Another one would be an array of a negative size. */
+/* The layout of each record in the library. If a compiler has another layout, an array here has a negative size. */
 #define TCRX_LAYOUT(record, holds) typedef char record##_layout[(holds) ? 1 : -1]
 #define TCRX_AT(record, field, place) (offsetof(record, field) == (place))
 TCRX_LAYOUT(tcrx_farm, sizeof(tcrx_farm) == 7 && TCRX_AT(tcrx_farm, width, 0) && TCRX_AT(tcrx_farm, state, 1)
@@ -89,9 +89,9 @@ TCRX_LAYOUT(tcrx_count, sizeof(tcrx_count) == 16 && TCRX_AT(tcrx_count, status, 
 /**
  * @defgroup tcrx_library Calls of the library
  *
- * What the library exports, declared in tcrx_at.h for callers in other languages. They must never be given a null pointer, also for a
- * list of no entries or a buffer with no room. Callers in C use the names without `_at`: plain C of tcrx.h, which looks for null
- * pointers and isn't proved.
+ * The library exports these calls, which tcrx_at.h declares for callers in other languages. Never pass them a null pointer,
+ * not even for a list without entries or a buffer without room. Callers in C use the names without `_at`, which are plain C
+ * in tcrx.h. They check for null pointers, and aren't proved.
  * @{
  */
 /** @copydoc tcrx_text */

@@ -1,14 +1,14 @@
 /*
- * The memory of channels, over malloc and free. Link it with libtcrx.a; or tcrx_static.c, or two functions of your own, in its place.
- * A compiler for C++ takes it, too.
+ * The memory of channels, over malloc and free. Link this file with libtcrx.a, or link tcrx_static.c or two functions
+ * of your own in its place. A C++ compiler accepts it, too.
  *
- * They must keep to this:
- * - rattle_alloc answers with a new block of so many octets, which is aligned to `alignment`, a power of two up to 16; or, where
- *   it has none, with `given` false.
- * - rattle_dealloc takes back a block that rattle_alloc gave.
- * - No two blocks that are given and not taken back overlap, and nothing else writes to them. They are called from each
- *   thread that makes or frees channels, and by no other call of a channel.
- * - `at` is never null, also where nothing is given.
+ * The two functions must keep to these rules:
+ * - rattle_alloc returns a new block of `count` bytes that is aligned to `alignment`, a power of two up to 16. If it
+ *   has none, it returns `given` false.
+ * - rattle_dealloc frees a block that rattle_alloc returned.
+ * - Blocks that are returned and not yet freed don't overlap, and nothing else writes to them.
+ * - The functions are called from each thread that creates or frees channels, and by no other call of a channel.
+ * - `at` is never null, not even if `given` is false.
  */
 #include <stdbool.h>
 #include <stddef.h>
@@ -35,7 +35,7 @@ static rattle_block answer(void *at) {
     return block;
 }
 
-/* malloc aligns a block to each power of two up to 16 that divides its size. A block of no octets is one all the same. */
+/* malloc aligns a block to each power of two up to 16 that divides its size. A block of 0 bytes is also a block. */
 rattle_block rattle_alloc(size_t count, size_t alignment) {
     return answer(malloc(count == 0 ? alignment : count));
 }

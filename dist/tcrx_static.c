@@ -1,18 +1,18 @@
 /*
- * The memory of channels in a static array of the program's, for software that may ask for none once it has started: link it with
- * libtcrx.a in place of tcrx_memory.c. One file of the program has the array, as large as its channels need:
+ * The memory of channels in a static array of the program, for software that may request none once it has started. Link
+ * it with libtcrx.a in place of tcrx_memory.c. One file of the program defines the array, as large as its channels
+ * need:
  *
  *     TCRX_STATIC_STORAGE(TCRX_STORAGE_OF(TCRX_STORAGE_BUFFER(8) + TCRX_STORAGE_SEGMENTED(1024) + TCRX_STORAGE_QUEUES(4, 8, 1024)
  *                                         + TCRX_STORAGE_LIMITS(1)));
  *
- * Blocks of octets are cut from its end and all others from its front, so that no gaps are left between them. A block that is given
- * back isn't given again: make all channels at the start, and keep them. Where the array is too small a channel isn't made, by
- * TCRX_NO_MEMORY, and what was cut for it until then is lost.
+ * Blocks of octets are cut from the end of the array, and all others from its front, so that no gaps are left between
+ * them. A block that is freed isn't used again, so create all channels at the start, and keep them. If the array is too
+ * small, a channel isn't created, with TCRX_NO_MEMORY, and what was cut for it until then is lost.
  *
- * tcrx_storage_seal() ends the start. A request after it stops the program by TCRX_STORAGE_TRAP(), which may be defined by -D or here;
- * where that returns, the request is refused.
- * The calls of a channel never come to that: only those that make one ask for memory. There is no lock, since all channels are made by
- * one thread.
+ * tcrx_storage_seal() ends the start. A later request stops the program by TCRX_STORAGE_TRAP(), which you may define by
+ * -D or here. If TCRX_STORAGE_TRAP() returns, the request fails. The calls on a channel never request memory. Only
+ * those that create a channel do. There is no lock, because one thread creates all channels.
  */
 #include "tcrx.h"
 
@@ -36,7 +36,7 @@ void rattle_dealloc(void *at);
 }
 #endif
 
-/* What has been cut from the front and from the end, and whether the start has ended. */
+/* The number of bytes that have been cut from the front and from the end, and whether the start has ended. */
 static size_t front, end;
 static bool sealed;
 
@@ -45,7 +45,8 @@ static rattle_block none(void) {
     return block;
 }
 
-/* So many octets at a place at the front, behind which there are none that are given; none where they don't fit. */
+/* Cuts this many bytes at a place at the front, behind which none have been allocated. Returns none if they don't
+ * fit. */
 static rattle_block cut_front(size_t place, size_t count) {
     const size_t most = tcrx_static_size - end;
     if (place > most || count > most - place) {

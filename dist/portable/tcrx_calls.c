@@ -1,6 +1,7 @@
 /*
- * The calls of tcrx.h over the module: octets and lists are copied into the memory of an instance and out of it. A call of a channel
- * that isn't held goes to the instance of the calls without a channel, which holds none either, so that its answer is the library's.
+ * The calls of tcrx.h over the module. Octets and lists are copied into the memory of an instance and out of it. A call
+ * on a channel that isn't held goes to the instance of the calls without a channel. That instance holds no channel
+ * either, so that it returns what the library returns.
  */
 #include "tcrx.h"
 
@@ -29,7 +30,7 @@ static uint64_t count_of(tcrx_instance *at, uint32_t place) {
     return tcrx_number(at, place) | (uint64_t)tcrx_number(at, place + 1) << 32;
 }
 
-/* What a call wrote to a place in the memory goes to the caller where it was done. */
+/* Copies what a call wrote at a place in the memory to the caller, if the call succeeded. */
 static tcrx_written written_of(tcrx_instance *at, tcrx_status status, uint32_t place, uint8_t *octets) {
     const tcrx_written answer = {status, (size_t)count_of(at, 0)};
     if (status == TCRX_DONE) {
@@ -49,8 +50,8 @@ static void end(const tcrx_channel *channel) {
 }
 
 /*
- * The frame at the front of octets is all that the library looks at. A data field of more octets than are copied is too long, and so
- * are those that are.
+ * Copies the frame at the front of octets, which is all that the library looks at. If a data field has more octets than
+ * are copied, the copied part alone is too long, so that the status is the same.
  */
 static uint32_t put_frame(tcrx_instance *at, const uint8_t *octets, size_t count) {
     const uint32_t looked_at = least(count, TCRX_MODULE_FRAME);
@@ -58,7 +59,8 @@ static uint32_t put_frame(tcrx_instance *at, const uint8_t *octets, size_t count
     return looked_at;
 }
 
-/* The buffer is read and written: what the decoder has in it. More octets than the module has room for are given piece by piece. */
+/* Copies the buffer in and out, because it holds what the decoder has so far. If there are more octets than the module
+ * has room for, they are passed piece by piece. */
 tcrx_decoded tcrx_cltu_octets_at(tcrx_decoder decoder, const uint8_t *octets, size_t count, uint8_t *frame, size_t room) {
     tcrx_decoded answer = {TCRX_DONE, decoder, 0, 0, 0, 0, 0};
     tcrx_instance *at = tcrx_instance_shared();
@@ -90,7 +92,7 @@ tcrx_decoded tcrx_cltu_octets_at(tcrx_decoder decoder, const uint8_t *octets, si
     return answer;
 }
 
-/* What follows is written by tools/c_interface of c/tcrx.h. */
+/* tools/c_interface writes the following lines from c/tcrx.h. */
 tcrx_written tcrx_text_at(tcrx_status status, uint8_t *text, size_t room) {
     tcrx_instance *at = tcrx_instance_shared();
     const tcrx_status done = Z_tcrxZ_module_text(&at->module, status, at->written, least(room, TCRX_MODULE_FRAME));
@@ -370,16 +372,16 @@ tcrx_count tcrx_channel_events_at(tcrx_channel *channel) {
     end(channel);
     return answer;
 }
-/* This is the end of what tools/c_interface writes. */
+/* The lines that tools/c_interface writes end here. */
 
-/* The five numbers of a record that goes into the module. */
+/* Sets the five numbers of a record that goes into the module. */
 static void set_numbers(tcrx_instance *at, const uint32_t *numbers) {
     for (uint32_t i = 0; i < 5; i++) {
         tcrx_set_number(at, i, numbers[i]);
     }
 }
 
-/* Octets in the memory of an instance, until they are given back: 0 where it has no room for them. */
+/* Copies octets into the memory of an instance, until they are returned. Returns 0 if it has no room for them. */
 static uint32_t copied(tcrx_instance *at, const uint8_t *octets, uint32_t count) {
     const uint32_t place = (uint32_t)Z_tcrxZ_module_room(&at->module, count);
     if (place != 0) {
@@ -388,7 +390,7 @@ static uint32_t copied(tcrx_instance *at, const uint8_t *octets, uint32_t count)
     return place;
 }
 
-/* A unit of more octets than are copied is too long, and so are those that are. */
+/* If a unit has more octets than are copied, the copied part alone is too long, so that the status is the same. */
 tcrx_written tcrx_write_segment_at(tcrx_header header, uint8_t map, uint16_t size, uint32_t place, const uint8_t *unit,
                                    size_t unit_count, uint8_t *octets, size_t room) {
     tcrx_written answer = {TCRX_NO_MEMORY, 0};
@@ -406,7 +408,8 @@ tcrx_written tcrx_write_segment_at(tcrx_header header, uint8_t map, uint16_t siz
     return answer;
 }
 
-/* A packet data field of more octets than are copied is too long, and so are those that are. */
+/* If a packet data field has more octets than are copied, the copied part alone is too long, so that the status is the
+ * same. */
 tcrx_written tcrx_write_packet_at(tcrx_packet_header header, const uint8_t *field, size_t field_count, uint8_t *octets,
                                   size_t room) {
     tcrx_written answer = {TCRX_NO_MEMORY, 0};
@@ -447,7 +450,7 @@ tcrx_packet tcrx_read_packet_at(const uint8_t *octets, size_t count) {
     return answer;
 }
 
-/* The settings and the limits of a channel, and where their lists are in the memory of an instance, whole. */
+/* The settings and the limits of a channel, and the places of their whole lists in the memory of an instance. */
 typedef struct {
     tcrx_settings settings;
     const tcrx_queue *queues;
@@ -461,7 +464,7 @@ typedef struct {
     uint32_t at_queues, at_maps, at_limits;
 } plan;
 
-/* Room for the entries of a list, of so many octets each: 0 where there is none. */
+/* Returns room for the entries of a list, each of this many octets, or 0 if there is none. */
 static uint32_t list_room(tcrx_instance *at, size_t count, uint32_t octets) {
     return count > UINT32_MAX / octets ? 0 : (uint32_t)Z_tcrxZ_module_room(&at->module, octets * (uint32_t)count);
 }
@@ -475,7 +478,7 @@ static void give_back(tcrx_instance *at, const plan *put) {
     }
 }
 
-/* Puts the lists into the memory of an instance; whether there was room for them. */
+/* Copies the lists into the memory of an instance. Returns whether there was room for them. */
 static bool put_lists(tcrx_instance *at, plan *put) {
     put->at_queues = list_room(at, put->queue_count, 4);
     put->at_maps = list_room(at, put->map_count, 4);
@@ -537,7 +540,7 @@ tcrx_count tcrx_storage_with_limits_at(tcrx_settings settings, const tcrx_queue 
     return storage(&asked);
 }
 
-/* The channel in its instance, with room for the longest packet that it can come to hold. */
+/* Creates the channel in its instance, with room for the longest packet that it can come to hold. */
 static tcrx_status make(tcrx_instance *at, plan *asked) {
     if (!put_lists(at, asked)) {
         return TCRX_NO_MEMORY;
@@ -556,7 +559,7 @@ static tcrx_status make(tcrx_instance *at, plan *asked) {
     return status == TCRX_DONE && at->packet == 0 ? TCRX_NO_MEMORY : status;
 }
 
-/* A fault of the settings and of the limits is found before an instance asks for memory. */
+/* Creates a channel. A fault of the settings or of the limits is found before an instance requests memory. */
 static tcrx_status make_anew(tcrx_channel *channel, plan *asked) {
     if (channel->held) {
         return TCRX_IN_USE;
@@ -589,7 +592,7 @@ tcrx_status tcrx_channel_new_with_limits_at(tcrx_channel *channel, tcrx_settings
     return make_anew(channel, &asked);
 }
 
-/* The channel of an instance is a rack by itself. So it is found by asking each. */
+/* Finds a channel by asking each instance, because the channel of an instance is a rack by itself. */
 tcrx_place tcrx_rack_find_at(tcrx_channel *channels, size_t channel_count, uint8_t vcid) {
     tcrx_place answer = {TCRX_UNKNOWN_CHANNEL, 0};
     for (size_t i = 0; i < channel_count && answer.status != TCRX_DONE; i++) {
@@ -614,7 +617,8 @@ static tcrx_rack_reply brought(tcrx_instance *at, uint16_t scid, uint8_t fecf, c
     return answer;
 }
 
-/* What the rack of no channel refuses by another status, each rack does. */
+/* Asks the rack without a channel first. If that fails with a status other than TCRX_UNKNOWN_CHANNEL, it fails on each
+ * rack. */
 tcrx_rack_reply tcrx_rack_frame_at(tcrx_channel *channels, size_t channel_count, uint16_t scid, uint8_t fecf, const uint8_t *octets,
                                    size_t count) {
     tcrx_rack_reply answer = brought(tcrx_instance_shared(), scid, fecf, octets, count);

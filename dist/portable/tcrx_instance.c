@@ -1,4 +1,5 @@
-/* Instances of the module, and what its C wants of its surroundings: a memory, and what becomes of a module that can't go on. */
+/* Instances of the module, and what its C needs from its surroundings: a memory, and a way to stop a module that can't
+ * go on. */
 #include "tcrx_instance.h"
 
 #include <stdlib.h>
@@ -13,7 +14,7 @@ static tcrx_instance shared;
 static uint64_t shared_page[PAGE / 8];
 static bool is_started, has_shared;
 
-/* The memory of the instance that is being made. */
+/* The memory of the instance that is being created. */
 static uint8_t *given;
 static uint32_t given_pages;
 
@@ -36,7 +37,7 @@ bool wasm_rt_is_initialized(void) {
     return true;
 }
 
-/* No function of the module is called by its type. */
+/* Does nothing, because no function of the module is called by its type. */
 uint32_t wasm_rt_register_func_type(uint32_t parameters, uint32_t results, ...) {
     (void)parameters;
     (void)results;
@@ -109,7 +110,8 @@ void tcrx_instance_end(tcrx_instance *at) {
 
 #else
 
-/* The octets stand at the end of the new memory where they stand backwards. */
+/* Moves the octets into a larger memory. On a big-endian machine, where they are stored backwards, they go to its
+ * end. */
 static void move_to(uint8_t *octets, uint32_t pages, const wasm_rt_memory_t *memory) {
     const size_t before = (size_t)memory->pages * PAGE, more = (size_t)pages * PAGE - before;
     memset(WABT_BIG_ENDIAN ? octets : octets + before, 0, more);

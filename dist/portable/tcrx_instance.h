@@ -1,14 +1,17 @@
 /*
- * Instances of the module, each with a memory of its own: one for each channel, and one for all calls without a channel.
+ * Instances of the module, each with a memory of its own: one for each channel, and one for all calls without a
+ * channel.
  *
- * TCRX_MODULE_PAGES      how many pages of 65,536 octets the memory of a channel has, in a static array. 0, which it is unless it is
- *                        given, takes the memory by malloc, and lets it grow.
- * TCRX_MODULE_CHANNELS   how many channels there can be at once where the memory is static; 1 unless it is given.
- * TCRX_MODULE_LOCK(), TCRX_MODULE_UNLOCK()
- *                        are called around each call without a channel, and where a channel is made and freed. Unless they are
- *                        given these calls are for one thread at a time.
- * TCRX_MODULE_TRAP()     is called, and must not return, where the module can't go on: where its stack has come to its end, or the
- *                        translation is wrong. abort() unless it is given.
+ * You can define these macros:
+ *
+ *   TCRX_MODULE_PAGES      The number of pages of 65,536 octets in the memory of a channel, which is a static array. If it
+ *                          is 0, which is the default, the memory comes from malloc and grows.
+ *   TCRX_MODULE_CHANNELS   The number of channels that can be held at once if the memory is static. The default is 1.
+ *   TCRX_MODULE_LOCK(), TCRX_MODULE_UNLOCK()
+ *                          These are called around each call without a channel, and when a channel is created or freed.
+ *                          Without them, such calls are for one thread at a time.
+ *   TCRX_MODULE_TRAP()     This is called if the module can't go on, because its stack has come to its end, or because
+ *                          the translation is wrong. It must not return. The default is abort().
  */
 #ifndef TCRX_INSTANCE_H
 #define TCRX_INSTANCE_H
@@ -28,21 +31,24 @@
 #define TCRX_MODULE_UNLOCK() ((void)0)
 #endif
 
-/* The most octets of a frame with one more, which shows that octets follow it; and the most of a packet. */
+/* One more than the most octets of a frame, so that a call sees that octets follow it, and the most octets of a
+ * packet. */
 enum { TCRX_MODULE_FRAME = 2049, TCRX_MODULE_PACKET = 65542 };
 
-/* Where the areas stand in the memory: for numbers, for a frame that is read and one that is written, and for a packet or a unit. */
+/* An instance, and the places in its memory for numbers, for a frame that is read, for one that is written, and for a
+ * packet or a unit. */
 typedef struct {
     Z_tcrx_instance_t module;
     uint32_t numbers, read, written;
     uint32_t packet, packet_room;
 } tcrx_instance;
 
-/* An instance for a channel; null where there is no memory for it. */
+/* Returns an instance for a channel, or null if there is no memory for it. */
 tcrx_instance *tcrx_instance_new(void);
 void tcrx_instance_end(tcrx_instance *at);
 
-/* The instance of the calls without a channel, which is theirs until it is given back. */
+/* Returns the instance of the calls without a channel, which belongs to the caller until it is returned by
+ * tcrx_instance_back(). */
 tcrx_instance *tcrx_instance_shared(void);
 void tcrx_instance_back(void);
 

@@ -1,6 +1,6 @@
 /*
- * What the C of tcrx_module.c, which wasm2c wrote, wants of its surroundings. No flag of the compiler is needed for it: each access
- * to the module's memory is tested, and whether the machine is big-endian is what the compiler says.
+ * What the C of tcrx_module.c, which wasm2c wrote, needs from its surroundings. It needs no flag of the compiler: each
+ * access to the module's memory is tested, and the compiler says whether the machine is big-endian.
  */
 #ifndef WASM_RT_H_
 #define WASM_RT_H_
@@ -42,14 +42,14 @@ typedef enum {
 
 typedef enum { WASM_RT_I32, WASM_RT_I64, WASM_RT_F32, WASM_RT_F64 } wasm_rt_type_t;
 
-/* The octets stand backwards where the machine is big-endian. A page has 65,536. */
+/* A memory of pages of 65,536 octets. On a big-endian machine the octets are stored backwards. */
 typedef struct {
     uint8_t *data;
     uint32_t pages, max_pages;
     uint32_t size;
 } wasm_rt_memory_t;
 
-/* The module has no tables of functions, but its C has helpers for them, which it never calls. */
+/* The module has no tables of functions. Its C has helpers for them, which it never calls. */
 typedef void (*wasm_rt_function_ptr_t)(void);
 typedef struct {
     uint32_t func_type;
