@@ -252,7 +252,7 @@ module _ {S D E : Type 0} (log : S → Log D E) (fits : S → Type 0) (top : D) 
   not-current : (mark current : ℕ) → current < 2 → suc (suc mark) ≢ current
   not-current mark current free = λ e. absurd (omega arith)
 
-  -- the lock is taken if its word is this one of a free lock
+  -- the lock is taken if its word is `current`, a word of a free lock
   pub takes_lock : (slots id : ℕ) (me : Me S (View D E)) (current next : ℕ) → current < 2 → 2 ≤ next → IsIdle me → Allows Recorded slots id me 16 (swapped current next) (Takes me current)
   takes_lock slots id me current (suc (suc mark)) free some_mark idle s b len at small = ⊎_elim
       (λ (f : IsFree log fits s.words s.homes b.now b.holder). dite (ℕ_discrete f.mark current) (takes-free s id me current mark idle b at f) (misses s id me f.mark current (suc (suc mark)) b at f.word))

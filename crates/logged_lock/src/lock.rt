@@ -111,8 +111,8 @@ impl<S: Logged<D, E>, D: Head, E> LoggedLock<S, D, E> {
         Ok((LoggedLock { table }, seat))
     }
 
-    // Takes the lock if its word is `current`, which is one of a free lock, and changes the word to `next`. Returns
-    // whether it was `current`.
+    // Takes the lock if its word is `current`, a word of a free lock, and changes the word to `next`. Returns whether
+    // the word was `current`.
     fn take(&self, seat: &mut LockSeat<S, D, E>, current: u64, next: u64) -> bool
         requires free { current < 2 }
         requires taken { 2 ≤ next }

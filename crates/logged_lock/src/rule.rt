@@ -21,7 +21,7 @@ pub trait NextEntry<E> {
     ghost entry: { E };
 }
 
-/// The step that takes the lock if its word is the expected one of a free lock.
+/// The step that takes the lock if the lock's word is the expected one, a word of a free lock.
 pub struct Takes;
 
 impl<D, E, S: Logged<D, E>> Play<S, View<D, E>> for Takes {

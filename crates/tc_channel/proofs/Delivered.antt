@@ -1,5 +1,5 @@
--- The packets of a unit that are queued and dropped, or the whole unit, add up. Queues that are given the same packet
--- have the same APID.
+-- The items of a unit are its packets, or the whole unit. The numbers of queued and of dropped items add up to the
+-- number of all its items. Queues that are given the same packet have the same APID.
 use Rattle.tc_channel.proofs.Names.{◌≡◌, ℕ, ◌+◌, ◌≤◌, Bool, true, false, eqb, List, [], ◌∷◌, length, map, filter, Option, Some, None, refl, sym, subst, ◌∙◌, arith, All, ne_eqb, Settings, Event, Delivery, ChannelState, Queue, map_of, is_chosen, is_for, is_of_map, packets_offered, units_offered, queued_of, room_of, share_of, apid_of, is_telecommand, packets_of, delivered, delivery_of, run_within, IsAllowed, keys_of, stored, AreDistinct}
 use Rattle.std.specs.List.{Contains}
 use Rattle.std.proofs.lemmas.Bool.{and_parts, eqb-true}

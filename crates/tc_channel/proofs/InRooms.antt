@@ -5,7 +5,7 @@ use Rattle.tc_channel.specs.Keyed.{IsPutBehind}
 use Rattle.tc_channel.specs.Delivering.{IsPutAt}
 use Rattle.tc_channel.proofs.Copies.{put-set, longer-fits}
 
--- if the items that wait in a queue stay the same, those in all queues do
+-- if a queue is replaced by one in which the same items wait, the items that wait in all the queues stay the same
 pub same-rings : (qs : List Keyed) (i : ℕ) (q next : Keyed) → q ≡ get_or qs i q → next.key ≡ q.key → next.slots.ring ≡ q.slots.ring → rings_in (set qs i next) ≡ rings_in qs
 same-rings qs i q next is key ring =
     let same : ring_in next ≡ ring_in (get_or qs i q) = rw (key, ring) (ap ring_in is) in

@@ -47,7 +47,7 @@ delivery_steps (Some unit) queues units = packet_steps (length (packets_of unit)
 abbrev pub most_packets : ℕ
 most_packets = 9363
 
--- the unit that a frame ends at once, which only an accepted BD frame does
+-- the unit that a frame ends at once (only an accepted BD frame ends one)
 abbrev pub ended_at_once : Row → List ℕ → ChannelState → Option (List ℕ)
 ended_at_once E6 octets state = unit_of state Bd (field_of octets)
 ended_at_once _ octets state = None

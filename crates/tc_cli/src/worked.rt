@@ -1,4 +1,4 @@
-//! A law on the text that a script writes by the definitions.
+//! A law that checks the definitions: by them, one script writes the text that was worked out by hand.
 
 ghost use Rattle.std.specs.Prelude.{[], Some};
 ghost use Rattle.tc_cli.specs.Examples as example;

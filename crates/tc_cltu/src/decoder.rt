@@ -204,7 +204,7 @@ impl Decoder {
     /// Processes the next piece of the stream, of any length, and adds a copy of each candidate frame that ends in it.
     ///
     /// After `Err` the octets up to the end of a candidate frame have been processed. All candidate frames before it
-    /// were added, and [`carried`](Decoder::carried) lends this one.
+    /// were added, and [`carried`](Decoder::carried) lends this frame.
     pub fn feed(
         &mut self,
         alloc: Global,

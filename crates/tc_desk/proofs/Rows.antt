@@ -11,7 +11,7 @@ use Rattle.tc_desk.specs.declared.together.Refusal.TheVariants.{Unbalanced}
 
 -- ---- locks that are taken and unlocked
 
--- one more guard
+-- in the reversed list of owners, the owner of the last guard comes first
 pub one_guard : (ps : List AtLock) (hs : List AtHand) (p : AtLock) (h : AtHand) → h.owner ≡ p → ps ++ reverse (owners_of (hs ++ h ∷ [])) ≡ (ps ++ p ∷ []) ++ reverse (owners_of hs)
 one_guard ps hs p h is =
     ap (λ (l : List AtLock). ps ++ reverse l) (map-append (λ (x : AtHand). x.owner) hs (h ∷ []))

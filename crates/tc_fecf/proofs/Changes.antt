@@ -180,7 +180,7 @@ different (suc (suc b)) c b_fits c_fits ne = absurd (omega arith)
 different b (suc (suc c)) b_fits c_fits ne = absurd (omega arith)
 different _ _ b_fits c_fits ne = absurd (ne refl)
 
--- if only two places may differ, the second n + 1 bits after the first, and the remainders are equal, no bit differs
+-- if the lists may differ only at place i and n + 1 bits later, and their remainders are equal, no bit differs
 pub two : (i n : ℕ) → n < 32766 → (bs cs : List ℕ) → length bs ≡ length cs → AreBits bs → AreBits cs → (r : ℕ) → r < 2 ^ 16
     → ((k : ℕ) → k ≢ i → k ≢ i + suc n → Alike bs cs k) → remainder r bs ≡ remainder r cs → bs ≡ cs
 unfolding AreBits Alike

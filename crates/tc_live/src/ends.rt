@@ -18,7 +18,7 @@ pub enum FrameEnds {
 }
 
 impl FrameEnds {
-    // Returns the ends after these octets were brought, too. Once a frame had no field, no later frame is looked at.
+    // Returns the ends after these octets were brought as well. Once a frame had no field, no later frame is looked at.
     pub(crate) fn after(self, octets: &[u8]) -> FrameEnds
         ensures { result ≡ ends_after self octets.now }
     {

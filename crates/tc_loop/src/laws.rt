@@ -51,8 +51,8 @@ pub fn a_loop_is_never_locked_out()
         → (receiver l []).report.state ≢ S3 → (receiver l (take t session)).report.state ≢ S3 }
 {}
 
-/// The bound on the sender's window is sharp. If the window is wider by one, a single frame locks out a receiver that
-/// starts, when the frames before it are lost.
+/// The bound on the sender's window is sharp. If the window is wider by one, and all frames before the last one of the
+/// window are lost, that frame alone locks out a new receiver.
 pub fn a_wider_window_can_lock_out()
     ensures { (limits : ℕ → ℕ) (s : Settings) (links : ℕ → Link) → IsAllowed s → LocksOut (new_loop limits s links (s.width / 2 + 1)) (last_of (s.width / 2)) }
 {}

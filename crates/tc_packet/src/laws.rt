@@ -66,7 +66,7 @@ pub fn one_more_field_moves_its_run_on()
     ensures { (fields : List (List ℕ)) (field : List ℕ) → open_run (fields ++ field ∷ []) ≡ next_run (header_of field).part (open_run fields) (body_of field) }
 {}
 
-/// Without segment headers, a field is a unit by itself exactly when it is within the limit, and no run is left open.
+/// Without segment headers, no run is ever open, and a field is a unit by itself exactly when it is within the limit.
 pub fn a_plain_field_is_a_unit_by_itself()
     ensures unit { (fields : List (List ℕ)) (field octets : List ℕ) → (unit_ended false fields field ≡ Some octets) ↔ ((octets ≡ field) × (length field ≤ largest_unit)) }
     ensures run { (fields : List (List ℕ)) → run_left false fields ≡ None }

@@ -37,8 +37,8 @@ impl Model for LinkedChannel {
 }
 
 impl LinkedChannel {
-    /// Creates a channel with no flag of its link set. If no channel can have these settings, the call returns
-    /// `NoMemory`, too.
+    /// Creates a channel with no flag of its link set. The call returns `NoMemory` if memory runs out, and also if no
+    /// channel can have these settings.
     pub(crate) fn new(alloc: Global, settings: Settings) -> Result<LinkedChannel, NoMemory>
         ensures { IfOk result (λ channel. channel ≡ new_linked settings) }
     {

@@ -44,7 +44,7 @@ pub not-there : (list : List Settings) (vcid : ℕ) (place : Option ℕ) → is_
 not-there list vcid None e h = h
 not-there list vcid (Some place) e h = absurd cc
 
--- with one more channel, whose id no other has, a configuration still is one
+-- a configuration with one more channel, whose id no other has, is still a configuration
 pub one-more : (list : List Settings) (s : Settings) → IsConfiguration list → ¬ HasSettings list s.vcid → IsAllowed s → IsConfiguration (list ++ s ∷ [])
 one-more list s c new allowed = record {
   distinct = all_pairs_push (λ (p q : Settings). p.vcid ≢ q.vcid) list s c.distinct
@@ -52,7 +52,7 @@ one-more list s c new allowed = record {
   allowed = All-push IsAllowed list s c.allowed allowed;
 }
 
--- a place that was found is one of the list
+-- a place that was found is a place of the list
 pub within : (list : List Settings) (vcid place : ℕ) → (s : Settings) × IsAt list vcid place s → place < length list
 within list vcid place (s, (at, v)) = slice_get_within list place s at
 

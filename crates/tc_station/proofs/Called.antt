@@ -152,7 +152,7 @@ err-call place vcid e ok err ok2 err2 before after r f h c is weaker =
     let was : IsCallAt place vcid e ok err before (Err f) after = subst (λ x. IsCallAt place vcid e ok err before x after) is c in
     answered-so place vcid e ok err ok2 err2 before after (Err f) (Err h) was (weaker was.call.now was.call.answer.0, was.call.answer.1)
 
--- a call whose fault is stated as the station's, as `?` converts it
+-- a refused call, whose fault `?` converts to a fault of the station
 pub refused-call : {R F S G : Type 0} (place vcid : ℕ) (e : Event) (ok : Moment → R → Type 0) (err : Moment → F → Type 0) (ok2 : Moment → S → Type 0) (err2 : Moment → G → Type 0) (before after : AtStation) (r : Result R F) (f : F) (words : F → G)
     (r2 : Result S G) → IsCallAt place vcid e ok err before r after → r ≡ Err f → IsErrAnd r2 (λ h. h ≡ words f) → ((m : Moment) (h : G) → h ≡ words f → err m f → err2 m h) → IsCallAt place vcid e ok2 err2 before r2 after
 refused-call place vcid e ok err ok2 err2 before after r f words (Ok b) c is said weaker = absurd said

@@ -15,6 +15,6 @@ distinct-more list i s lt is none below j k e jk ki same = elim (cases_eq k i) [
   | inr other ↦ below j k e jk (omega arith) same
 ]
 
--- the first i entries make channels
+-- a channel can be created from each of the first i entries
 abbrev pub AllowedBelow : List Settings → ℕ → Type 0
 AllowedBelow list i = (k : ℕ) (d : Settings) → k < i → IsAllowed (get_or list k d)

@@ -68,7 +68,7 @@ not-brought station octets ok err before after r f is (inl c) =
     refused-at c.0 c.1 (events.Frame c.2) (ok c.1 c.2) (err c.2) before after f (subst (λ x. IsCallAt c.0 c.1 (events.Frame c.2) (ok c.1 c.2) (err c.2) before x after) is c.4)
 not-brought station octets ok err before after r f is (inr c) = ap (λ (o : AtStation). map (λ (d : AtLock). d.own.made) o.desks) c.3
 
--- one more job
+-- if these jobs are made, and then one more job, the longer list of jobs is made
 snoc : (station : Roster) (vcid : ℕ) (jobs : List Job) (job : Job) (a b c : AtStation) → AreMade station vcid jobs a b → IsJobMade station vcid job.order b c → AreMade station vcid (jobs ++ job ∷ []) a c
 snoc station vcid [] job a b c made here = (c, subst (λ o. IsJobMade station vcid job.order o c) made here, refl)
 snoc station vcid (j ∷ js) job a b c made here = (made.0, made.1, snoc station vcid js job made.0 b c made.2 here)

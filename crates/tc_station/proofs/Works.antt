@@ -6,7 +6,7 @@ use Rattle.tc_station.specs.declared.work.Order.TheVariants.{Bring}
 use Rattle.tc_station.specs.declared.work.WorkList.{WorkList}
 use Rattle.tc_station.proofs.Counts.{Between, between-both, between-none, between-one, between-other, raised-length, raised-here, raised-else, rises, for-located, for-nobody}
 
--- one more job
+-- if these jobs are done, and then one more job, the longer list of jobs is done
 snoc : (station : Roster) (vcid : ℕ) (jobs : List Job) (job : Job) (a b c : Tally) → AreDone station vcid jobs a b → IsDone station vcid job.order b c → AreDone station vcid (jobs ++ job ∷ []) a c
 snoc station vcid [] job a b c done here = (c, subst (λ t. IsDone station vcid job.order t c) done here, refl)
 snoc station vcid (j ∷ js) job a b c done here = (done.0, done.1, snoc station vcid js job done.0 b c done.2 here)

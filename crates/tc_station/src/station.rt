@@ -562,8 +562,8 @@ fn double_vcid(list: &[Settings]) -> Option<u8>
     None
 }
 
-// Checks that each of the settings makes a channel. Otherwise it returns the id and the fault of the first that
-// doesn't.
+// Checks that each of the settings is one that a channel can have. Otherwise it returns the id and the fault of the
+// first that isn't.
 fn check_each(list: &[Settings]) -> Result<(), (u8, SettingsFault)>
     ensures { MatchResult result (λ _. All IsAllowed list.now) (λ fault. IsFirstRefused list.now fault.0 fault.1) }
 {

@@ -25,7 +25,7 @@ pub enum LiveLine {
     /// A release of the oldest data field in the buffer of a virtual channel, followed by takes of all that waits in
     /// its queues.
     Deliver(u8),
-    /// A collection, which is takes of all that waits in the queues of a virtual channel.
+    /// A collection: takes of all that waits in the queues of a virtual channel.
     Collect(u8),
     /// A candidate: the octets that a CLTU carried, which are a frame and the fill behind it.
     Candidate(Octets),

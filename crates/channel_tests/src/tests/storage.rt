@@ -25,9 +25,9 @@ const USUAL: Wanted<'static> = Wanted {
     ..WANTED
 };
 
-// Without segment headers, the buffer takes 4 times 32 + 1,019 bytes, the queues 2 times 64, and the packets 8 times 32
-// + 1,019. With segment headers, packets have 65,542 octets, and the streams take 128 times 40 + 65,542. The queue of a
-// MAP has as many words as any other. `BOTH` has a buffer of 1, two queues, and four items.
+// Without segment headers, the buffer takes 4 * (32 + 1,019) bytes, the queues take 2 * 64, and the packets
+// 8 * (32 + 1,019). With segment headers, packets have 65,542 octets, and the streams take 128 * (40 + 65,542). The
+// queue of a MAP takes as much as any other queue. `BOTH` has a buffer of 1, two queues, and four items.
 static OCTETS: [(Wanted<'static>, u64); 4] = [
     (PLAIN_QUEUES, 12_740),
     (TWO_QUEUES, 8_923_420),
@@ -47,8 +47,8 @@ fn octets_without_limits(rt: HostRuntime) {
     }
 }
 
-// With units of 1,024 octets on MAP 0 alone, the buffer takes 8 times 32 + 1,019 bytes, the streams 128 times 40 and
-// twice 1,024, the queues 4 times 64, and the packets 32 times 32 + 1,024.
+// With units of 1,024 octets on MAP 0 alone, the buffer takes 8 * (32 + 1,019) bytes, the streams take
+// 128 * 40 + 2 * 1,024, the queues 4 * 64, and the packets 32 * (32 + 1,024).
 #[test]
 fn octets_within_limits(rt: HostRuntime) {
     let settings = settings(&rt, rt.alloc(), &USUAL);
