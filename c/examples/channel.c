@@ -1,7 +1,7 @@
 /*
- * Runs the main loop of a receiver on board, over a channel that the library holds. In each cycle a frame comes in,
- * data fields are released as far as the queues have room, packets go to their applications, and a CLCW goes out. All
- * memory is requested by start().
+ * Runs the main loop of a receiver on board, over a channel that the library holds. In each cycle a frame comes in, all
+ * data fields in the buffer are released, packets go to their applications, and a CLCW goes out. All memory is requested
+ * by start().
  *
  * If this file is compiled with SEALED, it is linked with tcrx_static.c. The memory is then an array, and a request for
  * more traps.
