@@ -1,4 +1,4 @@
--- If no frame that is expected and finds room comes in S2, the table has an entry.
+-- The table has an entry for every arrival, if no frame that is expected and finds room comes in S2.
 use Rattle.std.proofs.Common.{◌≡◌, ◌≢◌, ℕ, Bool, true, false, refl}
 use Rattle.std.specs.Prelude.{IsSome}
 use Rattle.tc_link.specs.declared.command.Command.TheVariants.{Unlock, SetVr}

@@ -1,4 +1,4 @@
--- The position of a number follows from one distance.
+-- The distance of N(S) from V(R) decides the position of N(S).
 use Rattle.std.proofs.Common.{◌≡◌, ℕ, zero, suc, ◌+◌, ◌-◌, ◌/◌, ◌%◌, ◌<◌, ◌≤◌, Bool, true, false, ◌||◌, ◌⊎◌, eqb, refl, ap, sym, ◌∙◌, arith, inl, inr}
 use Rattle.std.specs.Prelude.{◌↔◌, IsTrue}
 use Rattle.std.proofs.Math.Bool.{or-true}
@@ -54,6 +54,6 @@ some-number (suc n) passes found = elim (either (passes (n + 1)) (some_of_first 
   | inr before ↦ let below = some-number n passes before in (below.0, below.1, let most = below.2 in omega arith, below.3)
 ]
 
--- the recursion holds exactly when there is such a number
+-- `some_of_first n passes` is true exactly when `passes` is true of some number from 1 to `n`
 pub some-is-number : (n : ℕ) (passes : ℕ → Bool) → IsTrue (some_of_first n passes) ↔ ((k : ℕ) × (1 ≤ k) × (k ≤ n) × IsTrue (passes k))
 some-is-number n passes = (some-number n passes, λ found. some-found n found.0 passes found.1 found.2 found.3)

@@ -100,7 +100,7 @@ entry_at E10 S3 r = Some (record r { wait = false })
 abbrev pub entry : Row → Report → Option Report
 entry row r = entry_at row r.state r
 
--- E1 in S1 and E6 are accepted
+-- the frames of row E1 are accepted in S1, and those of row E6 in every state
 abbrev pub accepts_at : Row → State → Bool
 accepts_at E1 S1 = true
 accepts_at E6 state = true

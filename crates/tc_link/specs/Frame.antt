@@ -17,7 +17,7 @@ header_of octets = record {
   ns = slice_index octets 4;
 }
 
--- the number of octets that the length field names for the frame
+-- the number of octets of the whole frame, by the frame length field
 abbrev pub named_length : List ℕ → ℕ
 named_length octets = bits (word_at octets 2) 0 10 + 1
 
@@ -62,7 +62,7 @@ pub record IsField (field : List ℕ) : Type 0 where
   pub least : 1 ≤ length field
   pub most : length field ≤ 1019
 
--- the first fault of octets that are to be read, in this order
+-- the first fault, in this order, of octets that are to be read
 abbrev pub fault_of : List ℕ → Option FrameFault
 fault_of octets =
     if nat_lt (length octets) 5 then Some Short
@@ -72,7 +72,7 @@ fault_of octets =
     else if nat_lt (length octets) (named_length octets) then Some Truncated
     else None
 
--- the first fault of a header and a data field that are to be written, in this order
+-- the first fault, in this order, of a header and a data field that are to be written
 abbrev pub write_fault_of : Header → List ℕ → Option WriteFault
 write_fault_of header field =
     if nat_lt 1023 header.scid || nat_lt 63 header.vcid then Some BadField

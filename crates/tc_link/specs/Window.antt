@@ -1,4 +1,4 @@
--- The position of a frame's number, as seen from V(R) (CCSDS 232.1-B, 6.1, FARM sliding window).
+-- The position of a frame's number in the window, relative to V(R) (CCSDS 232.1-B, 6.1, FARM sliding window).
 use Rattle.std.specs.Prelude.{◌≡◌, ℕ, zero, suc, ◌+◌, ◌-◌, ◌/◌, ◌%◌, ◌≤◌, Bool, false, ◌==◌, ◌||◌, if◌then◌else◌}
 use Rattle.tc_link.specs.declared.window.Place.{Place}
 use Rattle.tc_link.specs.declared.window.Place.TheVariants.{Expected, Ahead, Behind, Outside}
@@ -8,7 +8,7 @@ pub record IsWidth (width : ℕ) : Type 0 where
   pub most : width ≤ 254
   pub even : width % 2 ≡ 0
 
--- some k from 1 to n passes
+-- `passes` is true of some number from 1 to `n`
 unfoldable pub some_of_first : ℕ → (ℕ → Bool) → Bool
 some_of_first zero passes = false
 some_of_first (suc n) passes = passes (n + 1) || some_of_first n passes

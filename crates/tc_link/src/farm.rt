@@ -45,7 +45,7 @@ pub struct Act {
     pub accepted: bool,
 }
 
-// Processes an arrival: returns the act, and writes only those of the components that change.
+// Processes an arrival. Returns the act, and writes only the components that change.
 #[inline(always)]
 fn stepped(window: &Window, r: &mut Report, arrival: Arrival) -> Act
     requires { IsSome (entry (row_of window.now r.old.vr arrival) r.old) }
@@ -139,8 +139,8 @@ fn expected(r: &mut Report) -> Act
     }
 }
 
-// Few frames find no room or aren't in sequence. The transitions that they cause are compiled apart from the path of an
-// accepted frame, so that a changed comparison in front of a transition moves no other code.
+// Most frames are in sequence and find room. The transitions of all other frames are compiled apart from the path of an
+// accepted frame. So if a comparison in front of a transition is changed, no other code moves.
 #[cold]
 #[inline(never)]
 fn full(r: &mut Report)
@@ -244,7 +244,7 @@ fn release(r: &mut Report)
     }
 }
 
-/// FARM-1 with its window. A contract sees the window's width and the six components.
+/// FARM-1 with its window. In contracts, its value is the window's width and the six components.
 #[derive(Clone, Copy, Debug)]
 pub struct Farm {
     window: Window,
@@ -283,10 +283,10 @@ impl Farm {
         }
     }
 
-    /// Creates a FARM-1 that continues from six components that a caller kept, with the window that they were kept
-    /// with.
+    /// Creates a FARM-1 that continues from `report`, six components that a caller has kept. `window` is the window of
+    /// the FARM-1 that they were taken from.
     ///
-    /// The FARM-B counter must be below 4, as it is in a result of [`Farm::report`]. Nothing is allocated.
+    /// The FARM-B counter must be below 4, as it always is in a result of [`Farm::report`]. Nothing is allocated.
     pub fn resumed(window: Window, report: Report) -> Farm
         requires farm_b { report.farm_b < 4 }
         ensures width { result.width ≡ window }
@@ -295,21 +295,21 @@ impl Farm {
         Farm { window, report }
     }
 
-    /// Returns the six components. A caller of [`Farm::step`] sees from them whether the state is S2.
+    /// Returns the six components. Callers of [`Farm::step`] need them to know whether the state is S2.
     pub fn report(&self) -> Report
         ensures report { result ≡ self.now.report }
         ensures farm_b { result.farm_b < 4 }
         ensures width { IsWidth self.now.width }
     {
-        // This call is here for its contract, by which the width is that of a window.
+        // This call is here only for its contract, which ensures that the window has a valid width.
         let _place = self.window.place(0, 0);
         self.report
     }
 
     /// Processes one arrival by the state table of FARM-1 (CCSDS 232.1-B, 6.3).
     ///
-    /// The table has an entry for every arrival, as long as an AD frame that comes in S2 finds no room. That is so if
-    /// the state is S2 only while the buffer is full.
+    /// The table must have an entry for the arrival. It has one for every arrival except an expected AD frame that
+    /// comes in S2 and finds room. No such frame comes if the state is S2 only while the buffer is full.
     #[inline(always)]
     pub fn step(&mut self, arrival: Arrival) -> Act
         requires { IsSome (entry (row_of self.old.width self.old.report.vr arrival) self.old.report) }

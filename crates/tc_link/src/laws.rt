@@ -13,7 +13,7 @@ ghost use Rattle.tc_link.specs.Window.{some_of_first};
 ghost use Rattle.tc_link.specs.Farm.{Row, E1, E7, E8, E10, entry, frame_row, after};
 ghost use Rattle.tc_link.specs.Clcw.{IsClcw, word_of, fields_of, reported};
 
-/// No octets begin with two different frames.
+/// Octets begin with one frame at most.
 pub fn each_input_begins_with_one_frame_at_most()
     ensures { (octets one other : List ℕ) → BeginsWith octets one → BeginsWith octets other → one ≡ other }
 {}
@@ -59,7 +59,7 @@ pub fn just_what_fits_a_frame_has_no_write_fault()
     ensures { (header : Header) (field : List ℕ) → header.ns < 256 → IsOctets field → (write_fault_of header field ≡ None) ↔ (IsHeader header × IsField field) }
 {}
 
-/// `some_of_first n` holds exactly when some number from 1 to `n` passes.
+/// `some_of_first n passes` is true exactly when `passes` is true of some number from 1 to `n`.
 pub fn some_of_the_first_is_some_number()
     ensures { (n : ℕ) (passes : ℕ → Bool) → IsTrue (some_of_first n passes) ↔ ((k : ℕ) × (1 ≤ k) × (k ≤ n) × IsTrue (passes k)) }
 {}
@@ -71,8 +71,8 @@ pub fn each_arrival_has_an_entry()
     ensures release { (r : Report) → IsSome (entry E10 r) }
 {}
 
-/// If V(R) changes, either an expected frame for which there is room came in S1, and V(R) is one more modulo 256, or a
-/// Set V(R) came in S1 or S2, and V(R) is its number.
+/// V(R) changes in two cases only. An expected frame that finds room in S1 raises it by one, modulo 256. A Set V(R)
+/// that comes in S1 or S2 sets it to the command's number.
 pub fn v_r_changes_by_acceptance_and_set_v_r_alone()
     ensures { (row : Row) (r : Report) → (after row r).vr ≢ r.vr
         → ((row ≡ E1) × (r.state ≡ S1) × ((after row r).vr ≡ (r.vr + 1) % 256))
@@ -86,8 +86,8 @@ pub fn a_written_clcw_reads_back()
     ensures fields { (r : Report) (vcid : ℕ) (link : Link) → vcid < 64 → r.farm_b < 4 → r.vr < 256 → fields_of (word_of r vcid link) ≡ reported r vcid link }
 {}
 
-/// States examples of CLCWs, worked out by hand: words in which the flags, the counter and the numbers are set apart
-/// from each other, the fields of two words, and words that are no CLCW.
+/// States examples of CLCWs, worked out by hand: words in which single fields are set, the fields of two words, and
+/// words that aren't a CLCW.
 pub fn clcws_are_so()
     ensures plain { word_of (record { state = S1; vr = 1; lockout = false; wait = false; retransmit = false; farm_b = 0 }) 1 (record { no_rf = false; no_bit_lock = false }) ≡ 0x01040001 }
     ensures no_rf { word_of (record { state = S1; vr = 0; lockout = false; wait = false; retransmit = false; farm_b = 0 }) 1 (record { no_rf = true; no_bit_lock = false }) ≡ 0x01048000 }

@@ -1,4 +1,4 @@
-//! The channel of a spacecraft for which octets are meant.
+//! The fault of octets that belong to no channel of the station.
 
 use crate::frame::FrameFault;
 use thiserror::Error;

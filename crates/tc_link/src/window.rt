@@ -5,7 +5,7 @@ ghost use Rattle.tc_link.specs.Window.{IsWidth, place_of};
 
 use std::marker::Model;
 
-/// The position of an N(S), as seen from V(R).
+/// The position of an N(S) in the window, relative to V(R).
 #[derive(Clone, Copy, Debug, PartialEq, Eq)]
 pub enum Place {
     Expected,
@@ -16,7 +16,8 @@ pub enum Place {
 
 /// A sliding window of width W, which is even and from 2 to 254.
 ///
-/// The positive and the negative part of the window are each W / 2 wide. A contract sees a window as its width.
+/// The positive and the negative part of the window are each W / 2 wide. In contracts, the value of a window is its
+/// width.
 #[derive(Clone, Copy, Debug)]
 pub struct Window {
     width: u8,
@@ -45,7 +46,7 @@ impl Window {
         }
     }
 
-    /// Returns the position of N(S), as seen from V(R).
+    /// Returns the position of N(S) in the window, relative to V(R).
     pub fn place(&self, vr: u8, ns: u8) -> Place
         ensures place { result ≡ place_of self.now vr ns }
         ensures width { IsWidth self.now }

@@ -7,7 +7,7 @@ use crate::frame::Header;
 use std::alloc::Global;
 use thiserror::Error;
 
-/// The reason why a frame isn't written: the first of these that applies.
+/// The reason why a frame isn't written. If several apply, it is the first of them, in this order.
 #[derive(Clone, Copy, Debug, PartialEq, Eq, Error)]
 pub enum WriteFault {
     #[error("a field of the header is over its bound")]
@@ -20,10 +20,11 @@ pub enum WriteFault {
     NoMemory,
 }
 
-/// Returns the five octets of the primary header with which the frame of this header and this data field begins (CCSDS
-/// 232.0-B, 4.1.2). In that frame only the data field follows them.
+/// Returns the primary header of the frame that has this header and this data field (CCSDS 232.0-B, 4.1.2). The frame
+/// consists of these five octets and the data field.
 ///
-/// All four combinations of the two flags are written. Nothing is allocated, and `NoMemory` is never returned.
+/// The bypass flag and the control command flag may have any values. Nothing is allocated, and `NoMemory` is never
+/// returned.
 pub fn written_header(header: &Header, field: &[u8]) -> Result<[u8; 5], WriteFault>
     ensures frame { IfOk result (λ front. IsFrame (front ++ field.now) header.now field.now) }
     ensures five { IfOk result (λ front. length front ≡ 5) }
@@ -43,7 +44,7 @@ pub fn written_header(header: &Header, field: &[u8]) -> Result<[u8; 5], WriteFau
 
 /// Writes the frame that has this header and this data field.
 ///
-/// All four combinations of the two flags are written. The only allocation is the frame itself.
+/// The bypass flag and the control command flag may have any values. Only the frame itself is allocated.
 pub fn write_frame(alloc: Global, header: &Header, field: &[u8]) -> Result<Vec<u8>, WriteFault>
     ensures frame { IfOk result (λ octets. IsFrame octets.items header.now field.now) }
     ensures written { OnOk result (write_fault_of header.now field.now ≡ None) }

@@ -43,7 +43,7 @@ begins-packet n u p =
 abbrev pub within : ℕ → List ℕ → List ℕ
 within n u = drop (length (joined (packets_within n u))) u
 
--- after the first packet, the rest is that of the octets behind that packet
+-- if the octets begin with a packet, their rest is the rest of the octets after that packet
 within-more : (n : ℕ) (u : List ℕ) → begins u ≡ true → within (suc n) u ≡ within n (drop (named_length u) u)
 within-more n u h =
     let f = fits-begins u h in
@@ -104,8 +104,8 @@ one-front u n m p q =
     let front : (k : ℕ) → take k u ≡ take (length (take k u)) u = λ k. sym (ap (λ (j : ℕ). take j u) (length-take k u) ∙ take_min k u) in
     front n ∙ ap (λ (k : ℕ). take k u) (sym a.1 ∙ b.1) ∙ sym (front m)
 
--- if a unit begins with a packet, that packet is the first of its cut, and the rest of the cut is that of the octets
--- after it
+-- if a unit begins with a packet, that packet is the first of its cut, and the other packets and the rest are those of
+-- the octets after it
 pub cut-next : (u p : List ℕ) → IsPacket p → p ≡ take (length p) u → (packets_of u ≡ p ∷ packets_of (drop (length p) u)) × (rest_of u ≡ rest_of (drop (length p) u))
 cut-next u p packet front =
     let after = drop (length p) u in

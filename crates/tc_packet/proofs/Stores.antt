@@ -47,7 +47,7 @@ same-sizes runs i run next inside is same =
 abbrev pub MovesOn : Type 0
 MovesOn = (fields : List (List ℕ)) (field : List ℕ) → open_run (fields ++ field ∷ []) ≡ next_run (header_of field).part (open_run fields) (body_of field)
 
--- the stream of the field has the run of its longer list of fields, within the limit
+-- if the fields leave the run, then the fields with one more leave the next run, each within the limit
 pub run-pushed : MovesOn → (n : ℕ) (next run : Option (List ℕ)) (fields : List (List ℕ)) (field body : List ℕ) (part : Part) → n ≤ 65542
     → part ≡ (header_of field).part → body ≡ body_of field → next ≡ at_most n (next_run part run body)
     → at_most n (open_run fields) ≡ run → at_most n (open_run (fields ++ field ∷ [])) ≡ next
@@ -65,12 +65,12 @@ unit-pushed n unit run fields field body part small part_is body_is unit_is left
 abbrev pub with_run : Store → ℕ → OpenRun → Store
 with_run store i next = record store { runs = set store.runs i next }
 
--- the unit that is reported is the one that lies at the reported place
+-- the unit lies at the place that is returned for it
 ended-there : (store : Store) (i : ℕ) (next : OpenRun) (t : EndedKind) (field : List ℕ) → i < length store.runs → unit_in (ended_by_stream t i) (with_run store i next) field ≡ ended_kind t next (drop 1 field)
 ended-there store i next ended_kinds.Whole field inside = ap (option_map (λ (r : OpenRun). r.room.octets)) (slice_get-set_same store.runs i next inside)
 ended-there store i next _ field inside = refl
 
--- a run has the room that it had before its segment was delivered
+-- delivery of a unit doesn't change the room of its run
 behind-room : (t : EndedKind) (next : OpenRun) → (behind t next).room ≡ next.room
 behind-room ended_kinds.Nothing next = refl
 behind-room _ next = refl
@@ -79,7 +79,7 @@ over-written : (runs : List OpenRun) (i : ℕ) (next : OpenRun) → i < length r
 over-written (r ∷ runs) (suc i) next inside = ap (λ (xs : List OpenRun). r ∷ xs) (over-written runs i next (omega arith))
 over-written _ _ next inside = refl
 
--- writing a run as closed ends the run at its place
+-- to write a run as closed at its place is to end the run at that place
 pub closed-set : (runs : List OpenRun) (i : ℕ) (run : OpenRun) → i < length runs → run ≡ get_or runs i run → set runs i (closed run) ≡ over_at i runs
 closed-set [] i run inside is = absurd (omega arith)
 closed-set (r ∷ runs) zero run inside is = ap (λ (x : OpenRun). closed x ∷ runs) is
@@ -90,7 +90,7 @@ none-over [] i outside = refl
 none-over (r ∷ runs) zero outside = absurd (omega arith)
 none-over (r ∷ runs) (suc i) outside = ap (λ (xs : List OpenRun). r ∷ xs) (none-over runs i (omega arith))
 
--- after delivery the store holds the run as it is after its segment
+-- after delivery, the store holds the run that `behind` defines at the stream's place
 committed-is : (store : Store) (i : ℕ) (next : OpenRun) (t : EndedKind) → i < length store.runs → committed (ended_by_stream t i) i (with_run store i next) ≡ with_run store i (behind t next)
 committed-is store i next ended_kinds.Nothing inside = refl
 committed-is store i next ended_kinds.Body inside = ap (λ (xs : List OpenRun). record store { runs = xs }) (over-written store.runs i next inside)

@@ -1,4 +1,4 @@
--- The open run and the unit as relations are those that the functions compute.
+-- The relations for the open run and the unit hold of exactly the values that the functions compute.
 use Rattle.std.proofs.Common.{◌≡◌, ℕ, ◌+◌, ◌/◌, ◌%◌, ◌<◌, ◌≤◌, Bool, true, false, cond, leb, List, [], ◌∷◌, ◌++◌, length, Option, Some, None, inl, inr, refl, sym, ap, subst, ◌∙◌, arith}
 use Rattle.std.specs.Option.{option_and_then, option_or}
 use Rattle.tc_packet.proofs.Names.{AllByRecursion, Continuing, First, Last, Part, Unsegmented, body_of, header_of}
@@ -18,7 +18,7 @@ continuing-part : (part : Part) → is_continuing part ≡ true → part ≡ Con
 continuing-part Continuing h = refl
 continuing-part _ h = cc
 
--- the test of all fields holds exactly when the fact holds for each of them
+-- if the test of all fields succeeds, each field is a continuing segment
 each-continues : (fs : List (List ℕ)) → all_continue fs ≡ true → AllByRecursion (IsPart Continuing) fs
 each-continues [] h = tt
 each-continues (f ∷ fs) h =

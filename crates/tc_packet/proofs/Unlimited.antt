@@ -106,7 +106,7 @@ pub record HasMovedOn (old new : Store) (place : ℕ) (field : List ℕ) : Type 
   pub others : (other : ℕ) → other ≢ place → run_at (open_runs new).runs other ≡ run_at (open_runs old).runs other
   pub run : (fields : List (List ℕ)) → LeaveWithin fields old place → LeaveWithin (fields ++ field ∷ []) new place
 
--- each open run is one that some fields leave
+-- each open run is left by some fields
 some-fields : (store : Store) (place : ℕ) → place < 128 → IsUnlimited store → (fields : List (List ℕ)) × LeaveWithin fields store place
 some-fields store place inside is = by store.segmented refl where
   by : (segmented : Bool) → store.segmented ≡ segmented → (fields : List (List ℕ)) × LeaveWithin fields store place

@@ -10,15 +10,15 @@ use Rattle.tc_packet.specs.declared.service.Service.TheVariants.{Ad, Bd}
 use Rattle.tc_packet.specs.Segment.{header_of, body_of}
 use Rattle.tc_packet.specs.SpacePacket.{largest_packet}
 
--- the largest number of octets in a run or a unit, for which the largest packet fits
+-- the largest number of octets in a run or a unit, which is that of the largest packet
 abbrev pub largest_unit : ℕ
 largest_unit = largest_packet
 
 abbrev pub bounded : List ℕ → Option (List ℕ)
 bounded octets = if nat_le (length octets) largest_unit then Some octets else None
 
--- The octets if they are no more than the limit, or none. The largest unit, as the limit, leaves each run and unit of a
--- stream as it is.
+-- The octets if there are no more of them than the limit, and otherwise none. If the limit is the largest unit, each
+-- run and unit of a stream stays as it is.
 abbrev pub at_most : ℕ → Option (List ℕ) → Option (List ℕ)
 at_most limit None = None
 at_most limit (Some octets) = if nat_le (length octets) limit then Some octets else None
@@ -82,7 +82,7 @@ from_last_first (f ∷ fs) = option_or (from_last_first fs) (if is_first (header
 abbrev pub all_continue : List (List ℕ) → Bool
 all_continue fs = list_all (λ g. is_continuing (header_of g).part) fs
 
--- the joined bodies of a first segment and the fields after it, if these are all continuing segments
+-- the joined bodies of a first segment and the fields after it, if all fields after it are continuing segments
 abbrev pub run_of : List ℕ × List (List ℕ) → Option (List ℕ)
 run_of p = if all_continue p.1 then bounded (joined_bodies (p.0 ∷ p.1)) else None
 
@@ -156,7 +156,7 @@ pub record OpenRuns : Type 0 where
   pub segmented : Bool
   pub runs : List (Option (List ℕ))
 
--- each stream has one run or none, no run is beyond the limit, and without segment headers there is none at all
+-- each stream has one run or none, no run is beyond the limit, and without segment headers no stream has a run
 pub record AreOpenRuns (open_runs : OpenRuns) : Type 0 where
   pub streams : length open_runs.runs ≡ stream_count
   pub limit : (place : ℕ) → IsWithinLimit (run_at open_runs.runs place)

@@ -1,4 +1,4 @@
--- The open runs in their rooms, each of whose sizes is the limit of its stream.
+-- The open runs in their rooms. The size of a room is the limit of its stream.
 use Rattle.std.specs.Prelude.{◌≡◌, ◌≤◌, ℕ, Bool, true, false, List, length, map, drop, get_or, set, zero, suc, [], ◌∷◌, Option, Some, None, option_map, slice_get, ◌<◌, IfSome, if◌then◌else◌}
 use Rattle.tc_packet.specs.Reassembly.{AreOpenRuns, OpenRuns, at_most, ended_by, largest_unit, stream_count, run_left, run_at}
 use Rattle.tc_packet.specs.declared.segment.Part.{Part}
@@ -47,7 +47,7 @@ pub record IsUnlimited (store : Store) : Type 0 where
   pub limits : (place : ℕ) → place < stream_count → limit_at store place ≡ largest_unit
   pub runs : AreOpenRuns (of_streams (open_runs store))
 
--- the fields leave the run in the room at this place, if it is within the limit
+-- the run at this place is the one that the fields leave, or none if that one is over the limit
 abbrev pub LeaveWithin : List (List ℕ) → Store → ℕ → Type 0
 LeaveWithin fields store place = at_most (limit_at store place) (run_left store.segmented fields) ≡ run_at (open_runs store).runs place
 
@@ -57,7 +57,8 @@ ended_kind ended_kinds.Nothing run body = None
 ended_kind ended_kinds.Body run body = Some body
 ended_kind ended_kinds.Whole run body = Some run.room.octets
 
--- The run after a segment with this report. A run that completed a unit is over once the unit is delivered.
+-- The run after a segment for which this kind was returned. A run that completed a unit is over once the unit is
+-- delivered.
 abbrev pub behind : EndedKind → OpenRun → OpenRun
 behind ended_kinds.Nothing run = run
 behind ended_kinds.Body run = closed run
@@ -81,7 +82,7 @@ IsThere Nothing store field = Unit {0}
 IsThere (Lying from) store field = from ≤ length field
 IsThere (Joined place) store field = place < length store.runs
 
--- the runs after the one at this place has ended
+-- the runs, once the run at this place has ended
 abbrev pub over_at : ℕ → List OpenRun → List OpenRun
 over_at place [] = []
 over_at zero (run ∷ runs) = closed run ∷ runs
@@ -102,8 +103,7 @@ pub record IsWritten (place : ℕ) (old new : List OpenRun) : Type 0 where
   pub is : new ≡ set old place next
   pub sizes : sizes_of new ≡ sizes_of old
 
--- the run at this place was moved on by a segment with this body, and the place of the unit that it completed was
--- reported
+-- a segment with this body was applied to the run at this place, and `t` is the place of the unit that it completed
 pub record IsFollowed (place : ℕ) (part : Part) (body : List ℕ) (old new : List OpenRun) (t : EndedKind) : Type 0 where
   pub run : OpenRun
   pub next : OpenRun

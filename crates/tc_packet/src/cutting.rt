@@ -9,8 +9,8 @@ use crate::fault::NoMemory;
 use crate::packet::{Cut, Packet, read_packet};
 use std::alloc::Global;
 
-/// Cuts packets from the front of a unit, for as long as its rest begins with one. Only the list of packets grows,
-/// since the octets stay where they are.
+/// Cuts packets from the front of a unit until the rest doesn't begin with a packet. Only the list of packets is
+/// allocated, and no octet is copied.
 pub fn cut(alloc: Global, unit: &[u8]) -> Result<Cut<'_>, NoMemory>
     ensures cut { IfOk result (λ c. IsCut unit.now (octets_of c.packets.items) c.rest.now) }
     ensures fields { IfOk result (λ c. AllByRecursion HasFields c.packets.items) }
@@ -25,8 +25,9 @@ pub fn cut(alloc: Global, unit: &[u8]) -> Result<Cut<'_>, NoMemory>
     Ok(Cut { packets, rest })
 }
 
-/// Returns the first packet of a unit's cut, and the octets after it, whose cut is the rest of the unit's cut. Returns
-/// `None` if the unit doesn't begin with a packet, in which case all of it is rest. Nothing is allocated.
+/// Returns the first packet of a unit, and the octets after it. A cut of those octets yields the unit's other packets
+/// and its rest. Returns `None` if the unit doesn't begin with a packet. Then the whole unit is rest. Nothing is
+/// allocated.
 pub fn next_packet(unit: &[u8]) -> Option<(Packet<'_>, &[u8])>
     ensures packets { IfSome result (λ r. packets_of unit.now ≡ r.0.octets.now ∷ packets_of r.1.now) }
     ensures rest { IfSome result (λ r. rest_of unit.now ≡ rest_of r.1.now) }

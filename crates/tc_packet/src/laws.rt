@@ -34,7 +34,7 @@ pub fn each_unit_has_one_cut()
     ensures only { (unit : List ℕ) (ps : List (List ℕ)) (rest : List ℕ) → IsCut unit ps rest → (ps ≡ packets_of unit) × (rest ≡ rest_of unit) }
 {}
 
-/// No octets begin with two different packets.
+/// Octets begin with one packet at most.
 pub fn each_input_begins_with_one_packet_at_most()
     ensures { (octets : List ℕ) (n m : ℕ) → IsPacket (take n octets) → IsPacket (take m octets) → take n octets ≡ take m octets }
 {}
@@ -51,8 +51,8 @@ pub fn a_unit_looks_back_over_its_stream()
     ensures { (fields : List (List ℕ)) (field octets : List ℕ) → (unit_at fields field ≡ Some octets) ↔ IsUnit fields field octets }
 {}
 
-/// Fields can leave exactly the runs within the limit open, on each MAP, and they never complete a unit beyond the
-/// limit.
+/// On each MAP, each run within the limit is the open run after some list of fields. No fields leave a run beyond the
+/// limit open, and none complete a unit beyond the limit.
 pub fn each_run_within_the_limit_is_left_by_fields()
     ensures left { (map : ℕ) (run : Option (List ℕ)) → map < 64 → IsWithinLimit run → IsLeftByFields map run }
     ensures only { (fields : List (List ℕ)) → IsWithinLimit (open_run fields) }

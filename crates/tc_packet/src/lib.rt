@@ -1,15 +1,17 @@
 //! Segments, reassembly and space packets of a telecommand link.
 //!
 //! A [`Room`] holds octets, up to a size. It is either a block of that size ([`FixedRoom`]) or a block that grows
-//! ([`GrowingRoom`]). [`Runs`] have a room for the open run of each stream. They report the place of a unit that a data
-//! field completes ([`Ended`]), so that the unit needn't be copied to be handed out. A last segment is staged behind
-//! the open run's octets. Once the unit is delivered, its run is over ([`Runs::commit`]). If memory runs out before,
-//! the runs are as they were. A [`Reassembler`] consists of such runs in rooms that grow, and returns a copy of each
-//! unit.
+//! ([`GrowingRoom`]).
 //!
-//! The rooms of the streams are a boxed slice, and so is the block of a [`FixedRoom`]. These types have no call that
-//! grows them. Rooms that are created at the start therefore request memory only when they are created, and no other
-//! call can run out of memory. Only the block of a [`GrowingRoom`] is a `Vec`.
+//! [`Runs`] holds the open run of each stream, each in a room of its own. [`Runs::stage`] processes a data field and
+//! returns the place of the unit that the field completes ([`Ended`]), so that a caller can use the unit without a
+//! copy. A last segment is staged behind the open run's octets. [`Runs::commit`] ends the run once the unit is
+//! delivered. If memory runs out before that, the runs are unchanged. A [`Reassembler`] wraps such runs, in rooms that
+//! grow, and its calls return a copy of each unit.
+//!
+//! The rooms of the streams are a boxed slice, and so is the block of a [`FixedRoom`]. A boxed slice has no call that
+//! grows it. With [`FixedRoom`], memory is therefore requested only when the rooms are created, and no other call can
+//! run out of memory. Only the block of a [`GrowingRoom`] is a `Vec`.
 //!
 //! Laws over the definitions stand as contracts of functions with empty bodies:
 //! [`each_unit_has_one_cut`], [`each_input_begins_with_one_packet_at_most`],

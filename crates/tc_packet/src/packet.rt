@@ -11,7 +11,7 @@ pub struct Packet<'a> {
     pub telecommand: bool,
     /// The secondary header flag.
     pub secondary: bool,
-    /// The application process identifier, at most 2,047, which is the value that marks idle packets.
+    /// The application process identifier, at most 2,047. Idle packets have 2,047.
     pub apid: u16,
     /// The sequence flags, at most 3.
     pub flags: u8,

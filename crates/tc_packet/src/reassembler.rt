@@ -12,10 +12,10 @@ use crate::service::{LARGEST_UNIT, Service};
 use std::alloc::Global;
 use std::marker::Model;
 
-/// The open run of each stream: first those of the AD service's 64 MAPs, then those of the BD service's. If data fields
-/// have no segment header, each is a unit by itself and no run is ever open.
+/// The open run of each stream. The AD service's 64 MAPs come first, then the BD service's. If data fields have no
+/// segment header, each is a unit by itself and no run is ever open.
 ///
-/// A channel reassembles with the type that this one wraps ([`Runs`]). Here the rooms grow to the largest unit, and
+/// A channel uses [`Runs`], the type that this one wraps. The rooms of a `Reassembler` grow up to the largest unit, and
 /// each unit is returned in a list of its own.
 #[derive(Drop)]
 pub struct Reassembler {
@@ -35,8 +35,8 @@ impl Model for Reassembler {
 }
 
 impl Reassembler {
-    /// Creates a reassembler with no open run. The room for all streams is allocated here. `segmented` is true if
-    /// data fields begin with a segment header.
+    /// Creates a reassembler with no open run. `segmented` is true if data fields begin with a segment header. The list
+    /// of the streams' rooms is allocated here.
     pub fn new(alloc: Global, segmented: bool) -> Result<Reassembler, NoMemory>
         ensures { IfOk result (λ r. r ≡ record { segmented = segmented; runs = replicate stream_count None }) }
     {
@@ -44,8 +44,8 @@ impl Reassembler {
         Ok(Reassembler { alloc, runs })
     }
 
-    /// Returns the unit that this field would complete, in a list of its own. The only memory requested is room for
-    /// this unit and for the stream's open run.
+    /// Returns the unit that this field would complete, in a list of its own. At most one block is allocated, with room
+    /// for the stream's open run and this field.
     pub fn unit_after(&self, service: Service, field: &[u8]) -> Result<Option<Vec<u8>>, NoMemory>
         requires { 0 < length field.now }
         ensures unit { (fields : List (List ℕ)) → Leave fields self.now (stream_place service field.now)
@@ -56,8 +56,8 @@ impl Reassembler {
         Ok(unit)
     }
 
-    /// Processes the next field of its stream, and returns a copy of the unit that it completes, if any. All requests
-    /// for memory come before the first change of an open run.
+    /// Processes the next field of its stream, and returns a copy of the unit that it completes, if any. If memory runs
+    /// out, the open runs are unchanged.
     pub fn push(&mut self, service: Service, field: &[u8]) -> Result<Option<Vec<u8>>, NoMemory>
         requires { 0 < length field.now }
         ensures unit { (fields : List (List ℕ)) → Leave fields self.old (stream_place service field.now)

@@ -8,14 +8,14 @@ use std::boxed::BoxedSlice;
 use std::marker::Model;
 use std::mem::replace;
 
-/// A place for the octets of one item or of one run, up to a size. Queues and reassembly are generic over it, so that
-/// they have one code for rooms that are created at the start ([`FixedRoom`]) and for rooms that grow
+/// A place for the octets of one item or of one run, up to a size. Queues and reassembly are generic over this trait.
+/// So one implementation serves both rooms that are allocated once ([`FixedRoom`]) and rooms that grow
 /// ([`GrowingRoom`]).
 pub trait Room: Drop {
     // the octets in use, and the largest number of them
     ghost contents: { Self → Contents };
 
-    // Whether storing octets may request memory. If not, it never fails.
+    // Whether memory may be requested when octets are stored. If not, storing never fails.
     ghost grows: { Bool };
 
     /// Creates a room for `size` octets, none of them in use.
@@ -30,14 +30,14 @@ pub trait Room: Drop {
     fn size(&self) -> usize
         ensures size { result ≡ (contents self.now).size };
 
-    /// Copies octets here, in place of those in use.
+    /// Replaces the octets in use with a copy of `octets`.
     fn fill(&mut self, octets: &[u8]) -> Result<(), AllocError>
         requires { length octets.now ≤ (contents self.old).size }
         ensures filled { OnOk result (contents self.new ≡ contents_of octets.now (contents self.old).size) }
         ensures refused { OnErr result (contents self.new ≡ contents self.old) }
         ensures answered { grows ≡ false → IsOk result };
 
-    /// Copies octets behind those in use.
+    /// Copies `octets` behind those in use.
     fn append(&mut self, octets: &[u8]) -> Result<(), AllocError>
         requires { length (contents self.old).octets + length octets.now ≤ (contents self.old).size }
         ensures appended { OnOk result (contents self.new ≡ contents_of ((contents self.old).octets ++ octets.now) (contents self.old).size) }
@@ -78,7 +78,7 @@ impl Model for FixedRoom {
     ghost invariant = { λ r. r.len ≤ length (boxed_slice_items r.block) };
 }
 
-// Writes octets over those behind the first `from`.
+// Overwrites the block with `octets`, from place `from` on.
 fn write_at(block: &mut [u8], from: usize, octets: &[u8])
     requires { from + length octets.now ≤ length block.old }
     ensures octets { take (from + length octets.now) block.new ≡ take from block.old ++ octets.now }
@@ -136,7 +136,7 @@ impl Room for FixedRoom {
     }
 }
 
-/// A block of octets, up to a size, that requests memory when it is too small.
+/// A block of octets that grows when it is too small, up to a size.
 #[derive(Drop)]
 pub struct GrowingRoom {
     alloc: Global,
@@ -206,8 +206,8 @@ impl Room for GrowingRoom {
 }
 
 impl GrowingRoom {
-    /// Takes out the octets in use, in the block that holds them, and leaves none in use. No octet is copied, and no
-    /// memory is requested.
+    /// Takes out the block that holds the octets in use, and leaves none in use. No octet is copied, and no memory is
+    /// requested.
     pub fn take_block(&mut self) -> Vec<u8>
         ensures octets { result.items ≡ self.old.octets }
         ensures cleared { self.new ≡ contents_of [] self.old.size }
@@ -215,7 +215,7 @@ impl GrowingRoom {
         replace(&mut self.block, Vec::new(self.alloc))
     }
 
-    // Returns a copy in a block of its own, which has room for `more` further octets as far as the size allows them.
+    // Returns a copy whose block has room for `more` further octets, or for as many as the size allows.
     pub(crate) fn copied(&self, more: usize) -> Result<GrowingRoom, AllocError>
         ensures { IfOk result (λ r. r ≡ self.now) }
     {

@@ -20,8 +20,9 @@ use std::alloc::{AllocError, Global};
 use std::boxed::BoxedSlice;
 use std::marker::Model;
 
-/// The run of a stream: while it is open, its octets are the first ones in its room. A last segment stages its octets
-/// behind them, so that the unit is one slice. The run stays until the unit is delivered.
+/// A stream's run in its room. While the run is open, its octets are the first `count` octets in the room. The octets
+/// of a last segment are staged behind them, so that the whole unit is one slice. The run stays open until the unit is
+/// delivered.
 #[derive(Drop)]
 pub struct Run<R: Room> {
     is_open: bool,
@@ -39,7 +40,8 @@ impl<R: Room> Model for Run<R> {
     ghost invariant = { λ r. IsRun (record { is_open = r.is_open; count = r.count; room = R.contents r.room }) };
 }
 
-/// The place of the unit that a segment completed: nowhere, in the segment's body, or in the room of the run.
+/// The place of the unit that a segment completed: the segment's body, or the whole contents of the run's room. It is
+/// `Nothing` if the segment completed no unit.
 #[derive(Clone, Copy)]
 pub(crate) enum EndedKind {
     Nothing,
@@ -54,13 +56,13 @@ pub enum Ended {
     Nothing,
     /// The unit lies in the field itself, after the given number of octets.
     Lying(usize),
-    /// The unit lies in the room of the stream with this place, until the next field of that stream. [`Runs::joined`]
-    /// lends it.
+    /// The unit lies in the room of the stream with this place, until the next field of that stream comes.
+    /// [`Runs::joined`] lends it.
     Joined(usize),
 }
 
-/// The open run of each stream, each in a room of its own. If the rooms are created at the start, only their creation
-/// allocates.
+/// The open run of each stream, each in a room of its own. If the rooms don't grow, memory is allocated only when they
+/// are created.
 #[derive(Drop)]
 pub struct Runs<R: Room> {
     segmented: bool,
@@ -93,8 +95,8 @@ impl<R: Room> Run<R> {
         })
     }
 
-    // Stages a body behind the open run. Returns false, without staging it, if no run is open or the body exceeds the
-    // run's room.
+    // Stages a body behind the open run. Returns false, without staging it, if no run is open or the body doesn't fit
+    // the room.
     fn extend(&mut self, body: &[u8]) -> Result<bool, AllocError>
         ensures contents_of { IfOk result (λ done. done ≡ true → (self.old.is_open ≡ true) × (at_most self.old.room.size (extended (open_in self.old) body.now) ≡ Some self.new.room.octets)) }
         ensures none { IfOk result (λ done. done ≡ false → at_most self.old.room.size (extended (open_in self.old) body.now) ≡ None) }
@@ -112,7 +114,7 @@ impl<R: Room> Run<R> {
         Ok(true)
     }
 
-    // Opens the run with the body of a first segment, if it fits the room.
+    // Opens the run with the body of a first segment. If the body doesn't fit the room, no run is open afterwards.
     fn begin(&mut self, body: &[u8]) -> Result<(), AllocError>
         ensures run { IfOk result (λ _. open_in self.new ≡ at_most self.old.room.size (bounded body.now)) }
         ensures refused { OnErr result (open_in self.new ≡ open_in self.old) }
@@ -146,8 +148,8 @@ impl<R: Room> Run<R> {
         Ok(())
     }
 
-    // Moves the run on by a segment with this body. If the segment completes a unit, the place of the unit is returned,
-    // and the run stays until it is closed.
+    // Applies a segment with this body to the run. If the segment completes a unit, returns the unit's place and leaves
+    // the run as it is until `close` is called.
     fn follow(&mut self, part: Part, body: &[u8]) -> Result<EndedKind, AllocError>
         ensures unit { IfOk result (λ t. ended_kind t self.new body.now ≡ at_most self.old.room.size (ended_by part (open_in self.old) body.now)) }
         ensures run { IfOk result (λ t. open_in (behind t self.new) ≡ at_most self.old.room.size (next_run part (open_in self.old) body.now)) }
@@ -190,8 +192,8 @@ impl<R: Room> Run<R> {
         self.is_open = false;
     }
 
-    // Lends the octets in the room. They are the completed unit if the last segment was reported to have its unit
-    // there.
+    // Lends the octets in the room. They are the completed unit if the last call of `follow` returned
+    // `EndedKind::Whole`.
     fn octets(&self) -> &[u8]
         ensures { result.now ≡ self.now.room.octets }
     {
@@ -200,8 +202,8 @@ impl<R: Room> Run<R> {
 }
 
 impl Run<GrowingRoom> {
-    // Returns the unit that a segment with this body would complete, by moving on a copy of the run. The copy's block
-    // has room for the whole unit and is the only allocation.
+    // Returns the unit that a segment with this body would complete. The segment is applied to a copy of the run. The
+    // copy's block has room for the whole unit and is the only allocation.
     fn unit_after(&self, part: Part, body: &[u8]) -> Result<Option<Vec<u8>>, AllocError>
         ensures unit { IfOk result (λ unit. octets_in unit ≡ at_most self.now.room.size (ended_by part (open_in self.now) body.now)) }
         ensures small { self.now.room.size ≤ largest_unit }
@@ -222,7 +224,7 @@ impl Run<GrowingRoom> {
     }
 }
 
-// Returns the place of the unit that a segment completed, in terms of the stream's place.
+// Returns the place of the unit that a segment of the stream at this place completed.
 fn ended_at(ended_kind: EndedKind, place: usize) -> Ended
     ensures { result ≡ ended_by_stream ended_kind place }
 {
@@ -233,7 +235,7 @@ fn ended_at(ended_kind: EndedKind, place: usize) -> Ended
     }
 }
 
-// Moves the run at this place on by a segment with this body.
+// Applies a segment with this body to the run at this place.
 fn follow_at<R: Room>(
     runs: &mut BoxedSlice<Run<R>>,
     at: usize,
@@ -261,7 +263,8 @@ fn close_at<R: Room>(runs: &mut BoxedSlice<Run<R>>, at: usize)
     }
 }
 
-// Returns the place of the unit that a plain field is.
+// Returns the place of the unit in a field without a segment header. The unit is the whole field, if that is within the
+// limit.
 fn whole_field(field: &[u8], limit: usize) -> Ended
     requires { limit ≤ LARGEST_UNIT }
     ensures unit { (store : Store) → unit_in result store field.now ≡ at_most limit (bounded field.now) }
@@ -294,7 +297,7 @@ fn empty_runs<R: Room>(
     Ok(runs)
 }
 
-// Creates runs that are all closed. With segment headers each stream has a room, as large as the limit of its MAP.
+// Creates runs that are all closed. With segment headers, each stream has a room as large as the limit of its MAP.
 fn with_rooms<R: Room>(
     alloc: Global,
     segmented: bool,
@@ -318,9 +321,9 @@ fn with_rooms<R: Room>(
 }
 
 impl<R: Room> Runs<R> {
-    /// Creates runs that are all closed. Units of more than `limit` octets are dropped. With segment headers the room
-    /// of each of the 128 streams is allocated here. Without them there are no rooms, since each data field is a unit
-    /// by itself.
+    /// Creates runs that are all closed. Units of more than `limit` octets are dropped. With segment headers, the room
+    /// of each of the 128 streams is created here. Without them there are no rooms, since each data field is a unit by
+    /// itself.
     pub fn new(alloc: Global, segmented: bool, limit: usize) -> Result<Runs<R>, AllocError>
         requires { limit ≤ LARGEST_UNIT }
         ensures segmented { IfOk result (λ r. r.segmented ≡ segmented) }
@@ -330,9 +333,9 @@ impl<R: Room> Runs<R> {
         with_rooms(alloc, segmented, limit, &[limit; MAPS])
     }
 
-    /// Creates runs that are all closed, for data fields with segment headers. A MAP's units of more octets than its
-    /// limit are dropped. `limits` holds one limit for each of the 64 MAPs. The room of each of the 128 streams is
-    /// allocated here, as large as the limit of its MAP.
+    /// Creates runs that are all closed, for data fields with segment headers. `limits` holds a limit for each of the
+    /// 64 MAPs. A MAP's units that exceed its limit are dropped. The room of each of the 128 streams is created here,
+    /// as large as the limit of its MAP.
     pub fn by_map(alloc: Global, limits: &[usize]) -> Result<Runs<R>, AllocError>
         requires maps { length limits.now ≡ 64 }
         requires limits { AllByRecursion (λ n. n ≤ largest_unit) limits.now }
@@ -343,10 +346,10 @@ impl<R: Room> Runs<R> {
         with_rooms(alloc, true, 0, limits)
     }
 
-    /// Processes the next field of its stream, and returns the place of the unit that it completes. A run or a unit of
-    /// more octets than the stream's limit is dropped. A run that ends stays until [`commit`](Runs::commit), so that
-    /// the runs are as they were if memory runs out after this call. The clauses about the fields before hold for any
-    /// fields that leave the stream's run as it is.
+    /// Processes the next field of its stream, and returns the place of the unit that it completes. A run or a unit
+    /// that exceeds the stream's limit is dropped. If the field completes a unit, the run stays as it is until
+    /// [`commit`](Runs::commit), so that nothing is lost if memory runs out in between. In the clauses, `fields` are
+    /// any earlier fields that would leave the stream's run as it is before this call.
     #[inline(always)]
     pub fn stage(&mut self, service: Service, field: &[u8]) -> Result<Ended, AllocError>
         requires { 0 < length field.now }
@@ -378,7 +381,7 @@ impl<R: Room> Runs<R> {
         Ok(ended_at(ended_kind, at))
     }
 
-    /// Ends the run of this stream, if its field completed a unit. A caller does this once the unit is delivered.
+    /// Ends the run of this stream if its field completed a unit. Call it once the unit is delivered.
     #[inline(always)]
     pub fn commit(&mut self, service: Service, map: u8, ended: Ended)
         requires { map < 64 }
@@ -391,8 +394,8 @@ impl<R: Room> Runs<R> {
         }
     }
 
-    /// Lends the octets in the room of the stream with this place. After `stage` they are the unit that it reported as
-    /// joined there.
+    /// Lends the octets in the room of the stream with this place. They are the unit if `stage` returned
+    /// [`Ended::Joined`] for the last field of that stream.
     pub fn joined(&self, place: usize) -> &[u8]
         requires { place < length self.now.runs }
         ensures { Some result.now ≡ option_map (λ r. r.room.octets) (slice_get self.now.runs place) }

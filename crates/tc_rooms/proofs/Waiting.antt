@@ -74,7 +74,7 @@ put-behind places waiting count size rooms later octets old k lt later_is view n
     let free = none-staged places waiting count size rooms k old view none in
     rw (← view, later_is, free) (record { done = λ yes. (put-seen places waiting size rooms octets k.full lt, omega arith); full = λ e. absurd cc })
 
--- the taken rooms are those of the items that wait, then those of the staged items
+-- the rooms in use are those of the waiting items, followed by those of the staged items
 take-both : (waiting count : ℕ) (t : List Contents) → take (waiting + count) t ≡ take waiting t ++ take count (drop waiting t)
 take-both waiting count t =
     sym (take-append-drop waiting (take (waiting + count) t)) ∙ rw (take-take waiting (waiting + count) t (omega arith), drop-take waiting count t) refl

@@ -1,15 +1,14 @@
-//! Queues of items that wait, in rooms that are created at the start or in rooms that grow. One implementation serves
-//! both.
+//! Queues of waiting items, in rooms that are allocated once or in rooms that grow. One implementation serves both.
 //!
-//! [`Slots`] are the items that wait, each in a [`Room`] of its own. A call stages the items that it adds behind those
-//! that count. Once they are all staged, they count ([`Slots::commit`]). If memory runs out before, they are rolled
-//! back ([`Slots::roll_back`]), and everything is as it was before the call.
+//! [`Slots`] is a queue whose items each have a [`Room`] of their own. A caller can stage several items behind the
+//! waiting ones ([`Slots::stage`]). Staged items don't count as waiting until they are committed ([`Slots::commit`]).
+//! If memory runs out before that, the caller rolls them back ([`Slots::roll_back`]), and the queue is as it was.
 //!
-//! The rooms of a queue are a ring made of the kit's `circular_buffer`, behind a type that has no call that grows the
-//! ring (`ring.rt`, the only file whose code could make the ring grow). So for rooms that are created at the start,
-//! memory is allocated only when they are created, and no other call can run out of memory.
+//! The rooms of a queue are a ring. The ring is the kit's `circular_buffer`, wrapped in a type that has no call to grow
+//! it. Only code in `ring.rt` could make it grow. So if the rooms don't grow ([`FixedRoom`]), memory is allocated only
+//! when they are created, and no other call can run out of memory.
 //!
-//! The rooms themselves, and the open runs in them, are those of `tc_packet`.
+//! The rooms come from `tc_packet`, and so do the open runs, which this crate re-exports.
 #![tactic(auto)]
 
 mod ring;

@@ -10,9 +10,8 @@ use std::alloc::{AllocError, Global};
 use std::marker::Model;
 use tc_packet::{GrowingRoom, Room};
 
-/// Rooms, the front one first. A `HeapCircularBuffer` has calls that make it grow, and a call that gives out the handle
-/// by which it requests memory. Of the functions in this file only `with_rooms`, which creates the buffer, requests
-/// memory, and none gives the buffer out.
+/// Rooms, the front one first. A `HeapCircularBuffer` has calls that make it grow, and a call that returns its
+/// allocator. No function in this file makes it grow once it is created, and none hands out the buffer.
 #[derive(Drop)]
 pub struct Ring<R: Room> {
     rooms: HeapCircularBuffer<R>,
@@ -30,7 +29,7 @@ impl<R: Room> Model for Ring<R> {
     ghost invariant = { λ r. IsFull r.rooms.capacity (map R.contents r.rooms.items) };
 }
 
-// Puts a room behind the others, in a ring in which one is missing.
+// Puts a room behind the others. The buffer must have a free place.
 #[inline(always)]
 fn put_back<R: Room>(rooms: &mut HeapCircularBuffer<R>, room: R)
     requires { length rooms.old.items < rooms.old.capacity }
@@ -131,7 +130,7 @@ impl<R: Room> Ring<R> {
         }
     }
 
-    /// Clears the room at this place: no octets are in use afterwards.
+    /// Clears the room at this place, which then has no octets in use.
     pub(crate) fn clear(&mut self, place: usize, size: usize)
         requires place { place < length self.old }
         requires sizes { HaveSize size self.old }
@@ -157,7 +156,7 @@ impl<R: Room> Ring<R> {
 }
 
 impl Ring<GrowingRoom> {
-    /// Takes the octets out of the first room, in their block, and moves the room to the back.
+    /// Takes the octets out of the first room, in the block that holds them, and moves the room to the back.
     #[inline(always)]
     pub(crate) fn turn_out(&mut self, size: usize) -> Vec<u8>
         requires some { 0 < length self.old }

@@ -1,4 +1,4 @@
-//! Items that wait, in rooms of one size, and items that are staged behind them and don't count yet.
+//! A queue of items in rooms of one size. Items that are staged behind the waiting ones don't count yet.
 
 ghost use Rattle.std.specs.Prelude.{◌≡◌, ◌≤◌, ◌==◌, ◌++◌, [], length, drop, false, IfOk, IsOk, OnErr, IfSome, None, slice_get, option_map};
 ghost use Rattle.tc_rooms.specs.Rooms.{slotted, IsStagedBehind, IsPut};
@@ -8,12 +8,11 @@ use std::alloc::{AllocError, Global};
 use std::marker::Model;
 use tc_packet::{GrowingRoom, Room};
 
-/// Items that wait, the oldest first, each in a room of its own, and items that a call has staged behind them. The
-/// rooms are a ring that is always full: first the rooms of the items that wait, then the rooms of the staged items,
-/// then the empty ones. When an item goes, its room is cleared and moves to the back, unless no other item is there.
-/// Staged items count once the call that stages them has staged them all ([`commit`](Slots::commit)), or they are
-/// rolled back ([`roll_back`](Slots::roll_back)). If the rooms are created at the start, only `with_capacity`
-/// allocates.
+/// Waiting items, the oldest first, each in a room of its own, and items that a caller has staged behind them. The
+/// rooms are a ring that is always full: first the rooms of the waiting items, then those of the staged items, then the
+/// empty ones. When an item goes, its room is cleared and moves to the back. [`pop_front`](Slots::pop_front) leaves the
+/// room in place if no other item is there. Staged items count from [`commit`](Slots::commit) on, unless they are
+/// rolled back ([`roll_back`](Slots::roll_back)). If the rooms don't grow, only `with_capacity` allocates.
 #[derive(Drop)]
 pub struct Slots<R: Room> {
     ring: Ring<R>,
@@ -91,7 +90,7 @@ impl<R: Room> Slots<R> {
         Some(self.ring.first().as_slice())
     }
 
-    /// Puts an item behind the others when nothing is staged, and returns whether there was a place for it. The item
+    /// Puts an item behind the others, and returns whether there was a place for it. Nothing may be staged. The item
     /// counts at once.
     #[inline(always)]
     pub fn put(&mut self, octets: &[u8]) -> Result<bool, AllocError>
