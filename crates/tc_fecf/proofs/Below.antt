@@ -1,4 +1,4 @@
--- Two functions that agree at each number below n, as a computation shows.
+-- Two functions are equal at each number below n if a computation shows it for each of these numbers.
 use Rattle.std.proofs.Common.{◌≡◌, ℕ, ◌<◌, true, eqb}
 use Rattle.std.proofs.lemmas.Bool.{eqb-true, agree_below, agree_below_at}
 

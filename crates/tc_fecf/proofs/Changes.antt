@@ -123,7 +123,7 @@ burst (suc i) _ _ lengths bits_b bits_c r r_fits alike e = absurd (omega arith)
 open_sum : ℕ → Bool
 open_sum d = not (eqb d 0) && not (eqb d 32768)
 
--- a difference and its next n - 1 multiples by x are all of that kind
+-- `open_sum` is true of a difference and of its next n - 1 multiples by x
 stays : ℕ → ℕ → Bool
 stays zero d = true
 stays (suc n) d = open_sum d && stays n (times_x d)
@@ -147,7 +147,8 @@ shut d zero fits is h = let f : open_sum d ≡ open_sum 0 = ap open_sum is in cc
 shut d (suc zero) fits is h = let f : open_sum d ≡ open_sum 32768 = ap open_sum is in cc
 shut d (suc (suc e)) fits is h = omega arith
 
--- two registers can't become equal if one more place may differ and their difference is of that kind up to that place
+-- two registers can't become equal if only place n may differ and `open_sum` is true of their difference up to that
+-- place
 later : (n : ℕ) (bs cs : List ℕ) → length bs ≡ length cs → AreBits bs → AreBits cs → (r s : ℕ) → r < 2 ^ 16 → s < 2 ^ 16
     → ((k : ℕ) → k ≢ n → Alike bs cs k) → stays (suc n) (bit_xor r s) ≡ true → remainder r bs ≡ remainder s cs → ⊥
 unfolding AreBits Alike stays
@@ -167,7 +168,8 @@ later (suc n) (b ∷ bs) (c ∷ cs) lengths bits_b bits_c r s r_fits s_fits alik
     (ap (stays (suc n)) next ∙ (and_parts (open_sum (bit_xor r s)) (stays (suc n) (times_x (bit_xor r s))) h).1) e
 later n _ _ lengths bits_b bits_c r s r_fits s_fits alike h e = omega arith
 
--- two registers that one differing bit set apart can't become equal if only one of the next 32,766 places may differ
+-- if one differing bit set two registers apart, they can't become equal again while only one of the next 32,766 places
+-- may differ
 pub later-near : (n : ℕ) → n < 32766 → (bs cs : List ℕ) → length bs ≡ length cs → AreBits bs → AreBits cs → (r s : ℕ) → r < 2 ^ 16 → s < 2 ^ 16
     → ((k : ℕ) → k ≢ n → Alike bs cs k) → bit_xor r s ≡ times_x 32768 → remainder r bs ≡ remainder s cs → ⊥
 later-near n near bs cs lengths bits_b bits_c r s r_fits s_fits alike one e =

@@ -21,7 +21,7 @@ sum-fits octets = fits (bits_of octets) 65535 (omega arith)
 sum-append : (xs ys : List ℕ) → checksum_of (xs ++ ys) ≡ remainder (checksum_of xs) (bits_of ys)
 sum-append xs ys = ap (remainder 65535) (bits-append xs ys) ∙ onward (bits_of xs) (bits_of ys) 65535
 
--- the two octets of a register itself leave no remainder in it
+-- a register that processes its own two octets ends at 0
 table-none : table 0 ≡ 0
 unfolding table shifted times_x
 table-none = refl

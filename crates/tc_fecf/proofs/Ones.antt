@@ -88,7 +88,7 @@ even-ones octets passes =
     let end : parity (checksum_of octets) ≡ 0 = ap parity passes ∙ parity-end in
     omega arith
 
--- two bits that differ have one 1 between them, and two equal bits have none or two
+-- two bits that differ contain one 1, and two equal bits contain none or two
 one-place : (b c : ℕ) → b < 2 → c < 2 → (b + c + (if b == c then 0 else 1)) % 2 ≡ 0
 one-place (suc (suc b)) c b_fits c_fits = absurd (omega arith)
 one-place b (suc (suc c)) b_fits c_fits = absurd (omega arith)

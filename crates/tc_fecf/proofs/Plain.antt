@@ -8,7 +8,7 @@ use Rattle.tc_fecf.specs.Checksum.{checksum_of}
 use Rattle.tc_fecf.specs.FrameWithField.{spelled, octets_before_field, frame_with_field}
 use Rattle.tc_fecf.proofs.Closing.{sum-fits, closing, closed}
 
--- the first four octets of a frame, with another second word
+-- the first four octets of a frame, with `n` in place of the second 16-bit word
 abbrev pub head : List ℕ → ℕ → List ℕ
 head f n = get_or f 0 0 ∷ get_or f 1 0 ∷ n / 256 % 256 ∷ n % 256 ∷ []
 
@@ -94,7 +94,7 @@ plain-whole _ p w least is = absurd (omega arith)
 pub rest-of : (f : List ℕ) → take (length f - 4) (drop 4 f) ≡ drop 4 f
 rest-of f = grind (arith, common_steps)
 
--- only one frame has these octets with its field
+-- two frames are equal if they are equal with their fields
 ends-alike : (xs ys us vs : List ℕ) → length xs ≡ length ys → xs ++ us ≡ ys ++ vs → xs ≡ ys
 ends-alike xs ys us vs lengths e = sym (take_at xs us (length xs) refl) ∙ ap (take (length xs)) e ∙ take_at ys vs (length xs) (sym lengths)
 

@@ -1,5 +1,5 @@
--- The division of the octets that a CLTU carried into frames, one after the other, and fill (the frame delimiting and
--- fill removal procedure of CCSDS 232.0-B, which comes before the frame validation check procedure).
+-- The frames in the octets of a CLTU, one after the other, and the fill after them (the frame delimiting and fill
+-- removal procedure of CCSDS 232.0-B, which comes before the frame validation check procedure).
 use Rattle.std.specs.Prelude.{◌≡◌, ◌⊎◌, ℕ, ◌≤◌, ◌++◌, Bool, List, length, is_some, nat_lt, IsSome, if◌then◌else◌, false}
 use Rattle.std.specs.List.{concat, AllByRecursion}
 use Rattle.tc_link.specs.Frame.{IsWhole, fault_of}
@@ -17,6 +17,6 @@ pub record AreDelimited (most : ℕ) (octets : List ℕ) (frames : List (List �
   pub few : length frames ≤ most
   pub ended : (length frames ≡ most) ⊎ IsSome (fault_of rest)
 
--- whether octets can be the fill of the last code block, which has at most six octets and doesn't begin with a frame
+-- whether octets can be the fill of the last code block: there are at most six, and they don't begin with a frame
 abbrev pub is_fill : List ℕ → Bool
 is_fill rest = if nat_lt 6 (length rest) then false else is_some (fault_of rest)

@@ -26,6 +26,6 @@ abbrev pub bits_of : List ℕ → List ℕ
 bits_of [] = []
 bits_of (o ∷ os) = octet_bits o ++ bits_of os
 
--- the field over these octets, from a register that is preset to ones, which inverts the first 16 bits
+-- The field over these octets. The register is preset to ones, which inverts the first 16 bits.
 abbrev pub checksum_of : List ℕ → ℕ
 checksum_of octets = remainder 0xffff (bits_of octets)

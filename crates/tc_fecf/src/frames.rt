@@ -9,7 +9,8 @@ use std::alloc::Global;
 use tc_link::{Frame, FrameFault, read_frame};
 use thiserror::Error;
 
-/// The reason why a field isn't added to a frame or isn't removed from it: the first of these that applies.
+/// The reason why a field isn't added to a frame or isn't removed from it. If several apply, it is the first of them,
+/// in this order.
 #[derive(Clone, Copy, Debug, PartialEq, Eq, Error)]
 pub enum FieldFault {
     /// The octets don't begin with a frame.
@@ -21,7 +22,7 @@ pub enum FieldFault {
     /// A frame with a field has at most 1,024 octets.
     #[error("more than 1,022 octets")]
     TooLong,
-    /// A frame with a field has a data field of at least one octet before it.
+    /// A frame with a field has at least one octet between the primary header and the field.
     #[error("fewer than 8 octets")]
     TooShort,
     #[error("the frame error control field is wrong")]
@@ -30,8 +31,8 @@ pub enum FieldFault {
     NoMemory,
 }
 
-/// Returns the frame with its frame error control field. Its length field counts the two octets more, and the frame
-/// error control field covers all octets before it.
+/// Returns the frame with its frame error control field. Its frame length counts two octets more than before, and the
+/// frame error control field covers all octets before it.
 ///
 /// The octets must be one frame of at most 1,022 octets, with nothing after it. The only allocation is the new frame.
 pub fn with_field(alloc: Global, octets: &[u8]) -> Result<Vec<u8>, FieldFault>
@@ -56,7 +57,7 @@ pub fn with_field(alloc: Global, octets: &[u8]) -> Result<Vec<u8>, FieldFault>
     Ok(made)
 }
 
-/// Returns the frame without its frame error control field, if that field is right. It is the only frame that
+/// Returns the frame without its frame error control field, if that field is right. The result is the only frame that
 /// [`with_field`] turns into these octets.
 ///
 /// The octets must be one frame of at least 8 octets, with nothing after it. The only allocation is the new frame.

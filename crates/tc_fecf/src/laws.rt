@@ -9,15 +9,15 @@ ghost use Rattle.tc_fecf.specs.Changes.{SameOctets, SameBits, Passes, difference
 ghost use Rattle.tc_fecf.specs.Candidate.{IsDelimited, AreDelimited, is_fill};
 ghost use Rattle.tc_fecf.specs.FrameWithField.{spelled, octets_before_field, frame_with_field, frame_fault_of, adding_fault_of, taking_fault_of};
 
-/// The field over octets is the remainder of the division of the polynomials, and there is no other remainder.
+/// The field over octets is the remainder of the polynomial division, and that division has no other remainder.
 pub fn the_field_is_the_remainder()
     ensures remainder { (octets : List ℕ) → IsRemainder (checksum_of octets) (bits_of octets) }
     ensures only { (r s : ℕ) (bits : List ℕ) → IsRemainder r bits → IsRemainder s bits → r ≡ s }
 {}
 
-/// Octets followed by the field over them pass. A frame of at most 1,022 octets becomes, with its field, a frame that
-/// has the header of the first and ends with the field over all octets before it. With its field, no other frame
-/// becomes these octets.
+/// Octets followed by the field over them pass. Adding the field to a frame of at most 1,022 octets yields a frame with
+/// the same header fields, which ends with the field over all octets before it. Adding the field to two different
+/// frames yields two different frames.
 pub fn a_field_comes_off_as_it_went_on()
     ensures passes { (octets : List ℕ) → Passes (octets ++ spelled (checksum_of octets)) }
     ensures frame { (frame : List ℕ) → IsWhole frame → length frame ≤ 1022
@@ -48,7 +48,8 @@ pub fn a_change_of_two_bits_is_detected()
         → Passes one → Passes other → one ≡ other }
 {}
 
-/// Two lists with the same number of octets that differ in three bits, less than 32,767 bits apart, don't both pass.
+/// Two lists with the same number of octets that differ in three bits, all less than 32,767 bits apart, don't both
+/// pass.
 pub fn a_change_of_three_bits_is_detected()
     ensures { (one other : List ℕ) (i j k : ℕ) → i < j → j < k → k < i + 32767 → SameOctets one other → SameBits one other (λ p. (p ≢ i) × (p ≢ j) × (p ≢ k))
         → Passes one → Passes other → one ≡ other }

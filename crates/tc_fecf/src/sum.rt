@@ -1,4 +1,4 @@
-//! The sum, four octets at once.
+//! The frame error control field, computed four octets at a time.
 
 ghost use Rattle.std.specs.Prelude.{◌≡◌, ◌↔◌, ◌∷◌, [], IsTrue};
 ghost use Rattle.tc_fecf.specs.Checksum.{remainder, bits_of, octet_bits, checksum_of};
@@ -46,8 +46,8 @@ fn with_four(sum: u16, a: u8, b: u8, c: u8, d: u8) -> u16
     (first ^ second) ^ (third ^ fourth)
 }
 
-/// Returns whether octets that end with a frame error control field are free of errors as far as the field shows, that
-/// is whether they leave no remainder, with the field included (CCSDS 232.0-B, 4.1.4.3).
+/// Checks octets that end with a frame error control field. Returns true if the octets, with the field included, leave
+/// no remainder (CCSDS 232.0-B, 4.1.4.3).
 ///
 /// It doesn't check whether they are a frame. Nothing is allocated.
 pub fn passes(octets: &[u8]) -> bool

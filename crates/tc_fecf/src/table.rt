@@ -1,6 +1,6 @@
-//! Tables that a proof compares with their rule.
+//! Tables. A proof compares each of them with the rule by which it is computed.
 
-// The remainder that each octet leaves as the highest eight of the register's coefficients.
+// The remainder that each octet leaves if it is the high octet of the register.
 #[rattlefmt::skip]
 pub(crate) const SUMS: [u16; 256] = [
     0x0000, 0x1021, 0x2042, 0x3063, 0x4084, 0x50a5, 0x60c6, 0x70e7, 0x8108, 0x9129, 0xa14a, 0xb16b,

@@ -17,8 +17,8 @@ pub record IsTmHeader (header : TmHeader) : Type 0 where
   pub scid : header.scid < 1024
   pub vcid : header.vcid < 8
 
--- the first 16 bits: the version, the spacecraft, the virtual channel, and the flag that an operational control field
--- is there, each with its number of bits
+-- the first 16 bits: the version, the spacecraft, the virtual channel, and the flag for the presence of an operational
+-- control field, each with its number of bits
 abbrev pub identifiers : TmHeader → ℕ
 identifiers header = joined ((2, 0) ∷ (10, header.scid) ∷ (3, header.vcid) ∷ (1, 1) ∷ [])
 
@@ -26,8 +26,8 @@ identifiers header = joined ((2, 0) ∷ (10, header.scid) ∷ (3, header.vcid) �
 abbrev pub only_idle : ℕ
 only_idle = 2046
 
--- the data field status: no secondary header, packets that may begin anywhere and come in forward order, a segment
--- length without meaning, and the first header pointer
+-- The data field status. The flags for a secondary header, synchronization and packet order are 0. The segment length
+-- identifier is 3, as it must be if the synchronization flag is 0. The first header pointer follows.
 abbrev pub idle_status : ℕ
 idle_status = joined ((1, 0) ∷ (1, 0) ∷ (1, 0) ∷ (2, 3) ∷ (11, only_idle) ∷ [])
 
@@ -44,7 +44,7 @@ abbrev pub tm_frame : ErrorControl → TmHeader → List ℕ → ℕ → List �
 tm_frame Absent header control n = before_sum header control n
 tm_frame Present header control n = before_sum header control (n - 2) ++ spelled (checksum_of (before_sum header control (n - 2)))
 
--- the length of the shortest frame here, which has one octet of idle data
+-- the length of the shortest frame of this crate, which has one octet of idle data
 abbrev pub least_length : ErrorControl → ℕ
 least_length Absent = 11
 least_length Present = 13
@@ -52,7 +52,7 @@ least_length Present = 13
 abbrev pub most_length : ℕ
 most_length = 2048
 
--- the first fault of a frame that is to be written, in this order
+-- the first fault, in this order, of a frame that is to be written
 abbrev pub tm_fault_of : ErrorControl → ℕ → ℕ → ℕ → Option TmFault
 tm_fault_of error scid vcid n =
     if nat_lt 1023 scid then Some BadScid
@@ -81,7 +81,7 @@ abbrev pub sum_fault_of : ErrorControl → List ℕ → Option TmReadFault
 sum_fault_of Absent octets = None
 sum_fault_of Present octets = if checksum_of octets == 0 then None else Some WrongSum
 
--- the first fault of octets that are to be read, in this order
+-- the first fault, in this order, of octets that are to be read
 abbrev pub read_fault_of : ErrorControl → List ℕ → Option TmReadFault
 read_fault_of error octets =
     if nat_lt (length octets) (least_length error) then Some Short

@@ -1,4 +1,4 @@
-//! Telemetry frames, one after the other.
+//! The frame counts of telemetry frames.
 
 use crate::frame::{ErrorControl, TmFault, TmHeader, write_tm};
 use std::alloc::{AllocError, Global};
@@ -27,7 +27,7 @@ impl Counts {
     ghost use Rattle.tc_tm.specs.TmFrame.{tm_frame, tm_fault_of};
     ghost use Rattle.tc_tm.specs.Counting.{none_yet, next_header, frame_counted};
 
-    /// Creates counts of no frames. This allocates 9,216 bytes.
+    /// Creates counts that are all 0. This allocates 9,216 bytes.
     pub fn new(alloc: Global) -> Result<Counts, AllocError>
         ensures { IfOk result (λ counts. counts ≡ none_yet) }
     {
@@ -36,8 +36,8 @@ impl Counts {
         Ok(Counts { masters, channels })
     }
 
-    /// Writes the next telemetry frame of a virtual channel by [`write_tm`], and advances both counts. At `Err` they
-    /// aren't advanced.
+    /// Writes the next telemetry frame of a virtual channel with [`write_tm`], and advances both counts. If the frame
+    /// can't be written, the counts stay as they are.
     ///
     /// The only allocation is the frame.
     pub fn next_frame(

@@ -7,15 +7,15 @@ use std::alloc::{AllocError, Global};
 use tc_fecf::checksum;
 use thiserror::Error;
 
-/// The presence of a frame error control field at the end of each frame, which is a property of the whole physical
-/// channel (CCSDS 132.0-B, 4.1.6).
+/// Whether each frame ends with a frame error control field. This is a property of the whole physical channel (CCSDS
+/// 132.0-B, 4.1.6).
 #[derive(Clone, Copy, Debug, PartialEq, Eq)]
 pub enum ErrorControl {
     Absent,
     Present,
 }
 
-/// The fields of a primary header that identify a frame: its spacecraft and channel, and its place among their frames
+/// The fields of a primary header that identify a frame: its spacecraft, its virtual channel and its frame counts
 /// (CCSDS 132.0-B, 4.1.2).
 #[derive(Clone, Copy, Debug, PartialEq, Eq)]
 pub struct TmHeader {
@@ -29,22 +29,22 @@ pub struct TmHeader {
     pub channel_count: u8,
 }
 
-/// The reason why a frame isn't written: the first of these that applies.
+/// The reason why a frame isn't written. If several apply, it is the first of them, in this order.
 #[derive(Clone, Copy, Debug, PartialEq, Eq, Error)]
 pub enum TmFault {
     #[error("the spacecraft id is over 1,023")]
     BadScid,
     #[error("the virtual channel id is over 7")]
     BadVcid,
-    /// A frame here has 11 to 2,048 octets, or 13 to 2,048 with a frame error control field.
+    /// The frames of this crate have 11 to 2,048 octets, or 13 to 2,048 with a frame error control field.
     #[error("the frame length is out of bounds")]
     BadLength,
     #[error("no memory")]
     NoMemory,
 }
 
-/// Writes the telemetry frame of `length` octets with this header, whose operational control field is the four octets
-/// of `control`, a CLCW. All other data are idle, octets 0x55 (CCSDS 132.0-B, 4.1).
+/// Writes the telemetry frame of `length` octets with this header. Its operational control field is `control`, the four
+/// octets of a CLCW. All other data are idle octets, 0x55 (CCSDS 132.0-B, 4.1).
 ///
 /// The only allocation is the frame.
 pub fn write_tm(
@@ -107,7 +107,7 @@ fn ended(
     }
 }
 
-// Writes the `end` octets before the error control field, and leaves room for `room` octets in all.
+// Writes the `end` octets before the error control field. The memory that is allocated has room for `room` octets.
 fn idle_frame(
     alloc: Global,
     header: &TmHeader,

@@ -18,10 +18,10 @@ pub struct TmFields {
     pub control: [u8; 4],
 }
 
-/// The reason why octets aren't read as a telemetry frame: the first of these that applies.
+/// The reason why octets aren't read as a telemetry frame. If several apply, it is the first of them, in this order.
 #[derive(Clone, Copy, Debug, PartialEq, Eq, Error)]
 pub enum TmReadFault {
-    /// A frame here has at least 11 octets, or 13 with a frame error control field.
+    /// The frames of this crate have at least 11 octets, or 13 with a frame error control field.
     #[error("too few octets")]
     Short,
     #[error("the version isn't 0")]
@@ -32,8 +32,8 @@ pub enum TmReadFault {
     WrongSum,
 }
 
-/// Reads octets that are one telemetry frame, whose length the physical channel has fixed. A secondary header and
-/// packets aren't interpreted.
+/// Reads octets as one telemetry frame. All octets belong to the frame, whose length the physical channel fixes. A
+/// secondary header and packets aren't interpreted.
 ///
 /// Nothing is allocated.
 pub fn read_tm(error: ErrorControl, octets: &[u8]) -> Result<TmFields, TmReadFault>
@@ -61,7 +61,7 @@ pub fn read_tm(error: ErrorControl, octets: &[u8]) -> Result<TmFields, TmReadFau
     }
 }
 
-// Reads the fields before the error control field.
+// Reads the fields of a frame that has no error control field, or whose error control field was cut off.
 fn read_fields(octets: &[u8]) -> TmFields
     requires { 11 ≤ length octets.now }
     ensures { result ≡ fields_before_sum octets.now }

@@ -16,7 +16,7 @@ part_at place count =
     else if place + 1 == count then Last
     else Continuing
 
--- the segment of a unit at a place
+-- the segment header of the segment at a place
 abbrev pub segment_at : ℕ → ℕ → ℕ → List ℕ → Segment
 segment_at map size place unit = record { part = part_at place (segments_needed size (length unit)); map = map }
 

@@ -4,7 +4,7 @@ use Rattle.tc_packet.specs.Reassembly.{IsUnit}
 use Rattle.tc_write.specs.Frames.{Carries}
 use Rattle.tc_write.specs.Parts.{segments_needed, part_at, piece_at}
 
--- the data fields carry the pieces of a unit, of `size` octets each, on this MAP, one after the other
+-- the data fields carry the pieces of a unit on this MAP, one after the other, each of at most `size` octets
 pub record AreSegments (map size : ℕ) (unit : List ℕ) (fields : List (List ℕ)) : Type 0 where
   pub count : length fields ≡ segments_needed size (length unit)
   pub each : (k : ℕ) → k < length fields

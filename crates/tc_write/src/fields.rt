@@ -21,7 +21,7 @@ fn whole_frame(octets: &[u8]) -> Result<(), FieldFault>
     Ok(())
 }
 
-/// Checks whether a field can be added to octets, which must be one frame of at most 1,022 octets, with nothing after
+/// Checks whether a field can be added to octets. They must be one frame of at most 1,022 octets, with nothing after
 /// it.
 pub fn check_adding(octets: &[u8]) -> Result<(), FieldFault>
     ensures whole { OnOk result (IsWhole octets.now) }
@@ -36,7 +36,7 @@ pub fn check_adding(octets: &[u8]) -> Result<(), FieldFault>
     Ok(())
 }
 
-/// Writes the frame with its field, as `with_field` of tc_fecf does, into `made`, which must be two octets longer than
+/// Writes the frame with its field into `made`, as `with_field` of tc_fecf does. `made` must be two octets longer than
 /// the frame.
 pub fn write_with_field(octets: &[u8], made: &mut [u8])
     requires whole { IsWhole octets.now }
@@ -70,7 +70,7 @@ pub fn check_taking(octets: &[u8]) -> Result<(), FieldFault>
     Ok(())
 }
 
-/// Writes the frame without its field, as `without_field` of tc_fecf does, into `plain`, which must be two octets
+/// Writes the frame without its field into `plain`, as `without_field` of tc_fecf does. `plain` must be two octets
 /// shorter than the frame.
 pub fn write_without_field(octets: &[u8], plain: &mut [u8])
     requires whole { IsWhole octets.now }

@@ -11,7 +11,7 @@ pub struct PacketHeader {
     pub telecommand: bool,
     /// The secondary header flag.
     pub secondary: bool,
-    /// The application process identifier, at most 2,047, which is the value that marks idle packets.
+    /// The application process identifier, at most 2,047. Idle packets have 2,047.
     pub apid: u16,
     /// The sequence flags, at most 3.
     pub flags: u8,
@@ -19,8 +19,8 @@ pub struct PacketHeader {
     pub count: u16,
 }
 
-/// Returns the six octets of the primary header with which the packet of this header and this packet data field begins
-/// (CCSDS 133.0-B, 4.1.3). In that packet only the field follows them, which must have 1 to 65,536 octets.
+/// Returns the primary header of the packet that has this header and this packet data field (CCSDS 133.0-B, 4.1.3). The
+/// packet consists of these six octets and the packet data field, which must have 1 to 65,536 octets.
 pub fn packet_front(header: &PacketHeader, field: &[u8]) -> [u8; 6]
     requires apid { header.now.apid < 2048 }
     requires flags { header.now.flags < 4 }

@@ -50,8 +50,8 @@ pub fn piece(unit: &[u8], size: usize, place: usize) -> &[u8]
     }
 }
 
-/// Returns the header of the frame that carries the segment at this place, from the header of the frame with the first
-/// segment. The N(S) of Type-AD frames counts up modulo 256.
+/// Returns the header of the frame that carries the segment at this place. `first` is the header of the frame that
+/// carries the first segment. The N(S) of Type-AD frames counts up modulo 256.
 pub fn later_header(first: &Header, place: usize) -> Header
     ensures { result ≡ header_later first.now place }
 {

@@ -21,8 +21,8 @@ pub fn segment_octet(segment: Segment) -> u8
     flags * 64 + segment.map
 }
 
-/// Writes the frame with this header, whose data field is the segment header and these octets, into `frame`, which must
-/// have its length.
+/// Writes the frame with this header into `frame`, which must have the frame's length. The data field is the segment
+/// header and these octets.
 pub fn write_segment(header: &Header, segment: Segment, octets: &[u8], frame: &mut [u8])
     requires scid { header.now.scid < 1024 }
     requires vcid { header.now.vcid < 64 }
