@@ -83,7 +83,7 @@ at-end limit before (Some fields) is run = by (fits limit (joined_bodies fields)
   by (inl w) = record { shares = Open fields ∷ []; are = (run, (w.0, w.1), refl); fields = refl; units = refl; open_is = rw (append-nil before, is) (sym w.2) }
   by (inr w) = record { shares = OverLimit fields ∷ []; are = (inr (run, refl), w.0, tt); fields = refl; units = refl; open_is = rw (append-nil before, is) (sym w.1) }
 
--- if a field ends all segments of a unit, and the fields after it have their shares, all of them have their shares
+-- if a field completes the segments of a unit, and the fields after it have their shares, all of them have their shares
 with-all : (limit : ℕ) (before fs : List (List ℕ)) (f : List ℕ) (fields : List (List ℕ)) (so_far : Run) → AreAllSegments fields → unit_at before f ≡ bounded (joined_bodies fields)
     → fields ≡ fields_so_far so_far ++ f ∷ [] → Parted limit (before ++ f ∷ []) fs None → Parted limit before (f ∷ fs) so_far
 with-all limit before fs f fields so_far all unit are next = by (fits limit (joined_bodies fields)) where

@@ -79,8 +79,8 @@ can-pass k = record {
 pub none-touched : (store : Store) (queues units : List Keyed) → CanPassOn store queues units → KeepRooms store queues units store queues units
 none-touched store queues units k = record { limits_are = λ _. refl; segmented = refl; sizes = refl; unit_sizes = refl; committed = k.committed; units_committed = k.units_committed }
 
--- If the parts after a step belong to the longer journal, and the rooms and limits are as before, and nothing is staged
--- that doesn't count, then the core with its rooms belongs to the longer journal.
+-- If the parts after a step belong to the longer journal, the rooms and limits are as before, and nothing is left
+-- staged, then the core with its rooms belongs to the longer journal.
 pub holds-on : {limits : ℕ → ℕ} {s : Settings} {journal : List Event} {parts : Parts} (next : List Event) (later : Parts) → HoldsInRooms limits s journal parts → HoldsWithin limits s next (inside_of later)
     → later.fields.size ≡ parts.fields.size → later.fields.staged ≡ [] → KeepRooms parts.store parts.queues parts.units later.store later.queues later.units → HoldsInRooms limits s next later
 holds-on next later k holds size fields rooms = record {
@@ -147,7 +147,7 @@ units-work parts later map_id w is same still = by (oldest_for map_id (rings_in 
   by None none = (w.0, w.1, w.2, with-queues w.2 parts.queues later w.3 (rw (is ∙ popped-none map_id (rings_in parts.units) none) w.3.holds) refl same w.3.committed (still w.3.units_committed))
   by (Some item) some = (w.0, w.1, w.2 ++ TakeUnit map_id ∷ [], unit-taken later map_id w.3 (rw some refl) is same still)
 
--- a call that was refused leaves the core as it was, apart from items that don't count
+-- a call that was refused leaves the core as it was, apart from items that aren't committed
 pub still-holds : {limits : ℕ → ℕ} {s : Settings} {journal : List Event} {parts : Parts} (store : Store) (queues units : List Keyed)
     → HoldsInRooms limits s journal parts → open_runs store ≡ open_runs parts.store → rings_in queues ≡ rings_in parts.queues → rings_in units ≡ rings_in parts.units
     → KeepRooms parts.store parts.queues parts.units store queues units → HoldsInRooms limits s journal (record parts { store = store; queues = queues; units = units })

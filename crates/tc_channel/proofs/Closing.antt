@@ -1,5 +1,4 @@
--- Sets of lemmas that close goals without an answer: those of laws, by the file of src/ that has the laws, and those of
--- calls.
+-- Sets of lemmas that close goals without a proof by hand: sets for calls, and a set for the laws of each file of src/.
 use Rattle.tc_channel.proofs.Names.{map-set_same}
 use Rattle.tc_channel.proofs.Runs.{run-append, lawful-before, lawful-after}
 use Rattle.tc_channel.proofs.Chosen.{whole-only, packets-only, one-kept, others-stay, chosen-by-settings}

@@ -34,7 +34,7 @@ unit-more n a b m o le le' = sum-more (pass_steps n a) (pass_steps n b) a b m o 
   sum-more : (x y a b m o : ℕ) → x ≤ y → a ≤ b → m ≤ o → m + (x + (x + a)) ≤ o + (y + (y + b))
   sum-more x y a b m o h i j = omega arith
 
--- if there is a table whenever it pays, the queues that are looked at are within their bound
+-- if there is a table whenever one is worthwhile, the queues that are looked at are within their bound
 pub looks-most : (qs : List Keyed) (table : List ℕ) → IsTabled (keys_of (rings_in qs)) table → looks qs table ≤ most_looks (length qs)
 looks-most qs [] k = by (nat_lt (length qs) 8) (nat_lt 65535 (length qs)) refl refl where
   by : (s t : Bool) → nat_lt (length qs) 8 ≡ s → nat_lt 65535 (length qs) ≡ t → length qs ≤ cond s (length qs) (cond t (length qs) 1)

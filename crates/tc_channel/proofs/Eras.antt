@@ -9,7 +9,7 @@ use Rattle.tc_channel.proofs.Small.{vr-below}
 use Rattle.tc_channel.proofs.Runs.{run-append, run-push, from-first}
 use Rattle.tc_channel.proofs.Lists.{all-drop}
 
--- each frame, counted from n on, has the property P with its number
+-- P holds for each frame and its number, which is counted from n on
 abbrev AreSo : (ℕ → Accepted → Type 0) → ℕ → List Accepted → Type 0
 AreSo P n [] = Unit {0}
 AreSo P n (a ∷ accepted) = P n a × AreSo P (n + 1) accepted
@@ -18,7 +18,7 @@ AreSo-append : (P : ℕ → Accepted → Type 0) (n : ℕ) (xs ys : List Accepte
 AreSo-append P n [] ys h k = subst (λ m. AreSo P m ys) (omega arith) k
 AreSo-append P n (a ∷ xs) ys h k = (h.0, AreSo-append P (n + 1) xs ys h.1 (subst (λ m. AreSo P m ys) (omega arith) k))
 
--- a frame that is accepted by this event as number n has the property P
+-- if this event is a frame of Type-AD with the number x + n modulo 256, P holds for n and the frame
 abbrev IsTakenSo : (ℕ → Accepted → Type 0) → ℕ → ℕ → Event → Type 0
 IsTakenSo P x n (Frame octets) = (header_of octets).bypass ≡ false → (header_of octets).control ≡ false → (header_of octets).ns % 256 ≡ (x + n) % 256 → P n (record { ns = (header_of octets).ns; field = drop 5 octets })
 IsTakenSo P x n _ = Unit {0}

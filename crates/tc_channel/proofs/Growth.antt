@@ -1,4 +1,4 @@
--- The state of a longer journal goes on from the state of its beginning.
+-- The state of a longer journal continues the state of its beginning.
 use Rattle.tc_channel.proofs.Names.{◌≡◌, ℕ, ◌+◌, Bool, true, false, cond, eqb, ◌&&◌, List, [], ◌∷◌, ◌++◌, length, map, drop, refl, sym, ◌∙◌, append_assoc, arith, nat_lt, append-nil, map-map, Report, E10, accepts, after, Service, Bd, Settings, Event, Frame, Release, Take, TakeUnit, ChannelState, Accepted, Queue, buffer, first_state_within, empty_queue, empty_unit_queue, QueueSetting, MapSetting, is_for, is_of_map, map_of, is_chosen, packets_offered, units_offered, share_of, with_shares, step, row_of, unit_of, taken_from, first_of, run_from, header_of, Ad, passed_on, run_within}
 use Rattle.tc_channel.specs.Laws.{QueueGrows, QueuesGrow, Grows}
 use Rattle.tc_channel.proofs.Runs.{run-append}

@@ -37,7 +37,8 @@ key-in qs i k q inside is k_is =
     k_is ∙ sym (get_or-map (λ (x : StoredQueue). x.key) (rings_in qs) i (ring_in q) k (omega (arith, length-map qs ring_in))
     ∙ ap (λ (x : StoredQueue). x.key) (get_or-map ring_in qs i q (ring_in q) inside ∙ ap ring_in (sym is)))
 
--- an item that is put into the queue at a place is put there, whether staged items are counted or not
+-- if one queue is replaced by the queue with one more item, the list of queues has the item at that place, whether
+-- staged items are counted or not
 pub put-in : (f : Keyed → StoredQueue) (qs : List Keyed) (i : ℕ) (q next : Keyed) (p : List ℕ) (place : Bool) → i < length qs → q ≡ get_or qs i q → IsPutBehind p (f q) (f next) place → IsPutAt i p (map f qs) (map f (set qs i next)) place
 put-in f qs i q next p place inside is behind =
     let here : f q ≡ get_or (map f qs) i (f q) = ap f is ∙ sym (get_or-map f qs i q (f q) inside) in
@@ -53,7 +54,8 @@ put-in f qs i q next p place inside is behind =
           (map-set_same f qs i next q (n.0 ∙ ap f is), omega arith);
     }
 
--- if nothing is staged in the queue that is written at a place, nothing is staged in all
+-- if nothing is staged in any queue, and one is replaced by a queue in which nothing is staged, nothing is staged in
+-- any
 pub committed-at : (qs : List Keyed) (i : ℕ) (next : Keyed) → AreCommitted qs → next.slots.staged ≡ [] → AreCommitted (set qs i next)
 committed-at [] i next all one = tt
 committed-at (r ∷ qs) zero next all one = (one, all.1)

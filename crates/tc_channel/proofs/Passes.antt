@@ -54,7 +54,7 @@ not-head : (v : StoredQueue) (ws : List StoredQueue) (i a : ℕ) (p : List ℕ) 
 not-head v ws i a p distinct lt is for_it =
     for-one a v.key p for_it (λ e. apart-at v.key (keys_of ws) i a distinct.0 (let l = length-map ws (λ (q : StoredQueue). q.key) in omega arith) is (sym e))
 
--- if the packet's queue is full, the other packets are shared among the queues as they are
+-- if the packet's queue is full, the queues stay as they are and share the other packets
 goes-full : (p : List ℕ) (ps : List (List ℕ)) (ws : List StoredQueue) (i a n : ℕ) → AreDistinct (keys_of ws) → i < length ws → a ≡ get_or (keys_of ws) i a → is_for a p ≡ true
     → n ≡ get_or (map room_in ws) i n → n ≡ 0 → Goes p ps ws ws 0
 goes-full p ps [] i a n distinct lt is for_it room none = absurd (omega arith)

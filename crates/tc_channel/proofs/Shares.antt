@@ -58,7 +58,7 @@ pub shares-none : (wanted : ℕ → List ℕ → Bool) (qs : List Queue) → wit
 shares-none wanted [] = refl
 shares-none wanted (q ∷ qs) = ap (λ (x : Queue). x ∷ with_shares wanted [] qs) (none-with wanted q) ∙ ap (λ (x : List Queue). q ∷ x) (shares-none wanted qs)
 
--- the unit that a field ends by the stored runs is the one that it ends by the state
+-- the unit that a field ends is the same by the stored runs as by the state
 pub ends-unit : (limits : ℕ → ℕ) (service : Service) (field : List ℕ) (b : ChannelState) (open_runs : OpenRuns) (unit : Option (List ℕ)) → b.limit ≡ limits → AreRuns limits open_runs b.segmented b.passed → EndsWithin (limits (map_of field)) open_runs service field unit → unit ≡ unit_of b service field
 ends-unit limits service field b open_runs unit limit are ends =
     let fields = stream service (segment.header_of field).map b.passed in
@@ -149,7 +149,7 @@ pub release-delivery : (limits : ℕ → ℕ) (b : ChannelState) (open_runs : Op
     → EndsWithin (limits (map_of (first_of (buffer b)))) open_runs Ad (first_of (buffer b)) unit → IsDelivered (map_of (first_of (buffer b))) unit rings later unit_rings later_units d → d ≡ release_reply_at b
 release-delivery limits b open_runs unit rings later unit_rings later_units d limit are stored_are ends is = delivery-is (first_of (buffer b)) unit rings later unit_rings later_units d b stored_are is ∙ ap (λ (x : Option (List ℕ)). delivery_of (first_of (buffer b)) x b) (ends-unit limits Ad (first_of (buffer b)) b open_runs unit limit are ends)
 
--- a frame of another row ends no unit at once
+-- a frame of any row but E6 ends no unit at once
 other-none : (row : Row) (octets : List ℕ) (b : ChannelState) → row ≢ E6 → ended_at_once row octets b ≡ None
 other-none E6 octets b h = absurd (h refl)
 other-none _ octets b h = refl

@@ -19,7 +19,8 @@ pub place-below : (service : Service) (field : List ℕ) → stream_place servic
 place-below Ad field = omega arith
 place-below Bd field = omega arith
 
--- a unit within the limit of its stream, and on a plain channel no longer than its field, fits rooms that are enough
+-- a unit within the limit of its stream, and on a plain channel no longer than its field, fits rooms that are large
+-- enough
 pub fits-unit : (store : Store) (place : ℕ) (field : List ℕ) (o : Option (List ℕ)) (sizes : List ℕ) → place < 128 → AreSmall store → AreEnough store sizes → length field ≤ 1019
     → IsAtMost (limit_at store place) o → (store.segmented ≡ false → IsAtMost (length field) o) → FitsIn sizes o
 fits-unit store place field None sizes inside small enough short within shorter = tt
@@ -30,11 +31,11 @@ fits-unit store place field (Some octets) sizes inside small enough short within
     item true on = rw on (let s = small place inside in omega (arith, within))
     item false off = rw off (let s = shorter off in omega (arith, short))
 
--- a unit within the limit of its stream is within the largest unit
+-- a unit within the limit of its stream is no longer than the largest unit
 pub within-all : (store : Store) (place : ℕ) (o : Option (List ℕ)) → place < 128 → AreSmall store → IsAtMost (limit_at store place) o → IsAtMost 65542 o
 within-all store place None inside small within = tt
 within-all store place (Some octets) inside small within = let s = small place inside in omega (arith, within)
 
--- rooms of one size are enough if no limit is larger than this size
+-- rooms of one size are large enough if no limit is larger than this size
 pub enough-at-start : (store : Store) (size count : ℕ) (sizes : List ℕ) → sizes ≡ replicate count size → ((place : ℕ) → place < 128 → min (limit_at store place) (largest_item store.segmented) ≤ size) → AreEnough store sizes
 enough-at-start store size count sizes are fits = λ place inside. subst (λ (x : List ℕ). AllByRecursion (λ (n : ℕ). min (limit_at store place) (largest_item store.segmented) ≤ n) x) (sym are) (all-least (min (limit_at store place) (largest_item store.segmented)) size count (fits place inside))

@@ -1,4 +1,4 @@
--- V(R), the number of each accepted frame and the counter are small, and so the CLCW is.
+-- V(R), the number of each accepted frame and the FARM-B counter are within their ranges, so the CLCW fits 32 bits.
 use Rattle.tc_channel.proofs.Names.{◌≡◌, ◌≢◌, ℕ, ◌+◌, ◌<◌, Bool, true, false, cond, eqb, ◌&&◌, List, [], ◌∷◌, drop, Option, Some, None, refl, arith, ◌≤◌, unwrap_or, HasStep, Report, State, S1, S2, Kind, Unlock, SetVr, Expected, command_of, control_kind, kind_by, kind_of, Row, E1, E8, E10, row_at, frame_row, entry_at, Settings, Event, Frame, Release, ChannelState, has_room, step, row_of, IsAllowed, IsLawfulWithin, Place, Command, place_of, header_of, passed_on, run_within, clcw_within}
 use Rattle.tc_link.specs.declared.Kind.TheVariants.{Bc, Ad}
 use Rattle.std.proofs.Common.{◌^◌}

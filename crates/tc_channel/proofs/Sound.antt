@@ -15,7 +15,7 @@ SoundAt S3 wait lockout room = (lockout ≡ true) × (wait ≡ true → room ≡
 abbrev pub Sound : Bool → Report → Type 0
 Sound room r = SoundAt r.state r.wait r.lockout room
 
--- E1 is met only with room, and E2 only without
+-- E1 occurs only if there is room, and E2 only if there is none
 room-of : (width vr : ℕ) (kind : Kind) (room : Bool) → (frame_row width vr kind room ≡ E1 → room ≡ true) × (frame_row width vr kind room ≡ E2 → room ≡ false)
 room-of width vr (Ad ns) room = at (place_of width vr ns) room where
   at : (place : Place) (room : Bool) → (row_at place room ≡ E1 → room ≡ true) × (row_at place room ≡ E2 → room ≡ false)
@@ -33,7 +33,7 @@ room-at_E1 c b octets e = (room-of c.width b.report.vr (kind_of (header_of octet
 full-at_E2 : (c : Settings) (b : ChannelState) (octets : List ℕ) → row_of c b octets ≡ E2 → has_room c b ≡ false
 full-at_E2 c b octets e = (room-of c.width b.report.vr (kind_of (header_of octets) (drop 5 octets)) (has_room c b)).1 e
 
--- the components that an entry leaves
+-- the components that an entry of the table leaves, or the old ones if there is no entry
 abbrev pub Left : Row → State → Report → Report
 Left row st r = unwrap_or (entry_at row st r) r
 
@@ -49,7 +49,7 @@ entry-sound E10 S3 r room e full h = rw e (h.0, λ w. absurd cc)
 entry-sound row S1 r room e full h = rw e h
 entry-sound _ _ r room e full h = rw e h
 
--- components that agree still do after E10, whatever room there is then
+-- components that agree with the state still do after E10, whether there is room then or not
 released-sound : (st : State) (r : Report) (room later : Bool) → r.state ≡ st → SoundAt st r.wait r.lockout room → Sound later (Left E10 st r)
 released-sound S1 r room later e h = rw e h
 released-sound S2 r room later e h = (refl, h.1)

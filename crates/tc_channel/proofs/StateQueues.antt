@@ -34,7 +34,8 @@ step-both P Q p q c b Release h =
 step-both P Q p q c b (Take apid) h = (p.taken apid b.queues h.0, h.1)
 step-both P Q p q c b (TakeUnit map_id) h = (h.0, q.taken map_id b.units h.1)
 
--- properties of empty packet queues and of empty unit queues that are kept hold for the queues of each state
+-- if properties hold for empty packet queues and for empty unit queues, and are kept, they hold for the queues of each
+-- state
 pub run-both : (limits : ℕ → ℕ) (P Q : List Queue → Type 0) → GoesOn P → GoesOn Q → (c : Settings) (journal : List Event) → P (map empty_queue c.queues) → Q (map empty_unit_queue c.maps) → P (run_within limits c journal).queues × Q (run_within limits c journal).units
 run-both limits P Q p q c journal h u = always (λ b. P b.queues × Q b.units) limits c journal (step-both P Q p q c) (h, u)
 

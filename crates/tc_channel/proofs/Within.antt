@@ -1,4 +1,4 @@
--- Statements about a stream by the limit of its room, in terms of the limit of its MAP.
+-- Statements about a stream that are made with the limit of its room, restated with the limit of its MAP.
 use Rattle.tc_channel.proofs.Names.{◌≡◌, ℕ, List, [], ◌∷◌, ◌++◌, Option, subst, ◌∙◌, arith, Kind, Service, Bd, OpenRuns, at_most, run_at, run_left, stream_place, map_of, FollowsWithin, FollowsKindWithin, EndsWithin, EndsAtOnceWithin, Store, limit_at, open_runs}
 use Rattle.tc_channel.specs.ChannelCore.{HaveLimits}
 use Rattle.tc_packet.proofs.Stores.{committed-limits, committed-segmented, committed-others}

@@ -80,7 +80,7 @@ AreShares limit (OverLimit fields ∷ later) = (AreAllSegments fields ⊎ (IsRun
 AreShares limit (Broken fields ∷ later) = IsRun fields × BeginUnit (fields_in later) × AreShares limit later
 AreShares limit (WithoutRun field ∷ later) = (IsPart parts.Continuing field ⊎ IsPart parts.Last field) × AreShares limit later
 
--- the unit that one more data field makes, if it is of this stream
+-- the unit that one more data field makes, if the field is of this stream
 abbrev pub unit_on : (ℕ → ℕ) → Settings → Service → ℕ → List Passed → Passed → List (List ℕ)
 unit_on limits s service map_id before p = if is_of service map_id p then as_list (unit_made limits s before p) else []
 

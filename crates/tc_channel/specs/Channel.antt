@@ -15,11 +15,12 @@ use Rattle.tc_channel.specs.ChannelState.{buffer}
 use Rattle.tc_channel.specs.StoredQueues.{stored, StoredQueue}
 use Rattle.tc_channel.specs.Run.{run_within, IsLawfulWithin}
 
--- the run that the fields leave is the one at this place, if it is no longer than the limit
+-- the run stored at this place is the one that the fields leave open, or no run if that one is longer than the limit
 abbrev pub LeaveAtMost : ℕ → List (List ℕ) → OpenRuns → ℕ → Type 0
 LeaveAtMost limit fields open_runs place = at_most limit (run_left open_runs.segmented fields) ≡ run_at open_runs.runs place
 
--- each stream's open run is that of the data fields that were passed, with segment headers or without, if it is within the limit of its MAP
+-- the open run of each stream is the one that the data fields passed so far leave, or no run if that one is longer than
+-- the limit of its MAP
 pub record AreRuns (limits : ℕ → ℕ) (open_runs : OpenRuns) (headed : Bool) (passed : List Passed) : Type 0 where
   pub segmented : open_runs.segmented ≡ headed
   pub runs : (service : Service) (map_id : ℕ) → map_id < 64 → LeaveAtMost (limits map_id) (stream service map_id passed) open_runs (place_of service map_id)

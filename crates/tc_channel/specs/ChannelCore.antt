@@ -39,7 +39,7 @@ pub record CanPassOn (store : Store) (queues units : List Keyed) : Type 0 where
   pub committed : AreCommitted queues
   pub units_committed : AreCommitted units
 
--- limits and rooms are as they were, and nothing is staged that doesn't count
+-- limits and rooms are as they were, and nothing is left staged
 pub record KeepRooms (store : Store) (queues units : List Keyed) (store_new : Store) (queues_new units_new : List Keyed) : Type 0 where
   pub limits_are : (place : ℕ) → limit_at store_new place ≡ limit_at store place
   pub segmented : store_new.segmented ≡ store.segmented
@@ -60,8 +60,7 @@ pub record Parts : Type 0 where
 abbrev pub inside_of : Parts → Inside
 inside_of parts = record { farm = parts.farm; ring = parts.fields.ring; open_runs = open_runs parts.store; rings = rings_in parts.queues; unit_rings = rings_in parts.units }
 
--- all parts are those of the journal's run within these limits, nothing is staged that doesn't count, and each room is
--- large enough
+-- all parts are those of the journal's run within these limits, nothing is left staged, and each room is large enough
 pub record HoldsInRooms (limits : ℕ → ℕ) (s : Settings) (journal : List Event) (parts : Parts) : Type 0 where
   pub holds : HoldsWithin limits s journal (inside_of parts)
   pub field_size : parts.fields.size ≡ largest_field

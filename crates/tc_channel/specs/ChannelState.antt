@@ -7,7 +7,7 @@ use Rattle.tc_channel.specs.declared.settings.QueueSetting.{QueueSetting}
 use Rattle.tc_channel.specs.declared.settings.MapSetting.{MapSetting}
 use Rattle.tc_channel.specs.declared.settings.Settings.{Settings}
 
--- an accepted AD frame: N(S) and its data field
+-- an accepted AD frame: its N(S) and its data field
 pub record Accepted : Type 0 where
   pub ns : ℕ
   pub field : List ℕ

@@ -29,7 +29,7 @@ StartsWithin limits s before x =
     ((before ≡ []) × (x ≡ s.first))
     ⊎ ((past : List Event) × (e : Event) × (before ≡ past ++ e ∷ []) × (set_by s (run_within limits s past) e ≡ Some x))
 
--- no event of those that came later set V(R)
+-- none of the later events set V(R)
 abbrev pub NoneSetsWithin : (ℕ → ℕ) → Settings → List Event → List Event → Type 0
 NoneSetsWithin limits s before later = (i : ℕ) (e : Event) → slice_get later i ≡ Some e → set_by s (run_within limits s (before ++ take i later)) e ≡ None
 
@@ -48,7 +48,7 @@ pub record CountsUpWithin (limits : ℕ → ℕ) (s : Settings) (journal before 
   pub numbers : (i : ℕ) (a : Accepted) → slice_get (accepted_since_within limits s before journal) i ≡ Some a → a.ns ≡ (x + i) % 256
   pub vr : (run_within limits s journal).report.vr ≡ (x + length (accepted_since_within limits s before journal)) % 256
 
--- frames count up in whatever way a journal is parted into an era and the events before it
+-- whichever way a journal is split into an era and the events before it, the frames accepted in the era count up
 abbrev pub CountsUpInItsEraWithin : (ℕ → ℕ) → Settings → List Event → Type 0
 CountsUpInItsEraWithin limits s journal = (before later : List Event) (x : ℕ) → IsEraWithin limits s journal before later x → CountsUpWithin limits s journal before x
 
@@ -62,7 +62,7 @@ pub record IsSent (x : ℕ) (sent : ℕ → List ℕ) (accepted : ℕ) (octets :
   pub not_old : accepted < number + 256
   pub not_new : number < accepted + 256
 
--- the event is the sender's, if it is a frame of Type-AD, when this number of frames were accepted before it
+-- if the event is a frame of Type-AD, and this number of frames were accepted before it, the frame is the sender's
 abbrev pub IsOfSender : ℕ → (ℕ → List ℕ) → ℕ → Event → Type 0
 IsOfSender x sent accepted (Frame octets) = (header_of octets).bypass ≡ false → (header_of octets).control ≡ false → IsSent x sent accepted octets
 IsOfSender x sent accepted Release = Unit {0}

@@ -1,5 +1,4 @@
--- Short journals with results that are worked out by hand. The settings and the frames are given octet by octet, to be
--- read with the definitions.
+-- Short journals with results that are worked out by hand. The frames are given octet by octet.
 use Rattle.std.specs.Prelude.{ℕ, ◌==◌, if◌then◌else◌, Bool, true, false, List, [], ◌∷◌, replicate}
 use Rattle.tc_link.specs.declared.Link.{Link}
 use Rattle.tc_packet.specs.declared.Service.{Service}
@@ -80,7 +79,7 @@ first_segment = Frame (0x00 ∷ 0x2a ∷ 0x04 ∷ 0x08 ∷ 0x00 ∷ 0x40 ∷ 0x1
 abbrev pub last_segment : Event
 last_segment = Frame (0x00 ∷ 0x2a ∷ 0x04 ∷ 0x0a ∷ 0x01 ∷ 0x80 ∷ 0x01 ∷ 0x00 ∷ 0x01 ∷ 0xaa ∷ 0xbb ∷ [])
 
--- a last segment that no first one came before
+-- a last segment without a first one before it
 abbrev pub lone_last_segment : Event
 lone_last_segment = Frame (0x00 ∷ 0x2a ∷ 0x04 ∷ 0x06 ∷ 0x00 ∷ 0x80 ∷ 0xaa ∷ [])
 
@@ -133,6 +132,6 @@ two_apids one other capacity = record { apid = one; capacity = capacity } ∷ re
 abbrev pub two_maps : ℕ → ℕ → ℕ → List MapSetting
 two_maps one other capacity = record { map = one; capacity = capacity } ∷ record { map = other; capacity = capacity } ∷ []
 
--- a sender's data fields: this field has this number, and the others have no octet
+-- a sender's data fields: `field` has this number, and all others are empty
 abbrev pub sent_as : ℕ → List ℕ → ℕ → List ℕ
 sent_as number field i = if i == number then field else []

@@ -21,6 +21,6 @@ event_of Release = events.Release
 event_of (Take apid) = events.Take apid
 event_of (TakeUnit map_id) = events.TakeUnit map_id
 
--- the number of events is reported as it is, or as 2^64 - 1 if there are more
+-- the channel has fewer than 2^64 - 1 events, so that the number that it reports is exact
 abbrev pub IsNumberReported : History → Type 0
 IsNumberReported channel = length channel.journal < 18446744073709551615

@@ -24,7 +24,7 @@ staged_in q = record { key = q.key; ring = buffer (q.slots.ring.items ++ q.slots
 abbrev pub all_staged_in : List Keyed → List StoredQueue
 all_staged_in queues = map staged_in queues
 
--- the largest number of octets that an item of each queue may have
+-- for each queue, the largest number of octets that an item may have
 abbrev pub room_sizes : List Keyed → List ℕ
 room_sizes queues = map (λ (q : Keyed). q.slots.size) queues
 
@@ -45,7 +45,7 @@ pub record IsPutBehind (item : List ℕ) (old new : StoredQueue) (place : Bool) 
   pub done : place ≡ true → (new ≡ with_items old (item ∷ [])) × (length old.ring.items < old.ring.capacity)
   pub full : place ≡ false → (new ≡ old) × (old.ring.capacity ≤ length old.ring.items)
 
--- the queue after its staged items were made to count, and the queue after they were rolled back
+-- the queue after its staged items were committed, and the queue after they were rolled back
 abbrev pub committed : Keyed → Keyed
 committed q = record q { slots = slotted (q.slots.ring.items ++ q.slots.staged) q.slots.ring.capacity [] q.slots.size }
 

@@ -28,7 +28,7 @@ has_room_for_one q = nat_lt (length q.admitted - q.taken) q.capacity
 abbrev pub with_unit : Queue → List ℕ → Queue
 with_unit q unit = if has_room_for_one q then record q { admitted = q.admitted ++ unit ∷ [] } else q
 
--- a queue goes on: it admitted more, and more was taken
+-- a later state of a queue: it has admitted everything that it had before, and at least as many items were taken
 pub record QueueGrows (old new : Queue) : Type 0 where
   pub key : new.key ≡ old.key
   pub capacity : new.capacity ≡ old.capacity
@@ -41,7 +41,7 @@ QueuesGrow (old ∷ olds) (new ∷ news) = QueueGrows old new × QueuesGrow olds
 QueuesGrow [] (new ∷ news) = ⊥
 QueuesGrow (old ∷ olds) [] = ⊥
 
--- a state goes on: its lists begin with the items that they had, and no count falls
+-- a later state of a channel: each list begins with the items that it had before, and no count is smaller
 pub record Grows (old new : ChannelState) : Type 0 where
   pub accepted : (more : List Accepted) × (new.accepted ≡ old.accepted ++ more)
   pub released : old.released ≤ new.released

@@ -7,15 +7,18 @@ use Rattle.tc_channel.specs.declared.settings.MapSetting.{MapSetting}
 use Rattle.tc_channel.specs.declared.settings.Settings.{Settings}
 use Rattle.tc_channel.specs.ChannelState.{ChannelState, Queue, buffer, waiting}
 
--- the bytes of a room's own words: the words of its block, and the numbers of octets that lie in it and may lie in it
+-- the bytes that a room itself takes, besides its octets: the address and the capacity of its block, the number of
+-- octets in it, and the largest number that it may hold
 abbrev pub room_words : ℕ
 room_words = 32
 
--- the bytes of a run's own words: the words of its room, whether the run is open, and the number of its octets
+-- the bytes that a run itself takes, besides its octets: its room, whether the run is open, and the number of its
+-- octets
 abbrev pub run_words : ℕ
 run_words = 40
 
--- the bytes of a queue's own words: its key, the ring of its rooms, the numbers of rooms that are taken, and their size
+-- the bytes that a queue itself takes, besides its rooms: its key, the ring of its rooms, the numbers of waiting and of
+-- staged items, and the size of a room
 abbrev pub queue_words : ℕ
 queue_words = 64
 
@@ -23,11 +26,11 @@ queue_words = 64
 abbrev pub largest_field : ℕ
 largest_field = 1019
 
--- the room of a run that was doubled until it holds the largest unit
+-- the bytes in the room of a run, once the room was doubled until it can hold the largest unit
 abbrev pub run_room : ℕ
 run_room = 2 ^ 17
 
--- the largest unit of a channel, which is the largest packet that it can be given (on a plain channel, a data field)
+-- the largest unit, which is also the largest packet (on a plain channel each unit is a data field)
 abbrev pub largest_item : Bool → ℕ
 largest_item segmented = if segmented then largest_unit else largest_field
 
@@ -51,7 +54,7 @@ runs_memory s = if s.segmented then stream_count * (run_words + run_room) else 0
 abbrev pub queues_memory : Settings → ℕ
 queues_memory s = (length s.queues + length s.maps) * queue_words + packets_stored s * (room_words + largest_item s.segmented) + units_stored s * (room_words + largest_unit)
 
--- the place of the queue of each of 2,048 keys, if there are 8 queues or more
+-- a table of the places of 2,048 keys, if there are 8 queues or more
 abbrev pub table_memory : ℕ → ℕ
 table_memory queues = if nat_lt queues 8 then 0 else 2048 * 2
 

@@ -18,12 +18,12 @@ pub record AreFirst (keys : List ℕ) (none : ℕ) (table : List ℕ) : Type 0 w
   pub size : length table ≡ apid_count
   pub shows : (key : ℕ) → key < apid_count → ShowsFirst keys none key (get_or table key 0)
 
--- there is a table of the places, or there is none
+-- the table shows the places of the keys, unless it is empty
 abbrev pub IsTableOf : List ℕ → List ℕ → Type 0
 IsTableOf keys table = length table ≢ 0 → AreFirst keys (length keys) table
 
--- there is a table of the places exactly when there are 8 queues or more, unless they are too many for a table to show
--- their places
+-- there is a table of the places if and only if there are 8 queues or more, but not too many for a table to show their
+-- places
 pub record IsTabled (keys table : List ℕ) : Type 0 where
   pub reported : IsTableOf keys table
   pub few : length table ≢ 0 → 8 ≤ length keys

@@ -18,7 +18,7 @@ use Rattle.tc_channel.specs.ChannelState.{ChannelState, no_limits, buffer, queue
 use Rattle.tc_channel.specs.Admission.{is_chosen, count_queued}
 use Rattle.tc_channel.specs.Run.{field_of, row_of, unit_of, first_of, run_within}
 
--- The frame is of Type-BD. Only for such a frame may a channel whose journal isn't kept run out of memory.
+-- The frame is of Type-BD. If the journal of a channel isn't recorded, only such a frame can make it run out of memory.
 abbrev pub IsBypassData : List ℕ → Type 0
 IsBypassData octets = kind_of (header_of octets) (field_of octets) ≡ kinds.Bd
 
@@ -30,7 +30,7 @@ BeginsWithBypassData octets = (frame : List ℕ) × BeginsWith octets frame × I
 abbrev pub nothing : Delivery
 nothing = record { queued = 0; dropped = 0; rest = false }
 
--- the delivery of a unit, of a chosen MAP or not, when this number of units or packets were queued
+-- the delivery of a unit when this number of units or packets were queued, for a chosen MAP or for another one
 abbrev pub delivered : Option (List ℕ) → Bool → ℕ → Delivery
 delivered None chosen queued = nothing
 delivered (Some unit) true queued = record { queued = queued; dropped = 1 - queued; rest = false }

@@ -29,8 +29,8 @@ unit_of state service field = at_most (state.limit (map_of field)) (unit_ended s
 unfoldable pub passed_on : Service → List ℕ → ChannelState → ChannelState
 passed_on service field state = record (offered field (unit_of state service field) state) { passed = state.passed ++ record { service = service; field = field } ∷ [] }
 
--- the state after a frame, apart from the components: an accepted AD frame is buffered, and an accepted BD frame is
--- passed on
+-- the state after a frame, apart from FARM-1's components: an accepted AD frame is buffered, and an accepted BD frame
+-- is passed on
 abbrev pub kept : Row → Bool → List ℕ → ChannelState → ChannelState
 kept E1 true octets state = record state { accepted = state.accepted ++ record { ns = (header_of octets).ns; field = field_of octets } ∷ [] }
 kept E6 true octets state = passed_on Bd (field_of octets) state
@@ -81,7 +81,7 @@ abbrev pub run_from : Settings → ChannelState → List Event → ChannelState
 run_from s state [] = state
 run_from s state (e ∷ es) = run_from s (step s state e) es
 
--- each event has a step at its place
+-- each event can happen at its place
 abbrev pub AreSteps : Settings → ChannelState → List Event → Type 0
 AreSteps s state [] = Unit {0}
 AreSteps s state (e ∷ es) = HasStep s state e × AreSteps s (step s state e) es
@@ -90,7 +90,7 @@ AreSteps s state (e ∷ es) = HasStep s state e × AreSteps s (step s state e) e
 unfoldable pub run_within : (ℕ → ℕ) → Settings → List Event → ChannelState
 run_within limits s journal = run_from s (first_state_within limits s) journal
 
--- each event of the journal could happen at its place
+-- each event of the journal can happen at its place
 unfoldable pub IsLawfulWithin : (ℕ → ℕ) → Settings → List Event → Type 0
 IsLawfulWithin limits s journal = AreSteps s (first_state_within limits s) journal
 

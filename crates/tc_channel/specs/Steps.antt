@@ -10,7 +10,7 @@ use Rattle.tc_channel.specs.StoredQueues.{apid_count}
 use Rattle.tc_channel.specs.Keyed.{Keyed}
 use Rattle.tc_channel.specs.Run.{field_of, first_of, row_of, run_within, unit_of}
 
--- the number of queues that are looked at to find one: one if there is a table, otherwise at most each
+-- the number of queues that are looked at to find one: one if there is a table, otherwise at most all of them
 abbrev pub looks : List Keyed → List ℕ → ℕ
 looks queues [] = length queues
 looks queues (n ∷ table) = 1
@@ -43,7 +43,8 @@ abbrev pub delivery_steps : Option (List ℕ) → ℕ → ℕ → ℕ
 delivery_steps None queues units = 0
 delivery_steps (Some unit) queues units = packet_steps (length (packets_of unit)) queues units
 
--- the largest number of packets in a unit: that of packets of the least size, seven octets (CCSDS 133.0-B, 4.1.2.1)
+-- the largest number of packets in a unit, which is reached if each has the least size, seven octets (CCSDS 133.0-B,
+-- 4.1.2.1)
 abbrev pub most_packets : ℕ
 most_packets = 9363
 

@@ -53,7 +53,7 @@ shares_in wanted items queues = sum_by length (map (share wanted items) queues)
 abbrev pub copied_to : ℕ → List ℕ → Placed
 copied_to place item = record { place = place; item = item }
 
--- the share of each queue, one queue after the other, if the first queue has this place
+-- the share of each queue, one queue after the other, when the first of these queues stands at this place
 abbrev pub copies_from : (ℕ → List ℕ → Bool) → ℕ → List (List ℕ) → List StoredQueue → List Placed
 copies_from wanted place items [] = []
 copies_from wanted place items (q ∷ qs) = map (copied_to place) (share wanted items q) ++ copies_from wanted (place + 1) items qs

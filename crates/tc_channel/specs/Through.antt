@@ -16,7 +16,7 @@ IsPartOf [] all = Unit {0}
 IsPartOf (x ∷ xs) [] = ⊥
 IsPartOf (x ∷ xs) (y ∷ ys) = ((x ≡ y) × IsPartOf xs ys) ⊎ IsPartOf (x ∷ xs) ys
 
--- the unit that a data field ends, if it is within the limit of its MAP, after these fields were passed on
+-- the unit that a data field ends after these fields were passed on, if the unit is within the limit of its MAP
 abbrev pub unit_made : (ℕ → ℕ) → Settings → List Passed → Passed → Option (List ℕ)
 unit_made limits s before p = at_most (limits (map_of p.field)) (unit_ended s.segmented (stream p.service (map_of p.field) before) p.field)
 
@@ -25,7 +25,7 @@ abbrev pub is_chosen_by : Settings → List ℕ → Bool
 is_chosen_by s field = is_some (queue_of (map_of field) (map empty_unit_queue s.maps))
 
 -- the packets for an application that one more data field makes: those that its unit is cut into, unless the unit is
--- taken whole
+-- delivered whole
 abbrev pub packets_ended : (ℕ → ℕ) → Settings → ℕ → List Passed → Passed → List (List ℕ)
 packets_ended limits s apid before p = filter (is_for apid) (packets_offered (unit_made limits s before p) (is_chosen_by s p.field))
 
@@ -33,7 +33,7 @@ packets_ended limits s apid before p = filter (is_for apid) (packets_offered (un
 abbrev pub units_ended : (ℕ → ℕ) → Settings → ℕ → List Passed → Passed → List (List ℕ)
 units_ended limits s map_id before p = filter (is_of_map (map_of p.field) map_id) (units_offered (unit_made limits s before p) (is_chosen_by s p.field))
 
--- all items that data fields make, one after the other, after others came before them
+-- all items that data fields make, one after the other, when other fields came before them
 abbrev pub all_made : (List Passed → Passed → List (List ℕ)) → List Passed → List Passed → List (List ℕ)
 all_made ended before [] = []
 all_made ended before (p ∷ ps) = ended before p ++ all_made ended (before ++ p ∷ []) ps
@@ -51,7 +51,7 @@ abbrev pub sent_from : (ℕ → List ℕ) → ℕ → ℕ → List (List ℕ)
 sent_from sent k zero = []
 sent_from sent k (suc n) = sent k ∷ sent_from sent (suc k) n
 
--- the Type-AD fields of an era that were passed to reassembly: those behind the ones accepted before it
+-- the Type-AD fields of an era that were passed to reassembly: those after the ones that were accepted before the era
 abbrev pub passed_since : (ℕ → ℕ) → Settings → List Event → List Passed → List (List ℕ)
 passed_since limits s before passed = drop (length (run_within limits s before).accepted) (fields_passed Ad passed)
 

@@ -32,8 +32,8 @@ pub fn short_journals_are_answered_so()
     ensures wait { clcw (example.buffer_of 1) (example.one_packet 0 ∷ example.one_packet 1 ∷ []) example.link_up ≡ 0x01041801 }
 {}
 
-/// For these journals, too, the definitions give the results that were worked out by hand. They cover each row of
-/// FARM-1's table that a frame can lead to, CLCWs, the buffer and the queues.
+/// For these further journals the definitions give the results that were worked out by hand. The journals cover CLCWs,
+/// the buffer, the queues, and each row of FARM-1's table that a frame can lead to.
 pub fn further_journals_are_answered_so()
     ensures expected { frame_reply (example.buffer_of 1) [] (example.packet_octets 0) ≡ record { act = record { event = 1; accepted = true }; delivery = record { queued = 0; dropped = 0; rest = false } } }
     ensures no_room { frame_reply (example.buffer_of 1) (example.one_packet 0 ∷ []) (example.packet_octets 1) ≡ record { act = record { event = 2; accepted = false }; delivery = record { queued = 0; dropped = 0; rest = false } } }
@@ -98,9 +98,9 @@ pub fn a_journal_comes_to_this()
         ≡ record { report = record { state = S1; vr = 1; lockout = false; wait = false; retransmit = false; farm_b = 2 }; buffered = 1; queues = record { apid = 5; packets = 1 } ∷ []; maps = record { map = 3; units = 1 } ∷ [] } }
 {}
 
-/// These settings have the fault that was worked out by hand. The settings of the first row have every fault, and each
-/// row after it mends the fault of the row before, with the greatest value that is allowed. The last rows have the
-/// least values that are allowed, and values below them.
+/// These settings have the fault that was worked out by hand. The settings of the first clause have every fault. Each
+/// clause after it repairs the fault of the clause before, with the greatest value that is allowed. The last clauses
+/// have the least values that are allowed, and values below them.
 pub fn settings_are_refused_so()
     ensures vcid { IsFault (example.channel_of false 64 255 65 (example.two_apids 2047 2047 257) (example.two_maps 64 64 257)) faults.BadVcid }
     ensures window { IsFault (example.channel_of false 63 255 65 (example.two_apids 2047 2047 257) (example.two_maps 64 64 257)) faults.BadWindow }

@@ -25,8 +25,8 @@ use tc_link::{Frame, Link, Report, clcw_word};
 use tc_packet::LARGEST_UNIT;
 use tc_rooms::{GrowingRoom, Runs};
 
-// A counter that counts no steps. No other module can name this type. So the functions that the calls of a channel use
-// can't create a counter of their own, and count every step with the counter that they were given.
+// A counter that counts no steps. No other module can name this type, so a function that a channel's calls are built on
+// can't create a counter of its own. It has to count every step with the counter that its caller passes.
 #[derive(Drop)]
 struct NoSteps;
 
@@ -53,8 +53,8 @@ pub struct ChannelWith<J: Journal> {
 /// A channel that keeps its journal in memory and gives it out.
 pub type Channel = ChannelWith<Recorded>;
 
-/// A channel whose journal takes no memory and is read by clauses alone, for flight software and long simulations. It
-/// behaves like [`Channel`], by the same proof, but gives no journal out.
+/// A channel whose journal takes no memory and exists only for contracts. It is meant for flight software and long
+/// simulations. It behaves like [`Channel`], by the same proof, but it can't return its journal.
 pub type CountingChannel = ChannelWith<Unrecorded>;
 
 /// The name that [`CountingChannel`] had before version 0.3.0. The next version no longer has it.
@@ -74,8 +74,8 @@ impl<J: Journal> Model for ChannelWith<J> {
 }
 
 impl<J: Journal> ChannelWith<J> {
-    /// Creates a channel in S1, with nothing in it and an empty journal. The buffer gets the room for all data fields
-    /// that it may hold, and the queues get a place for each packet and unit.
+    /// Creates a channel in S1, with nothing in it and an empty journal. The buffer is created with room for all data
+    /// fields that it may hold, and each queue with a place for each packet or unit that it may hold.
     pub fn new(alloc: Global, settings: Settings) -> Result<ChannelWith<J>, SettingsFault>
         ensures settings { IfOk result (λ channel. channel.settings ≡ settings) }
         ensures journal { IfOk result (λ channel. channel.journal ≡ []) }
@@ -103,8 +103,9 @@ impl<J: Journal> ChannelWith<J> {
         self.frame_with_steps(frame, &mut NoSteps)
     }
 
-    /// Takes in a frame as [`frame`](ChannelWith::frame) does, and counts steps. A step is a packet that is cut from
-    /// the unit that the frame ends, or a queue that is looked at. A frame that isn't of Type-BD takes no steps.
+    /// Takes in a frame as [`frame`](ChannelWith::frame) does, and counts steps. One step is counted for each packet
+    /// that is cut from the unit that the frame ends, and one for each queue that is looked at. A frame that isn't of
+    /// Type-BD takes no steps.
     pub fn frame_with_steps<C: Tick>(
         &mut self,
         frame: &Frame,
@@ -176,7 +177,7 @@ impl<J: Journal> ChannelWith<J> {
         self.take_with_steps(apid, &mut NoSteps)
     }
 
-    /// Takes a packet as [`take`](ChannelWith::take) does, and counts steps. A step is a queue that is looked at.
+    /// Takes a packet as [`take`](ChannelWith::take) does, and counts one step for each queue that is looked at.
     pub fn take_with_steps<C: Tick>(
         &mut self,
         apid: u16,
@@ -219,7 +220,7 @@ impl<J: Journal> ChannelWith<J> {
         self.take_unit_with_steps(map, &mut NoSteps)
     }
 
-    /// Takes a unit as [`take_unit`](ChannelWith::take_unit) does, and counts steps. A step is a queue that is looked
+    /// Takes a unit as [`take_unit`](ChannelWith::take_unit) does, and counts one step for each queue that is looked
     /// at.
     pub fn take_unit_with_steps<C: Tick>(
         &mut self,
@@ -248,8 +249,8 @@ impl<J: Journal> ChannelWith<J> {
         Ok(unit)
     }
 
-    /// Lends the octets of the packet that [`take`](ChannelWith::take) with this APID gives next. Returns `None` if
-    /// there is no such queue or it is empty. The call takes no memory and is no event.
+    /// Lends the octets of the packet that the next [`take`](ChannelWith::take) with this APID will return. Returns
+    /// `None` if there is no such queue or it is empty. The call takes no memory and isn't an event.
     pub fn oldest(&self, apid: u16) -> Option<&[u8]>
         ensures packet { option_map (λ octets. octets.now) result ≡ take_reply self.now.settings self.now.journal apid }
         ensures allowed { IsAllowed self.now.settings }
@@ -258,8 +259,8 @@ impl<J: Journal> ChannelWith<J> {
         self.channel_core.oldest(apid, &mut NoSteps)
     }
 
-    /// Lends the octets of the unit that [`take_unit`](ChannelWith::take_unit) with this MAP gives next. Returns `None`
-    /// if the MAP isn't chosen or its queue is empty. The call takes no memory and is no event.
+    /// Lends the octets of the unit that the next [`take_unit`](ChannelWith::take_unit) with this MAP will return.
+    /// Returns `None` if the MAP isn't chosen or its queue is empty. The call takes no memory and isn't an event.
     pub fn oldest_unit(&self, map: u8) -> Option<&[u8]>
         ensures unit { option_map (λ octets. octets.now) result ≡ unit_reply self.now.settings self.now.journal map }
         ensures allowed { IsAllowed self.now.settings }
@@ -324,7 +325,8 @@ impl<J: Journal> ChannelWith<J> {
         self.journal.count()
     }
 
-    /// Returns the view that clauses have of the channel at this moment. The call takes no memory.
+    /// Returns the settings and the journal of the channel at this moment, as contracts see them. The call takes no
+    /// memory.
     pub fn past(&self) -> Past
         ensures past { result ≡ self.now }
         ensures allowed { IsAllowed self.now.settings }

@@ -35,9 +35,9 @@ use tc_rooms::{FixedRoom, GrowingRoom, Room, Runs, Slots};
 pub const LARGEST_FIELD: usize = 1_019;
 
 /// FARM-1, the buffer of accepted data fields, reassembly, the packet queues and the unit queues of chosen MAPs: all
-/// parts of a channel but its settings and its journal. A [`ChannelWith`](crate::ChannelWith) has its core in rooms
-/// that grow. A channel in rooms has its core in rooms that are created at the start. The room of a data field never
-/// grows.
+/// parts of a channel but its settings and its journal. A [`ChannelWith`](crate::ChannelWith) keeps its core in rooms
+/// that grow. A channel with fixed memory keeps its core in rooms that are created at the start. The room of a data
+/// field never grows.
 ///
 /// The contract of a call holds for all limits, settings and journals that this core belongs to. If memory runs out,
 /// the core still belongs to the same journal.

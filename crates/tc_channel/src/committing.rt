@@ -17,7 +17,7 @@ use std::boxed::BoxedSlice;
 use tc_packet::{Packet, each_unit_has_one_cut, next_packet};
 use tc_rooms::Room;
 
-// Makes all staged items in the queues count.
+// Commits all staged items.
 fn commit_all<R: Room, C: Tick>(queues: &mut BoxedSlice<Queue<R>>, steps: &mut C)
     ensures committed { boxed_slice_items queues.new ≡ map committed (boxed_slice_items queues.old) }
     ensures cost { C.taken steps.new ≤ C.taken steps.old + length (boxed_slice_items queues.old) }
@@ -28,7 +28,7 @@ fn commit_all<R: Room, C: Tick>(queues: &mut BoxedSlice<Queue<R>>, steps: &mut C
     }
 }
 
-// Makes the staged items in the queue of this packet count.
+// Commits the staged items in the queue of this packet.
 #[inline(always)]
 #[tactic(auto, using(crate::proofs::Closing::passing))]
 fn commit_packet<R: Room, C: Tick>(
@@ -54,9 +54,9 @@ fn commit_packet<R: Room, C: Tick>(
     queues[place].commit();
 }
 
-/// Makes the staged packets of this unit count. `staged` is their number. If no memory can be refused, they count
-/// already. If a table shows the places of the queues, and there are at least `staged` queues, only the queues of the
-/// unit's packets are looked at.
+/// Commits the staged packets of this unit, whose number is `staged`. If rooms never grow, the packets were committed
+/// as they were staged. If a table shows the places of the queues, and there are at least `staged` queues, only the
+/// queues of the unit's packets are looked at.
 pub(crate) fn commit_packets<R: Room, C: Tick>(
     queues: &mut BoxedSlice<Queue<R>>,
     table: &[u16],

@@ -27,9 +27,8 @@ pub fn what_was_accepted_is_passed_on_in_order()
         → fields_passed Service.Ad (run_within limits s journal).passed ≡ map (λ (a : Accepted). a.field) (take (run_within limits s journal).released (run_within limits s journal).accepted) }
 {}
 
-/// All packets that the takes of an application gave are, in order, the first ones that its queue ever admitted: each
-/// packet once, and none left out. This also holds for the units of a chosen MAP. Each take gives the item that is in
-/// its reply.
+/// The packets taken for an application are, in order, the first ones that its queue ever admitted: each packet once,
+/// and none left out. This also holds for the units of a chosen MAP. The reply to a take is the oldest item that waits.
 #[tactic(auto, using(crate::proofs::Closing::flow), unfolding(crate::specs::Reply::waiting_packets_within, crate::specs::Reply::waiting_units_within))]
 pub fn what_was_admitted_is_given_in_order()
     ensures packets { (limits : ℕ → ℕ) (s : Settings) (journal : List Event) (apid : ℕ) (q : Queue) → queue_of apid (run_within limits s journal).queues ≡ Some q
@@ -57,8 +56,8 @@ pub fn what_was_passed_on_is_admitted_in_order()
 /// journal, the AD fields of the era that were passed to reassembly are the first fields that were sent, and their
 /// number is the number of released fields. If no Set V(R) was obeyed, the era is the whole journal.
 ///
-/// All packets that takes of an application ever gave are, in order, packets made from the passed fields, whoever sent
-/// the frames. Some may be left out. This also holds for the units of a chosen MAP.
+/// The packets ever taken for an application are, in order, packets made from the passed fields, whoever sent the
+/// frames. Some may be left out. This also holds for the units of a chosen MAP.
 pub fn what_was_sent_is_given_in_order()
     ensures fields { (limits : ℕ → ℕ) (s : Settings) (journal before later : List Event) (x : ℕ) (sent : ℕ → List ℕ) → IsLawfulWithin limits s journal
         → IsEraWithin limits s journal before later x → ComesFromWithin limits s before later x sent
@@ -69,9 +68,9 @@ pub fn what_was_sent_is_given_in_order()
         → IsPartOf (units_given s map_id (first_state_within limits s) journal) (units_made limits s map_id (run_within limits s journal).passed) }
 {}
 
-/// Nothing is lost that no reply reports. If no reply of a journal reports a drop, each packet queue admitted all packets
-/// for its application that the passed data fields make. If nothing waits in the queue any more, takes gave exactly
-/// these packets: each once, in order. This also holds for the units of a chosen MAP.
+/// Nothing is lost unless a reply reports it. If no reply of a journal reports a drop, each packet queue admitted all
+/// packets for its application that the passed data fields make. If nothing waits in the queue any more, exactly these
+/// packets were taken: each once, in order. This also holds for the units of a chosen MAP.
 pub fn nothing_is_lost_that_no_reply_reports()
     ensures packets_admitted { (limits : ℕ → ℕ) (s : Settings) (journal : List Event) (apid : ℕ) (q : Queue) → IsAllowed s → DropsNone s (first_state_within limits s) journal
         → queue_of apid (run_within limits s journal).queues ≡ Some q → q.admitted ≡ packets_made limits s apid (run_within limits s journal).passed }
@@ -85,12 +84,12 @@ pub fn nothing_is_lost_that_no_reply_reports()
         → units_given s map_id (first_state_within limits s) journal ≡ units_made limits s map_id (run_within limits s journal).passed }
 {}
 
-/// Each data field that was passed to reassembly is accounted for. The fields of a service and a MAP are parted into
+/// Each data field that was passed to reassembly is accounted for. The fields of a service and a MAP are split into
 /// shares, each field once and in order. A share is all segments of a unit that was made, or the open run, or fields
 /// that are lost. Fields are lost if they are over the limit of their MAP or over 65,542 octets, if another unit began
-/// before theirs ended, or if no run was open for them. The units are all units that these fields made, and the run is
-/// all that they left open. On a plain channel each field is a unit, or is over its limit
-/// ([`a_plain_channel_takes_each_field_as_a_unit`](crate::a_plain_channel_takes_each_field_as_a_unit)).
+/// before theirs ended, or if no run was open for them. The units in the shares are all units that these fields made,
+/// and the run in the shares is the run that they left open. On a plain channel each field is a unit, or is over its
+/// limit ([`a_plain_channel_takes_each_field_as_a_unit`](crate::a_plain_channel_takes_each_field_as_a_unit)).
 pub fn each_passed_field_is_accounted_for()
     ensures { (limits : ℕ → ℕ) (s : Settings) (journal : List Event) (service : Service) (map_id : ℕ) → s.segmented ≡ true
         → (shares : List Share) × AccountFor limits s service map_id (run_within limits s journal).passed shares }

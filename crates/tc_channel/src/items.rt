@@ -7,7 +7,7 @@ use std::alloc::{AllocError, Global};
 use std::marker::Model;
 use std::ops::DerefSlice;
 
-/// A `Vec` whose items alone contracts see, so that events and settings are plain data in a clause.
+/// A `Vec` of which contracts see only the items, so that events and settings are plain data in a contract.
 #[derive(Debug, Drop)]
 pub struct Items<T> {
     items: Vec<T>,
@@ -43,7 +43,7 @@ impl<T> Items<T> {
         self.items.is_empty()
     }
 
-    /// Returns the items as a `Vec`, moved.
+    /// Returns the items as a `Vec`. They are moved, not copied.
     pub fn into_vec(self) -> Vec<T>
         ensures { result.items ≡ self }
     {

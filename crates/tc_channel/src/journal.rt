@@ -9,10 +9,10 @@ use crate::lent::LentEvent;
 use crate::unrecorded::EventsSeen;
 use std::alloc::{AllocError, Global};
 
-/// The journal of a channel: all events of the channel, the oldest first. The clauses of a channel read them, whether
-/// the journal keeps them in memory ([`Recorded`](crate::Recorded)) or not ([`Unrecorded`](crate::Unrecorded)).
+/// The journal of a channel: all events of the channel, the oldest first. The contracts of a channel refer to them,
+/// whether the journal keeps them in memory ([`Recorded`](crate::Recorded)) or not ([`Unrecorded`](crate::Unrecorded)).
 pub trait Journal: Drop {
-    /// The entry of an event, which is made before the channel changes, so that nothing can be refused after the
+    /// The entry of an event. It is created before the channel changes, so that nothing can be refused after the
     /// change.
     type Entry: Drop;
 
@@ -25,22 +25,22 @@ pub trait Journal: Drop {
     // whether entries take memory (if they take none, no entry is refused)
     ghost grows: { Bool };
 
-    /// Creates a journal of no event. It allocates nothing.
+    /// Creates an empty journal. The call allocates nothing.
     fn start(alloc: Global) -> Self
         ensures events { events result ≡ [] };
 
-    /// Makes the entry of an event, and room for it. The events stay the same.
+    /// Creates the entry of an event, and makes room for it in the journal. The events stay the same.
     fn prepare(&mut self, alloc: Global, event: &LentEvent<'_>) -> Result<Self::Entry, AllocError>
         ensures same { events self.new ≡ events self.old }
         ensures ready { IfOk result (λ entry. is_ready self.new entry (event_of event.now)) }
         ensures answered { grows ≡ false → IsOk result };
 
-    /// Appends an event whose entry was made. It allocates nothing.
+    /// Appends an event whose entry is ready. The call allocates nothing.
     fn append(&mut self, event: &LentEvent<'_>, entry: Self::Entry)
         requires { is_ready self.old entry (event_of event.now) }
         ensures events { events self.new ≡ events self.old ++ event_of event.now ∷ [] };
 
-    /// Returns the events as clauses see them. They take no memory.
+    /// Returns the events as contracts see them. The result takes no memory.
     fn seen(&self) -> EventsSeen
         ensures events { result.events ≡ events self.now };
 

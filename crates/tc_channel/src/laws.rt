@@ -41,14 +41,15 @@ pub fn wait_means_no_room()
     ensures { (limits : ℕ → ℕ) (s : Settings) (journal : List Event) → IsSound s (run_within limits s journal) }
 {}
 
-/// Whatever came before, each frame has a step. A frame that is expected and finds room never comes in S2.
+/// After any journal, FARM-1's table has an entry for each frame that may come next. The one case without an entry
+/// never occurs: a frame that is expected and finds room in S2.
 pub fn each_frame_has_a_step()
     ensures { (limits : ℕ → ℕ) (s : Settings) (journal : List Event) (octets : List ℕ) → IsWhole octets → HasStep s (run_within limits s journal) (Event.Frame octets) }
 {
     each_arrival_has_an_entry();
 }
 
-/// Each journal can be parted into its era and the events before it.
+/// Each journal can be split into its era and the events before it.
 pub fn each_journal_has_an_era()
     ensures { (limits : ℕ → ℕ) (s : Settings) (journal : List Event) → (before : List Event) × (later : List Event) × (x : ℕ) × IsEraWithin limits s journal before later x }
 {}
@@ -60,13 +61,13 @@ pub fn accepted_frames_count_up()
     ensures { (limits : ℕ → ℕ) (s : Settings) (journal : List Event) → IsAllowed s → IsLawfulWithin limits s journal → CountsUpInItsEraWithin limits s journal }
 {}
 
-/// No queue ever holds more items than its capacity, or gives more items than it was given.
+/// No queue ever holds more items than its capacity, or gives out more items than it admitted.
 pub fn queues_keep_to_their_capacity()
     ensures queues { (limits : ℕ → ℕ) (s : Settings) (journal : List Event) → AllByRecursion KeepsToItsCapacity (run_within limits s journal).queues }
     ensures units { (limits : ℕ → ℕ) (s : Settings) (journal : List Event) → AllByRecursion KeepsToItsCapacity (run_within limits s journal).units }
 {}
 
-/// The run of a longer journal goes on from the run of its beginning, and nothing is cut.
+/// The run of a longer journal continues the run of its beginning, and loses nothing from it.
 pub fn a_longer_run_goes_on()
     ensures run { (limits : ℕ → ℕ) (s : Settings) (past future : List Event) → run_within limits s (past ++ future) ≡ run_from s (run_within limits s past) future }
     ensures grows { (limits : ℕ → ℕ) (s : Settings) (past future : List Event) → Grows (run_within limits s past) (run_within limits s (past ++ future)) }
@@ -126,8 +127,8 @@ pub fn a_unit_is_delivered_whole_or_by_packets()
 {}
 
 /// Suppose that each Type-AD frame of an era is from a sender that numbers its frames from x on modulo 256, and that
-/// none comes 256 frames too early or too late. Then the accepted data fields are the fields that were sent: each once,
-/// in order, and none left out. Frames may be lost, come several times, and come out of order.
+/// none comes 256 frames or more too early or too late. Then the accepted data fields are the fields that were sent:
+/// each once, in order, and none left out. Frames may be lost, come several times, and come out of order.
 pub fn what_was_sent_is_accepted_once_and_in_order()
     ensures { (limits : ℕ → ℕ) (s : Settings) (journal before later : List Event) (x : ℕ) (sent : ℕ → List ℕ) → IsEraWithin limits s journal before later x → ComesFromWithin limits s before later x sent
         → (i : ℕ) (a : Accepted) → slice_get (accepted_since_within limits s before journal) i ≡ Some a → a.field ≡ sent i }
@@ -139,9 +140,9 @@ pub fn queues_are_those_of_the_settings()
     ensures units { (limits : ℕ → ℕ) (s : Settings) (journal : List Event) → map {B = ℕ × ℕ} (λ (q : Queue). (q.key, q.capacity)) (run_within limits s journal).units ≡ map {B = ℕ × ℕ} (λ (m : MapSetting). (m.map, m.capacity)) s.maps }
 {}
 
-/// No event changes the limits. A data field ends a unit if it ends the unit without the limits and the unit is no
-/// longer than the limit of its MAP. If there is no limit by MAP, the field ends each unit that reassembly makes,
-/// because the limit of the largest unit leaves none out.
+/// No event changes the limits. A unit that reassembly makes is passed to the queues if and only if it is no longer
+/// than the limit of its MAP. Without limits for single MAPs each unit is passed to the queues, because none is longer
+/// than the largest unit.
 pub fn a_unit_beyond_the_limit_of_its_map_is_none()
     ensures stays { (limits : ℕ → ℕ) (s : Settings) (journal : List Event) → (run_within limits s journal).limit ≡ limits }
     ensures within { (limits : ℕ → ℕ) (s : Settings) (journal : List Event) (service : Service) (field octets : List ℕ)
@@ -151,8 +152,9 @@ pub fn a_unit_beyond_the_limit_of_its_map_is_none()
         → unit_of (run s journal) service field ≡ unit_ended (run s journal).segmented (stream service (map_of field) (run s journal).passed) field }
 {}
 
-/// These frames of a sender that numbers from 0 on may come as was worked out by hand: an accepted frame may come once
-/// more, also much later, and a frame may come behind two that got lost. No frame may come 256 numbers late or early.
+/// A sender numbers its frames from 0 on. These frames may come or not, as was worked out by hand: an accepted frame
+/// may come once more, even much later, and a frame may come after two that were lost. No frame may come 256 numbers
+/// late or early.
 pub fn a_sender_s_frames_may_come_so()
     ensures repeated { IsSent 0 (λ i. field_of (example.packet_octets 0)) 1 (example.packet_octets 0) }
     ensures late { IsSent 0 (λ i. field_of (example.packet_octets 0)) 255 (example.packet_octets 0) }

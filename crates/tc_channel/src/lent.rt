@@ -1,7 +1,7 @@
 //! An event whose octets are lent.
 
-/// An operation that a channel carried out, as an [`Event`](crate::Event) whose octets are lent, before a journal keeps
-/// it.
+/// An operation that a channel carried out. Unlike an [`Event`](crate::Event) it borrows its octets, because no journal
+/// has kept them yet.
 #[derive(Clone, Copy, Debug)]
 pub enum LentEvent<'a> {
     /// A frame that came in, as its octets without fill.

@@ -1,11 +1,12 @@
 //! One virtual channel of a telecommand receiver, with the journal of its events.
 //!
-//! A contract sees a [`Channel`] as its settings and its journal, and so it sees a [`CountingChannel`], whose journal
-//! takes no memory. Everything else in the channel is the run of that journal: FARM-1's components, the buffered data
-//! fields, the open runs of reassembly, the packet queues and the unit queues. The laws over these definitions are the
-//! contracts of [`allowed_settings_have_no_fault`], [`wait_means_no_room`], [`each_frame_has_a_step`],
-//! [`each_journal_has_an_era`], [`accepted_frames_count_up`], [`a_clcw_reports_how_many_were_accepted`],
-//! [`unlock_and_set_v_r_open_a_channel`], [`a_unit_takes_steps_by_its_octets`], [`a_sender_s_frames_may_come_so`],
+//! A contract sees a [`Channel`] as its settings and its journal. It sees a [`CountingChannel`] in the same way,
+//! although the journal of that channel takes no memory. Everything else in the channel is the run of that journal:
+//! FARM-1's components, the buffered data fields, the open runs of reassembly, the packet queues and the unit queues.
+//! The laws over these definitions are the contracts of [`allowed_settings_have_no_fault`], [`wait_means_no_room`],
+//! [`each_frame_has_a_step`], [`each_journal_has_an_era`], [`accepted_frames_count_up`],
+//! [`a_clcw_reports_how_many_were_accepted`], [`unlock_and_set_v_r_open_a_channel`],
+//! [`a_unit_takes_steps_by_its_octets`], [`a_sender_s_frames_may_come_so`],
 //! [`what_was_sent_is_accepted_once_and_in_order`], [`queues_are_those_of_the_settings`],
 //! [`queues_keep_to_their_capacity`], [`short_journals_are_answered_so`], [`further_journals_are_answered_so`],
 //! [`memory_is_counted_so`], [`settings_are_refused_so`], [`each_passed_field_is_accounted_for`], [`chosen_maps_stay`],

@@ -16,22 +16,22 @@ use crate::places::{KEYS, QUEUES_FOR_A_TABLE};
 use crate::settings::{LentSettings, MapSetting, QueueSetting, Settings};
 use tc_packet::LARGEST_UNIT;
 
-/// The number of bytes of a room's own words: the words of its block, and the numbers of octets that lie in it and may
-/// lie in it.
+/// The number of bytes that a room itself takes, besides its octets: the address and the capacity of its block, the
+/// number of octets in it, and the largest number that it may hold.
 pub const ROOM_WORDS: u128 = 32;
 
-/// The number of bytes of a run's own words: the words of its room, whether the run is open, and the number of its
-/// octets.
+/// The number of bytes that a run itself takes, besides its octets: its room, whether the run is open, and the number
+/// of its octets.
 pub const RUN_WORDS: u128 = 40;
 
-/// The number of bytes of a queue's own words: its key, the ring of its rooms, the numbers of rooms that are taken, and
-/// their size.
+/// The number of bytes that a queue itself takes, besides its rooms: its key, the ring of its rooms, the numbers of
+/// waiting and of staged items, and the size of a room.
 pub const QUEUE_WORDS: u128 = 64;
 
 // The number of bytes of a place in a table.
 const PLACE_WORDS: u128 = 2;
 
-// The number of bytes in the room of a run that was doubled until it holds the largest unit.
+// The number of bytes in the room of a run, once the room was doubled until it can hold the largest unit.
 const RUN_ROOM: u128 = 131_072;
 
 // The number of streams: two services of 64 MAPs.
@@ -184,9 +184,9 @@ fn segment_octets(settings: LentSettings<'_>) -> u128
     }
 }
 
-/// Whatever journal a channel has, its queues hold no more packets and units than the bound of its memory counts. Their
-/// octets are no more than if each of these packets and units were the largest unit. After a lawful journal, the octets
-/// in the buffer are no more than if the buffer were full of the largest data fields.
+/// Whatever journal a channel has, its queues hold no more packets and units than the bound of its memory counts.
+/// Together they have no more octets than if each were as long as the largest unit. After a lawful journal, the buffer
+/// has no more octets than if it were full of the largest data fields.
 #[tactic(auto, using(crate::proofs::Closing::memory))]
 pub fn no_more_items_wait_than_memory_counts()
     ensures packets { (limits : ℕ → ℕ) (s : Settings) (journal : List Event) → waiting_in_all (run_within limits s journal).queues ≤ packets_stored s }

@@ -1,11 +1,11 @@
-//! The part of a channel that clauses see. It takes no memory.
+//! The part of a channel that contracts see. It takes no memory.
 
 use crate::settings::Settings;
 use crate::unrecorded::EventsSeen;
 use std::marker::Model;
 use std::snapshot::Snapshot;
 
-/// The settings of a channel and its journal at one moment, as clauses see them. They take no memory, and no program
+/// The settings of a channel and its journal at one moment, as contracts see them. They take no memory, and no program
 /// can read them.
 #[derive(Drop)]
 pub struct Past {

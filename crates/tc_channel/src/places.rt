@@ -69,7 +69,8 @@ pub(crate) fn place_of<R: Room, C: Tick>(
     None
 }
 
-/// Returns a table of the places of these queues, or an empty one if there are few.
+/// Returns a table of the places of these queues. The table is empty if there are too few queues for a table, or too
+/// many.
 pub(crate) fn see_places<R: Room, C: Tick>(
     alloc: Global,
     queues: &[Queue<R>],

@@ -1,4 +1,4 @@
-//! One queue in rooms.
+//! One queue, whose items lie in rooms.
 
 ghost use Rattle.std.specs.Prelude.{◌≡◌, ◌<◌, ◌≤◌, ◌+◌, [], length, drop, true, false, IfOk, IsOk, OnErr, None, slice_get, option_map};
 ghost use Rattle.tc_rooms.specs.Rooms.{slotted};
@@ -73,8 +73,8 @@ impl<R: Room> Queue<R> {
         self.slots.front()
     }
 
-    // Stages an item behind the others, if there is a place, and returns whether there was. The item counts at once if
-    // no memory can be refused.
+    // Stages an item behind the others, if there is a place, and returns whether there was. If rooms never grow, the
+    // item is committed at once.
     #[inline(always)]
     pub(crate) fn stage(&mut self, octets: &[u8]) -> Result<bool, AllocError>
         requires fits { length octets.now ≤ self.old.slots.size }
@@ -93,8 +93,7 @@ impl<R: Room> Queue<R> {
         self.put(octets)
     }
 
-    // Puts an item behind the others, if there is a place, when nothing is staged, and returns whether there was a
-    // place.
+    // Puts an item behind the others, if there is a place, and returns whether there was. Nothing may be staged.
     #[inline(always)]
     pub(crate) fn put(&mut self, octets: &[u8]) -> Result<bool, AllocError>
         requires fits { length octets.now ≤ self.old.slots.size }
@@ -109,7 +108,7 @@ impl<R: Room> Queue<R> {
         self.slots.put(octets)
     }
 
-    // Makes the staged items count.
+    // Commits the staged items.
     #[inline(always)]
     pub(crate) fn commit(&mut self)
         ensures { self.new ≡ committed self.old }
@@ -135,7 +134,7 @@ impl<R: Room> Queue<R> {
 }
 
 impl Queue<GrowingRoom> {
-    // Takes the oldest item out, if there is one, in its own block.
+    // Takes the oldest item out, if there is one. The item isn't copied: the block in which it lies is returned.
     pub(crate) fn take_front(&mut self) -> Option<Vec<u8>>
         ensures key { self.new.key ≡ self.old.key }
         ensures item { option_map (λ block. block.items) result ≡ slice_get self.old.slots.ring.items 0 }

@@ -46,8 +46,8 @@ impl<R: Room> Model for Queues<R> {
 }
 
 impl<R: Room> Queues<R> {
-    /// Creates the collection of these queues, whose keys stay. If there are 8 queues or more, a table of the place of
-    /// each APID's queue is made with them.
+    /// Creates the collection of these queues, whose keys never change. If there are 8 queues or more, the call also
+    /// creates a table that shows the place of the queue with each key.
     pub fn new<C: Tick>(
         alloc: Global,
         queues: Vec<Queue<R>>,
@@ -112,8 +112,8 @@ impl<R: Room> Queues<R> {
 }
 
 impl Queues<GrowingRoom> {
-    /// Takes the oldest item out of the queue with this key, if one waits, in its own block. No octet is copied, and no
-    /// memory is requested.
+    /// Takes the oldest item out of the queue with this key, if one waits. The block in which the item lies is
+    /// returned, so no octet is copied, and no memory is requested.
     pub fn take<C: Tick>(&mut self, key: u16, steps: &mut C) -> Option<Vec<u8>>
         ensures item { option_map (λ block. block.items) result ≡ oldest_for key (rings_in self.old) }
         ensures rings { rings_in self.new ≡ popped key (rings_in self.old) }
@@ -180,8 +180,8 @@ fn unit_of<'a, R: Room>(runs: &'a Runs<R>, field: &'a [u8], ended: Ended) -> Opt
 /// Delivers the unit that a data field ended, if it ended one, without moving it first. If memory runs out, all queues
 /// are as they were before the call. A step is counted for each packet that is cut from the unit, and for each queue
 /// that is looked at while one is found, committed or rolled back. So the number of steps grows as the number of the
-/// unit's packets times the number of queues that are looked at to find one. That is one queue if there are 8 queues or
-/// more, otherwise at most each queue.
+/// unit's packets times the number of queues that are looked at to find one queue. That number is one if there are 8
+/// queues or more, otherwise at most the number of all queues.
 #[inline(always)]
 pub(crate) fn deliver_ended<R: Room, C: Tick>(
     runs: &Runs<R>,
@@ -218,7 +218,7 @@ pub(crate) fn deliver_ended<R: Room, C: Tick>(
     }
 }
 
-/// Returns the delivery of no unit.
+/// Returns the outcome when there is no unit to deliver.
 pub(crate) fn deliver_nothing() -> Delivery
     ensures { (map_id : ℕ) (queues units : List StoredQueue) → IsDelivered map_id None queues queues units units result }
 {

@@ -15,7 +15,7 @@ use thiserror::Error;
 pub struct Delivery {
     /// The number of packets that were queued, or 1 for a unit that was queued whole.
     pub queued: u32,
-    /// The number of packets that were dropped because they are no telecommands, there is no queue with their APID, or
+    /// The number of packets that were dropped because they aren't telecommands, there is no queue with their APID, or
     /// the queue has no room. It is 1 for a whole unit without room in its queue.
     pub dropped: u32,
     /// Whether octets were left after the last packet. It is never true for a whole unit.

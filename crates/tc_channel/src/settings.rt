@@ -231,14 +231,14 @@ fn are_apart(queues: &[QueueSetting]) -> bool
     true
 }
 
-// Returns whether one of the maps is this one.
+// Returns whether this MAP is one of these chosen MAPs.
 fn has_map(maps: &[MapSetting], map: u8) -> bool
     ensures { IsTrue result ↔ Any (λ m. m.map ≡ map) maps.now }
 {
     maps.iter().any(|other| other.map == map)
 }
 
-// Returns whether no two maps are the same.
+// Returns whether no MAP is chosen twice.
 fn are_maps_apart(maps: &[MapSetting]) -> bool
     ensures { IsTrue result ↔ AreMapsApart maps.now }
 {

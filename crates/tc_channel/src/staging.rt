@@ -1,4 +1,4 @@
-//! Staging the packets of a unit behind the items that count in their queues.
+//! Staging the packets of a unit behind the committed items of their queues.
 
 ghost use Rattle.std.specs.Prelude.{ℕ, List, ◌∷◌, ◌<◌, ◌≤◌, ◌≡◌, ◌+◌, length, get_or, true, false, IfOk, IsOk};
 ghost use Rattle.std.specs.Box.{boxed_slice_items};
@@ -20,8 +20,8 @@ use std::boxed::BoxedSlice;
 use tc_packet::{LARGEST_UNIT, Packet, each_unit_has_one_cut, next_packet};
 use tc_rooms::Room;
 
-// Stages an item behind the others of the queue at this place, if there is room, and returns whether there was. The
-// item counts at once if no memory can be refused.
+// Stages an item behind the others of the queue at this place, if there is room, and returns whether there was. If
+// rooms never grow, the item is committed at once.
 #[inline(always)]
 #[tactic(auto, using(crate::proofs::Closing::at_place))]
 fn stage_at<R: Room>(
@@ -45,8 +45,8 @@ fn stage_at<R: Room>(
     queue.stage(octets)
 }
 
-// Returns whether the queue at this place is known to be full before a packet is copied. It is known only if no memory
-// can be refused.
+// Returns whether the queue at this place is full, if rooms never grow. If they grow, the result is always false, and a
+// full queue is found only when a packet is staged.
 #[inline(always)]
 #[tactic(auto, using(crate::proofs::Closing::at_place))]
 fn is_full_at<R: Room>(queues: &BoxedSlice<Queue<R>>, place: usize) -> bool

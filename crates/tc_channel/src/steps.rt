@@ -11,7 +11,7 @@ pub trait Tick {
     // the number of steps that were counted
     ghost taken: { Self → ℕ };
 
-    // each step counts
+    // whether each step is counted
     ghost counts: { Bool };
 
     /// Counts one step.
@@ -20,7 +20,7 @@ pub trait Tick {
         ensures one { counts ≡ true → taken self.new ≡ taken self.old + 1 };
 }
 
-/// The number of steps that were taken. It takes no memory, and only [`tick`](Tick::tick) changes it.
+/// A counter of steps that takes no memory. Only [`tick`](Tick::tick) changes it.
 #[derive(Drop)]
 pub struct Steps<L: Ledger> {
     book: Book<L>,
@@ -38,7 +38,7 @@ impl<L: Ledger> Model for Steps<L> {
 }
 
 impl<L: Ledger> Steps<L> {
-    /// Creates a counter of no steps.
+    /// Creates a counter that stands at 0.
     pub fn new(blank: Blank) -> Steps<L>
         requires name { blank.name ≡ L.name }
         requires parts { blank.parts ≡ L.parts }

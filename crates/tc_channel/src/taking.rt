@@ -33,7 +33,7 @@ fn pop_at<R: Room>(queues: &mut BoxedSlice<Queue<R>>, place: usize) -> bool
     true
 }
 
-// Takes the oldest item out of the queue at this place, in its own block.
+// Takes the oldest item out of the queue at this place, and returns the block in which it lies.
 #[tactic(auto, using(crate::proofs::Closing::at_place))]
 fn take_at(queues: &mut BoxedSlice<Queue<GrowingRoom>>, place: usize) -> Option<Vec<u8>>
     requires { place < length (boxed_slice_items queues.old) }
@@ -70,7 +70,7 @@ pub(crate) fn pop_from<R: Room, C: Tick>(
     }
 }
 
-/// Takes the oldest item out of the queue with this key, in its own block.
+/// Takes the oldest item out of the queue with this key, and returns the block in which it lies.
 pub(crate) fn take_from<C: Tick>(
     queues: &mut BoxedSlice<Queue<GrowingRoom>>,
     table: &[u16],

@@ -1,4 +1,4 @@
-//! The journal that only clauses read.
+//! The journal that only contracts read.
 
 ghost use Rattle.std.specs.Prelude.{◌≡◌, List, [], ◌∷◌, ◌++◌, length, min, ◌^◌, ◌-◌};
 ghost use Rattle.std.specs.Borrow.{ftrue};
@@ -11,7 +11,7 @@ use crate::recorded::Recorded;
 use std::alloc::{AllocError, Global};
 use std::marker::Model;
 
-/// A list of events that takes no memory. Clauses read it, and no program can.
+/// A list of events that takes no memory. Contracts can read it, and programs can't.
 #[derive(Drop)]
 pub struct EventsSeen {
     pub ghost events: { List Event },
@@ -29,7 +29,7 @@ impl EventsSeen {
         EventsSeen {}
     }
 
-    /// Returns these events once more.
+    /// Returns a second list of these events.
     #[inline(always)]
     pub(crate) fn again(&self) -> EventsSeen
         ensures { result.events ≡ self.now.events }
@@ -52,7 +52,7 @@ impl EventsSeen {
     {}
 }
 
-/// A journal that isn't recorded, apart from the number of its events.
+/// A journal of which a program keeps only the number of events.
 #[derive(Drop)]
 pub struct Unrecorded {
     pub seen: EventsSeen,

@@ -1,4 +1,4 @@
--- A value without an octet is made, with the events that the reference shows.
+-- The body creates a value without octets, with the events that the reference shows.
 use Rattle.tc_channel.proofs.Walking.{[], ◌∷◌, refl, proved, ftrue, named, vstruct, vnil, ‵, raw, ◌⊛◌, ◌$◌, ◌∵◌, !, qed, done, move, keep, split, fjoin, suffices, enter, no_more, returns, agg, alloc_all, pass_all, free_all, look_at, sets, owns, pure_i, yes, RefOf, shr_vals, shr_Tells, plain, types_at, nothing, alive, says, Stays, walk_of, ends_at, stay_dropped, Goes-dropped}
 use Rattle.tc_channel.specs.contracts.unrecorded.EventsSeen.again as f
 use Rattle.tc_channel.specs.contracts.unrecorded.EventsSeen.{the_row as row}

@@ -1,4 +1,4 @@
--- A value without an octet is made, and its events are the empty list.
+-- The body creates a value without octets, and its events are the empty list.
 use Rattle.tc_channel.proofs.Walking.{[], ◌∷◌, refl, proved, ftrue, vstruct, vnil, ‵, raw, ◌⊛◌, ◌$◌, ◌∵◌, !, qed, done, move, keep, split, suffices, enter, no_more, returns, agg, alloc_all, pass_all, free_all, look_at, sets, owns, pure_i, alive, says, Stays, walk_of, ends_at}
 use Rattle.tc_channel.specs.contracts.unrecorded.EventsSeen.new as f
 use Rattle.tc_channel.specs.contracts.unrecorded.EventsSeen.{the_row as row}
