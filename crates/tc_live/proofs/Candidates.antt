@@ -1,4 +1,4 @@
--- A candidate carries more than a frame and its fill, or is carried out as the frame that it carries.
+-- A candidate that carries more than a frame and its fill changes nothing, and any other is carried out as its frame.
 use Rattle.tc_live.proofs.Names.{◌≡◌, ◌⊎◌, ℕ, Bool, true, false, List, Option, Some, inl, inr, refl, sym, subst, ap, ◌∙◌, arith, IsTrue, ◌↔◌, not, MatchOption, true≢false, Racked, Stage, instruction_of, IsBad, phase_of, Receiving, IsCandidateDone, IsPassedDone, IsBadCandidate, LiveAnswer, FrameCheck, FrameEnds}
 use Rattle.tc_fecf.specs.Candidate.{IsDelimited, is_fill}
 use Rattle.tc_fecf.proofs.Delimiting.{one-frame}

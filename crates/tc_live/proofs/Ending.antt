@@ -1,4 +1,4 @@
--- The end of the lines, and whether the report was written there.
+-- What is written after the last line, with or without the final report.
 use Rattle.tc_live.proofs.Names.{◌≡◌, ◌⊎◌, ℕ, Bool, false, List, Option, None, Some, IfSome, Result, Ok, Err, inl, inr, sym, subst, both_ways, All-permutation, Appends-trans, Appends-kept, ◌↔◌, All, IsPermutation, IsTrue, OnOk, IfOk, IfErr, Keeps, histories, Receiving, rack_at, IsClosingFault, IsReceptionCutShort, IsLineSaid, IsReportWritten, IsNumberUnreported, IsReceptionWritten, fault_at_lines, line_limit, FrameEnds}
 use Rattle.tc_lines.specs.Answering as lines
 use Rattle.tc_lines.specs.declared.answering.ServingFault.{ServingFault as AnsweringFault}
@@ -39,7 +39,7 @@ lines-cut answering.Read receiver last (Some octets) a b cut = (last, cut)
 lines-cut answering.Write receiver last (Some octets) a b cut = tt
 lines-cut answering.NoMemory receiver last (Some octets) a b cut = inl cut.1
 
--- if a channel in the ordered list doesn't report its number of events, a channel of the receiver doesn't
+-- if a channel in the sorted list doesn't report its number of events, a channel of the receiver doesn't
 pub is-number-unreported : (receiver : Receiving) (reported : Bool) (shown before after : List History) → IsTrue reported ↔ All IsNumberReported shown → reported ≡ false
     → shown ≡ after → IsPermutation before after → before ≡ histories (rack_at receiver) → IsNumberUnreported receiver
 is-number-unreported receiver reported shown before after just not same shuffled is all =

@@ -28,7 +28,7 @@ line-ready old new (Candidate octets) answer (inr (less, inr (fails, is, same)))
 pub ready : (old new : Receiving) (octets : List ℕ) (answer : LiveAnswer) → IsLiveLineAnswered old octets new answer → IsReady answer new
 ready old new octets answer (said, is, done) = line-ready old new said answer done
 
--- the answers that follow are written behind the first one
+-- the answers that follow are written after the first one
 pub followed : (answer : LiveAnswer) (old new : Receiving) (a b c : Option (List ℕ)) → Appends a b (live_text answer) → AreAnswersWritten b c (IsFollowedBy answer old new) → Writes a c (IsReported answer old new)
 followed answer old new a b c first (answers, follow, rest) = (live_text answer ++ reported_lines answers, (answers, follow, refl), Appends-trans a b c _ _ first rest)
 

@@ -33,7 +33,7 @@ CarriesMore octets = (frame : List ℕ) × (rest : List ℕ) × IsDelimited octe
 
 -- The line that is carried out for a candidate that passes. If frames have a field, it is the frame at the front, which
 -- is as long as its length field says, without its field. Otherwise it is all octets, since a channel ignores the
--- octets behind a frame.
+-- octets after a frame.
 abbrev pub IsCandidatePassed : FrameCheck → List ℕ → Line → Type 0
 IsCandidatePassed Nothing octets passed = passed ≡ Frame octets
 IsCandidatePassed ErrorControl octets passed = (frame : List ℕ) × (rest : List ℕ) × IsDelimited octets frame rest × IsFieldOff frame passed

@@ -1,4 +1,4 @@
--- The ends of frames that nothing checks.
+-- A record of whether frames that aren't checked end with a frame error control field.
 use Rattle.std.specs.Prelude.{Bool, true, false, ℕ, List, Some, None, if◌then◌else◌}
 use Rattle.tc_fecf.specs.FrameWithField.{taking_fault_of}
 use Rattle.tc_text.specs.declared.line.Line.{Line}
@@ -12,12 +12,12 @@ use Rattle.tc_live.specs.declared.ends.FrameEnds.TheVariants.{EachWithField, One
 abbrev pub has_field : List ℕ → Bool
 has_field octets = elim (taking_fault_of octets) [ None ↦ true | Some fault ↦ false ]
 
--- the ends after one more frame: once a frame had no field, they stay `OneWithout`
+-- the record after one more frame: once a frame had no field, it stays `OneWithout`
 abbrev pub ends_after : FrameEnds → List ℕ → FrameEnds
 ends_after OneWithout octets = OneWithout
 ends_after _ octets = if has_field octets then EachWithField else OneWithout
 
--- the ends after a line that was carried out: a frame is looked at if nothing checks it
+-- the record after a line that was carried out: a frame is looked at if frames aren't checked
 abbrev pub ends_behind : FrameCheck → FrameEnds → Line → FrameEnds
 ends_behind Nothing ends (Frame octets) = ends_after ends octets
 ends_behind check ends line = ends

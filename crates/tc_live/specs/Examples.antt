@@ -1,4 +1,4 @@
--- A receiver of spacecraft 42 whose frames have no frame error control field, worked out by hand.
+-- A receiver of spacecraft 42, worked out by hand. Its frames have no frame error control field.
 use Rattle.std.specs.Prelude.{false, [], ◌∷◌}
 use Rattle.tc_link.specs.declared.clcw.Link.{Link}
 use Rattle.tc_channel.specs.declared.settings.Settings.{Settings}
@@ -11,6 +11,6 @@ use Rattle.tc_live.specs.declared.ends.FrameEnds.TheVariants.{NoFrame}
 abbrev pub plain_channel : Settings
 plain_channel = record { vcid = 1; width = 10; buffer = 1; first = 0; segmented = false; queues = []; maps = [] }
 
--- the receiver with this channel, to which nothing was brought, and these flags of its link
+-- the receiver with this channel before any frame, and with these flags of the channel's link
 abbrev pub receiver_with : Link → Receiving
 receiver_with link = record { check = Nothing; ends = NoFrame; scid = 42; stage = Operating (record { scid = 42; channels = record { history = record { settings = plain_channel; journal = [] }; link = link } ∷ [] }) }

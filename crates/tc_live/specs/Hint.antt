@@ -31,13 +31,13 @@ is_marked word =
 abbrev pub commands_text : List ℕ
 commands_text = codes ": use channel, queue, map, frame, release, take, unit, clcw, link, report, deliver, collect or candidate"
 
--- the text of which commands there are, or that a byte order mark hides the command of the line
+-- the list of the commands, or a note that a byte order mark hides the command of the line
 abbrev pub unknown_text : List (List ℕ) → List ℕ
 unknown_text [] = commands_text
 unknown_text (command ∷ arguments) =
     if is_marked command then codes ": the line begins with a byte order mark; save the file without it" else commands_text
 
--- the form of the command with which the words begin
+-- the form of the command that the words begin with
 unfoldable pub command_form_text : List (List ℕ) → List ℕ
 command_form_text [] = []
 command_form_text (command ∷ arguments) =
@@ -80,7 +80,7 @@ most_of _ = 255
 abbrev pub takes_word : Number → List ℕ → Bool
 takes_word number word = elim (word_number 65535 word) [ None ↦ false | Some n ↦ nat_le n (most_of number) ]
 
--- the numbers behind a command, in order
+-- the numbers after a command, in order
 unfoldable pub numbers_behind : List ℕ → List Number
 numbers_behind command =
     if is command (codes "channel") then Vcid ∷ Width ∷ Buffer ∷ First ∷ []
@@ -106,8 +106,8 @@ abbrev pub number_hint_text : List (List ℕ) → List ℕ
 number_hint_text [] = []
 number_hint_text (command ∷ arguments) = misfit_text (first_misfit (numbers_behind command) arguments)
 
--- the text of what to write instead, by the words of the line: which commands there are, how its command is written, or
--- what its wrong word may be, and nothing for any other reason
+-- The text of what to write instead. It lists the commands, shows the form of the line's command, or gives the bounds
+-- or the form of the wrong word. The text is empty for any other reason.
 abbrev pub line_hint_text : List (List ℕ) → Reason → List ℕ
 line_hint_text line UnknownCommand = unknown_text line
 line_hint_text line WordCount = command_form_text line

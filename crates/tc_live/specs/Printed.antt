@@ -24,7 +24,7 @@ abbrev pub link_text : ℕ → Link → List ℕ
 link_text vcid link =
     codes "link " ++ decimal vcid ++ codes " " ++ flag_text link.no_rf ++ codes " " ++ flag_text link.no_bit_lock ++ codes "\n"
 
--- the front of a report, on FARM-1: state, V(R), Lockout and Wait
+-- the beginning of a report, which is about FARM-1: state, V(R), Lockout and Wait
 unfoldable pub farm_text : ℕ → Holding → List ℕ
 farm_text vcid holding =
     codes "report " ++ decimal vcid ++ codes " state " ++ state_text holding.report.state ++ codes " vr " ++ decimal holding.report.vr

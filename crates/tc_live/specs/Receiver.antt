@@ -1,4 +1,4 @@
--- A receiver that carries out lines: the effect and the answer of a line, and the reasons for which a line is bad.
+-- A receiver that carries out lines: the effect and the answer of a line, and the reasons why a line is bad.
 use Rattle.std.specs.Prelude.{◌≡◌, ◌⊎◌, Bool, true, false, ℕ, List, [], Option, Some, None, Ok, Err}
 use Rattle.tc_link.specs.declared.clcw.Link.{Link}
 use Rattle.tc_text.specs.Word.{words}
@@ -31,8 +31,8 @@ use Rattle.tc_live.specs.declared.ends.FrameEnds.{FrameEnds}
 use Rattle.tc_live.specs.declared.ends.FrameEnds.TheVariants.{NoFrame}
 use Rattle.tc_live.specs.Ends.{ends_behind}
 
--- the state of a receiver: the check that octets must pass, the ends of frames that nothing checked, the spacecraft's
--- id, and the channels, set up so far or in operation
+-- The state of a receiver. `check` is the check that octets must pass, `ends` the record of the ends of unchecked
+-- frames, and `stage` the channels, set up so far or in operation.
 pub record Receiving : Type 0 where
   pub check : FrameCheck
   pub ends : FrameEnds
@@ -89,7 +89,7 @@ IsCandidateDone old octets new answer =
     ⊎ ((¬ CarriesMore octets) × (((passed : Line) × IsCandidatePassed old.check octets passed × IsPassedDone old passed new answer)
     ⊎ (FailsCandidate old.check octets × (answer ≡ reported.Unchecked) × (new ≡ old))))
 
--- the receiver after a refused line: as it was, or, if memory ran out, with the channels that were created for the line
+-- the receiver after a refused line: as it was or, if memory ran out, with the channels that were created for the line
 abbrev pub IsReceiverLeft : Reason → Receiving → Receiving → Type 0
 IsReceiverLeft reason old new = (new ≡ old) ⊎ ((reason ≡ NoMemory) × (new ≡ begun old))
 
@@ -118,7 +118,7 @@ IsDeliveryBegun old vcid new answer =
     (a : Answer) × (rack : Racked) × IsAnswerOf (operations.Release vcid) (rack_at old) a rack
     × (answer ≡ reported.Delivery vcid a) × (new ≡ with_rack rack old)
 
--- a collection begins if there is such a channel, which then has a CLCW
+-- a collection begins if there is such a channel, since the channel then has a CLCW
 abbrev pub collection_answer : ℕ → Answer → LiveAnswer
 collection_answer vcid (Refused refusal) = reported.UnknownChannel
 collection_answer vcid _ = reported.Collection vcid
@@ -127,7 +127,7 @@ abbrev pub IsCollectionBegun : Receiving → ℕ → Receiving → LiveAnswer �
 IsCollectionBegun old vcid new answer =
     (a : Answer) × IsClcwAnswer vcid (rack_at old) a × (answer ≡ collection_answer vcid a) × (new ≡ begun old)
 
--- all that waits in the channel is handed on, and these are the answers
+-- all items that wait in the channel are handed on, and these are the answers
 abbrev pub IsDeliveryDone : Receiving → ℕ → Receiving → List Answer → Type 0
 IsDeliveryDone old vcid new answers = (rack : Racked) × IsDeliveryEnded vcid (rack_at old) answers rack × (new ≡ with_rack rack old)
 
@@ -144,15 +144,15 @@ IsLineDone old (Candidate octets) new answer = IsCandidateDone old octets new an
 abbrev pub IsLiveLineAnswered : Receiving → List ℕ → Receiving → LiveAnswer → Type 0
 IsLiveLineAnswered old octets new answer = (said : LiveLine) × (live_line_of (words octets) ≡ Ok said) × IsLineDone old said new answer
 
--- a reason for which a line of a script that passed is bad
+-- a reason why a line of a script that passed the check is bad
 abbrev pub IsBadScript : Receiving → Line → Reason → Type 0
 IsBadScript old line reason = (passed : Line) × IsPassed old.check line passed × IsBad (phase_of old.stage) (instruction_of passed) reason
 
--- a reason for which a candidate that passed is bad
+-- a reason why a candidate that passed the check is bad
 abbrev pub IsBadCandidate : Receiving → List ℕ → Reason → Type 0
 IsBadCandidate old octets reason = (passed : Line) × IsCandidatePassed old.check octets passed × IsBad (phase_of old.stage) (instruction_of passed) reason
 
--- a reason, other than memory, for which a parsed line is bad
+-- a reason, other than lack of memory, why a parsed line is bad
 abbrev pub IsBadSaying : Receiving → LiveLine → Reason → Type 0
 IsBadSaying old (Script line) reason = IsBadScript old line reason
 IsBadSaying old (Candidate octets) reason = IsBadCandidate old octets reason

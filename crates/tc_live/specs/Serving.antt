@@ -1,4 +1,4 @@
--- The text that is written for lines and at the end, and the faults for which a live receiver ends without a report.
+-- The text that is written for lines and at the end, and the faults after which a live receiver ends without a report.
 use Rattle.std.specs.Prelude.{◌≡◌, ◌⊎◌, ◌++◌, ℕ, List, [], Option, All, IsPermutation}
 use Rattle.std.specs.Io.KnownBytes.{Appends, Keeps}
 use Rattle.tc_lines.specs.Answering as lines
@@ -24,12 +24,12 @@ use Rattle.tc_live.specs.declared.serving.ServingFault.TheVariants.{Read, Write,
 abbrev pub IsNumberUnreported : Receiving → Type 0
 IsNumberUnreported receiver = ¬ All IsNumberReported (histories (rack_at receiver))
 
--- a fault for which there is no final report, or only a part of it
+-- a fault that leaves no final report, or only a part of it
 abbrev pub IsClosingFault : Receiving → ServingFault → Type 0
 IsClosingFault receiver fault = (fault ≡ Write) ⊎ (fault ≡ NoMemory) ⊎ ((fault ≡ Unbalanced) × IsNumberUnreported receiver)
 
--- the answers that follow the answer of a line: for a delivery or a collection those for the items that are handed on,
--- and none for any other line
+-- the answers that follow the answer of a line: for a delivery or a collection, those for the items that are handed on,
+-- and for any other line none
 abbrev pub IsFollowedBy : LiveAnswer → Receiving → Receiving → List Answer → Type 0
 IsFollowedBy (reported.Delivery vcid a) old new answers = IsDeliveryDone old vcid new answers
 IsFollowedBy (reported.Collection vcid) old new answers = IsDeliveryDone old vcid new answers
@@ -55,7 +55,7 @@ IsReasonSaid old octets new text =
 abbrev pub IsLineSaid : Receiving → List ℕ → Receiving → List ℕ → Type 0
 IsLineSaid old octets new text = IsAnswerSaid old octets new text ⊎ IsReasonSaid old octets new text
 
--- the final report was written: of the receiver's channels, each once, in rising order of their ids
+-- the final report was written, with each of the receiver's channels once, in rising order of their ids
 abbrev pub IsReportWritten : Receiving → Option (List ℕ) → Option (List ℕ) → Type 0
 IsReportWritten receiver before after =
     (channels : List History) × IsPermutation (histories (rack_at receiver)) channels × AreRising channels
@@ -65,18 +65,18 @@ IsReportWritten receiver before after =
 abbrev pub line_limit : ℕ
 line_limit = 8192
 
--- the answers to all lines of these octets were written, in order and each once, and then the final report of the
--- channels that the lines left, and the ends of frames are those that the lines left noted
+-- The answers to all lines of these octets were written, in order and each once, and then the final report. The report
+-- is about the channels as the last line left them, and `ends` is the record of the ends of frames at that time.
 abbrev pub IsReceptionWritten : Receiving → List ℕ → Option (List ℕ) → Option (List ℕ) → FrameEnds → Type 0
 IsReceptionWritten receiver octets before after ends =
     (last : Receiving) × (answers : List ℕ) × (channels : List History) × lines.AreAnswered line_limit IsLineSaid receiver (lines.lines_of octets) last answers
     × (ends ≡ last.ends) × IsPermutation (histories (rack_at last)) channels × AreRising channels × Appends before after (answers ++ report_text channels)
 
--- the answers of all lines were written, and no report
+-- the answers to all lines were written, but no report
 abbrev pub IsReportMissing : Receiving → List ℕ → Option (List ℕ) → Option (List ℕ) → Type 0
 IsReportMissing receiver octets before after = (last : Receiving) × lines.AreAllWritten line_limit IsLineSaid receiver octets last before after
 
--- the text that was written before an early end, of which nothing is known if writing failed
+-- the text that was written before an early end (if writing failed, nothing is known about the text)
 abbrev pub IsReceptionCutShort : Receiving → List ℕ → Option (List ℕ) → Option (List ℕ) → ServingFault → Type 0
 IsReceptionCutShort receiver octets before after Read = (last : Receiving) × lines.AreFirstWritten line_limit IsLineSaid receiver octets last before after
 IsReceptionCutShort receiver octets before after Write = Unit {0}
@@ -84,7 +84,7 @@ IsReceptionCutShort receiver octets before after NoMemory = Keeps before after �
 IsReceptionCutShort receiver octets before after Unbalanced =
     (last : Receiving) × lines.AreAllWritten line_limit IsLineSaid receiver octets last before after × IsNumberUnreported last
 
--- the receiver's fault for a fault that was met while lines were answered
+-- the receiver's fault for a fault that occurred while lines were answered
 abbrev pub fault_at_lines : AnsweringFault → ServingFault
 fault_at_lines answering.Read = Read
 fault_at_lines answering.Write = Write

@@ -13,14 +13,14 @@ use tc_rack::Answer;
 /// The answer to a good line.
 #[derive(Debug, Drop)]
 pub enum LiveAnswer {
-    /// No text, since the line set something up, had no words, or was a comment.
+    /// No text, since the line sets something up, has no words, or is a comment.
     Nothing,
     /// The answer to an operation of a script.
     Operation(Answer),
     /// The answer to the release that a delivery begins with. [`Receiver::hand_on`](crate::Receiver::hand_on) ends the delivery.
     Delivery { vcid: u8, answer: Answer },
-    /// A collection: all that waits is to be handed on without a release, which
-    /// [`Receiver::hand_on`](crate::Receiver::hand_on) does.
+    /// The beginning of a collection, which is a delivery without a release.
+    /// [`Receiver::hand_on`](crate::Receiver::hand_on) ends the collection.
     Collection { vcid: u8 },
     /// A refusal of octets that aren't a frame with the right frame error control field.
     Unchecked,
@@ -35,7 +35,7 @@ pub enum LiveAnswer {
 }
 
 impl LiveAnswer {
-    /// Passes on the answer to a line of a script, if it is an operation.
+    /// Returns the answer to a line of a script, which is `Nothing` unless the line is an operation.
     pub(crate) fn of_script(answer: Option<Answer>) -> LiveAnswer
         ensures { result ≡ script_answer answer }
     {

@@ -11,7 +11,7 @@ use tc_text::{Line, Reason};
 /// The check that octets must pass, which depends on whether frames end with a frame error control field.
 #[derive(Clone, Copy, Debug, PartialEq, Eq)]
 pub enum FrameCheck {
-    /// No check, since frames have no frame error control field. All octets are brought.
+    /// No check, since frames have no frame error control field. All octets are brought to their channels.
     Nothing,
     /// A check of the frame error control field at the end of each frame (CCSDS 232.0-B, 4.1.4). Octets that aren't one
     /// whole frame with the right field are no event.
@@ -19,8 +19,8 @@ pub enum FrameCheck {
 }
 
 impl FrameCheck {
-    /// Returns the line to carry out, or `None` if it doesn't pass. A frame is copied without its field to a new list,
-    /// and any other line is returned as it is.
+    /// Returns the line to carry out, or `None` if the line doesn't pass the check. A frame is copied without its field
+    /// to a new list, and any other line is returned as it is.
     pub fn pass(self, alloc: Global, line: Line) -> Result<Option<Line>, Reason>
         ensures passed { IfOk result (λ passed. MatchOption passed (FailsCheck self line) (IsPassed self line)) }
         ensures reason { IfErr result (λ reason. reason ≡ Reason.NoMemory) }
@@ -34,9 +34,9 @@ impl FrameCheck {
         }
     }
 
-    /// Returns the line to carry out for the octets that a CLTU carried, or `None` if they don't pass. If frames are
-    /// checked, the frame is as long as its length field says, and is copied without its frame error control field to a
-    /// new list.
+    /// Returns the line to carry out for the octets that a CLTU carried, or `None` if they don't pass the check. If
+    /// frames are checked, the frame is as long as its length field says, and is copied without its frame error control
+    /// field to a new list.
     pub fn pass_candidate(self, alloc: Global, octets: Octets) -> Result<Option<Line>, Reason>
         ensures passed { IfOk result (λ passed. MatchOption passed (FailsCandidate self octets) (IsCandidatePassed self octets)) }
         ensures reason { IfErr result (λ reason. reason ≡ Reason.NoMemory) }

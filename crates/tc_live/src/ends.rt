@@ -1,4 +1,4 @@
-//! The ends of frames that aren't checked: they may have frame error control fields all the same.
+//! A record of whether frames that aren't checked end with a frame error control field.
 
 ghost use Rattle.std.specs.Prelude.{◌≡◌};
 ghost use Rattle.tc_live.specs.Ends.{ends_after, has_field};
@@ -6,10 +6,11 @@ ghost use Rattle.tc_live.specs.Ends.{ends_after, has_field};
 use tc_fecf::passes;
 use tc_link::read_frame;
 
-/// The ends of the frames of all lines so far, if nothing takes fields off. This is for a hint to the user.
+/// A record of whether each frame of a `frame` line so far ended with a frame error control field. It is kept if frames
+/// aren't checked, and a hint to the user depends on it.
 #[derive(Clone, Copy, Debug, PartialEq, Eq)]
 pub enum FrameEnds {
-    /// No frame came yet.
+    /// No frame has come yet.
     NoFrame,
     /// Each frame was whole and ended with its field.
     EachWithField,
@@ -18,7 +19,8 @@ pub enum FrameEnds {
 }
 
 impl FrameEnds {
-    // Returns the ends after these octets were brought as well. Once a frame had no field, no later frame is looked at.
+    // Returns the record after one more frame, which consists of these octets. Once a frame had no field, no later
+    // frame is looked at.
     pub(crate) fn after(self, octets: &[u8]) -> FrameEnds
         ensures { result ≡ ends_after self octets.now }
     {

@@ -26,8 +26,8 @@ pub(crate) fn word_before(reason: Reason) -> &'static str
     }
 }
 
-/// Returns what to write instead: which commands there are, how the line's command is written, or what its wrong word
-/// may be. The text is empty for any other reason.
+/// Returns the text of what to write instead. It lists the commands, shows the form of the line's command, or gives the
+/// bounds or the form of the wrong word. The text is empty for any other reason.
 pub(crate) fn hint_for(octets: &[u8], reason: Reason) -> &'static str
     ensures { result.now ≡ line_hint_text (words octets.now) reason }
 {
@@ -48,7 +48,7 @@ pub(crate) fn hint_for(octets: &[u8], reason: Reason) -> &'static str
     }
 }
 
-// Returns the text of which commands there are, or that a byte order mark hides the command of the line.
+// Returns the list of the commands, or a note that a byte order mark hides the command of the line.
 fn unknown(octets: &[u8]) -> &'static str
     ensures { result.now ≡ unknown_text (words octets.now) }
 {
@@ -72,7 +72,7 @@ fn begins_with_mark(word: &[u8]) -> bool
     )
 }
 
-// Returns the form of the command with which a line begins.
+// Returns the form of the command that a line begins with.
 #[tactic(auto, unfolding(crate::specs::Hint::command_form_text))]
 fn form(octets: &[u8]) -> &'static str
     ensures { result.now ≡ command_form_text (words octets.now) }
@@ -126,7 +126,7 @@ pub(crate) enum Number {
 }
 
 impl Number {
-    // Returns the name of the number, as the form of the command has it, and its bounds.
+    // Returns the name of the number in the form of its command, and its bounds.
     fn bounds(self) -> &'static str
         ensures { result.now ≡ bounds_text self }
     {
@@ -143,7 +143,7 @@ impl Number {
         }
     }
 
-    // Returns the largest value with which the line can be parsed. The bounds may be narrower.
+    // Returns the largest value with which the line can be parsed. The bounds in the hint may be narrower.
     fn most(self) -> u16
         ensures { result ≡ most_of self }
     {
@@ -180,7 +180,7 @@ fn number_hint(octets: &[u8]) -> &'static str
     }
 }
 
-// Returns the numbers behind a command, in order.
+// Returns the numbers after a command, in order.
 #[tactic(auto, unfolding(crate::specs::Hint::numbers_behind))]
 fn numbers(command: &[u8]) -> &'static [Number]
     ensures { result.now ≡ numbers_behind command.now }

@@ -1,4 +1,4 @@
-//! A law on the answers that the definitions give to some lines.
+//! A law about the answers that the definitions give to some lines.
 
 ghost use Rattle.std.specs.Prelude.{◌++◌, true, false, codes};
 ghost use Rattle.tc_lines.specs.Answering.{AreAnswered, lines_of};

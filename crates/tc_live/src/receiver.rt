@@ -61,8 +61,9 @@ impl Receiver {
     }
 
     /// Carries out a line, which is given without its line feed, and returns its answer. A bad line leaves the receiver
-    /// as it is. If memory runs out, the line can be tried again. At the first operation, the channels may have been
-    /// created by then. A delivery or a collection is only begun, and [`hand_on`](Receiver::hand_on) ends it.
+    /// as it is. If memory runs out, the line can be tried again. If that line was the first operation, the channels
+    /// may already have been created. A delivery or a collection is only begun, and [`hand_on`](Receiver::hand_on) ends
+    /// it.
     pub fn do_line(&mut self, alloc: Global, octets: &[u8]) -> Result<LiveAnswer, Reason>
         ensures answer { IfOk result (IsLiveLineAnswered self.old octets.now self.new) }
         ensures reason { IfErr result (λ reason. (reason ≡ Reason.NoMemory) ⊎ IsBadLiveLine self.old octets.now reason) }
@@ -110,7 +111,7 @@ impl Receiver {
         }
     }
 
-    // Returns the ends of frames once a line is carried out.
+    // Returns the record of the ends of frames after a line.
     fn ends_behind(&self, line: &Line) -> FrameEnds
         ensures { result ≡ ends_behind self.now.check self.now.ends line.now }
     {
@@ -120,7 +121,7 @@ impl Receiver {
         }
     }
 
-    /// Returns the ends of the frames of all lines that were carried out, if nothing checks them.
+    /// Returns the record of the ends of frames, which is kept if frames aren't checked.
     pub fn ends(&self) -> FrameEnds
         ensures { result ≡ self.now.ends }
     {
@@ -197,7 +198,7 @@ impl Receiver {
         }
     }
 
-    // Begins a collection: looks up whether there is such a channel.
+    // Begins a collection. The channel's CLCW is requested to see whether there is such a channel.
     fn begin_collection(&mut self, alloc: Global, vcid: u8) -> Result<LiveAnswer, Reason>
         ensures done { OnOk result (Operates (phase_of self.old.stage) (phase_of self.new.stage)) }
         ensures answer { IfOk result (IsCollectionBegun self.old vcid self.new) }
@@ -214,7 +215,7 @@ impl Receiver {
         }
     }
 
-    /// Ends a delivery or a collection that was begun: takes all that waits in the queues of the channel, as
+    /// Ends a delivery or a collection that was begun. Takes all items that wait in the queues of the channel, as
     /// [`Rack::hand_on`] does, and writes the answers, the last of which is the CLCW. If there is no such channel,
     /// nothing is written. Nothing is allocated.
     pub fn hand_on<W: Write>(&mut self, vcid: u8, writer: &mut W) -> io::Result<()>
@@ -246,8 +247,8 @@ impl Receiver {
         RackBackend { scid: self.scid }
     }
 
-    /// Ends the reception, and writes the final report of the channels, with both link flags 0. If no report can be
-    /// made, nothing is written.
+    /// Ends the reception, and writes the final report of the channels, with both link flags 0. If the writer fails, a
+    /// part of the report may be written. After any other fault, nothing is written.
     pub fn close<W: Write>(self, alloc: Global, writer: &mut W) -> Result<(), ServingFault>
         ensures written { OnOk result (IsReportWritten self (W.contents writer.old) (W.contents writer.new)) }
         ensures fault { IfErr result (IsClosingFault self) }

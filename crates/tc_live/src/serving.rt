@@ -43,7 +43,7 @@ pub enum ServingFault {
 }
 
 impl ServingFault {
-    // Returns the fault of the receiver for a fault that was met while lines were answered.
+    // Returns the receiver's fault for a fault that occurred while lines were answered.
     fn of(fault: tc_lines::ServingFault) -> ServingFault
         ensures { result ≡ fault_at_lines fault }
     {
@@ -88,7 +88,7 @@ pub fn serve<R: AllocGlobal + Input + Print>(
 }
 
 /// Answers lines until there are no more, and flushes after each answer. Then it writes the final report, and returns
-/// the ends of the frames that nothing checked.
+/// whether the frames ended with a frame error control field, if they weren't checked.
 ///
 /// The answer to a bad line is `bad` and the reason, and, if that helps, a colon and what to write instead. The answer
 /// to a line that is longer than a line may be is `bad too long`, and the line isn't kept. Octets after the last line

@@ -35,7 +35,8 @@ all-fed mode corrected rejected overlong os first state a b c (given, before, h)
     (subst (λ (x : ℕ). Appends b c (blocks_text (corrected_in mode 1029 first os) (rejected_in mode 1029 first os) x)) k
     (subst (λ (x : ℕ). Appends b c (blocks_text (corrected_in mode 1029 first os) x overlong)) f (subst (λ (x : ℕ). Appends b c (blocks_text x rejected overlong)) e now)))
 
--- if `Is` holds of the decoder of a stream, before and after, it holds of the place of this stream among all decoders
+-- if `Is` holds for the decoder of a stream before and after, it holds for the entry of this stream in the table of
+-- decoders
 pub slot-done : (Is : Option Receiver → Option Receiver → List ℕ → Type 0) (old items : List (Option Receiver)) (id at : ℕ) (was slot : Option Receiver) (a b : Option (List ℕ))
     → items ≡ old → at ≡ id → slice_get items at ≡ Some was → Writes a b (Is was slot)
     → Writes a b (λ text. (s : Option Receiver) × (slice_set items at slot ≡ slice_set old id s) × Is (slice_index_or old id None) s text)

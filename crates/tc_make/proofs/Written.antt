@@ -27,7 +27,7 @@ use Rattle.std.specs.Prelude.{true, false}
 pub joined : (a b c : Option (List ℕ)) (xs ys : List ℕ) → Appends a b xs → Appends b c ys → Appends a c (xs ++ ys)
 joined a b c xs ys p q = Appends-trans a b c xs ys p q
 
--- if something is made, and there is no reason against it, the text about it is the answer
+-- if something is made, and there is no reason against it, its text is the answer
 pub made-on : (a b : Option (List ℕ)) (o : Option Reason) (Is : List ℕ → Type 0) (Then : List ℕ → List ℕ → Type 0) (made : List ℕ)
     → o ≡ None → Is made → Writes a b (OrNoMemory (Then made)) → Writes a b (OrNoMemory (Unless o (λ text. (x : List ℕ) × Is x × Then x text)))
 made-on a b o Is Then made none is (text, inl p, w) =
@@ -60,7 +60,7 @@ unit-end : (unit : List ℕ) → packets_of unit ≡ [] → rest_of unit ≡ uni
 unit-end unit e f =
     ap (λ ps. flat_map packet_text ps ++ some_text (codes "rest") (rest_of unit)) e ∙ ap (λ r. some_text (codes "rest") r) f
 
--- after one more packet, the text that was written and the text to come are still those of the whole unit
+-- once one more packet is written, the text so far and the text of the octets that are left are the text of the unit
 pub packet-on : (a b c : Option (List ℕ)) (p : Packet) (unit rest after done : List ℕ) → HasFields p
     → packets_of rest ≡ p.octets.now ∷ packets_of after → rest_of rest ≡ rest_of after
     → Appends a b done → done ++ unit_packets_text rest ≡ unit_packets_text unit → Appends b c (printed_text p)
@@ -125,7 +125,7 @@ pub frames-stop : (made : Bool) (ending : Ending) (p : Parting) (place : ℕ) (a
 frames-stop made ending p place a b c e below before now =
     frames-stopped ending p place a b c below before (subst (λ m. Writes b c (IsPartSaid m ending p place)) e now)
 
--- the answer for a unit that is parted, and for one that isn't
+-- the answer for a unit that is divided into segments, and for a unit that isn't
 pub unit-parted : (ending : Ending) (stream : Stream) (sizing : Sizing) (unit : List ℕ) (p : Parting) (a b : Option (List ℕ)) → IsPartingOf stream sizing unit p
     → parting_reason_of p ≡ None → Writes a b (IsFramesSaid ending p) → Writes a b (OrNoMemory (IsUnitSaid ending stream sizing unit))
 unit-parted ending stream sizing unit p a b is none (text, said, w) =

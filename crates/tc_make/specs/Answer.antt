@@ -54,7 +54,7 @@ IsCommandSaid ending scid vcid command =
 abbrev pub IsSentAt : Ending → Parting → ℕ → List ℕ → Type 0
 IsSentAt ending p place sent = (frame : List ℕ) × IsFrameAt p place frame × (ending_reason_of ending frame ≡ None) × (sent ≡ ended ending frame)
 
--- a reason for which the frame at a place isn't made
+-- a reason why the frame at a place isn't made
 abbrev pub IsStopAt : Ending → Parting → ℕ → Reason → Type 0
 IsStopAt ending p place reason = (reason ≡ NoMemory) ⊎ ((frame : List ℕ) × IsFrameAt p place frame × (ending_reason_of ending frame ≡ Some reason))
 
@@ -71,14 +71,15 @@ IsPartSaid false ending p place text = (reason : Reason) × IsStopAt ending p pl
 abbrev pub parts_of : Parting → ℕ
 parts_of p = segments_needed p.size (length p.unit.now)
 
--- the lines of all frames of a unit; or of those before a frame that isn't made, and the reason why it isn't
+-- The lines of all frames of a unit. If a frame isn't made, they are the lines of the frames before it, and then the
+-- reason why it isn't made.
 abbrev pub IsFramesSaid : Ending → Parting → List ℕ → Type 0
 IsFramesSaid ending p text =
     (frames : List (List ℕ)) × AreSent ending p 0 frames
     × (((length frames ≡ parts_of p) × (text ≡ frames_text frames))
     ⊎ ((length frames < parts_of p) × ((reason : Reason) × IsStopAt ending p (length frames) reason × (text ≡ frames_text frames ++ bad_text reason))))
 
--- the parting of the unit of a line
+-- the fields of the parting, which are those of the line's stream, sizing and unit
 pub record IsPartingOf (stream : Stream) (sizing : Sizing) (unit : List ℕ) (p : Parting) : Type 0 where
   pub scid : p.scid ≡ stream.scid
   pub vcid : p.vcid ≡ stream.vcid
@@ -121,7 +122,7 @@ abbrev pub AreFramesSaid : ℕ → List ℕ → List ℕ → Type 0
 AreFramesSaid most octets text =
     (frames : List (List ℕ)) × (rest : List ℕ) × AreDelimited most octets frames rest × (text ≡ frames_text frames ++ rest_text rest)
 
--- the explanation of a word as a CLCW, or the text that refuses the word if it is none
+-- the explanation of a word as a CLCW, or a refusal if it isn't a CLCW
 abbrev pub IsWordSaid : ℕ → List ℕ → Type 0
 IsWordSaid word text = (IsClcw word × (text ≡ clcw_text (fields_of word))) ⊎ ((IsClcw word → ⊥) × (text ≡ refused_text (codes "clcw")))
 
@@ -147,8 +148,8 @@ IsSaid old (Piece id octets) new = IsPieceSaid old.decoders id octets new.decode
 IsSaid old (Search id) new = IsSearchSaid old.decoders id new.decoders
 IsSaid old (Frames most octets) new = OrNoMemory (AreFramesSaid most octets)
 
--- the part of the state that a line doesn't change: only a line for a telemetry frame changes the counts, only one for
--- the decoder of a stream changes the decoders, and no line changes anything else
+-- The part of the state that a line doesn't change. Only a line for a telemetry frame changes the counts, and only a
+-- line for the decoder of a stream changes the decoders. No line changes anything else.
 abbrev pub IsKept : Maker → Line → Maker → Type 0
 IsKept old (Tm order) new = new ≡ record old { counts = new.counts }
 IsKept old (Decoder id mode) new = new ≡ record old { decoders = new.decoders }

@@ -13,7 +13,7 @@ no_decoders = replicate 256 None
 abbrev pub new_decoder : Mode → Receiver
 new_decoder mode = record { mode = mode; state = Searching 0; carried = [] }
 
--- the decoders after a stream got a new one
+-- the decoders after a stream was given a new one
 abbrev pub with_new_decoder : List (Option Receiver) → ℕ → Mode → List (Option Receiver)
 with_new_decoder decoders id mode = slice_set decoders id (Some (new_decoder mode))
 
@@ -32,7 +32,7 @@ fed_text d octets =
     candidates_text (frames_of d.mode most_octets d.state octets) ++ blocks_text (corrected_in d.mode most_octets d.state octets) (rejected_in d.mode most_octets d.state octets)
     (overlong_in d.mode most_octets d.state octets)
 
--- a decoder was given octets, and this is the answer; or there is no decoder
+-- a decoder was given octets, and this is the answer, or there is no decoder
 abbrev pub IsFed : Option Receiver → List ℕ → Option Receiver → List ℕ → Type 0
 IsFed None octets new text = (new ≡ None) × (text ≡ bad_text NoDecoder)
 IsFed (Some old) octets new text =
@@ -42,15 +42,15 @@ IsFed (Some old) octets new text =
 abbrev pub IsPieceSaid : List (Option Receiver) → ℕ → List ℕ → List (Option Receiver) → List ℕ → Type 0
 IsPieceSaid old id octets new text = (slot : Option Receiver) × (new ≡ slice_set old id slot) × IsFed (slice_index_or old id None) octets slot text
 
--- a stream got a new decoder, and there is no answer; or memory ran out
+-- a stream was given a new decoder and there is no answer, or memory ran out
 abbrev pub IsDecoderSaid : List (Option Receiver) → ℕ → Mode → List (Option Receiver) → List ℕ → Type 0
 IsDecoderSaid old id mode new text = ((text ≡ []) × (new ≡ with_new_decoder old id mode)) ⊎ ((text ≡ bad_text NoMemory) × (new ≡ old))
 
--- the line `search ..`, which says whether a CLTU was cut short
+-- the line `search ..`, with a flag that is set if a CLTU was cut short
 abbrev pub search_text : Bool → List ℕ
 search_text cut = codes "search cut " ++ flag_text cut ++ codes "\n"
 
--- a decoder looks for a start sequence again; or there is no decoder
+-- a decoder looks for a start sequence again, or there is no decoder
 abbrev pub IsSearching : Option Receiver → Option Receiver → List ℕ → Type 0
 IsSearching None new text = (new ≡ None) × (text ≡ bad_text NoDecoder)
 IsSearching (Some old) new text =

@@ -1,4 +1,4 @@
--- The reasons for which a frame isn't made (CCSDS 232.0-B, 4.1).
+-- The reasons why a frame isn't made (CCSDS 232.0-B, 4.1).
 use Rattle.std.specs.Prelude.{ℕ, ◌+◌, Bool, false, List, length, Option, Some, None, nat_lt, if◌then◌else◌}
 use Rattle.tc_link.specs.declared.frame.Header.{Header}
 use Rattle.tc_packet.specs.declared.segment.Segment.{Segment}
@@ -15,7 +15,7 @@ abbrev pub is_map_over : Option Segment → Bool
 is_map_over None = false
 is_map_over (Some segment) = nat_lt 63 segment.map
 
--- the first reason for which a frame isn't made, in this order
+-- the first reason, in this order, why a frame isn't made
 abbrev pub frame_reason_of : Header → Option Segment → List ℕ → Option Reason
 frame_reason_of header segment octets =
     if nat_lt 1023 header.scid then Some BadScid

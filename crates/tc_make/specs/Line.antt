@@ -1,4 +1,4 @@
--- The meaning of a line, by its words.
+-- The meaning of a line, as a function of its words.
 use Rattle.std.specs.Prelude.{ℕ, Bool, true, false, Option, ◌==◌, ◌&&◌, ◌||◌, List, [], ◌∷◌, length, codes, slice_index, Some, None, Result, Ok, Err, if◌then◌else◌}
 use Rattle.hex.specs.Hex.{decode_of}
 use Rattle.tc_cltu.specs.declared.block.Mode.{Mode}
@@ -31,7 +31,7 @@ abbrev pub alone_of : Form → Words → Result (List ℕ) Reason
 alone_of form (word ∷ []) = elim (decode_of word) [ Ok octets ↦ Ok octets | Err fault ↦ Err BadHex ]
 alone_of form _ = Err (WordCount form)
 
--- the meaning of the words of a form, by `says`, if there are neither more nor fewer
+-- the result of `says` for one word, or an error if there are more or fewer words (likewise for two to six words)
 abbrev pub with_one : Form → Words → (List ℕ → Said) → Said
 with_one form (a ∷ []) says = says a
 with_one form _ says = Err (WordCount form)
@@ -196,7 +196,7 @@ link_line_of command arguments =
     else if is_marked command then Err Marked
     else Err UnknownCommand
 
--- the meaning of the words of a line, or the first of the reasons for which they have none
+-- the meaning of the words of a line, or the first of the reasons why the line is bad
 unfoldable pub maker_line_of : Words → Said
 maker_line_of [] = Ok Blank
 maker_line_of (command ∷ arguments) =

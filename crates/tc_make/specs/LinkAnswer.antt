@@ -14,7 +14,7 @@ use Rattle.tc_make.specs.declared.fault.Reason.{Reason}
 use Rattle.tc_make.specs.declared.fault.Reason.TheVariants.{BadScid, BadVcid, BadSize, NoData, TooMuchData, NoMemory}
 use Rattle.tc_make.specs.declared.line.TmOrder.{TmOrder}
 
--- the first reason for which octets get no CLTU, in this order
+-- the first reason, in this order, why there is no CLTU for the octets
 abbrev pub cltu_reason_of : List ℕ → Option Reason
 cltu_reason_of octets =
     if length octets == 0 then Some NoData
@@ -27,7 +27,7 @@ IsCltuSaid octets = Unless (cltu_reason_of octets) (λ text. text ≡ named_text
 abbrev pub IsRandomSaid : List ℕ → List ℕ → Type 0
 IsRandomSaid octets text = text ≡ named_text (codes "random") (randomised octets)
 
--- telemetry frames end as telecommand frames do
+-- telemetry frames end with a frame error control field if and only if telecommand frames do
 abbrev pub telemetry_ending : Ending → ErrorControl
 telemetry_ending endings.DataField = Absent
 telemetry_ending endings.ErrorControl = Present
@@ -38,7 +38,7 @@ IsTelemetrySaid ending octets text =
     ((read_fault_of (telemetry_ending ending) octets ≡ None) × (text ≡ tm_text (tm_fields_of (telemetry_ending ending) octets)))
     ⊎ ((fault : TmReadFault) × (read_fault_of (telemetry_ending ending) octets ≡ Some fault) × (text ≡ refused_text (tm_fault_text fault)))
 
--- the first reason for which a telemetry frame isn't made, in this order
+-- the first reason, in this order, why a telemetry frame isn't made
 abbrev pub tm_reason_of : Ending → TmOrder → Option Reason
 tm_reason_of ending order =
     if nat_lt 1023 order.scid then Some BadScid
@@ -46,7 +46,7 @@ tm_reason_of ending order =
     else if nat_lt order.size (least_length (telemetry_ending ending)) || nat_lt most_length order.size then Some BadSize
     else None
 
--- the line of the next frame of a virtual channel, with its counts; or the reason why it isn't made, with unchanged
+-- the line of the next frame of a virtual channel, with its counts, or the reason why it isn't made, with unchanged
 -- counts
 abbrev pub IsTmSaid : Ending → Counted → TmOrder → Counted → List ℕ → Type 0
 IsTmSaid ending old order new text =

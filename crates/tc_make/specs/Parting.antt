@@ -11,11 +11,11 @@ use Rattle.tc_make.specs.declared.fault.Reason.TheVariants.{BadScid, BadVcid, Ba
 abbrev pub header_at : Parting → ℕ → Header
 header_at p place = record { bypass = false; control = false; scid = p.scid; vcid = p.vcid; ns = (p.ns + place) % 256 }
 
--- the frame at a place of the parting
+-- the frame at a place, counted from 0
 abbrev pub IsFrameAt : Parting → ℕ → List ℕ → Type 0
 IsFrameAt p place frame = IsMadeFrame frame (header_at p place) (Some (segment_at p.map p.size place p.unit.now)) (piece_at p.size p.unit.now place)
 
--- the first reason for which a unit isn't parted, in this order
+-- the first reason, in this order, why a unit isn't divided into segments
 abbrev pub parting_reason_of : Parting → Option Reason
 parting_reason_of p =
     if nat_lt 1023 p.scid then Some BadScid

@@ -28,7 +28,7 @@ use Rattle.tc_make.specs.declared.form.Form.TheVariants as forms
 use Rattle.tc_make.specs.declared.form.Number.{Number}
 use Rattle.tc_make.specs.declared.form.Number.TheVariants as numbers
 
--- the reason for which nothing is made of a line, with which its answer begins
+-- the words of a reason, with which the answer to a bad line begins
 abbrev pub unmade_text : Reason → List ℕ
 unmade_text UnknownCommand = codes "bad unknown command"
 unmade_text Marked = codes "bad unknown command"
@@ -67,7 +67,7 @@ form_text forms.Octets = codes "octets ID HEX"
 form_text forms.Search = codes "search ID"
 form_text forms.Frames = codes "frames MOST HEX"
 
--- the note on the octets with which a form ends; four forms end with none
+-- the note on the octets that a form ends with (four forms don't end with octets)
 abbrev pub note_text : Form → List ℕ
 note_text forms.Unlock = []
 note_text forms.SetVr = []
@@ -75,7 +75,7 @@ note_text forms.Decoder = []
 note_text forms.Search = []
 note_text form = codes ", octets without spaces"
 
--- the name of a number in forms, and its bounds
+-- the name of a number in forms, and the bounds of the number
 abbrev pub bounds_text : Number → List ℕ
 bounds_text numbers.Scid = codes "SCID is 0 to 1023"
 bounds_text numbers.Vcid = codes "VC is 0 to 63, for tm 0 to 7"
@@ -88,11 +88,11 @@ bounds_text numbers.Vr = codes "X is 0 to 255"
 bounds_text numbers.Id = codes "ID is 0 to 255"
 bounds_text numbers.Most = codes "MOST is 0 to 255"
 
--- the text that follows a reason for which a number is bad
+-- the text that follows the reason why a number is bad
 abbrev pub within_text : Number → List ℕ
 within_text number = codes ": " ++ bounds_text number ++ codes "\n"
 
--- the text that follows a reason: what to write, if that is known, and the end of the line
+-- the text that follows a reason: a hint on what to write, if one is known, and the end of the line
 abbrev pub hint_text : Reason → List ℕ
 hint_text UnknownCommand = codes ": use packet, ad, bd, unlock, setvr, segments, explain, clcw, cltu, random, tm, telemetry, decoder, octets, search or frames\n"
 hint_text Marked = codes ": the line begins with a byte order mark; save the file without it\n"
@@ -133,14 +133,14 @@ frame_fault_text Spare = codes "spare"
 frame_fault_text LengthSmall = codes "length"
 frame_fault_text Truncated = codes "truncated"
 
--- the kind of a frame, by its bypass flag and its control command flag
+-- the kind of a frame, as a function of its bypass flag and its control command flag
 abbrev pub kind_text : Bool → Bool → List ℕ
 kind_text false false = codes "AD"
 kind_text true false = codes "BD"
 kind_text true true = codes "BC"
 kind_text false true = codes "AC"
 
--- the front of the line `header ..`: the fields of the header
+-- the beginning of the line `header ..`: the fields of the header
 abbrev pub fields_text : Header → List ℕ
 fields_text header =
     codes "header " ++ kind_text header.bypass header.control ++ codes " scid " ++ decimal header.scid ++ codes " vc " ++ decimal header.vcid
@@ -168,7 +168,7 @@ abbrev pub type_text : Bool → List ℕ
 type_text true = codes "TC"
 type_text false = codes "TM"
 
--- the front of the line `holds ..`: the packet type, the APID, the sequence count and the sequence flags
+-- the beginning of the line `holds ..`: the packet type, the APID, the sequence count and the sequence flags
 abbrev pub holds_text : Bool → ℕ → ℕ → ℕ → List ℕ
 holds_text telecommand apid count flags =
     codes "holds " ++ type_text telecommand ++ codes " apid " ++ decimal apid ++ codes " count " ++ decimal count ++ codes " flags " ++ decimal flags
@@ -181,17 +181,17 @@ whole_text secondary octets = codes " secondary " ++ flag_text secondary ++ code
 abbrev pub printed_text : Packet → List ℕ
 printed_text p = holds_text p.telecommand p.apid p.count p.flags ++ whole_text p.secondary p.octets.now
 
--- the line of a packet, by its octets
+-- the line of the packet that consists of these octets
 abbrev pub packet_text : List ℕ → List ℕ
 packet_text octets =
     holds_text (is_telecommand octets) (apid_of octets) (bits (word_at octets 2) 0 14) (bits (word_at octets 2) 14 2)
     ++ whole_text (bits (word_at octets 0) 11 1 == 1) octets
 
--- the lines of the packets of a unit, in order, and then of the octets that are left
+-- the lines of the packets of a unit in order, and then the line of the octets that are left
 abbrev pub unit_packets_text : List ℕ → List ℕ
 unit_packets_text unit = flat_map packet_text (packets_of unit) ++ some_text (codes "rest") (rest_of unit)
 
--- the lines of the octets behind a segment header: a whole unit, or a part of one
+-- the lines of the octets after a segment header: a whole unit, or a part of one
 abbrev pub body_text : Part → List ℕ → List ℕ
 body_text First body = some_text (codes "body") body
 body_text Continuing body = some_text (codes "body") body
@@ -203,7 +203,7 @@ abbrev pub carried_text : List ℕ → List ℕ
 carried_text [] = []
 carried_text (octet ∷ body) = segment_text (segment_of octet) (length body) ++ body_text (segment_of octet).part body
 
--- the lines of a data field, by the kind of its frame
+-- the lines of a data field, which depend on the kind of its frame
 abbrev pub field_text : Kind → List ℕ → List ℕ
 field_text (Ad ns) field = carried_text field
 field_text Bd field = carried_text field
@@ -211,7 +211,7 @@ field_text (Bc Unlock) field = codes "command unlock\n"
 field_text (Bc (SetVr vr)) field = codes "command setvr " ++ decimal vr ++ codes "\n"
 field_text Invalid field = named_text (codes "invalid") field
 
--- the explanation of a frame: of its header, and of its data field
+-- the explanation of a frame's header, and of its data field
 unfoldable pub frame_text : Explanation → List ℕ
 frame_text e = header_text e.header e.length (length e.rest.now) ++ field_text e.kind e.field.now
 
@@ -222,7 +222,7 @@ more_text rest = if is_fill rest then [] else named_text (codes "more") rest
 abbrev pub explanation_text : Explanation → List ℕ
 explanation_text e = frame_text e ++ more_text e.rest.now
 
--- the lines of the frames that a CLTU carried, and of the fill, or of other octets, that follow them
+-- the lines of the frames that a CLTU carried, and then the line of the octets that follow them: fill, or anything else
 abbrev pub frames_text : List (List ℕ) → List ℕ
 frames_text frames = flat_map (named_text (codes "frame")) frames
 
@@ -232,7 +232,7 @@ fill_text n = codes "fill " ++ decimal n ++ codes "\n"
 unfoldable pub rest_text : List ℕ → List ℕ
 rest_text rest = if is_fill rest then fill_text (length rest) else named_text (codes "more") rest
 
--- the front of the line `clcw ..`: the channel, the status and the flags of the link
+-- the beginning of the line `clcw ..`: the channel, the status and the flags of the link
 abbrev pub clcw_front_text : ClcwFields → List ℕ
 clcw_front_text f =
     codes "clcw vc " ++ decimal f.vcid ++ codes " status " ++ decimal f.status ++ codes " norf " ++ flag_text f.link.no_rf
@@ -256,14 +256,14 @@ tm_fault_text telemetry.Version = codes "version"
 tm_fault_text telemetry.NoControl = codes "control"
 tm_fault_text telemetry.WrongSum = codes "check"
 
--- the front of the line `tm ..`: the spacecraft and the virtual channel of the frame, and its counts
+-- the beginning of the line `tm ..`: the spacecraft and the virtual channel of the frame, and its counts
 abbrev pub tm_front_text : TmFields → List ℕ
 tm_front_text f =
     codes "tm scid " ++ decimal f.header.scid ++ codes " vc " ++ decimal f.header.vcid ++ codes " master " ++ decimal f.header.master_count
     ++ codes " channel " ++ decimal f.header.channel_count
 
--- the kind of an operational control field, by its first bit: a Type-1 report, the CLCW, or a Type-2 report
--- (CCSDS 132.0-B, 4.1.5)
+-- The kind of an operational control field. If its first bit is 0 it is a Type-1 report, the CLCW, and otherwise a
+-- Type-2 report (CCSDS 132.0-B, 4.1.5).
 abbrev pub control_text : List ℕ → List ℕ
 control_text control = if nat_lt 127 (slice_index control 0) then codes "report" else codes "clcw"
 

@@ -1,4 +1,4 @@
--- The answers to lines, one after the other.
+-- The answers to lines in order.
 use Rattle.std.specs.Prelude.{ℕ, List, Option}
 use Rattle.tc_lines.specs.Answering as lines
 use Rattle.tc_lines.specs.declared.answering.ServingFault.{ServingFault}
@@ -13,7 +13,7 @@ use Rattle.tc_make.specs.declared.maker.Maker.{Maker}
 abbrev pub limit : ℕ
 limit = 262143
 
--- a line is answered, and its effect on the counts and the decoders is there for the next line
+-- a line is answered, and its effect on the counts and the decoders is kept for the next line
 abbrev pub IsMakerAnswered : Maker → List ℕ → Maker → List ℕ → Type 0
 IsMakerAnswered old line new text = IsAnswer old (maker_line_of (words line)) new text
 

@@ -28,10 +28,11 @@ use tc_cltu::Mode;
 use tc_link::{Command, Header};
 use tc_packet::Segment;
 
-/// Carries out a line, which is given without its line feed, and writes its answer of no, one or more lines.
+/// Carries out a line, which is given without its line feed, and writes its answer, which may have no line, one line or
+/// several.
 ///
-/// If nothing can be made of a line, the answer is `bad` and the reason. If memory runs out, `bad no memory` takes the
-/// place of the rest of the answer. Frames of a unit that were made before have then been written.
+/// If nothing can be made from a line, the answer is `bad` and the reason. If memory runs out, `bad no memory` takes
+/// the place of the rest of the answer. By then, some frames of a unit may have been written.
 pub fn answer_line<W: Write>(
     alloc: Global,
     maker: &mut Maker,
@@ -86,7 +87,7 @@ fn answer<W: Write>(alloc: Global, maker: &mut Maker, line: &Line, writer: &mut 
     }
 }
 
-// Gives a stream a new decoder. This has no answer, unless memory runs out.
+// Gives a stream a new decoder. There is no answer unless memory runs out.
 fn begin<W: Write>(
     alloc: Global,
     decoders: &mut Decoders,
@@ -189,7 +190,7 @@ fn write_segments<W: Write>(
     }
 }
 
-// Writes the frames of a parting, up to the first that can't be made. All but the last have the same length.
+// Writes the frames of a unit, up to the first that can't be made. All but the last have the same length.
 fn write_parts<W: Write>(
     alloc: Global,
     ending: Ending,

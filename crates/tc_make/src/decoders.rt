@@ -63,9 +63,9 @@ impl Decoders {
         Ok(())
     }
 
-    /// Gives the decoder of a stream its next octets, and writes the candidate frames that end in them, how many code
-    /// blocks were corrected and rejected, and how many CLTUs carried too much. This requests no memory. At `Err` the
-    /// decoder has taken some of the octets, from the first one on.
+    /// Gives the decoder of a stream its next octets. Writes the candidate frames that end in them, the numbers of code
+    /// blocks that were corrected and rejected, and the number of CLTUs that carried too much. This requests no memory.
+    /// If the result is `Err`, the decoder has taken only some of the octets, from the first one on.
     pub fn write_piece<W: Write>(&mut self, id: u8, octets: &[u8], writer: &mut W) -> io::Result<()>
         ensures { OnOk result (Writes (W.contents writer.old) (W.contents writer.new) (IsPieceSaid self.old id octets.now self.new)) }
     {
@@ -74,7 +74,7 @@ impl Decoders {
     }
 
     /// Makes the decoder of a stream look for a start sequence again, as after a loss of bit lock, and writes whether
-    /// that cut a CLTU short.
+    /// this cut a CLTU short.
     pub fn write_search<W: Write>(&mut self, id: u8, writer: &mut W) -> io::Result<()>
         ensures { OnOk result (Writes (W.contents writer.old) (W.contents writer.new) (IsSearchSaid self.old id self.new)) }
     {

@@ -4,10 +4,10 @@ use crate::fault::Reason;
 use std::alloc::Global;
 use tc_fecf::{FieldFault, with_field};
 
-/// The ending of the frames that are made and explained.
+/// The ending of the frames that `tcmake` makes and explains.
 #[derive(Clone, Copy, Debug, PartialEq, Eq)]
 pub enum Ending {
-    /// The end of the data field.
+    /// The data field, without a frame error control field.
     DataField,
     /// A frame error control field after the data field (CCSDS 232.0-B, 4.1.4).
     ErrorControl,

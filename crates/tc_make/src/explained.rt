@@ -86,7 +86,7 @@ fn read_whole(octets: &[u8]) -> Frame<'_>
     requires { IsWhole octets.now }
     ensures { result ≡ octets.now }
 {
-    // No other frame stands at the front.
+    // Octets begin with at most one frame, so `read_frame` returns all of these.
     each_input_begins_with_one_frame_at_most();
     match read_frame(octets) {
         Ok(frame) => frame,
@@ -220,7 +220,7 @@ fn write_field<W: Write>(kind: Kind, field: &[u8], writer: &mut W) -> io::Result
     }
 }
 
-// Writes the segment header of a data field, and the octets behind it.
+// Writes the segment header of a data field, and the octets after it.
 #[tactic(auto, using(crate::proofs::Written::joined))]
 fn write_carried<W: Write>(field: &[u8], writer: &mut W) -> io::Result<()>
     ensures { OnOk result (Appends (W.contents writer.old) (W.contents writer.new) (carried_text field.now)) }
@@ -252,7 +252,7 @@ fn write_segment<W: Write>(segment: Segment, length: usize, writer: &mut W) -> i
     writeln!(writer, "segment {part} map {map} octets {length}")
 }
 
-// Writes the octets behind a segment header: the packets of a whole unit, or a part of a unit.
+// Writes the octets after a segment header: the packets of a whole unit, or a part of a unit.
 fn write_body<W: Write>(part: Part, body: &[u8], writer: &mut W) -> io::Result<()>
     ensures { OnOk result (Appends (W.contents writer.old) (W.contents writer.new) (body_text part body.now)) }
 {

@@ -1,4 +1,4 @@
-//! The reasons for which a line is bad.
+//! The reasons why a line is bad.
 
 ghost use Rattle.std.specs.Prelude.{◌≡◌, Some};
 ghost use Rattle.tc_make.specs.Printed.{unmade_text};
@@ -7,9 +7,9 @@ use crate::form::{Form, Number};
 use std::error::Error;
 use std::fmt;
 
-/// A reason for which nothing is made of a line. If several apply, the first in this list is reported, with two
-/// exceptions: `NoMemory` is reported as soon as memory runs out, and a frame without room for its frame error control
-/// field is reported last (as `TooMuchData`).
+/// A reason why nothing is made from a line. If several apply, the first in this list is reported, with two exceptions:
+/// `NoMemory` is reported as soon as memory runs out, and a frame without room for its frame error control field is
+/// reported last (as `TooMuchData`).
 #[derive(Clone, Copy, Debug, PartialEq, Eq)]
 pub enum Reason {
     /// The first word isn't a command.
@@ -28,7 +28,7 @@ pub enum Reason {
     BadClcw,
     /// The spacecraft id is over 1,023.
     BadScid,
-    /// The virtual channel id is over 63, or that of a telemetry frame over 7.
+    /// The virtual channel id is over 63, or over 7 for a telemetry frame.
     BadVcid,
     /// The MAP id is over 63.
     BadMap,
@@ -36,7 +36,7 @@ pub enum Reason {
     BadApid,
     /// The sequence count is over 16,383.
     BadCount,
-    /// The size of segments isn't 1 to 1,018 octets, or that of a telemetry frame isn't 11 to 2,048.
+    /// The size of segments isn't 1 to 1,018 octets, or the size of a telemetry frame isn't 11 to 2,048 octets.
     BadSize,
     /// There are no octets to carry.
     NoData,

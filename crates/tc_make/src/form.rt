@@ -49,7 +49,8 @@ impl Form {
         }
     }
 
-    /// Returns the note that follows the form, on the octets that are its last word. It is empty if there are none.
+    /// Returns the note that follows the form, on the octets that are its last word. The note is empty if the form
+    /// doesn't end with octets.
     pub(crate) fn note(&self) -> &'static str
         ensures { result.now ≡ note_text self.now }
     {

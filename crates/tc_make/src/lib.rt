@@ -1,4 +1,5 @@
-//! Frames and packets of your own for the bench. Lines of text say what to make or explain, and are answered in lines.
+//! Frames and packets of your own for the bench. Each line of text describes something to make or to explain, and is
+//! answered by lines of text.
 //!
 //! [`serve`] answers the lines of standard input, [`answer_lines`] the lines of any reader, and [`answer_line`] one
 //! line. [`parse_line`] parses a line. [`make_packet`], [`make_frame`], [`make_command`], [`Parting::frame`] and

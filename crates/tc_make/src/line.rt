@@ -52,7 +52,7 @@ pub enum Line {
         count: u16,
         octets: Octets,
     },
-    /// A Type-AD or Type-BD frame that carries the octets, behind a segment header if one is given.
+    /// A Type-AD or Type-BD frame that carries the octets, after a segment header if one is given.
     Frame {
         header: Header,
         segment: Option<Segment>,
@@ -280,7 +280,7 @@ fn segments(alloc: Global, words: &[&[u8]]) -> Result<Line, Reason>
     sized(alloc, stream, map, size, digits)
 }
 
-// Returns the line of a frame that carries the octets that `digits` spells.
+// Returns the line for a frame that carries the octets that `digits` spells.
 fn frame(
     alloc: Global,
     header: Header,
@@ -297,7 +297,7 @@ fn frame(
     })
 }
 
-// Returns the line of the segments, of this MAP and size, of the unit that `digits` spells.
+// Returns the line for a unit in segments, which go to this MAP and have this size. `digits` spells the unit.
 fn sized(
     alloc: Global,
     stream: Stream,
@@ -312,7 +312,7 @@ fn sized(
     parted(alloc, stream, sizing, digits)
 }
 
-// Returns the line of the segments of the unit that `digits` spells.
+// Returns the line for a unit in segments. `digits` spells the unit.
 fn parted(alloc: Global, stream: Stream, sizing: Sizing, digits: &[u8]) -> Result<Line, Reason>
     ensures line { IfOk result (λ line. parted_of stream sizing digits.now ≡ Ok line) }
     ensures reason { IfErr result (λ reason. (reason ≡ Reason.NoMemory) ⊎ (parted_of stream sizing digits.now ≡ Err reason)) }
@@ -481,7 +481,7 @@ fn four(alloc: Global, digits: &[u8]) -> Result<[u8; 4], Reason>
     Ok([*a, *b, *c, *d])
 }
 
-// Returns the mode of decoding code blocks that a word names.
+// Returns the decoding mode that a word names.
 fn read_mode(word: &[u8]) -> Result<Mode, Reason>
     ensures { MatchResult result
         (λ mode. mode_word word.now ≡ Ok mode)

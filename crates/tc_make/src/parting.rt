@@ -1,4 +1,4 @@
-//! Units that are parted into segments.
+//! Units that are divided into segments.
 
 use crate::fault::Reason;
 use crate::frames::make_frame;
@@ -25,7 +25,7 @@ impl<'a> Parting<'a> {
     ghost use Rattle.tc_write.specs.Parts.{segments_needed};
     ghost use Rattle.tc_make.specs.Parting.{IsFrameAt, parting_reason_of};
 
-    /// Returns the number of frames that the unit is parted into.
+    /// Returns the number of frames that the unit is divided into.
     ///
     /// A segment carries 1 to 1,018 octets, and a unit has 1 to 65,542.
     pub fn count(&self) -> Result<usize, Reason>
@@ -54,9 +54,9 @@ impl<'a> Parting<'a> {
         Ok(segment_count(usize::from(self.size), self.unit.len()))
     }
 
-    /// Makes the frame at this place, counted from 0, of those that [`Parting::count`] counts.
+    /// Makes the frame at this place, counted from 0. There are [`Parting::count`] frames.
     ///
-    /// Only its data field and the frame are allocated.
+    /// Only the frame and its data field are allocated.
     pub fn frame(&self, alloc: Global, place: usize) -> Result<Vec<u8>, Reason>
         requires parted { parting_reason_of self.now ≡ None }
         requires there { place < segments_needed self.now.size (length self.now.unit.now) }

@@ -10,7 +10,7 @@ use std::io;
 use std::io::Write;
 use tc_lines::Digits;
 
-/// Writes the reason for which a line is bad, and what to write instead, if that is known.
+/// Writes the reason why a line is bad, and what to write instead, if a hint is known.
 pub(crate) fn write_bad<W: Write>(reason: Reason, writer: &mut W) -> io::Result<()>
     ensures { OnOk result (Appends (W.contents writer.old) (W.contents writer.new) (bad_text reason)) }
 {
@@ -45,7 +45,7 @@ pub(crate) fn write_bad<W: Write>(reason: Reason, writer: &mut W) -> io::Result<
     }
 }
 
-// Writes the reason for which a number is bad, and the bounds of this number.
+// Writes the reason why a number is bad, and the bounds of this number.
 fn write_bounds<W: Write>(reason: Reason, number: Number, writer: &mut W) -> io::Result<()>
     ensures { OnOk result (Appends (W.contents writer.old) (W.contents writer.new) (unmade_text reason ++ within_text number)) }
 {
@@ -59,7 +59,7 @@ pub(crate) fn write_refused<W: Write>(why: &str, writer: &mut W) -> io::Result<(
     writeln!(writer, "refused {why}")
 }
 
-/// Writes this word, and the octets behind it.
+/// Writes this word, and the octets after it.
 pub(crate) fn write_named<W: Write>(word: &str, octets: &[u8], writer: &mut W) -> io::Result<()>
     ensures { OnOk result (Appends (W.contents writer.old) (W.contents writer.new) (named_text word.now octets.now)) }
 {
@@ -67,7 +67,7 @@ pub(crate) fn write_named<W: Write>(word: &str, octets: &[u8], writer: &mut W) -
     writeln!(writer, "{word} {digits}")
 }
 
-/// Writes this word and the octets behind it, or nothing if there are no octets.
+/// Writes this word and the octets after it, or nothing if there are no octets.
 pub(crate) fn write_some<W: Write>(word: &str, octets: &[u8], writer: &mut W) -> io::Result<()>
     ensures { OnOk result (Appends (W.contents writer.old) (W.contents writer.new) (some_text word.now octets.now)) }
 {

@@ -1,4 +1,4 @@
-//! An end at the first bad line.
+//! A writer that fails after the answer to the first bad line.
 
 use std::io;
 use std::io::{ErrorKind, Write};
@@ -10,7 +10,7 @@ const BAD: &[u8] = b"bad ";
 #[derive(Drop)]
 pub(crate) struct Strict<W: Write + Drop> {
     writer: W,
-    // The number of octets of the line so far, as long as `BAD` begins with all of them, and then `None`.
+    // The number of octets of the line so far, if `BAD` begins with them, and otherwise `None`.
     alike: Option<usize>,
     has_bad: bool,
 }

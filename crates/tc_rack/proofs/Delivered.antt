@@ -1,4 +1,4 @@
--- Queues are emptied one after the other, and each item taken is reported.
+-- Queues are emptied one after the other, and each item that is taken is reported.
 use Rattle.tc_rack.proofs.Names.{◌≡◌, ◌≢◌, ℕ, ◌+◌, ◌<◌, List, [], ◌∷◌, ◌++◌, length, take, get_or, Option, refl, sym, ap, ◌∙◌, subst, append_assoc, append-nil, arith, Appends-nil, Appends-trans, get_or-map, length-map, take_more, Appends, Answer, QueueId, Packets, Units, Settings, QueueSetting, MapSetting, AreEmptied, AreEmpty, AreTakenFrom, AreAnswersWritten, IsHandedOn, IsTakenFrom, packet_queues, queues_of, reported_line, reported_lines, unit_queues, waiting_in, Linked, reported_word}
 use Rattle.std.proofs.lemmas.Grind.{flat_map-append}
 use Rattle.tc_rack.proofs.Waiting.{stays-empty}
@@ -96,7 +96,7 @@ one-more-emptied queues queue first now new a b c place so_far less is (two, (ta
       settings = settings ∙ so_far.settings;
     }
 
--- the next packet queue, and the next unit queue, is emptied
+-- the next packet queue is emptied, or the next unit queue
 
 pub packets-emptied : (settings : Settings) (list : List QueueSetting) (place : ℕ) (d : QueueSetting) (first now new : Linked) (a b c : Option (List ℕ)) → AreSoFar (packet_queues settings) first now a b place
     → list ≡ settings.queues → place < length settings.queues → AreAnswersWritten b c (λ answers. AreTakenFrom (Packets (get_or list place d).apid) now answers new × (waiting_in (Packets (get_or list place d).apid) new ≡ []))

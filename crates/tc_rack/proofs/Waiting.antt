@@ -1,4 +1,5 @@
--- An item is taken from one of the queues of a channel, and all other items still wait.
+-- The effect of a take from one of the queues of a channel: one item fewer waits in this queue, and empty queues stay
+-- empty.
 use Rattle.tc_rack.proofs.Names.{◌≡◌, ◌≢◌, ℕ, ◌+◌, ◌<◌, Bool, true, false, cond, eqb, eq-eqb, ◌&&◌, List, [], ◌∷◌, ◌++◌, length, map, drop, Option, Some, None, refl, sym, ap, ◌∙◌, subst, inl, inr, arith, nat_lt, option_map, slice_get, drop-drop, length-drop, Settings, Answer, QueueId, Packets, Units, IsTakenFrom, none_or, waiting_in, Linked, IsPacketTaken, IsTakeAnswered, IsUnitAnswered, IsUnitTaken}
 use Rattle.std.specs.Option.{option_and_then}
 use Rattle.std.proofs.lemmas.Bool.Decides.{nat_tests}
@@ -11,7 +12,7 @@ use Rattle.tc_channel.proofs.Given.{found-key}
 use Rattle.tc_channel.proofs.Runs.{run-push}
 use Rattle.tc_channel.proofs.StateQueues.{taken-key}
 
--- the queue with a key after a take is the earlier queue after this take
+-- taking from all queues and then looking one up has the same result as looking it up and then taking from it
 queue-taken : (key other : ℕ) (qs : List Queue) → queue_of key (map (taken_from other) qs) ≡ option_map (taken_from other) (queue_of key qs)
 queue-taken key other [] = refl
 queue-taken key other (p ∷ qs) =
@@ -29,7 +30,7 @@ some-length : (xs : List (List ℕ)) (item : List ℕ) → slice_get xs 0 ≡ So
 some-length [] item e = absurd cc
 some-length (x ∷ xs) item e = omega arith
 
--- the queue with this key gives its oldest item
+-- if an item is taken from the queue with this key, one item fewer waits in it
 gives-one : (key : ℕ) (found : Option Queue) (item : List ℕ) → ((q : Queue) → found ≡ Some q → q.key ≡ key)
     → option_and_then (λ items. slice_get items 0) (option_map waiting found) ≡ Some item
     → length (none_or (option_map waiting (option_map (taken_from key) found))) + 1 ≡ length (none_or (option_map waiting found))
@@ -39,7 +40,7 @@ gives-one key (Some q) item keyed e =
     subst (λ (x : Queue). length (waiting x) + 1 ≡ length (waiting q)) (sym (one-taken key q (eq-eqb q.key key (keyed q refl)) some))
     (omega (arith, length-drop (q.taken + 1) q.admitted, length-drop q.taken q.admitted))
 
--- an empty queue stays empty
+-- an empty queue is still empty after a take
 still-empty : (key : ℕ) (found : Option Queue) → none_or (option_map waiting found) ≡ [] → none_or (option_map waiting (option_map (taken_from key) found)) ≡ []
 still-empty key None e = refl
 still-empty key (Some q) e = by (eqb q.key key && nat_lt q.taken (length q.admitted)) where
@@ -47,7 +48,7 @@ still-empty key (Some q) e = by (eqb q.key key && nat_lt q.taken (length q.admit
   by true = sym (drop-drop 1 q.taken q.admitted) ∙ ap (λ (items : List (List ℕ)). drop 1 items) e
   by false = e
 
--- the packets and the units that wait, by the state, and those that wait after a take
+-- the packets and the units that wait, computed from the channel's state, before and after a take
 
 packets-now : (s : Settings) (journal : List Event) (apid : ℕ) → waiting_packets s journal apid ≡ option_map waiting (queue_of apid (run s journal).queues)
 unfolding waiting_packets_within
@@ -83,7 +84,7 @@ units-beside s journal taken map_id =
     ∙ ap (λ (state : ChannelState). option_map waiting (queue_of map_id state.units)) (run-push no_limits s journal (events.Take taken))
     ∙ sym (units-now s journal map_id)
 
--- one item fewer waits in the queue from which an item is taken
+-- a take leaves one item fewer in the queue that it takes from
 pub one-less : (queue : QueueId) (old : Linked) (answer : Answer) (new : Linked) → IsTakenFrom queue old answer new → length (waiting_in queue new) + 1 ≡ length (waiting_in queue old)
 one-less (Packets apid) old answer new (packet, is, reported, becomes) =
     let s = old.history.settings in
@@ -100,7 +101,7 @@ one-less (Units map_id) old answer new (unit, is, reported, becomes) =
     (gives-one map_id (queue_of map_id (run s journal).units) unit (found-key map_id (run s journal).units)
     (subst (λ o. option_and_then (λ items. slice_get items 0) o ≡ Some unit) (units-now s journal map_id) is)))
 
--- no item comes into an empty queue by a take
+-- a queue that is empty before a take is empty after it
 pub stays-empty : (queue other : QueueId) (old : Linked) (answer : Answer) (new : Linked) → IsTakenFrom queue old answer new → waiting_in other old ≡ [] → waiting_in other new ≡ []
 stays-empty (Packets taken) (Packets apid) old answer new (packet, is, reported, becomes) empty =
     let s = old.history.settings in
@@ -117,7 +118,7 @@ stays-empty (Units taken) (Units map_id) old answer new (unit, is, reported, bec
     subst (λ (x : Linked). waiting_in (Units map_id) x ≡ []) (sym becomes)
     (ap none_or (units-taken s journal taken map_id) ∙ still-empty taken (queue_of map_id (run s journal).units) (sym (ap none_or (units-now s journal map_id)) ∙ empty))
 
--- a take from a queue in which an item waits gives the item
+-- a take from a queue with a waiting item isn't refused
 
 pub packet-given : (apid : ℕ) (old : Linked) (answer : Answer) (new : Linked) → waiting_in (Packets apid) old ≢ [] → IsTakeAnswered apid old answer new → IsPacketTaken apid old answer new
 packet-given apid old answer new some (inl taken) = taken
@@ -129,7 +130,7 @@ unit-given map_id old answer new some (inl taken) = taken
 unit-given map_id old answer new some (inr (inl (none, reported), same)) = absurd (some (ap none_or none))
 unit-given map_id old answer new some (inr (inr (none, reported), same)) = absurd (some (ap none_or none))
 
--- the number of items that wait is the count
+-- the count is the number of items that wait
 pub counted : (found : Option (List (List ℕ))) (count : ℕ) → option_map length found ≡ Some count → count ≡ length (none_or found)
 counted None count e = absurd cc
 counted (Some items) count e = cc

@@ -1,5 +1,5 @@
 -- The end of a delivery. Once its release is answered, all items that wait in the queues of a channel are handed on,
--- and then the CLCW.
+-- and then the CLCW is reported.
 use Rattle.std.specs.Prelude.{◌≡◌, ◌⊎◌, ℕ, List, [], ◌∷◌, ◌++◌, map, codes, Option, Some, None}
 use Rattle.std.specs.List.{flat_map, AllByRecursion}
 use Rattle.std.specs.Io.KnownBytes.{Appends}
@@ -33,7 +33,7 @@ abbrev pub waiting_in : QueueId → Linked → List (List ℕ)
 waiting_in (Packets apid) channel = none_or (waiting_packets channel.history.settings channel.history.journal apid)
 waiting_in (Units map_id) channel = none_or (waiting_units channel.history.settings channel.history.journal map_id)
 
--- the oldest item of a queue is taken, and the answer is that of a take or of the take of a unit
+-- the oldest item of a queue is taken, with the answer to a take of a packet or of a unit
 abbrev pub IsTakenFrom : QueueId → Linked → Answer → Linked → Type 0
 IsTakenFrom (Packets apid) old answer new = IsPacketTaken apid old answer new
 IsTakenFrom (Units map_id) old answer new = IsUnitTaken map_id old answer new

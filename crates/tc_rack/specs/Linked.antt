@@ -21,7 +21,7 @@ no_flag = record { no_rf = false; no_bit_lock = false }
 abbrev pub vcid_of : Linked → ℕ
 vcid_of channel = channel.history.settings.vcid
 
--- a channel that starts, with no flag of its link set
+-- a new channel, with no flag of its link set
 abbrev pub new_linked : Settings → Linked
 new_linked s = record {
   history = record { settings = s; journal = [] };
@@ -32,7 +32,7 @@ new_linked s = record {
 abbrev pub later : Event → Linked → Linked
 later event channel = record channel { history = with_event channel.history event }
 
--- a frame is answered, whatever is in its channel
+-- a frame is answered, in any state of its channel
 abbrev pub IsFrameAnswered : List ℕ → Linked → Answer → Linked → Type 0
 IsFrameAnswered frame old answer new =
     (answer ≡ answers.Frame (vcid_of old) (frame_reply old.history.settings old.history.journal frame)) × (new ≡ later (events.Frame frame) old)

@@ -1,4 +1,5 @@
--- The answer to an operation and the channels after it, as an equation with the journal of the channel that it names.
+-- The answer to an operation, and the channels after it. The answer is given as a function of the journal of the
+-- channel that the operation names.
 use Rattle.std.specs.Prelude.{◌≡◌, ◌⊎◌, ℕ, List}
 use Rattle.tc_link.specs.Frame.{BeginsWith, header_of}
 use Rattle.tc_link.specs.declared.location.LocateFault.{LocateFault}
@@ -14,7 +15,7 @@ use Rattle.tc_rack.specs.Rack.{Racked, HasChannel, IsOf, Changes, IsRackLocateFa
 abbrev pub IsUnknown : Racked → ℕ → Answer → Type 0
 IsUnknown rack vcid answer = ¬ HasChannel rack.channels vcid × (answer ≡ Refused UnknownChannel)
 
--- either the channel with this id gives this answer and all others are as before, or there is no such channel
+-- either the channel with this id gives this answer and all other channels are as before, or there is no such channel
 abbrev pub IsChannelAnswer : ℕ → (Linked → Answer → Linked → Type 0) → Racked → Answer → Racked → Type 0
 IsChannelAnswer vcid Answers old answer new =
     Changes old vcid (λ before after. Answers before answer after) new ⊎ (IsUnknown old vcid answer × (new ≡ old))

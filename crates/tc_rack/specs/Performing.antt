@@ -1,6 +1,6 @@
 -- Performing the lines of a script in order. At the first operation the channels are created from the set-up. A backend
--- defines which channels are new (`IsNew`), which answers operations get (`Answers`), and in which state channels are
--- left when memory runs out (`Spares`).
+-- defines new channels (`IsNew`), the answers to operations (`Answers`), and the states that channels are left in when
+-- memory runs out (`Spares`).
 use Rattle.std.specs.Prelude.{◌≡◌, ◌⊎◌, List, Option, Some, None}
 use Rattle.tc_channel.specs.declared.settings.Settings.{Settings}
 use Rattle.tc_setup.specs.declared.instruction.Instruction.{Instruction}
@@ -13,7 +13,7 @@ use Rattle.tc_rack.specs.declared.operation.Operation.TheVariants as operations
 use Rattle.tc_rack.specs.declared.stage.Stage.{Stage}
 use Rattle.tc_rack.specs.declared.stage.Stage.TheVariants.{SettingUp, Operating}
 
--- the channels that operations find: those that there are, or new ones if no operation came before
+-- the channels that an operation finds: those in operation, or new ones if no operation came before
 abbrev pub IsFound : {O : Type 0} → (List Settings → O → Type 0) → Stage O → O → Type 0
 IsFound IsNew (SettingUp list) found = IsNew list found
 IsFound IsNew (Operating there) found = found ≡ there
@@ -29,7 +29,7 @@ abbrev pub IsOperated : {O : Type 0} → (List Settings → O → Type 0) → (O
 IsOperated {O} IsNew Answers operation old answer new =
     (found after : O) × IsFound IsNew old found × Answers operation found answer after × (new ≡ Operating after)
 
--- an operation gets an answer that this relation allows between the stage before and the stage after
+-- the answer to an operation is one that this relation allows between the stage before and the stage after
 abbrev pub IsDoneSo : {O : Type 0} → (Operation → Stage O → Answer → Stage O → Type 0) → Operation → Stage O → Option Answer → Stage O → Type 0
 IsDoneSo Operates operation old answer new = (a : Answer) × Operates operation old a new × (answer ≡ Some a)
 

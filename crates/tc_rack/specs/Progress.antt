@@ -1,5 +1,5 @@
--- The progress of a script, by its lines alone. Its channels are set up first, and then each of them has the journal of
--- the operations so far.
+-- The progress of a script, as a function of its lines alone. Its channels are set up first, and then each of them has
+-- the journal of the operations so far.
 use Rattle.std.specs.Prelude.{◌≡◌, ℕ, List}
 use Rattle.tc_channel.specs.declared.settings.Settings.{Settings}
 use Rattle.tc_rack.specs.Operation.{IsAnswerOf}
@@ -13,7 +13,7 @@ use Rattle.tc_rack.specs.declared.stage.Stage.TheVariants.{SettingUp, Operating}
 abbrev pub Progress : Type 0
 Progress = Stage Racked
 
--- the channels that an operation finds: new ones if no operation came before
+-- the channels that an operation finds, which are new if no operation came before
 abbrev pub rack_for : ℕ → Progress → Racked
 rack_for scid (SettingUp list) = new_rack scid list
 rack_for scid (Operating rack) = rack
@@ -22,7 +22,7 @@ rack_for scid (Operating rack) = rack
 abbrev pub IsNewRack : ℕ → List Settings → Racked → Type 0
 IsNewRack scid list rack = rack ≡ new_rack scid list
 
--- An operation of a script is answered by the channels that it finds. Each answer is the reply of the channel that it
--- names, after the journal of the operations before it.
+-- An operation of a script is answered by the channels that it finds. The answer is the reply of the channel that the
+-- operation names, after the journal of the earlier operations.
 abbrev pub IsPerformed : ℕ → Operation → Progress → Answer → Progress → Type 0
 IsPerformed scid operation old answer new = IsOperated (IsNewRack scid) IsAnswerOf operation old answer new

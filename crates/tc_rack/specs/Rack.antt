@@ -1,4 +1,4 @@
--- The channels of one spacecraft, one after the other, and changes of them.
+-- The channels of one spacecraft in order, and changes of them.
 use Rattle.std.specs.Prelude.{◌≡◌, ◌≢◌, ℕ, Bool, true, false, List, AllPairs, Any, map, slice_get, slice_set, Option, Some, None}
 use Rattle.tc_link.specs.Frame.{BeginsWith, header_of, fault_of}
 use Rattle.tc_link.specs.declared.clcw.Link.{Link}
@@ -15,7 +15,7 @@ pub record Racked : Type 0 where
   pub scid : ℕ
   pub channels : List Linked
 
--- a rack that starts, with a channel for each of the settings
+-- a new rack, with a channel for each of the settings
 abbrev pub new_rack : ℕ → List Settings → Racked
 new_rack scid list = record { scid = scid; channels = map new_linked list }
 
@@ -35,13 +35,13 @@ IsChannelAt channels vcid place channel = (slice_get channels place ≡ Some cha
 abbrev pub IsOf : Racked → ℕ → (Linked → Type 0) → Type 0
 IsOf rack vcid Holds = (place : ℕ) × (channel : Linked) × IsChannelAt rack.channels vcid place channel × Holds channel
 
--- the channel with this id changes as this relation allows, and all others are as before
+-- the channel with this id changes as this relation allows, and all other channels are as before
 abbrev pub Changes : Racked → ℕ → (Linked → Linked → Type 0) → Racked → Type 0
 Changes old vcid Becomes new =
     (place : ℕ) × (before : Linked) × (after : Linked) × IsChannelAt old.channels vcid place before × Becomes before after
     × (new ≡ record old { channels = slice_set old.channels place after })
 
--- the reason why octets are for none of the channels: the first of these that applies
+-- the reason why octets are for none of the channels: the first in this list that applies
 abbrev pub IsRackLocateFault : Racked → List ℕ → LocateFault → Type 0
 IsRackLocateFault rack octets (Frame f) = fault_of octets ≡ Some f
 IsRackLocateFault rack octets OtherSpacecraft = (frame : List ℕ) × BeginsWith octets frame × ((header_of frame).scid ≢ rack.scid)

@@ -11,7 +11,7 @@ use std::io;
 use std::io::Write;
 
 /// Takes each packet of each queue, and then each unit of each chosen MAP, in the order of the settings, until no item
-/// waits. Writes the answer to each take, and then the CLCW. Each answer is written before the next is made.
+/// waits. Writes the answer to each take, and then the CLCW. Each answer is written before the next item is taken.
 pub(crate) fn hand_on<W: Write>(channel: &mut LinkedChannel, writer: &mut W) -> io::Result<()>
     ensures reported { OnOk result (AreAnswersWritten (W.contents writer.old) (W.contents writer.new) (λ answers. IsHandedOn channel.old answers channel.new)) }
     ensures settings { channel.new.history.settings ≡ channel.old.history.settings }

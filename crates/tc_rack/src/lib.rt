@@ -2,9 +2,8 @@
 //! the final report, which are also used for channels that threads share. A [`Stage`] has the set-up of a script, and
 //! later the channels that operate.
 //!
-//! A contract sees each channel of a [`Rack`] with its journal and the flags of its link. So the answer to an operation
-//! is given by an equation: it is the reply of the channel that the operation names, after the journal that this
-//! channel has.
+//! A contract sees each channel of a [`Rack`] with its journal and the flags of its link. So the contract of an
+//! operation is an equation: the answer is the reply that the channel of the operation gives after its journal.
 #![tactic(auto)]
 
 mod answer;

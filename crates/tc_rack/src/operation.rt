@@ -1,4 +1,4 @@
-//! Operations on the channels.
+//! Operations on channels.
 
 use tc_channel::Octets;
 

@@ -1,5 +1,5 @@
-//! Performing the lines of a script in order. They set channels up. At the first operation the channels are created,
-//! and from then on lines operate on them.
+//! Performing the lines of a script in order. The first lines set channels up. At the first operation the channels are
+//! created, and from then on lines operate on them.
 
 ghost use Rattle.std.specs.Prelude.{◌≡◌, ◌≢◌, ◌⊎◌, [], IfOk, IfErr, OnErr, OnOk};
 ghost use Rattle.tc_setup.specs.Phase.{Does, IsBad, IsBadOperation, Operates, Setup};
@@ -14,20 +14,20 @@ use std::alloc::Global;
 use tc_setup::{Configuration, Instruction};
 use tc_text::Reason;
 
-/// The creation of a script's channels, in a form of its own, and the operations on them.
+/// A way to create a script's channels, and to carry out operations on them.
 pub trait Backend {
     ghost use Rattle.std.specs.Prelude.{List};
     ghost use Rattle.tc_channel.specs.declared.settings.Settings.{Settings};
     ghost use Rattle.tc_rack.specs.declared.answer.Answer.{Answer};
     ghost use Rattle.tc_rack.specs.declared.operation.Operation.{Operation};
 
-    /// The channels in that form.
+    /// The channels that are created in this way.
     type Founded: Drop;
 
     // the channels are new, and have these settings
     ghost is_new: { Self → List Settings → Self.Founded → Type 0 };
 
-    // the channels give this answer to an operation, and become those after it
+    // the channels give this answer to an operation, and change in this way
     ghost answers: { Operation → Self.Founded → Answer → Self.Founded → Type 0 };
 
     // an operation at which memory runs out may change the channels in this way
@@ -84,8 +84,8 @@ impl Backend for RackBackend {
 }
 
 /// Performs a line. Only an operation has an answer. A line that is refused leaves everything as it is. If memory runs
-/// out at an operation, the channels are left as the backend promises, and they may have been created if it was the
-/// first operation.
+/// out at an operation, the channels are left as the backend promises. If it was the first operation, the channels may
+/// have been created.
 pub fn perform<F: Backend>(
     backend: &F,
     alloc: Global,

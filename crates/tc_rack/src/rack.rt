@@ -40,8 +40,8 @@ impl Model for Rack {
 }
 
 impl Rack {
-    /// Creates a channel for each of those that were set up, with no flag of its link set. The call allocates a list,
-    /// and the memory of each channel.
+    /// Creates the channels that were set up, with no flag of their links set. A list is allocated, and the memory of
+    /// each channel.
     pub fn new(alloc: Global, scid: u16, configuration: Configuration) -> Result<Rack, NoMemory>
         ensures { IfOk result (λ rack. rack ≡ new_rack scid configuration) }
     {
@@ -140,7 +140,8 @@ impl Rack {
     /// Ends a delivery, which an [`Operation::Release`] begins. Takes each packet of each queue of a channel, and then
     /// each unit of each chosen MAP, in the order of the set-up, until no item waits. Writes the answer to each take,
     /// and then the CLCW, each with a line feed. If there is no such channel, nothing is written. Nothing is allocated,
-    /// and each answer is written before the next is made. If the writer fails, the item that was taken last is lost.
+    /// and each answer is written before the next item is taken. If the writer fails, the item that was taken last is
+    /// lost.
     pub fn hand_on<W: Write>(&mut self, vcid: u8, writer: &mut W) -> io::Result<()>
         ensures { OnOk result (AreAnswersWritten (W.contents writer.old) (W.contents writer.new) (λ answers. IsDeliveryEnded vcid self.old answers self.new)) }
     {
@@ -188,7 +189,7 @@ fn place_of(channels: &[LinkedChannel], vcid: u8) -> Option<usize>
     channels.iter().position(|channel| channel.vcid() == vcid)
 }
 
-// Creates a channel for each of the settings.
+// Creates a channel from each of the settings.
 fn make(alloc: Global, list: Vec<Settings>) -> Result<Vec<LinkedChannel>, NoMemory>
     ensures { IfOk result (λ channels. channels.items ≡ map new_linked list.items) }
 {

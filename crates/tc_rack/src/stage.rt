@@ -1,4 +1,4 @@
-//! The progress of a script: first its channels are set up, then it operates.
+//! The progress of a script: its channels are set up first, and then its lines operate on them.
 
 ghost use Rattle.std.specs.Prelude.{◌≡◌, ◌⊎◌, IfErr, OnOk, OnErr};
 ghost use Rattle.tc_setup.specs.Phase.{Does, IsBad};
@@ -9,13 +9,12 @@ use tc_channel::Settings;
 use tc_setup::{Addition, Configuration, Instruction};
 use tc_text::Reason;
 
-/// The progress of a script. The channels that operate are created at the first operation, from those that are set up
-/// by then.
+/// The progress of a script. At the first operation the channels are created, from all that are set up by then.
 #[derive(Drop)]
 pub enum Stage<O> {
     /// The channels that are set up so far.
     SettingUp(Configuration),
-    /// The channels after an operation came.
+    /// The channels in operation, once the first operation has come.
     Operating(O),
 }
 

@@ -1,4 +1,5 @@
--- The APIDs of a channel's queues: those of no queue, the meaning of an entry, and those of all channels.
+-- Tables of the APIDs of channels' queues: the table without queues, the meaning of an entry, and the tables of all
+-- channels of a configuration.
 use Rattle.tc_setup.proofs.Names.{◌≡◌, ℕ, zero, suc, ◌<◌, ◌≤◌, Bool, true, false, true≢false, ◌||◌, eqb, List, [], ◌∷◌, ◌++◌, length, get_or, set, replicate, refl, sym, ◌∙◌, ap, subst, arith, eqb-true, eq-eqb, length-replicate, length-set, Any-from_list_any, list_any-from_Any, AllZip, list_any, Any, QueueSetting, Settings, AreApidsOf, AreApidsOfEach}
 
 all-alike : (n k : ℕ) → get_or (replicate n false) k false ≡ false
@@ -13,7 +14,7 @@ no-queue apids is = record {
   reported = λ apid small. ap (λ (t : List Bool). get_or t apid false) is ∙ all-alike 2047 apid;
 }
 
--- an entry is true exactly when a queue has the APID
+-- an entry is set if and only if a queue has the APID
 pub there : (queues : List QueueSetting) (apids : List Bool) (apid : ℕ) → apid ≤ 2046 → AreApidsOf queues apids → get_or apids apid false ≡ true → Any (λ (q : QueueSetting). q.apid ≡ apid) queues
 there queues apids apid small a is =
     let (i, d, lt, e, same) = Any-from_list_any (λ (q : QueueSetting). eqb q.apid apid) queues (sym (a.reported apid small) ∙ is) in
@@ -23,8 +24,8 @@ pub not-there : (queues : List QueueSetting) (apids : List Bool) (apid : ℕ) �
 not-there queues apids apid small a is (i, d, lt, e, same) =
     true≢false (sym (list_any-from_Any (λ (q : QueueSetting). eqb q.apid apid) queues (i, d, lt, e, eq-eqb d.apid apid same)) ∙ (sym (a.reported apid small) ∙ is))
 
--- Facts about two lists whose items are related pair by pair: one more pair, one pair in place of another, and the pair
--- at a place.
+-- Facts about two lists whose items are related in pairs: a pair is appended, a pair is replaced, and a pair is read at
+-- its place.
 module _ {X Y : Type 0} (R : X → Y → Type 0) where
   pub push-pair : (xs : List X) (ys : List Y) (x : X) (y : Y) → AllZip R xs ys → R x y → AllZip R (xs ++ x ∷ []) (ys ++ y ∷ [])
   push-pair [] [] x y all one = (one, all)
@@ -51,7 +52,7 @@ module _ {X Y : Type 0} (R : X → Y → Type 0) where
   as-many (a ∷ xs) [] all = absurd all
   as-many (a ∷ xs) (b ∷ ys) all = ap suc (as-many xs ys all.1)
 
--- the APIDs of each channel of a configuration
+-- the tables of the APIDs of each channel of a configuration
 module _ (list : List Settings) (tables : List (List Bool)) (each : AreApidsOfEach list tables) where
   abbrev of-one : Settings → List Bool → Type 0
   of-one s apids = AreApidsOf s.queues apids

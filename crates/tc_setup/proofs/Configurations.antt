@@ -28,7 +28,7 @@ few (none ∷ rest) c =
     in
     rw (← length-map list of) (length-le_from_distinct_below (map of list) 64 (IsDistinct-from_AllPairs Decides-eqb (map of list) apart) small)
 
--- the settings that were read at the place that was found are those with the id
+-- the settings at the place that a search for an id returned are those with the id
 pub found : (list : List Settings) (vcid place : ℕ) (x : Settings) → (s : Settings) × IsAt list vcid place s → x ≡ get_or list place x → IsAt list vcid place x
 found list vcid place x (s, (at, v)) is = subst (IsAt list vcid place) (sym (is ∙ get_or_from_slice_get list place s x at)) (at, v)
 
@@ -44,7 +44,7 @@ pub not-there : (list : List Settings) (vcid : ℕ) (place : Option ℕ) → is_
 not-there list vcid None e h = h
 not-there list vcid (Some place) e h = absurd cc
 
--- a configuration with one more channel, whose id no other has, is still a configuration
+-- a configuration with one more channel, whose id no other channel has, is still a configuration
 pub one-more : (list : List Settings) (s : Settings) → IsConfiguration list → ¬ HasSettings list s.vcid → IsAllowed s → IsConfiguration (list ++ s ∷ [])
 one-more list s c new allowed = record {
   distinct = all_pairs_push (λ (p q : Settings). p.vcid ≢ q.vcid) list s c.distinct
@@ -52,11 +52,11 @@ one-more list s c new allowed = record {
   allowed = All-push IsAllowed list s c.allowed allowed;
 }
 
--- a place that was found is a place of the list
+-- a place that was found is within the list
 pub within : (list : List Settings) (vcid place : ℕ) → (s : Settings) × IsAt list vcid place s → place < length list
 within list vcid place (s, (at, v)) = slice_get_within list place s at
 
--- with other settings of the same id in place of some, a configuration still is one
+-- if settings are replaced by others with the same id, a configuration is still a configuration
 pub other-settings : (list : List Settings) (place : ℕ) (old new : Settings) → IsConfiguration list → place < length list → old ≡ get_or list place old → new.vcid ≡ old.vcid → IsAllowed new
     → IsConfiguration (set list place new)
 other-settings list place old new c lt is same allowed = record {

@@ -7,7 +7,7 @@ use Rattle.tc_channel.specs.Settings.{IsAllowed}
 use Rattle.tc_setup.specs.declared.instruction.Addition.{Addition}
 use Rattle.tc_setup.specs.declared.instruction.Addition.TheVariants.{Queue, Map}
 
--- a station can have these settings, as soon as there are any
+-- a station can be created from these settings, if there are any
 pub record IsConfiguration (list : List Settings) : Type 0 where
   pub distinct : AllPairs (λ (p q : Settings). p.vcid ≢ q.vcid) list
   pub allowed : All IsAllowed list
@@ -29,7 +29,7 @@ abbrev pub with_addition : Settings → Addition → Settings
 with_addition s (Queue queue) = record s { queues = s.queues ++ queue ∷ [] }
 with_addition s (Map chosen) = record s { maps = s.maps ++ chosen ∷ [] }
 
--- one more channel is set up, with an id that no other has
+-- one more channel is set up, with an id that no other channel has
 abbrev pub AddsChannel : List Settings → Settings → List Settings → Type 0
 AddsChannel list s new = ¬ HasSettings list s.vcid × IsAllowed s × (new ≡ list ++ s ∷ [])
 
@@ -38,11 +38,11 @@ abbrev pub AddsToChannel : List Settings → ℕ → Addition → List Settings 
 AddsToChannel list vcid addition new =
     (place : ℕ) × (s : Settings) × IsAt list vcid place s × IsAllowed (with_addition s addition) × (new ≡ slice_set list place (with_addition s addition))
 
--- the list tells for each APID whether a queue has it
+-- the list has a flag for each APID, which is set if and only if a queue has the APID
 pub record AreApidsOf (queues : List QueueSetting) (apids : List Bool) : Type 0 where
   pub size : length apids ≡ 2047
   pub reported : (apid : ℕ) → apid ≤ 2046 → get_or apids apid false ≡ list_any (λ (q : QueueSetting). q.apid == apid) queues
 
--- each list tells for each APID whether a queue of its channel has it
+-- each list has a flag for each APID, which is set if and only if a queue of the list's channel has the APID
 abbrev pub AreApidsOfEach : List Settings → List (List Bool) → Type 0
 AreApidsOfEach = AllZip (λ (s : Settings) (apids : List Bool). AreApidsOf s.queues apids)

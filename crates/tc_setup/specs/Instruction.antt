@@ -1,4 +1,4 @@
--- The instructions that the lines of a script are.
+-- Instructions, which are the meanings of the lines of a script.
 use Rattle.std.specs.Prelude.{[]}
 use Rattle.tc_text.specs.declared.line.Line.{Line}
 use Rattle.tc_text.specs.declared.line.Line.TheVariants.{Blank, Channel, Queue, Map, Frame, Release, Take, Unit as TakeUnit, Clcw}

@@ -11,17 +11,17 @@ use Rattle.tc_setup.specs.declared.instruction.Addition.{Addition}
 use Rattle.tc_setup.specs.declared.instruction.Instruction.{Instruction}
 use Rattle.tc_setup.specs.declared.instruction.Instruction.TheVariants.{Nothing, Channel, Add, Frame, Release, Take, Unit as TakeUnit, Clcw}
 
--- The phase of a script. Before the first operation it has the settings of the channels so far. From then on nothing
--- more is set up.
+-- The phase of a script. Before the first operation it has the settings of the channels so far. From the first
+-- operation on, nothing more is set up.
 pub data Phase : Type 0 where
   Setup : List Settings → Phase
   Operation : Phase
 
--- an operation needs a channel
+-- an operation needs a channel, and ends the set-up
 abbrev pub Operates : Phase → Phase → Type 0
 Operates phase new = (phase ≢ Setup []) × (new ≡ Operation)
 
--- the effect of a line that isn't bad, by its instruction
+-- the effect of the instruction of a good line
 abbrev pub Does : Phase → Instruction → Phase → Type 0
 Does phase Nothing new = new ≡ phase
 Does phase (Channel settings) new =
@@ -34,16 +34,16 @@ Does phase (Take vcid apid) new = Operates phase new
 Does phase (TakeUnit vcid map_id) new = Operates phase new
 Does phase (Clcw vcid) new = Operates phase new
 
--- no channel can have the settings, for this reason
+-- this is the reason why no channel can have the settings
 abbrev pub IsSettingsReason : Settings → Reason → Type 0
 IsSettingsReason s reason = (fault : SettingsFault) × (reason ≡ reason_of fault) × IsFault s fault
 
--- the reason why a channel can't be set up in addition to these
+-- the reason why a channel can't be set up in addition to these channels
 abbrev pub IsChannelRefused : List Settings → Settings → Reason → Type 0
 IsChannelRefused list s reason =
     (HasSettings list s.vcid × (reason ≡ DoubleChannel)) ⊎ (¬ HasSettings list s.vcid × IsSettingsReason s reason)
 
--- the reason why none of these channels gets the queue or chosen MAP
+-- the reason why the queue or chosen MAP can't be added to the channel with this id
 abbrev pub IsAdditionRefused : List Settings → ℕ → Addition → Reason → Type 0
 IsAdditionRefused list vcid addition reason =
     (¬ HasSettings list vcid × (reason ≡ UnknownChannel))
@@ -60,7 +60,7 @@ IsBadAddition (Setup list) vcid addition reason = IsAdditionRefused list vcid ad
 abbrev pub IsBadOperation : Phase → Reason → Type 0
 IsBadOperation phase reason = (phase ≡ Setup []) × (reason ≡ NoChannel)
 
--- the reason why a line is bad, by its instruction, apart from running out of memory
+-- the reason, other than lack of memory, why the line of an instruction is bad
 abbrev pub IsBad : Phase → Instruction → Reason → Type 0
 IsBad phase Nothing reason = ⊥
 IsBad phase (Channel settings) reason = IsBadChannel phase settings reason

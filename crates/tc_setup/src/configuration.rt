@@ -15,7 +15,8 @@ use std::marker::Model;
 use tc_channel::{MapSetting, QueueSetting, Settings, SettingsFault};
 use tc_text::Reason;
 
-/// The settings of the channels so far, in the order of their lines. A station can have them as soon as there are any.
+/// The settings of the channels so far, in the order of their lines. Once there is at least one channel, a station can
+/// be created from them.
 #[derive(Drop)]
 pub struct Configuration {
     channels: Vec<Settings>,
@@ -177,7 +178,7 @@ fn add_checked(
     }
 }
 
-// Checks whether a channel whose queues have these APIDs can have this queue, too. The settings without the queue are
+// Checks whether a queue can be added to a channel whose queues have these APIDs. The settings without the queue are
 // allowed, so only the queue is looked at.
 fn check_queue(apids: &Apids, queue: QueueSetting) -> Result<(), SettingsFault>
     ensures { (s : Settings) → IsAllowed s → AreApidsOf s.queues apids.now → MatchResult result (λ _. IsAllowed (with_addition s (Addition.Queue queue))) (IsFault (with_addition s (Addition.Queue queue))) }
@@ -194,7 +195,7 @@ fn check_queue(apids: &Apids, queue: QueueSetting) -> Result<(), SettingsFault>
     Ok(())
 }
 
-// Checks whether a channel can have this chosen MAP, too.
+// Checks whether a chosen MAP can be added to a channel with these settings.
 fn check_map(settings: &Settings, map: MapSetting) -> Result<(), SettingsFault>
     requires { IsAllowed settings.now }
     ensures { MatchResult result (λ _. IsAllowed (with_addition settings.now (Addition.Map map))) (IsFault (with_addition settings.now (Addition.Map map))) }

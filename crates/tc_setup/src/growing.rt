@@ -7,7 +7,7 @@ use std::mem;
 use tc_channel::Items;
 use tc_text::Reason;
 
-/// Appends an item. If memory is refused, the items stay as they are.
+/// Appends an item. If memory runs out, the items stay as they are.
 pub fn append<T: Drop>(alloc: Global, items: &mut Items<T>, item: T) -> Result<(), Reason>
     ensures done { OnOk result (items.new ≡ items.old ++ item ∷ []) }
     ensures reason { IfErr result (λ reason. reason ≡ Reason.NoMemory) }

@@ -1,4 +1,4 @@
-//! The instructions that the lines of a script are.
+//! Instructions, which are the meanings of the lines of a script.
 
 ghost use Rattle.std.specs.Prelude.{◌≡◌};
 ghost use Rattle.tc_setup.specs.Instruction.{instruction_of};
@@ -16,7 +16,7 @@ pub enum Addition {
     Map(MapSetting),
 }
 
-/// The instruction of a line. The fields of a channel line become settings nowhere but here.
+/// The instruction of a line. The fields of a channel line become settings only in [`Instruction::of`].
 #[derive(Drop)]
 pub enum Instruction {
     /// A line without an instruction.

@@ -1,8 +1,8 @@
 //! The instructions of a script's lines, and the channels that lines set up.
 //!
 //! [`Instruction::of`] returns the instruction of a line. A [`Configuration`] has the settings of the channels so far.
-//! Each of these settings is allowed, and no two have the same id, so that a station can have them as soon as there are
-//! any.
+//! Each of these settings is allowed, and no two have the same id. So once there is at least one channel, a station can
+//! be created from them.
 #![tactic(auto)]
 
 mod apids;

@@ -1,4 +1,4 @@
--- The first line, found by a search for its line feed.
+-- The first line is found by a search for its line feed.
 use Rattle.std.proofs.Common.{◌≡◌, ◌≢◌, ◌<◌, ℕ, Some, None, List, [], ◌∷◌, ◌++◌, suc, ◌+◌, length, length-drop, length-take-le, take, drop, get_or, get_or-take, drop-cons, take-append-drop, All, inl, inr, refl, sym, ap, ◌∙◌, subst, arith}
 use Rattle.std.proofs.lemmas.Bool.{eqb-true, eq-eqb}
 use Rattle.std.proofs.lemmas.List.Elements.{All-from_get_or}

@@ -1,4 +1,4 @@
--- The meaning of a line of a script, by its words.
+-- The meaning of a line of a script, as a function of its words.
 use Rattle.std.specs.Prelude.{ℕ, Bool, true, false, Option, ◌==◌, List, [], ◌∷◌, codes, Some, None, Result, Ok, Err, if◌then◌else◌}
 use Rattle.hex.specs.Hex.{decode_of}
 use Rattle.hex.specs.declared.FromHexError.{FromHexError}
@@ -9,20 +9,20 @@ use Rattle.tc_text.specs.declared.fault.Reason.TheVariants.{UnknownCommand, Word
 use Rattle.tc_text.specs.declared.line.Line.{Line}
 use Rattle.tc_text.specs.declared.line.Line.TheVariants.{Blank, Channel, Queue, Map, Frame, Release, Take, Unit as TakeUnit, Clcw}
 
--- the word that remains, if there is one; more than one is too many
+-- the word that is left, if there is one, or an error if more than one is left
 abbrev pub last_of : List (List ℕ) → Result (Option (List ℕ)) Reason
 last_of [] = Ok None
 last_of (word ∷ []) = Ok (Some word)
 last_of (word ∷ more ∷ rest) = Err WordCount
 
--- the words of a line that takes two
+-- the two words that follow a command, or an error if there aren't exactly two
 abbrev pub two_of : List (List ℕ) → Result (List ℕ × List ℕ) Reason
 two_of [] = Err WordCount
 two_of (first ∷ []) = Err WordCount
 two_of (first ∷ second ∷ []) = Ok (first, second)
 two_of (first ∷ second ∷ more ∷ rest) = Err WordCount
 
--- the words of a line that takes three
+-- the three words that follow a command, or an error if there aren't exactly three
 abbrev pub three_of : List (List ℕ) → Result (List ℕ × List ℕ × List ℕ) Reason
 three_of [] = Err WordCount
 three_of (first ∷ []) = Err WordCount
@@ -91,7 +91,7 @@ clcw_command [] = Err WordCount
 clcw_command (v ∷ []) = with_number 255 v (λ vcid. Ok (Clcw vcid))
 clcw_command (v ∷ more ∷ rest) = Err WordCount
 
--- the meaning of the words of a line, or the first of the reasons for which they have none
+-- the meaning of the words of a line, or the first of the reasons why the line is bad
 unfoldable pub line_of : List (List ℕ) → Result Line Reason
 line_of [] = Ok Blank
 line_of (command ∷ arguments) =

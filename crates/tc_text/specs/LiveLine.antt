@@ -1,4 +1,4 @@
--- The meaning of a line for a live receiver, by its words.
+-- The meaning of a line for a live receiver, as a function of its words.
 use Rattle.std.specs.Prelude.{ℕ, Bool, true, false, ◌==◌, List, [], ◌∷◌, codes, Some, None, Result, Ok, Err, if◌then◌else◌}
 use Rattle.tc_text.specs.Line.{line_of, three_of}
 use Rattle.tc_lines.specs.Number.{word_number}
@@ -55,8 +55,8 @@ candidate_command (digits ∷ more ∷ rest) = Err WordCount
 abbrev pub scripted : Result Line Reason → Result LiveLine Reason
 scripted said = after_ok said (λ line. Ok (Script line))
 
--- the meaning of the words of a line: `link`, `report`, `deliver`, `collect` and `candidate` are for a live receiver
--- alone
+-- The meaning of the words of a line. Only a live receiver takes the commands `link`, `report`, `deliver`, `collect`
+-- and `candidate`.
 unfoldable pub live_line_of : List (List ℕ) → Result LiveLine Reason
 live_line_of [] = Ok (Script Blank)
 live_line_of (command ∷ arguments) =

@@ -8,11 +8,11 @@ use Rattle.tc_text.specs.declared.fault.Reason.TheVariants.{UnknownCommand, Word
 use Rattle.tc_text.specs.declared.fault.ScriptFault.{ScriptFault}
 use Rattle.tc_text.specs.declared.fault.ScriptFault.TheVariants as faults
 
--- the octets of a unit, or a mark of its own if it has none
+-- the hexadecimal digits of a unit, or `-` if it has no octets
 abbrev pub unit_text : List ℕ → List ℕ
 unit_text octets = if length octets == 0 then codes "-" else octets_text octets
 
--- the four octets of a control word, the most significant first
+-- the hexadecimal digits of the four octets of a control word, the most significant octet first
 abbrev pub word_text : ℕ → List ℕ
 word_text word = octets_text (to_be_bytes w32 word)
 
@@ -21,7 +21,7 @@ abbrev pub delivery_text : Delivery → List ℕ
 delivery_text delivery =
     codes "queued " ++ decimal delivery.queued ++ codes " dropped " ++ decimal delivery.dropped ++ codes " rest " ++ flag_text delivery.rest
 
--- the text of a reason for which a line is bad
+-- the text of a reason why a line is bad
 abbrev pub reason_text : Reason → List ℕ
 reason_text UnknownCommand = codes "unknown command"
 reason_text WordCount = codes "wrong number of words"

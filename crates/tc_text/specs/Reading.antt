@@ -4,8 +4,8 @@ use Rattle.tc_text.specs.declared.fault.Reason.TheVariants.{NoMemory}
 use Rattle.tc_text.specs.declared.fault.ScriptFault.{ScriptFault}
 use Rattle.tc_text.specs.declared.fault.ScriptFault.TheVariants.{Line, Read, TooLong, Write, Unbalanced}
 
--- the octets are a line without a line feed, and the octets after it: a line ends at a line feed, or at the end of the
--- octets
+-- `line` is the first line of the octets, without its line feed, and `after` is the octets that follow it. A line ends
+-- at a line feed, or at the end of the octets.
 pub record IsFirstLine (octets line after : List ℕ) : Type 0 where
   pub one : All (λ octet. octet ≢ 10) line
   pub parts : (octets ≡ line ++ 10 ∷ after) ⊎ ((octets ≡ line) × (after ≡ []))
@@ -15,7 +15,8 @@ pub record IsFirstLine (octets line after : List ℕ) : Type 0 where
 abbrev pub script_limit : ℕ
 script_limit = 1048576
 
--- a fault for which a script isn't read; if the octets of the reader are known, `TooLong` says that there are too many
+-- A fault that stops the reading of a script. If the octets of the reader are known, `TooLong` means that there are
+-- more than a script may have.
 abbrev pub IsReadFault : Option (List ℕ) → ScriptFault → Type 0
 IsReadFault known Read = Unit {0}
 IsReadFault known TooLong = IfSome known (λ octets. script_limit < length octets)

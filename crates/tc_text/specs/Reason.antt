@@ -1,10 +1,10 @@
--- The reasons for which no channel can have the settings of a line.
+-- The reasons why no channel can have the settings of a line.
 use Rattle.tc_channel.specs.declared.settings.SettingsFault.{SettingsFault}
 use Rattle.tc_channel.specs.declared.settings.SettingsFault.TheVariants as faults
 use Rattle.tc_text.specs.declared.fault.Reason.{Reason}
 use Rattle.tc_text.specs.declared.fault.Reason.TheVariants.{BadVcid, BadWindow, BadBuffer, BadApid, DoubleApid, BadCapacity, BadMap, DoubleMap, BadUnits, PlainMap, NoMemory}
 
--- the reason for a fault of the settings
+-- the reason that reports a fault of the settings
 abbrev pub reason_of : SettingsFault → Reason
 reason_of faults.BadVcid = BadVcid
 reason_of faults.BadWindow = BadWindow

@@ -1,4 +1,4 @@
-//! The reasons for which a script ends early.
+//! The reasons why a script ends early.
 
 ghost use Rattle.std.specs.Prelude.{◌≡◌, Some};
 ghost use Rattle.tc_text.specs.Printed.{reason_text, fault_text};
@@ -9,7 +9,7 @@ use std::fmt;
 use tc_channel::SettingsFault;
 use tc_lines::BadNumber;
 
-/// A reason for which a line is bad. If several apply, the first in this list is reported, with two exceptions:
+/// A reason why a line is bad. If several apply, the first in this list is reported, with two exceptions:
 /// `BadOption` comes right before `TooLate`, and `NoMemory` is reported as soon as memory runs out.
 #[derive(Clone, Copy, Debug, PartialEq, Eq)]
 pub enum Reason {

@@ -22,12 +22,12 @@ pub enum LiveLine {
     Link { vcid: u8, link: Link },
     /// A request for a report on a virtual channel.
     Report(u8),
-    /// A release of the oldest data field in the buffer of a virtual channel, followed by takes of all that waits in
-    /// its queues.
+    /// A release of the oldest data field in the buffer of a virtual channel, followed by takes of all items that wait
+    /// in the channel's queues.
     Deliver(u8),
-    /// A collection: takes of all that waits in the queues of a virtual channel.
+    /// A collection: takes of all items that wait in the queues of a virtual channel.
     Collect(u8),
-    /// A candidate: the octets that a CLTU carried, which are a frame and the fill behind it.
+    /// A candidate: the octets that a CLTU carried, which are a frame and the fill after it.
     Candidate(Octets),
 }
 

@@ -19,7 +19,7 @@ pub(crate) fn next_argument(octets: &[u8]) -> Result<(&[u8], &[u8]), Reason>
     }
 }
 
-/// Returns the last word, if one is left.
+/// Returns the last word of a command, or `None` if no word is left.
 pub(crate) fn last_argument(octets: &[u8]) -> Result<Option<&[u8]>, Reason>
     ensures { MatchResult result
         (λ last. last_of (words octets.now) ≡ Ok (option_map (λ word. word.now) last))
@@ -34,7 +34,7 @@ pub(crate) fn last_argument(octets: &[u8]) -> Result<Option<&[u8]>, Reason>
     }
 }
 
-/// Returns the words of a command that takes two.
+/// Returns the two words that follow a command, if there are exactly two.
 pub(crate) fn two_arguments(octets: &[u8]) -> Result<(&[u8], &[u8]), Reason>
     ensures { MatchResult result
         (λ parts. two_of (words octets.now) ≡ Ok (parts.0.now, parts.1.now))
@@ -46,7 +46,7 @@ pub(crate) fn two_arguments(octets: &[u8]) -> Result<(&[u8], &[u8]), Reason>
     Ok((first, second))
 }
 
-/// Returns the words of a command that takes three.
+/// Returns the three words that follow a command, if there are exactly three.
 pub(crate) fn three_arguments(octets: &[u8]) -> Result<(&[u8], &[u8], &[u8]), Reason>
     ensures { MatchResult result
         (λ parts. three_of (words octets.now) ≡ Ok (parts.0.now, parts.1.now, parts.2.now))

@@ -2,7 +2,7 @@ use Rattle.tc_rack.specs.Delivery.{unit_queues}
 use Rattle.tc_rack.proofs.Delivered.{AreSoFar}
 use Rattle.tc_rack.proofs.delivery.empty_unit_queues.Given as goal
 
--- the queues so far are emptied
+-- the queues that the loop has passed are emptied
 abbrev pub invariant-loop-place : goal.invariant-loop-place
 invariant-loop-place g l =
     AreSoFar (unit_queues l.initial.channel.history.settings) l.initial.channel l.channel (g.W.Write.contents l.initial.writer) (g.W.Write.contents l.writer) l.place
