@@ -22,15 +22,16 @@ use tc_write::the_segments_of_a_unit_make_the_unit;
 
 /// Threads work at the channels of a station, each with an operator of its own, in any order, and the station is closed
 /// together with these operators. `from_a_sender_to_packets` (tc_station) ties the journal of each channel that the
-/// station gives out to their calls. Here the premises on this journal are those of a loop, in place of those of its
-/// clause `sent`. So threads are part of the link, which keeps order.
+/// station gives out to their calls. This law doesn't have the premises of that law's clause `sent`. Instead it
+/// supposes that the journal is that of a session of a loop. A loop's links keep order, and the threads are part of the
+/// link.
 ///
-/// - `passed`: If the journal is that of a session of a loop, the Type-AD data fields of the era that were released are
-///   those that were sent, each once and in order.
+/// - `passed`: The Type-AD data fields of the era that were released are those that were sent, each once and in order.
 /// - `given`: Takes gave the packets that `packets_that_are_sent_are_given` (tc_ends) promises for the packets that the
 ///   sender sent.
-/// - `in_cltus`: This also holds over both edges, from a ground system's packets, over the start of an era and in CLTUs
-///   with wrong bits, to the packets that takes gave. The premises are those of `packets_in_cltus_are_given` (tc_ends).
+/// - `in_cltus`: This also holds for the whole way, from a ground system's packets, over the start of an era and in
+///   CLTUs with wrong bits, to the packets that takes gave. The premises are those of `packets_in_cltus_are_given`
+///   (tc_ends).
 pub fn a_station_gives_out_what_a_loop_sent()
     ensures passed { (station : Roster) (operators : List AtStation) (closed : List History) (place : ℕ) (channel : History) (l : Loop) (session : List Action)
         → AreClosedTogether station operators closed → slice_get closed place ≡ Some channel → slice_get (settings_in station) place ≡ Some l.settings → l.limits ≡ no_limits

@@ -1,4 +1,4 @@
--- A FARM-1 that starts can be read from its record, and so can that of a channel after each lawful journal.
+-- A FARM-1 that starts can be read from its record, and so can the FARM-1 of a channel after each lawful journal.
 use Rattle.tc_c.proofs.Names.{◌≡◌, ℕ, Bool, true, false, List, [], ◌∷◌, Ok, Err, refl, if◌then◌else◌, arith, IsSome, Report, header_of, Machine, E10, row_of, entry_at, entry, first_report, BadWidth, IsFarm, is_width, first_farm, left}
 use Rattle.tc_link.specs.declared.farm.Arrival.{Arrival}
 use Rattle.tc_link.specs.declared.farm.Arrival.TheVariants as arrivals

@@ -19,7 +19,7 @@ use Rattle.tc_c.specs.declared.status.Status.TheVariants as st
 -- frame, or with none whose frame error control field is right. From 10 on, nothing is written. The next ranges are for
 -- calls on FARM-1 (from 20 on), on CLCWs (30), on packets (40), and with buffers and pointers (50). From 60 on, no
 -- channel is created from settings. From 70 on, a call on a channel fails. From 80 on, no channel is created with
--- limits. From 90 on, the status is one of CLTUs and telemetry frames.
+-- limits. From 90 on, the statuses are for CLTUs and telemetry frames.
 abbrev pub entry_of : Status → ℕ × List ℕ
 entry_of st.Done = (0, codes "done")
 entry_of st.Short = (1, codes "fewer than 5 octets")
@@ -111,7 +111,7 @@ frame_status frames.Spare = st.Spare
 frame_status frames.LengthSmall = st.LengthSmall
 frame_status frames.Truncated = st.Truncated
 
--- the reason why octets are for none of the channels: the fault of their frame, or another one
+-- the status with the name of a reason why octets are for none of the channels
 abbrev pub locate_status : LocateFault → Status
 locate_status (locations.Frame fault) = frame_status fault
 locate_status locations.OtherSpacecraft = st.OtherSpacecraft
@@ -123,7 +123,7 @@ write_status writing.EmptyData = st.EmptyData
 write_status writing.TooLong = st.TooLong
 write_status writing.NoMemory = st.NoMemory
 
--- the reason why a frame error control field isn't added, and the reason why none is taken
+-- the status with the name of a reason why a frame error control field isn't added or isn't taken off
 abbrev pub field_status : FieldFault → Status
 field_status (fields.NoFrame fault) = frame_status fault
 field_status fields.Fill = st.Fill

@@ -31,8 +31,8 @@ packet_allowed field header =
 abbrev pub packet_to_write : PacketHeaderRecord → List ℕ → Result PacketHeader Status
 packet_to_write header field = with_ok (packet_header_in header) (packet_allowed field)
 
--- the header of the frame that carries the segment at a place of a unit, by the header of the first one (no Type-C
--- frame has a segment header)
+-- the header of the frame that carries the segment at a place of a unit, given the header of the unit's first frame (no
+-- Type-C frame has a segment header)
 abbrev pub segment_allowed : ℕ → ℕ → ℕ → List ℕ → Header → Result Header Status
 segment_allowed map size place unit header =
     if header.control || (nat_lt 1023 header.scid || nat_lt 63 header.vcid) then Err BadField

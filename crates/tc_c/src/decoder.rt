@@ -29,7 +29,7 @@ pub struct DecoderRecord {
     pub carried: u16,
 }
 
-/// The outcome for octets.
+/// The outcome of a call that takes octets.
 #[repr(C)]
 #[derive(Clone, Copy)]
 pub struct DecodedRecord {
@@ -45,16 +45,15 @@ pub struct DecodedRecord {
     pub corrected: u64,
     /// The number of code blocks that ended in these octets and were rejected, except for tail sequences.
     pub rejected: u64,
-    /// The number of CLTUs that came to carry more than 1,029 octets in these octets. Each of them ends no candidate
-    /// frame.
+    /// The number of CLTUs that passed 1,029 carried octets within these octets. None of them ends a candidate frame.
     pub overlong: u64,
 }
 
 /// Takes the next octets of a stream (CCSDS 231.0-B), as the `Decoder` of tc_cltu does: all of them, or those up to the
-/// first octet that ends a candidate frame, that octet included. A decoder that begins has only zeros, apart from its
-/// mode.
+/// first octet that ends a candidate frame, that octet included. In the record of a new decoder each field is zero,
+/// except its mode.
 ///
-/// The buffer has 1,037 octets: those that a CLTU carries at most, and one code block. Its octets belong to the decoder
+/// The buffer has 1,037 octets: the most that a CLTU carries, and one code block. Its octets belong to the decoder
 /// until a candidate frame has ended. The call fails with BadFlag for a flag that is neither 0 nor 1, with BadDecoder
 /// for another record that no decoder has, and with NoRoom for a shorter buffer. The record and the buffer then stay as
 /// they were.

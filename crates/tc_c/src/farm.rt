@@ -88,9 +88,9 @@ pub(crate) fn no_farm(fault: Status) -> FarmAnswer
 /// of an AD frame or the new V(R) of a Set V(R), and has no meaning for other arrivals. `room` is 1 if the buffer has
 /// room for an AD frame, otherwise 0.
 ///
-/// The call fails if no FARM-1 has the record, for another arrival or room, and for an arrival for which the table has
-/// no entry, which is an expected AD frame that comes in S2 with `room` 1. Each case has its status. The record then
-/// stays as it was.
+/// The call fails if no FARM-1 can have this record, if `arrival` or `room` has another value, and if the table has no
+/// entry for the arrival. The table has none for an expected AD frame that comes in S2 with `room` 1. Each of these
+/// cases has its own status. The record then stays as it was.
 #[unsafe(no_mangle)]
 pub extern "C" fn tcrx_farm_step(
     before: FarmRecord,

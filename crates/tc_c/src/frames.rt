@@ -133,8 +133,8 @@ fn kind_reported(kind: Kind) -> KindRecord
 ///
 /// The data field has 1 to 1,019 octets, and the frame has 5 more. The call fails with BadFlag for a flag that is
 /// neither 0 nor 1, with BadField for ids over their bounds, and with EmptyData or TooLong for data fields of other
-/// lengths, with length 0. After that it fails with NoRoom if the buffer is too short, with the length that is needed.
-/// If the call fails, the buffer stays as it was.
+/// lengths. The returned length is 0 in these cases. Otherwise, if the buffer is too short, the call fails with NoRoom
+/// and returns the length that is needed. If the call fails, the buffer stays as it was.
 #[unsafe(no_mangle)]
 pub extern "C" fn tcrx_write_frame_at(
     header: HeaderRecord,

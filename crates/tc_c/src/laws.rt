@@ -35,7 +35,7 @@ pub fn a_record_reads_back()
     ensures farm { (kept : FarmRecord) (farm : Machine) → farm_of kept ≡ Ok farm → IsFarm farm }
 {}
 
-/// A step that has an entry leaves a FARM-1 whose record the next call reads.
+/// After a step for which the state table has an entry, the next call can read the FARM-1 from its record.
 pub fn a_step_leaves_a_farm()
     ensures { (farm : Machine) (arrival : Arrival) → IsFarm farm → IsSome (entry (row_of farm.width farm.report.vr arrival) farm.report)
         → IsFarm (left farm arrival) }
@@ -50,7 +50,7 @@ pub fn each_channel_has_a_farm()
     a_step_leaves_a_farm();
 }
 
-/// The number and the value by which a kind is reported are those by which `tcrx_farm_step` takes it.
+/// If `tcrx_farm_step` gets the number and the value that report a kind, the arrival is a frame of that kind.
 pub fn each_kind_comes_to_farm_1()
     ensures { (kind : Kind) (room : Bool) → arrival_of (kind_number kind) (kind_value kind) (bit room) ≡ Ok (Frame kind room) }
 {}

@@ -8,7 +8,7 @@ use crate::seat::Seat;
 use tc_channel::Tick;
 use tc_fixed::FixedChannel;
 
-/// A counter that counts no steps. The calls that C makes use it to run the functions that count.
+/// A counter that counts no steps. The calls for C pass it to the functions that count steps.
 #[derive(Drop)]
 pub(crate) struct NoSteps;
 

@@ -43,7 +43,7 @@ pub struct RackReplyRecord {
 #[derive(Clone, Copy)]
 pub struct CandidateReplyRecord {
     pub status: u32,
-    /// The fields of [`RackReplyRecord`], from this one to the virtual channel id.
+    /// This field and those up to `vcid` are the fields of [`RackReplyRecord`].
     pub queued: u32,
     pub dropped: u32,
     pub event: u8,

@@ -1,4 +1,5 @@
-//! The part of C's memory by which C holds a channel, and the ways in which a channel comes there and goes.
+//! A seat, which is the part of C's memory that holds a channel, and the functions that put a channel there, take it
+//! out or free it.
 
 ghost use Rattle.std.specs.Prelude.{◌≡◌, Some, None, is_some, option_map};
 
@@ -38,7 +39,7 @@ impl Seat {
         }
     }
 
-    // Takes the channel out, and leaves none.
+    // Takes the channel out of the seat, which then holds none.
     fn take(&mut self) -> Option<Box<FixedChannel>>
         ensures channel { self.old.place.channel ≡ option_map (λ held. held.value) result }
         ensures empty { self.new.place.channel ≡ None }

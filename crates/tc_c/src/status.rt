@@ -74,8 +74,8 @@ pub enum Status {
     BadDecoder,
 }
 
-/// The list of all statuses, each with its number and its text in ASCII. It is written once, and each reading of a
-/// value by it names another macro (`$read`).
+/// Lists all statuses, each with its number and its text in ASCII, so that the list is written only once. The macro
+/// `$read` gets the value and the list, and matches the value against one column of the list.
 macro_rules! each_status {
     ($read:ident of $value:expr) => {
         $read! { $value;

@@ -43,8 +43,8 @@ pub struct TmFieldsRecord {
 ///
 /// The frame has 11 to 2,048 octets, or at least 13 with a frame error control field. The call fails with BadFlag if
 /// the flag for that field is neither 0 nor 1, with BadField for ids over their bounds, and with BadLength for other
-/// lengths, with length 0. After that it fails with NoRoom if the buffer is too short, with the length that is needed.
-/// If the call fails, the buffer stays as it was.
+/// lengths. The returned length is 0 in these cases. Otherwise, if the buffer is too short, the call fails with NoRoom
+/// and returns the length that is needed. If the call fails, the buffer stays as it was.
 #[unsafe(no_mangle)]
 pub extern "C" fn tcrx_write_tm_at(
     header: TmHeaderRecord,

@@ -42,8 +42,8 @@ pub struct PacketHeaderRecord {
 ///
 /// The packet data field has 1 to 65,536 octets, and the packet has 6 more. The call fails with BadFlag for a flag that
 /// is neither 0 nor 1, with BadField for other fields over their bounds, and with EmptyData or LongPacket for packet
-/// data fields of other lengths, with length 0. After that it fails with NoRoom if the buffer is too short, with the
-/// length that is needed. If the call fails, the buffer stays as it was.
+/// data fields of other lengths. The returned length is 0 in these cases. Otherwise, if the buffer is too short, the
+/// call fails with NoRoom and returns the length that is needed. If the call fails, the buffer stays as it was.
 #[unsafe(no_mangle)]
 pub extern "C" fn tcrx_write_packet_at(
     header: PacketHeaderRecord,
@@ -103,8 +103,8 @@ fn read_packet_header(header: PacketHeaderRecord) -> Result<PacketHeader, Status
 /// The call fails with BadFlag for a flag that is neither 0 nor 1, with BadField for the header of a Type-C frame,
 /// which has no segment header, with BadField or BadMap for ids over their bounds, with BadSize for another size, with
 /// EmptyData or LongUnit for units of other lengths, and with NoSegment if the unit has no segment at the place. The
-/// length is 0 in these cases. After that it fails with NoRoom if the buffer is too short, with the length that is
-/// needed. If the call fails, the buffer stays as it was.
+/// returned length is 0 in these cases. Otherwise, if the buffer is too short, the call fails with NoRoom and returns
+/// the length that is needed. If the call fails, the buffer stays as it was.
 #[unsafe(no_mangle)]
 pub extern "C" fn tcrx_write_segment_at(
     header: HeaderRecord,
@@ -192,10 +192,10 @@ fn put_segment(header: &Header, segment: Segment, piece: &[u8], octets: &mut [u8
 
 /// Writes the Type-BC frame with a control command to the front of a buffer (CCSDS 232.0-B, 4.1.3.3). Its N(S) is 0.
 ///
-/// The command is a kind as `tcrx_kind` returns it, 3 for Unlock or 4 for Set V(R), with its number. For Unlock the
-/// number has no meaning. The call fails with BadField for ids over their bounds and with BadCommand for another kind,
-/// with length 0. After that it fails with NoRoom if the buffer is too short, with the length that is needed. If the
-/// call fails, the buffer stays as it was.
+/// `kind` is 3 for Unlock or 4 for Set V(R), as `tcrx_kind` returns it. `number` is the new V(R), and has no meaning
+/// for Unlock. The call fails with BadField for ids over their bounds and with BadCommand for another kind. The
+/// returned length is 0 in these cases. Otherwise, if the buffer is too short, the call fails with NoRoom and returns
+/// the length that is needed. If the call fails, the buffer stays as it was.
 #[unsafe(no_mangle)]
 pub extern "C" fn tcrx_write_command_at(
     scid: u16,
@@ -231,8 +231,9 @@ pub extern "C" fn tcrx_write_command_at(
 /// has two octets more, which its length field counts.
 ///
 /// The octets must be one frame of at most 1,022 octets, with nothing after it. For other octets the call fails with a
-/// status from Short to Truncated, with Fill or with LongFrame, with length 0. After that it fails with NoRoom if the
-/// buffer is too short, with the length that is needed. If the call fails, the buffer stays as it was.
+/// status from Short to Truncated, with Fill or with LongFrame. The returned length is 0 in these cases. Otherwise, if
+/// the buffer is too short, the call fails with NoRoom and returns the length that is needed. If the call fails, the
+/// buffer stays as it was.
 #[unsafe(no_mangle)]
 pub extern "C" fn tcrx_add_fecf_at(frame: &[u8], octets: &mut [u8]) -> WrittenRecord
     ensures written { IfNone (adding_fault_of frame.now) (length frame.now + 2 ≤ length octets.old → result ≡ taken (length frame.now + 2)) }
@@ -254,12 +255,12 @@ pub extern "C" fn tcrx_add_fecf_at(frame: &[u8], octets: &mut [u8]) -> WrittenRe
 }
 
 /// Checks the frame error control field with which a frame ends, and writes the frame without the field to the front of
-/// a buffer (CCSDS 232.0-B, 4.1.4). It is the one frame from which `tcrx_add_fecf` makes these octets.
+/// a buffer (CCSDS 232.0-B, 4.1.4). The written frame is the only one from which `tcrx_add_fecf` makes these octets.
 ///
 /// The octets must be one frame of at least 8 octets, with nothing after it. For other octets the call fails with a
-/// status from Short to Truncated, with Fill or with NoFecf, and for a wrong field with WrongFecf, with length 0. After
-/// that it fails with NoRoom if the buffer is too short, with the length that is needed. If the call fails, the buffer
-/// stays as it was.
+/// status from Short to Truncated, with Fill or with NoFecf, and for a wrong field with WrongFecf. The returned length
+/// is 0 in these cases. Otherwise, if the buffer is too short, the call fails with NoRoom and returns the length that
+/// is needed. If the call fails, the buffer stays as it was.
 #[unsafe(no_mangle)]
 pub extern "C" fn tcrx_check_fecf_at(frame: &[u8], octets: &mut [u8]) -> WrittenRecord
     ensures written { IfNone (taking_fault_of frame.now) (length frame.now ≤ length octets.old + 2 → result ≡ taken (length frame.now - 2)) }

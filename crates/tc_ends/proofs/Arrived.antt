@@ -66,7 +66,7 @@ near-both mode last frame octets rest fault n =
     a-start : is_start mode n.one n.two ≡ true → reception_step mode most_octets (Searching n.one) n.two ≡ (Decoding [] [], [])
     a-start e = rw e refl
 
--- a frame as a CLTU carries it has no fault
+-- a frame of this length can be carried by a CLTU
 no-fault : (frame : List ℕ) → 6 ≤ length frame → length frame ≤ 1024 → cltu_fault_of frame ≡ None
 no-fault frame least most = grind (arith, nat_tests)
 

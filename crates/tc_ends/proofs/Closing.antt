@@ -1,4 +1,4 @@
--- Lemmas that close laws without an answer.
+-- Lemmas with which the tactic `auto` closes the laws that have no Answers.antt.
 use Rattle.tc_ends.proofs.Arrived.{carried-unaltered, carried-whole, near-arrives}
 use Rattle.tc_ends.proofs.Cut.{cut-of-joined}
 use Rattle.tc_ends.proofs.Numbered.{numbered-on, numbered-sends}

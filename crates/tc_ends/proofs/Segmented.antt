@@ -10,7 +10,7 @@ none-ended before (f ∷ fs) goes_on = rw (goes_on.0, none-ended (before ++ f �
 none-first : (before after : List (List ℕ)) (first : List ℕ) → IsPart First first → AllByRecursion (IsPart Continuing) after → units_ended_by before (first ∷ after) ≡ []
 none-first before after first opens goes_on = rw (opens, none-ended (before ++ first ∷ []) after goes_on) refl
 
--- the first segment, and the only one, are at place 0, and the only and the last ones at the end
+-- a first segment is at place 0, and an only segment is the only one of its unit
 part-first : (place count : ℕ) → part_at place count ≡ First → place ≡ 0
 part-first place count is = grind (arith, nat_tests, common_steps)
 

@@ -1,5 +1,5 @@
--- A CLTU on its way, some of whose bits are turned (CCSDS 231.0-B), and the events that a stream of octets brings about
--- at a receiver.
+-- A CLTU on its way, some of whose bits are flipped (CCSDS 231.0-B), and the events that a stream of octets brings
+-- about at a receiver.
 use Rattle.std.specs.Prelude.{◌≡◌, ℕ, ◌≤◌, ◌⊎◌, Bool, true, false, List, [], ◌∷◌, ◌++◌, length, map, None}
 use Rattle.tc_link.specs.Frame.{IsWhole}
 use Rattle.tc_fecf.specs.Candidate.{IsDelimited, is_fill}
@@ -12,8 +12,8 @@ use Rattle.tc_channel.specs.declared.event.Event.{Event}
 use Rattle.tc_channel.specs.declared.event.Event.TheVariants.{Frame}
 use Rattle.tc_loop.specs.Loop.{Action, events_at}
 
--- code blocks that come when these octets were sent, seven in each, so that no block has more wrong bits than the mode
--- takes
+-- the code blocks that come when these octets were sent, seven in each, and no block has more wrong bits than the mode
+-- tolerates
 abbrev pub AreNearBlocks : Mode → List ℕ → List ℕ → Type 0
 AreNearBlocks mode [] blocks = blocks ≡ []
 AreNearBlocks mode (a ∷ b ∷ c ∷ d ∷ e ∷ f ∷ g ∷ rest) blocks =
@@ -22,7 +22,7 @@ AreNearBlocks mode (a ∷ b ∷ c ∷ d ∷ e ∷ f ∷ g ∷ rest) blocks =
 AreNearBlocks mode _ blocks = ⊥
 
 -- the octets that come when the CLTU of a frame was sent: two octets that count as its start sequence, code blocks with
--- few wrong bits, and eight octets that no block is near to
+-- few wrong bits, and eight octets that are rejected as a code block
 pub record IsNearCltu (mode : Mode) (last : ℕ) (frame octets : List ℕ) : Type 0 where
   pub one : ℕ
   pub two : ℕ

@@ -25,7 +25,7 @@ first_frame = 0x00 ∷ 0x2a ∷ 0x04 ∷ 0x0c ∷ 0x09 ∷ (0xc0 ∷ packet)
 abbrev pub enclosing : List ℕ → List ℕ
 enclosing blocks = start_sequence ++ blocks ++ tail_sequence
 
--- the CLTU of the earlier frame, with one bit of the first octet turned
+-- the CLTU of the earlier frame, with one bit of the first octet flipped
 abbrev pub of_before : List ℕ
 of_before = enclosing (0x80 ∷ 0x00 ∷ 0x00 ∷ 0x05 ∷ 0x00 ∷ 0x00 ∷ 0x55 ∷ 0xfe ∷ [])
 
@@ -33,8 +33,8 @@ of_before = enclosing (0x80 ∷ 0x00 ∷ 0x00 ∷ 0x05 ∷ 0x00 ∷ 0x00 ∷ 0x5
 abbrev pub of_set_v_r : List ℕ
 of_set_v_r = enclosing (0x30 ∷ 0x2a ∷ 0x04 ∷ 0x07 ∷ 0x00 ∷ 0x82 ∷ 0x00 ∷ 0x22 ∷ 0x09 ∷ 0x55 ∷ 0x55 ∷ 0x55 ∷ 0x55 ∷ 0x55 ∷ 0x55 ∷ 0x4a ∷ [])
 
--- the CLTU of the first frame of the era, with 2b for 2a in the first code block, and the parity bits e2 for e0 in the
--- second
+-- the CLTU of the first frame of the era, with 2b in place of 2a in the first code block, and the parity octet e2 in
+-- place of e0 in the second
 abbrev pub of_first_frame : List ℕ
 of_first_frame = enclosing (0x00 ∷ 0x2b ∷ 0x04 ∷ 0x0c ∷ 0x09 ∷ 0xc0 ∷ 0x10 ∷ 0xf6 ∷ 0x05 ∷ 0xc0 ∷ 0x00 ∷ 0x00 ∷ 0x00 ∷ 0xaa ∷ 0x55 ∷ 0xe2 ∷ [])
 

@@ -46,8 +46,8 @@ pub fn joined_packets_are_cut_into_them()
 {}
 
 /// A sender sends packets for an application in units, which are cut into segments, or are whole on a channel without
-/// segment headers. The packets that the data fields make for the application are exactly these packets. Those of each
-/// stream are in their order, whatever data fields came before, and however the streams are merged.
+/// segment headers. The packets that the data fields make for the application are exactly these packets. The packets of
+/// each stream come in their order, whatever data fields came before, and however the streams are merged.
 pub fn packets_that_are_sent_are_made()
     ensures { (limits : ℕ → ℕ) (s : Settings) (apid : ℕ) (sent : PacketsSent) (before passed : List Passed) → HasMapsByHeaders s
         → ((service : Service) (map_id : ℕ) → AreAllPackets (sent service map_id)) → CarrySent limits s.segmented (joined_on sent) passed
@@ -138,9 +138,9 @@ pub fn packets_from_a_start_are_given()
     the_segments_of_a_unit_make_the_unit();
 }
 
-/// Suppose that a CLTU has no more wrong bits in each code block than the mode takes, and that no code block is near to
-/// its tail. Then it is the arrival of its frame (`arrives`) and of no other (`alone`), with a frame error control
-/// field if frames have one, and the receiver searches for a start sequence again after it (`searches`).
+/// Suppose that a CLTU has no more wrong bits in any code block than the mode tolerates, and that its tail, as it
+/// comes, is rejected as a code block. Then its frame arrives (`arrives`) and no other does (`alone`), with a frame
+/// error control field if frames have one. After it the receiver searches for a start sequence again (`searches`).
 pub fn a_cltu_with_few_wrong_bits_brings_its_frame()
     ensures arrives { (mode : Mode) (field : Bool) (last : ℕ) (frame octets : List ℕ) → IsWhole frame → IsWhole (enclosed field frame) → IsNearCltu mode last (enclosed field frame) octets
         → AreEventsAt mode field (Searching last) (Octets octets) (Frame frame ∷ []) }
@@ -150,12 +150,12 @@ pub fn a_cltu_with_few_wrong_bits_brings_its_frame()
         → state_behind mode (Searching last) (Octets octets) ≡ Searching 0 }
 {}
 
-/// This law covers both edges, from a ground system's packets to the packets that takes give. The sender is that of
-/// [`packets_from_a_start_are_given`]. Its frames come in CLTUs, as octets in which any bits may be turned, over links
-/// that keep order. Detection lets nothing through that was altered. It consists of the code blocks, the length and, if
-/// frames have one, the frame error control field. A frame that is refused is lost, and a CLTU with few wrong bits
-/// arrives ([`a_cltu_with_few_wrong_bits_brings_its_frame`]). Then takes gave what [`packets_that_are_sent_are_given`]
-/// promises.
+/// This law covers the whole way, from a ground system's packets to the packets that takes give. The sender is that of
+/// [`packets_from_a_start_are_given`]. Its frames come in CLTUs, as octets in which any bits may be flipped, over links
+/// that keep order. Suppose that error detection lets no altered frame through. Detection uses the parity of the code
+/// blocks, the frame's length and, if frames have one, the frame error control field. A frame that is refused is lost,
+/// and a CLTU with few wrong bits arrives ([`a_cltu_with_few_wrong_bits_brings_its_frame`]). Then takes gave what
+/// [`packets_that_are_sent_are_given`] promises.
 pub fn packets_in_cltus_are_given()
     ensures { (s : Start) (header : Header) (units : List UnitSent) (frames : List (List ℕ)) (apid : ℕ) (q : Queue) (mode : Mode) (field : Bool) (state : Reception) (coming : List Coming) (came : List Event)
         → IsStart s → AllByRecursion (CanBeSent s.loop.limits s.loop.settings.segmented) units → AreNumbered s.loop.settings.segmented header units frames → AreFrom (era s).frames frames → SendsOnly (length frames) (era_session s)

@@ -1,4 +1,4 @@
--- Lemmas that close laws without an answer.
+-- Lemmas with which the tactic `auto` closes the laws that have no Answers.antt.
 use Rattle.tc_loop.proofs.Counted.{in-order, passed-on}
 use Rattle.tc_loop.proofs.Open.{place-inside, stays-open}
 use Rattle.tc_loop.proofs.Onward.{by-rounds, goes-on}

@@ -3,8 +3,8 @@ use Rattle.tc_loop.proofs.Names.{Action, Arrive, Bc, Bool, ChannelState, E1, E10
 use Rattle.tc_loop.proofs.Actions.{known-append, take-some, take-none}
 use Rattle.tc_loop.proofs.Counted.{journal-append, known-step, one-at, clcw-shows}
 
--- The action of the session that became this action of the era's loop. Another event of the era was the same event, or
--- was an earlier frame.
+-- The action of the session that became this action of the era's loop. If the era's action is `Other`, it was the same
+-- event in the session, or it was the arrival of an earlier frame or of Set V(R).
 abbrev WasSuch : Start → ℕ → Action → Action → Type 0
 WasSuch s t a (Send i) = a ≡ Send (s.directive + 1 + i)
 WasSuch s t a (Arrive i r) = (s.again < t) × (a ≡ Arrive (s.directive + 1 + i) r)

@@ -39,7 +39,7 @@ known_since s t = known_from s.loop s.session 0 (drop s.believed (take t s.sessi
 abbrev pub era : Start → Loop
 era s = record s.loop { before = journal s.loop (take (suc s.again) s.session); frames = λ i. s.loop.frames (s.directive + 1 + i) }
 
--- the action of this loop that an action of the session is
+-- an action of the session as an action of the era's loop
 abbrev pub era_action : Start → ℕ → Action → Action
 era_action s t (Send j) = if nat_lt s.directive j then Send (j - (s.directive + 1)) else Idle
 era_action s t (Arrive j r) = if nat_le t s.again then Idle else if nat_lt s.directive j then Arrive (j - (s.directive + 1)) r else Other (Frame (s.loop.frames j))
@@ -64,7 +64,7 @@ pub record IsStart (s : Start) : Type 0 where
   pub obeyed : IsObeyed s s.obeyed
   pub again : (s.obeyed ≤ s.again) × IsObeyed s s.again
   pub last : NoneSetsWithin s.loop.limits s.loop.settings (journal s.loop (take (suc s.again) s.session)) (events s.loop (drop (suc s.again) s.session))
-  -- The CLCW by which the sender believes that Set V(R) was obeyed was made after that.
+  -- Set V(R) was obeyed before the receiver made the CLCW by which the sender believes this.
   pub believes : (made : ℕ) × (slice_get s.session s.believed ≡ Some (Hear made)) × (s.obeyed < made)
   -- From the directive on, the sender sends no earlier frame. Once it believes that Set V(R) was obeyed, it no longer
   -- sends the directive, and it sends the era's frames by its window.
@@ -75,12 +75,11 @@ pub record IsStart (s : Start) : Type 0 where
   -- No other event sets V(R).
   pub others : (t : ℕ) (e : Event) → slice_get s.session t ≡ Some (Other e) → IsOther e × (set_by s.loop.settings (receiver s.loop (take t s.session)) e ≡ None)
 
--- the earlier era as a loop, with its first number, its window and its frames, which are those of the session and any
--- that were not sent
+-- the earlier era as a loop, with its first number, its window and its frames (which the session may have sent or not)
 abbrev pub era_before : Start → ℕ → ℕ → (ℕ → List ℕ) → Loop
 era_before s first window frames = record s.loop { first = first; window = window; frames = frames }
 
--- the action of the earlier loop that an action of the session is (Set V(R) is a frame of another kind)
+-- an action of the session as an action of the earlier loop (in which Set V(R) isn't one of the sender's frames)
 abbrev pub action_before : Start → Action → Action
 action_before s (Send j) = if nat_lt j s.directive then Send j else Idle
 action_before s (Arrive j r) = if nat_lt j s.directive then Arrive j r else Other (Frame (s.loop.frames j))
@@ -92,8 +91,8 @@ action_before s Idle = Idle
 abbrev pub session_before : Start → List Action
 session_before s = map (action_before s) (take s.obeyed s.session)
 
--- Set V(R) is first sent at moment `asked`. It names none of the numbers from that of the first frame that the sender
--- doesn't know to be accepted then to the number after that of the last frame that it sent.
+-- Set V(R) is first sent at moment `asked`. Consider the numbers from that of the first frame that the sender doesn't
+-- know to be accepted at that moment to the one after the last frame that it sent. Set V(R) names none of these.
 abbrev pub NamesAnother : Start → ℕ → ℕ → (ℕ → List ℕ) → ℕ → Type 0
 NamesAnother s first window frames asked =
     (a : ℕ) → known (era_before s first window frames) (session_before s) asked ≤ a → a ≤ begun (session_before s) s.obeyed → (first + a) % 256 ≢ s.loop.first

@@ -58,8 +58,8 @@ pub fn a_wider_window_can_lock_out()
 {}
 
 /// If the sender's window is no wider than half the receiver's, a loop is never stuck. Whatever was lost and whatever
-/// waits, after one round in which nothing is lost, and without a command, one more frame is accepted, and the sender
-/// knows it.
+/// waits, one round in which nothing is lost is enough, without a command: after it one more frame is accepted, and the
+/// sender knows it.
 pub fn a_loop_can_always_go_on()
     ensures round { (l : Loop) (session : List Action) → IsLoop l session → 1 ≤ l.window → l.window ≤ l.settings.width / 2
         → (receiver l []).report.state ≢ S3 → GoesOn l session (session ++ round l session) }
@@ -67,16 +67,16 @@ pub fn a_loop_can_always_go_on()
         → (receiver l []).report.state ≢ S3 → GoesOnBy l n session }
 {}
 
-/// From its start, each allowed receiver can be in a loop, with each window below 256.
+/// Each allowed receiver that starts can be in a loop, and the sender's window can be any below 256.
 pub fn each_receiver_can_be_in_a_loop()
     ensures begins { (limits : ℕ → ℕ) (s : Settings) (links : ℕ → Link) (window : ℕ) → IsAllowed s → window < 256 → IsLoop (new_loop limits s links window) [] }
     ensures state { (limits : ℕ → ℕ) (s : Settings) (links : ℕ → Link) (window : ℕ) → (receiver (new_loop limits s links window) []).report.state ≢ S3 }
 {}
 
 /// The era that a sender's own Set V(R) starts is a loop, too, whatever earlier frames and CLCWs are still on their
-/// way. The condition is that the CLCW by which the sender believes that Set V(R) was obeyed was made after that. The
-/// loop has the receiver and the journal of the session, and the frames that the sender knows in it are those of which
-/// it heard after it believed that Set V(R) was obeyed.
+/// way. The condition is that Set V(R) was obeyed before the receiver made the CLCW by which the sender believes this.
+/// The loop has the receiver and the journal of the session, and the frames that the sender knows in it are those of
+/// which it heard after it believed that Set V(R) was obeyed.
 pub fn an_era_that_set_v_r_starts_is_a_loop()
     ensures loop_again { (s : Start) → IsStart s → IsLoop (era s) (era_session s) }
     ensures journal { (s : Start) → IsStart s → journal (era s) (era_session s) ≡ journal s.loop s.session }
