@@ -17,8 +17,8 @@ use test_parts::Form;
 /// The number of virtual channel ids.
 const IDS: u8 = 64;
 
-/// The backend that creates channels of a form for the spacecraft with this id, and operates them. Nothing is promised
-/// of the form.
+/// The backend that creates channels of a form for the spacecraft with this id, and operates them. The calls of `Form`
+/// have no contracts, so nothing is proved about its channels.
 #[derive(Drop)]
 pub(crate) struct LoneBackend<C> {
     scid: u16,

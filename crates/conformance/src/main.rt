@@ -34,7 +34,7 @@ fn main(rt: HostRuntime) -> ExitCode {
     }
 }
 
-/// The number of cases that were run, and of those that agree, and the number of scripts.
+/// The numbers of cases that were run, of cases that agree, and of scripts.
 #[derive(Clone, Copy, Debug)]
 struct Tally {
     cases: u32,

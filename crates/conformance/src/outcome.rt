@@ -26,7 +26,8 @@ pub(crate) enum Command {
     Run,
     /// A run with a worker for each channel, and the final report alone.
     Parallel,
-    /// Like `Run`, but on channels instead of a station: each with its journal in memory, without one, or in rooms.
+    /// A run like `Run`, but on channels without a station, which keep their journals in memory. `Counting` is such a
+    /// run on channels without journals, and `Rooms` on channels in rooms.
     Alone,
     Counting,
     Rooms,

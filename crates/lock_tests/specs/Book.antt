@@ -7,7 +7,7 @@ use Rattle.logged_lock.specs.Rule.{LockAt, IsIdle}
 use Rattle.lock_tests.specs.declared.book.Title.{Title}
 use Rattle.lock_tests.specs.declared.book.Book.{Book}
 
--- the title for places where no book is meant
+-- the title that a log has if it is no book's
 abbrev pub untitled : Title
 untitled = record { number = 0 }
 

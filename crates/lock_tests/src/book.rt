@@ -5,7 +5,7 @@ ghost use Rattle.std.specs.Prelude.{ℕ};
 use logged_lock::{Head, LockSeat, Logged, LoggedLock, NextEntry};
 use std::marker::{Brand, PhantomData};
 
-/// The head of a book's log, which says which book it is.
+/// The head of a book's log, which identifies the book.
 pub struct Title {
     pub number: u8,
 }

@@ -77,8 +77,8 @@ fn new_operators<J: Journal>(
     }
 }
 
-// Closes a station that is in balance with these operators. One growth may be refused: the station and the operators
-// are returned then, and the station is closed by a second call.
+// Closes a station that is in balance with these operators. If one growth is refused, the call returns the station and
+// the operators, and a second call closes the station.
 fn closed(rt: &(impl Abort + Print), station: Station, operators: Vec<Operator>) -> Vec<Channel>
     requires { All (λ o. o.vcids ≡ station.vcids) operators.items }
 {

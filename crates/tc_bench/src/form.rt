@@ -87,8 +87,9 @@ impl<J: Journal> Form for ChannelWith<J> {
     }
 }
 
-// Calls are made here by the functions through which `worst` makes its one call, for another program to see. Frames and
-// releases are an exception, because they also come before that call.
+// The calls here are made by the functions through which `worst` makes its one call, so that another program finds each
+// call in the machine code. Frames and releases are an exception, because `worst` also makes such calls before its one
+// call.
 impl Form for FixedChannel {
     fn memory(settings: &Settings) -> (&'static str, u64) {
         ("storage", storage(settings))

@@ -1,4 +1,4 @@
-//! Tests of a station by several threads. The library itself is empty.
+//! Tests of a station at which several threads work. The library itself is empty.
 //!
 //! Two threads share a station. Two threads watch a channel while four others work on it. Two workers meet at a gate
 //! while each holds the lock of its channel, and each worker passes the gate once. The faults of a station have texts.

@@ -23,7 +23,7 @@ static FAULTS: [(u8, u8, u8, &[(u16, u16)], Option<SettingsFault>); 12] = [
     (1, 3, 1, &[(5, 0)], Some(BadWindow)),
 ];
 
-// Checks that settings have this fault, and create no channel for it; or that they have none, and create one.
+// Checks that settings with this fault create no channel, or that they create one if `fault` is `None`.
 fn check_fault(rt: &impl Abort, alloc: Global, wanted: &Wanted<'_>, fault: Option<SettingsFault>) {
     let settings = settings(rt, alloc, wanted);
     assert_eq!(rt; settings.check().err(), fault);

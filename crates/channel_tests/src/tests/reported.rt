@@ -1,4 +1,4 @@
-//! The reports of a channel and of octets on themselves.
+//! What a new channel reports, and octets that are copied into the library's type and out of it.
 
 use super::*;
 

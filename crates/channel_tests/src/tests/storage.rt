@@ -1,5 +1,5 @@
-//! The number of bytes that are requested, worked out by hand from the sizes of x86-64: the words of a room itself have
-//! 32 bytes, those of a stream 40, and those of a queue 64.
+//! The number of bytes that are requested, worked out by hand from the sizes on x86-64. Beside its octets a room has 32
+//! bytes, and a stream has 40. A queue has 64.
 
 use super::limits::limits_of;
 use super::*;

@@ -15,7 +15,8 @@ enum Way {
     InParallel,
 }
 
-// Runs a script for spacecraft 42. Only this function calls the ones that have the contracts, for any script.
+// Runs a script for spacecraft 42. Only this function calls the functions of the library that run scripts, whose
+// contracts are about any script.
 fn run<T: Threads + Wait + Sync + AllocGlobal, R: Read, W: Write>(
     rt: &T,
     way: Way,

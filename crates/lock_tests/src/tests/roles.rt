@@ -59,7 +59,7 @@ fn comes_true(flag: &AtomicBool, turns: u32) -> bool {
     false
 }
 
-// Holds the lock for longer than any thread looks at it before it sleeps.
+// Holds the lock for so long that a thread that waits for it stops polling it and sleeps.
 fn have_for_long<R: Wait + Clock>(
     rt: &R,
     lock: &BookLock,

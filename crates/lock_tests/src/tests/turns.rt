@@ -65,7 +65,7 @@ pub(super) fn try_turn(lock: &BookLock, seat: &mut BookSeat) -> bool
     taken
 }
 
-// Takes the lock for good, and returns the book under it, which this one replaces.
+// Takes the lock for good, and returns the book under it, which `blank` replaces.
 pub(super) fn take_out<R: Wait>(rt: &R, lock: &BookLock, seat: &mut BookSeat, blank: Book) -> Book
     requires { IsAtRest lock.now seat.old }
 {

@@ -45,9 +45,9 @@ fn who_has_it_all_the_time_keeps_nobody_away(rt: HostRuntime) {
     assert_eq!(rt; numbers(&rt, rt.alloc(), &lock, &mut other), 100);
 }
 
-// Two threads that only try the lock take it, every time, before a thread that is woken. So a thread that sleeps gets
-// the lock only when it is reserved for it, which it requests once it has slept twice. Each of its three turns then
-// waits for about four of theirs.
+// Two threads that only try the lock take it each time before a thread that is woken can take it. So a thread that
+// sleeps gets the lock only if the lock is reserved for it, and it requests that once it has slept twice. Each of its
+// three turns then waits for about four of theirs.
 #[test]
 fn who_has_slept_twice_comes_before_who_only_tries(rt: HostRuntime) {
     let (lock, mut first) = new_lock(&rt, rt.alloc());

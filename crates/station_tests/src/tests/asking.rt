@@ -85,7 +85,7 @@ pub(super) trait Asking: Drop {
 
     fn reported<R: Wait + Abort>(&mut self, rt: &R, vcid: u8) -> Reported;
 
-    // Returns whether there is virtual channel 2 besides 1.
+    // Returns whether there is a virtual channel 2 besides channel 1.
     fn has_two(&self) -> bool {
         false
     }
@@ -269,8 +269,8 @@ impl<J: Journal> OperatorList<J> {
         self.station.take_unit(rt, &mut self.operator, vcid, map)
     }
 
-    // Closes the station, and returns its channels. One growth may be refused: all is returned then, and a second call
-    // closes the station.
+    // Closes the station, and returns its channels. If one growth is refused, the call returns everything, and a second
+    // call closes the station.
     pub(super) fn close(self, rt: &(impl Abort + Print), alloc: Global) -> Vec<ChannelWith<J>> {
         let OperatorList {
             is_watched: _,
@@ -282,8 +282,8 @@ impl<J: Journal> OperatorList<J> {
     }
 }
 
-// Closes a station together with these operators, which are its own. One growth may be refused: all is returned then,
-// and a second call closes the station.
+// Closes a station together with these operators, which are its own. If one growth is refused, the call returns
+// everything, and a second call closes the station.
 pub(super) fn closed_together<J: Journal>(
     rt: &(impl Abort + Print),
     station: StationOf<J>,

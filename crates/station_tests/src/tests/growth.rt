@@ -20,7 +20,7 @@ const CHANNEL: Wanted<'static> = Wanted {
     ..WANTED
 };
 
-// The journal grows with the first event and with the fifth, which is a take, in which nothing else grows.
+// The journal grows at the first and the fifth event. The fifth is a take, in which nothing else grows.
 static PACKETS: Row<'static> = Row {
     name: "packets",
     wanted: &CHANNEL,
@@ -141,7 +141,7 @@ impl Published {
         assert_eq!(rt; self.old.read(), words[1]);
     }
 
-    // Checks that the watcher reads this word, as does one that is created now.
+    // Checks that the watcher reads this word, and that a watcher that is created now reads it, too.
     fn check(&mut self, rt: &impl Abort, word: u32) {
         assert_eq!(rt; self.old.read(), word);
         let mut new = self.publisher.watcher().expect(rt, "a watcher");
@@ -175,7 +175,7 @@ fn two_unlocks(rt: &impl Abort, alloc: Global) -> WorkList {
     WorkList { vcid: 1, jobs }
 }
 
-// Returns how many Unlocks were answered, by the lowest line for which memory was refused.
+// Returns how many Unlocks were answered, which follows from the lowest line for which memory was refused.
 fn answered(rt: &(impl Abort + Print), done: Result<(), WorkFault>) -> u64
     ensures { result ≤ 2 }
 {

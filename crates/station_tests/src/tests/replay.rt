@@ -7,8 +7,8 @@ use tc_cli::{Answer, Line, Reason, parse_line};
 use tc_station::StationFault;
 use test_parts::{made_again, room};
 
-// A row of lines of a script and their answers. It is run on virtual channel 1 with these settings, of stations and
-// without a station.
+// A row of lines of a script and their answers. It is run on virtual channel 1 with these settings, both on a station
+// and without one.
 pub(super) struct Row<'a> {
     pub(super) name: &'a str,
     pub(super) wanted: &'a Wanted<'a>,
@@ -38,7 +38,8 @@ pub(super) fn new_channel(rt: &impl Abort, alloc: Global, row: &Row, vcid: u8) -
     }
 }
 
-// Prints the call for which memory was refused, which is known by the answer that the repeated call got.
+// Prints the name of the call for which memory was refused. The answer that the repeated call got shows which call it
+// was.
 fn call_of(rt: &impl Print, who: &str, answer: &Asked) {
     let _ = match answer {
         Ok(Answer::Frame { vcid: _, reply }) => {
@@ -157,7 +158,7 @@ impl Replay {
         reported
     }
 
-    // Checks that each channel reports the CLCW of the one without a station.
+    // Checks that each channel reports the same CLCW as the channel without a station that has its settings.
     fn check_words<A: Asking, R: Wait + Abort>(&self, rt: &R, asked: &mut A) {
         assert!(rt; asked.reported(rt, 1).word == Some(self.first.clcw(NO_FLAG)));
         if asked.has_two() {

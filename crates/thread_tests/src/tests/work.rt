@@ -23,9 +23,9 @@ fn list_for(rt: &impl Abort, alloc: Global, vcid: u8, order: Order) -> WorkList 
     }
 }
 
-// Creates seven lists. Channel 9 isn't there. The order before each Unlock is refused: a release of an empty buffer and
-// one of no channel, octets that aren't a frame, takes of a packet without a queue and from an empty queue, and of a
-// unit of a MAP that isn't chosen. The last list has no jobs.
+// Creates seven lists. Channel 9 isn't there. The order before each Unlock is refused. These orders are a release of an
+// empty buffer, a release on channel 9, octets that aren't a frame, the take of a packet that has no queue, a take from
+// an empty queue, and the take of a unit of a MAP that isn't chosen. The last list has no jobs.
 fn seven_lists(rt: &impl Abort, alloc: Global) -> [WorkList; 7] {
     [
         list_for(rt, alloc, 1, Order::Release),

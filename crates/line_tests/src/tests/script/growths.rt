@@ -83,7 +83,7 @@ fn run_script_growth_of_units(rt: HostRuntime) {
     check_script(&rt, UNITS, UNITS_ANSWERS, 2, 8);
 }
 
-/// The station is created for the report alone, whose lines come after the last line.
+/// The station is created only for the report, which is written after the last line.
 #[test]
 fn report_growth(rt: HostRuntime) {
     let script = "channel 1 10 1 0\nqueue 1 5 1\nchannel 0 10 1 0\n\n";

@@ -2,7 +2,7 @@
 
 use super::*;
 
-// All fields are of this MAP, and all bodies of this octet.
+// All fields are on this MAP, and all octets of their bodies are this number.
 const MAP: u8 = 5;
 
 const FIRST: [u8; 4] = [0x40 | MAP, 5, 5, 5];
@@ -153,7 +153,7 @@ fn check_plain(rt: &(impl Abort + Print), reassembler: &mut Reassembler, field: 
     check_unit(rt, answer, Some(field));
 }
 
-// The fields on the plain channel would elsewhere be a first segment, and a last one of an octet.
+// On a channel with segment headers these fields would be a first segment, and the header of a last one.
 #[test]
 fn growth_of_units_of_a_plain_channel(rt: HostRuntime) {
     let mut reassembler = made(&rt, rt.alloc(), false);

@@ -98,7 +98,7 @@ fn some_service(numbers: &mut Numbers) -> Service {
     }
 }
 
-// Brings `fields` fields, and looks after each at the open runs of all streams that it may have touched.
+// Brings `fields` fields, and after each of them checks the open runs of all streams that it may have touched.
 fn check_stream(rt: &impl Abort, alloc: Global, seed: u64, fields: usize, bound: u32)
     requires { 0 < bound }
 {

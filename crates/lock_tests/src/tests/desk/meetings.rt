@@ -8,9 +8,9 @@ use std::sync::Wait;
 use tc_channel::ReleaseFault;
 use tc_desk::{DeskOperator, Release, Watching};
 
-// Checks the CLCWs that a watcher reads at its meetings. Their octets are the standard's fields: COP-1 in effect (01),
-// virtual channel 1 (04), no flag with FARM-B's count of Type-BD frames in two bits and a spare bit, and V(R). A
-// Type-AD frame makes V(R) 1, each Type-BD frame counts, and a release changes neither.
+// Checks the CLCWs that a watcher reads at its meetings. Their octets are COP-1 in effect (01), virtual channel 1 (04),
+// an octet without flags that has the FARM-B counter in two bits before a spare bit, and V(R). A Type-AD frame makes
+// V(R) 1, each Type-BD frame counts, and a release changes neither.
 fn check_meetings<R: Abort + Wait>(
     rt: &R,
     desk: &Locked,
