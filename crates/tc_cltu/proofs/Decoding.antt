@@ -174,7 +174,7 @@ quiet-step mode room last o h = ap (λ (t : Bool). if t then (Decoding [] [], []
 found-step : (mode : Mode) (room last o : ℕ) → is_start mode last o ≡ true → reception_step mode room (Searching last) o ≡ (Decoding [] [], [])
 found-step mode room last o h = ap (λ (t : Bool). if t then (Decoding [] [], []) else (Searching o, [])) h
 
--- two octets that count as the start sequence are found, if the first of them doesn't end one
+-- two octets that count as the start sequence are found, if the first of them doesn't end a start sequence itself
 pair-found : (mode : Mode) (room last a b : ℕ) (rest : List ℕ) → is_start mode last a ≡ false → is_start mode a b ≡ true
     → frames_of mode room (Searching last) (a ∷ b ∷ rest) ≡ frames_of mode room (Decoding [] []) rest
 pair-found mode room last a b rest first second =
@@ -286,7 +286,7 @@ idle-ends mode room (Decoding frame (a ∷ b ∷ c ∷ d ∷ e ∷ f ∷ [])) sh
 idle-ends mode room (Decoding frame (a ∷ b ∷ c ∷ d ∷ e ∷ f ∷ g ∷ [])) short = idle-after mode room 6 frame (decoded mode (a ∷ b ∷ c ∷ d ∷ e ∷ f ∷ g ∷ idle 1))
 idle-ends mode room (Decoding frame (a ∷ b ∷ c ∷ d ∷ e ∷ f ∷ g ∷ h ∷ more)) short = absurd (omega arith)
 
--- ---- every state that octets lead to is one that the receiving end can be in
+-- ---- octets lead only to states that satisfy `IsReception`
 whole-step : (mode : Mode) (room octet : ℕ) (frame block : List ℕ) → 7 ≤ length block → reception_step mode room (Decoding frame block) octet ≡ after_block room frame (decoded mode (block ++ octet ∷ []))
 whole-step mode room octet frame block long =
     ap (λ (t : Bool). if t then (Decoding frame (block ++ octet ∷ []), []) else after_block room frame (decoded mode (block ++ octet ∷ []))) (le-ltb (length block) 7 long)
@@ -326,7 +326,7 @@ pub state-kept : (mode : Mode) (room : ℕ) (os : List ℕ) (state : Reception) 
 state-kept mode room [] state short = short
 state-kept mode room (o ∷ os) state short = state-kept mode room os (reception_step mode room state o).0 (step-kept mode room o state short)
 
--- after the idle sequence the next CLTU is found from any of these states
+-- the next CLTU is found from any state that searches
 search-given : (mode : Mode) (room : ℕ) (state : Reception) (frame rest : List ℕ) → IsSearching state → IsOctets frame → 0 < length frame → length (filled frame) ≤ room
     → frames_of mode room state (cltu frame ++ rest) ≡ filled frame ∷ frames_of mode room (Searching 0) rest
 search-given mode room (Searching last) frame rest searching each some fits = cltu-given mode room last frame rest each some fits
@@ -407,7 +407,7 @@ taken_octet room before after os rest o given whole state frames = record {
 pub take-both : (i n : ℕ) (os : List ℕ) → take (i + n) os ≡ take i os ++ take n (drop i os)
 take-both i n os = sym (take-append-drop i (take (i + n) os)) ∙ rw (take-take i (i + n) os (omega arith), drop-take i n os) refl
 
--- the front of the rest is processed after the first front
+-- if a front is processed, and then a front of the rest, both together are a front that is processed
 pub taken-more : (room : ℕ) (first before after : Receiver) (os left rest : List ℕ) (given more : List (List ℕ)) → before.mode ≡ first.mode
     → IsTaken room first before os left given → IsTaken room before after left rest more → IsTaken room first after os rest (given ++ more)
 taken-more room first before after os left rest given more mode t u =

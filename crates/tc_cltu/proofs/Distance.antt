@@ -60,7 +60,7 @@ first_one [] = 0
 first_one (zero ∷ bs) = suc (first_one bs)
 first_one (suc b ∷ bs) = 0
 
--- the place of the one in the error, or 63 if it has none
+-- the place of the single 1 bit in the error, or 63 if there is none
 unfoldable pub placed : ℕ → ℕ
 placed s = first_one (word (to_le_bytes w64 (error s)))
 
@@ -68,7 +68,7 @@ pub place-of : (k : ℕ) → k < 63 → placed (left (single k 63)) ≡ k
 unfolding placed octet_bits left single block_times_x
 place-of = same_below (λ k. placed (left (single k 63))) (λ k. k) 63 refl
 
--- a test that applies only to numbers below 63
+-- if the error has a 1 bit, a word with this bit alone leaves the remainder `s`
 right_place : ℕ → Bool
 right_place s = if nat_lt (placed s) 63 then eqb (left (single (placed s) 63)) s else true
 
@@ -141,7 +141,7 @@ far one other is is' few =
     words-same one other _ _ is is'
     (near-words (word (code_block one)) (word (code_block other)) a.0 b.0 a.1 b.1 (block-left one is.seven ∙ sym (block-left other is'.seven)) few)
 
--- two code blocks with at most three errors in total from one block are equal
+-- if a block has at most three errors in total from two code blocks, the two are equal
 pub between : (block one other : List ℕ) → length block ≡ 8 → IsInformation one → IsInformation other → errors block one + errors block other ≤ 3 → one ≡ other
 between block one other l is is' few =
     let a = word-bits (code_block one) (code-length one is) in let b = word-bits (code_block other) (code-length other is') in let c = word-bits block l in

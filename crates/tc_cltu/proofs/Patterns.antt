@@ -114,7 +114,7 @@ none-same (b ∷ bs) (c ∷ cs) l p q h =
     cc
 none-same _ _ l p q h = absurd (omega arith)
 
--- the differences of two lists are at most their differences from a third
+-- the number of differences of two lists is at most the sum of their numbers of differences from a third list
 triple : (b c d : ℕ) → b < 2 → c < 2 → d < 2 → (if b == d then 0 else 1) ≤ (if c == b then 0 else 1) + (if c == d then 0 else 1)
 triple (suc (suc b)) c d p q r = absurd (omega arith)
 triple b (suc (suc c)) d p q r = absurd (omega arith)

@@ -40,7 +40,7 @@ pub few : (mode : Mode) → most_errors mode ≤ 1
 few Detect = omega arith
 few Correct = omega arith
 
--- an octet that is far from the second octet of the start sequence doesn't end one
+-- an octet that differs in more than one bit from the second octet of the start sequence doesn't end a start sequence
 pub start-far : (mode : Mode) (last octet : ℕ) → 1 < differences (octet_bits octet) (octet_bits 0x90) → is_start mode last octet ≡ false
 unfolding is_start
 start-far mode last octet far =

@@ -27,7 +27,7 @@ fifty-six os l = bits-length os ∙ ap (λ (n : ℕ). 8 * n) l
 abbrev pub seven : ℕ → List ℕ
 seven h = bit_at h 6 ∷ bit_at h 5 ∷ bit_at h 4 ∷ bit_at h 3 ∷ bit_at h 2 ∷ bit_at h 1 ∷ bit_at h 0 ∷ []
 
--- the bits of an octet without its last one
+-- the first seven bits of an octet
 seven-half : (o : ℕ) → bit_at o 7 ∷ bit_at o 6 ∷ bit_at o 5 ∷ bit_at o 4 ∷ bit_at o 3 ∷ bit_at o 2 ∷ bit_at o 1 ∷ [] ≡ seven (o / 2)
 seven-half o =
     let a : bit_at o 7 ≡ bit_at (o / 2) 6 = omega arith in let b : bit_at o 6 ≡ bit_at (o / 2) 5 = omega arith in
@@ -52,7 +52,8 @@ remainder-linear _ _ r s l = absurd (omega arith)
 pub zeros-twice : (n : ℕ) → xors (zeros n) (zeros n) ≡ zeros n
 zeros-twice n = ap (λ (m : ℕ). xors (zeros m) (zeros n)) (sym (zeros-length n)) ∙ zeros-xors (zeros n)
 
--- The remainder of a word divided by the generator. The register holds x ^ 7 times it, and x ^ 63 leaves 1.
+-- The remainder of a word divided by the generator. After the word, the register holds x ^ 7 times this remainder. The
+-- 56 zeros multiply it by x ^ 56, and x ^ 63 is 1 modulo G.
 unfoldable pub left : List ℕ → ℕ
 left bs = block_remainder (block_remainder 0 bs) (zeros 56)
 
@@ -104,7 +105,7 @@ word-alike information o p l h =
 pub parity-fits : (information : List ℕ) → parity_of information < 2 ^ 7
 parity-fits information = xor_lt 7 127 (block_remainder 0 (bits_of information)) (omega arith) (remainder-fits (bits_of information) 0 (omega arith))
 
--- a code block leaves 127, and no other block with its information does
+-- the word of a code block leaves 127, and no other block with its information does
 pub block-left : (information : List ℕ) → length information ≡ 7 → left (word (code_block information)) ≡ 127
 block-left information l =
     let fits = parity-fits information in

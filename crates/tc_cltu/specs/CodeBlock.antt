@@ -41,7 +41,7 @@ code_block information = information ++ parity_of information * 2 ∷ []
 abbrev pub word : List ℕ → List ℕ
 word block = take 63 (bits_of block)
 
--- the number of these bits in which a block differs from the code block of the information
+-- the number of the 63 bits in which a block differs from the code block of the information
 abbrev pub errors : List ℕ → List ℕ → ℕ
 errors block information = differences (word block) (word (code_block information))
 
@@ -60,7 +60,7 @@ abbrev pub near : List ℕ → ℕ → List (List ℕ)
 near information zero = information ∷ []
 near information (suc k) = flipped information k ∷ near information k
 
--- the first of these from which the block has at most `limit` errors
+-- the first of these candidates whose code block differs from the block in at most `limit` bits
 abbrev pub first_within : ℕ → List ℕ → List (List ℕ) → Option (List ℕ)
 first_within limit block [] = None
 first_within limit block (information ∷ more) = if nat_lt limit (errors block information) then first_within limit block more else Some information

@@ -32,8 +32,7 @@ after_block room (o ∷ frame) None = (Searching 0, (o ∷ frame) ∷ [])
 unfoldable pub start_errors : ℕ → ℕ → ℕ
 start_errors last octet = differences (bits_of (last ∷ octet ∷ [])) (bits_of start_sequence)
 
--- whether two octets count as the start sequence, for which they may have as many wrong bits as the mode allows in a
--- code block
+-- whether two octets count as the start sequence: they may have as many wrong bits as the mode allows in a code block
 unfoldable pub is_start : Mode → ℕ → ℕ → Bool
 is_start mode last octet = if nat_lt (most_errors mode) (start_errors last octet) then false else true
 
@@ -62,7 +61,8 @@ fate_in mode block =
     else if is_some (decoded mode block) then Corrected
     else rejected_as block
 
--- The fate of a block after octets that the CLTU carried before. A block that would be accepted may find no room.
+-- The fate of a block, given the octets that the CLTU carried before it. A block that would be accepted may find no
+-- room.
 abbrev pub fate_behind : ℕ → List ℕ → Option (List ℕ) → Fate → Fate
 fate_behind room frame None fate = fate
 fate_behind room frame (Some information) fate = if nat_lt room (length frame + 7) then Overlong else fate
@@ -87,7 +87,7 @@ abbrev pub overruns_of : Option Fate → ℕ
 overruns_of (Some Overlong) = 1
 overruns_of _ = 0
 
--- the sum over the code blocks that end in the octets, where `count` maps the fate of a block to its number
+-- the sum of `count` over the fates of the code blocks that end in the octets
 abbrev pub counted_in : (Option Fate → ℕ) → Mode → ℕ → Reception → List ℕ → ℕ
 counted_in count mode room state [] = 0
 counted_in count mode room state (octet ∷ octets) =
@@ -111,7 +111,7 @@ pub record Receiver : Type 0 where
   pub state : Reception
   pub carried : List ℕ
 
--- the first octets were processed, which completed these candidate frames and left this rest
+-- octets at the front were processed: they completed these candidate frames, and this rest is left
 pub record IsTaken (room : ℕ) (before after : Receiver) (octets rest : List ℕ) (given : List (List ℕ)) : Type 0 where
   pub count : ℕ
   pub within : count ≤ length octets
@@ -140,7 +140,7 @@ abbrev pub IsSearching : Reception → Type 0
 IsSearching (Searching last) = Unit {0}
 IsSearching (Decoding frame block) = ⊥
 
--- a state that the receiving end can reach: the octets that wait are less than a block
+-- a state that the receiving end can reach: less than a whole block waits
 abbrev pub IsReception : Reception → Type 0
 IsReception (Searching last) = Unit {0}
 IsReception (Decoding frame block) = length block < 8

@@ -121,7 +121,7 @@ fn rejection(block: [u8; 8]) -> Fate
     }
 }
 
-// Returns a block as a number, whose lowest octet is the block's first. One sum then inverts a wrong bit.
+// Returns a block as a number whose lowest octet is the first of the block. One XOR then inverts a wrong bit.
 fn word_of(block: [u8; 8]) -> u64
     ensures number { result ≡ from_le_bytes w64 block }
     ensures octets { to_le_bytes w64 result ≡ block }
@@ -137,8 +137,8 @@ fn first_seven(word: u64) -> [u8; 7]
     [a, b, c, d, e, f, g]
 }
 
-// Returns the wrong bit of a block, which is seven octets and the last one. The result is the number with only this bit
-// set, or 0 if no bit is wrong. It is `None` if the mode rejects the block.
+// Finds the wrong bit of the block that consists of `own` and `last`. Returns the number in which only this bit is set,
+// or 0 if no bit is wrong. Returns `None` if the mode rejects the block.
 #[inline(always)]
 #[tactic(auto, using(crate::proofs::Taking::wrong_by))]
 fn error_of(own: &[u8], last: u8, mode: Mode) -> Option<u64>
@@ -162,8 +162,8 @@ fn error_of(own: &[u8], last: u8, mode: Mode) -> Option<u64>
     }
 }
 
-/// The numbers of code blocks that were corrected, of those rejected other than tail sequences, and of CLTUs that
-/// carried too much.
+/// Three counts: corrected code blocks, rejected code blocks that aren't the tail sequence, and CLTUs that carried too
+/// much.
 #[derive(Clone, Copy, Debug, PartialEq, Eq)]
 pub struct Blocks {
     pub corrected: u64,

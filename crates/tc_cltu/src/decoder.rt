@@ -26,17 +26,17 @@ const NOTHING: Fed = Fed {
     ended: false,
 };
 
-/// A decoder that finds CLTUs in a stream of octets, and yields what each carries: a candidate frame, followed by fill.
+/// A decoder that finds CLTUs in a stream of octets. A CLTU yields a candidate frame, which is followed by fill.
 ///
-/// The decoder searches each two consecutive octets for the start sequence. One of their sixteen bits may be wrong in
-/// [`Mode::Correct`], and none in [`Mode::Detect`]. The octets after it are decoded until a code block is rejected. The
-/// tail sequence is rejected in each mode. A CLTU that carries more than [`MOST_OCTETS`] yields only
-/// [`Fate::Overlong`].
+/// The decoder compares each two consecutive octets with the start sequence. In [`Mode::Correct`] one of their sixteen
+/// bits may be wrong, and in [`Mode::Detect`] none. After the start sequence, code blocks are decoded until one is
+/// rejected. The tail sequence is rejected in each mode. A CLTU that carries more than [`MOST_OCTETS`] yields no
+/// candidate frame. The fate of the block that exceeds this limit is [`Fate::Overlong`].
 #[derive(Drop)]
 pub struct Decoder {
     mode: Mode,
     decoding: bool,
-    // the octet before, while the decoder searches for a start sequence
+    // the octet that came last, while the decoder searches for a start sequence
     last: u8,
     frame: Vec<u8>,
     block: [u8; 8],
@@ -60,7 +60,7 @@ impl Model for Decoder {
 }
 
 impl Decoder {
-    /// Creates a decoder that searches. This allocates memory for the octets that a CLTU carries.
+    /// Creates a decoder that searches for a start sequence. Memory for [`MOST_OCTETS`] is allocated here.
     pub fn new(alloc: Global, mode: Mode) -> Result<Decoder, AllocError>
         ensures { IfOk result (λ decoder. decoder ≡ record { mode = mode; state = Searching 0; carried = [] }) }
     {
@@ -119,8 +119,8 @@ impl Decoder {
         Some(self.end_block(block))
     }
 
-    /// Processes the first octets of a piece of the stream: a whole code block, if one begins with them, and otherwise
-    /// one octet. Returns their effect and the rest of the piece, or `None` if the piece is empty. No memory is
+    /// Processes the front of a piece of the stream. This is a whole code block if one begins there, and otherwise one
+    /// octet. Returns the effect of the front and the rest of the piece, or `None` if the piece is empty. No memory is
     /// requested.
     #[inline(always)]
     #[tactic(auto, using(crate::proofs::Decoding::taken_block, crate::proofs::Decoding::taken_octet))]
@@ -182,8 +182,7 @@ impl Decoder {
     }
 
     /// Restarts the search for a start sequence, as after a loss of bit lock (CCSDS 231.0-B). Returns whether that cuts
-    /// a CLTU short, in which case the code blocks that were accepted since its start sequence yield no candidate
-    /// frame.
+    /// a CLTU short. In that case the code blocks that were accepted since its start sequence yield no candidate frame.
     pub fn search_anew(&mut self) -> bool
         ensures mode { self.new.mode ≡ self.old.mode }
         ensures state { self.new.state ≡ Searching 0 }
@@ -203,8 +202,8 @@ impl Decoder {
 
     /// Processes the next piece of the stream, of any length, and adds a copy of each candidate frame that ends in it.
     ///
-    /// After `Err` the octets up to the end of a candidate frame have been processed. All candidate frames before it
-    /// were added, and [`carried`](Decoder::carried) lends this frame.
+    /// If memory runs out for a candidate frame, the octets up to its end have been processed, and those after it
+    /// haven't. All candidate frames before it were added, and [`carried`](Decoder::carried) lends it.
     pub fn feed(
         &mut self,
         alloc: Global,

@@ -16,15 +16,16 @@ ghost use Rattle.tc_cltu.specs.declared.block.Mode.TheVariants.{Detect, Correct}
 ghost use Rattle.tc_cltu.specs.declared.block.Fate.TheVariants.{Right, Tail, Rejected};
 ghost use Rattle.tc_cltu.specs.declared.writer.CltuFault.TheVariants.{Empty, TooLong};
 
-/// The parity bits are the complement of the remainder of the division of the polynomials, and there is no other remainder.
+/// The parity bits are the complement of the remainder of the polynomial division, and that division has no other
+/// remainder.
 pub fn the_parity_is_the_remainder()
     ensures remainder { (information : List ℕ) → IsBlockRemainder (block_remainder 0 (bits_of information)) (bits_of information) }
     ensures only { (r s : ℕ) (bits : List ℕ) → IsBlockRemainder r bits → IsBlockRemainder s bits → r ≡ s }
 {}
 
-/// States examples of code blocks, worked out by hand or by a long division in another language: seven octets, the
-/// parity bits, and a filler bit 0, which is ignored. Neither the tail sequence nor the idle sequence is accepted in
-/// any mode.
+/// States examples of code blocks, worked out by hand or by a long division in another language. A code block is seven
+/// octets, the parity bits, and a filler bit 0, which is ignored. No mode accepts the tail sequence or the idle
+/// sequence.
 ///
 /// G is x^7 + x^6 + x^2 + 1, and the octets are a polynomial M, which is multiplied by x^7 and divided by G:
 ///
@@ -49,7 +50,7 @@ pub fn code_blocks_are_so()
     ensures idle_sequence { fate_in Correct (0x55 ∷ 0x55 ∷ 0x55 ∷ 0x55 ∷ 0x55 ∷ 0x55 ∷ 0x55 ∷ 0x55 ∷ []) ≡ Rejected }
 {}
 
-/// Two code blocks that differ in at most three places carry equal octets.
+/// Two code blocks that differ in at most three of their 63 bits carry equal octets.
 pub fn code_blocks_differ_in_four_places()
     ensures { (one other : List ℕ) → IsInformation one → IsInformation other → differences (word (code_block one)) (word (code_block other)) ≤ 3 → one ≡ other }
 {}
@@ -110,9 +111,9 @@ pub fn the_next_cltu_is_found()
         ≡ frames_of mode most_octets state (before ++ idle 15) ++ filled frame ∷ frames_of mode most_octets (Searching 0) rest }
 {}
 
-/// Adding the random sequence twice changes nothing. Zeros become the sequence itself, and its octets are the bits of
-/// the register, one after the other. The first 40 bits are as the standard prints them. The others were computed from
-/// the register, bit by bit, in another language.
+/// Adding the random sequence twice changes nothing. Added to zeros, it yields the sequence itself, and its octets are
+/// the bits of the register, one after the other. In the example, the first 40 bits are as the standard prints them.
+/// The others were computed from the register, bit by bit, in another language.
 pub fn the_random_sequence_comes_off_as_it_went_on()
     ensures twice { (octets : List ℕ) → randomised (randomised octets) ≡ octets }
     ensures zeros { (n : ℕ) → randomised (replicate n 0) ≡ random_octets 0xff n }

@@ -18,7 +18,7 @@ pub const START: [u8; 2] = [0xeb, 0x90];
 /// The tail sequence, a block that no mode accepts.
 pub const TAIL: [u8; 8] = [0xc5, 0xc5, 0xc5, 0xc5, 0xc5, 0xc5, 0xc5, 0x79];
 
-/// The reason why octets can't become a CLTU: the first of these that applies.
+/// The reason why octets can't become a CLTU. If several apply, it is the first of them, in this order.
 #[derive(Clone, Copy, Debug, PartialEq, Eq, Error)]
 pub enum CltuFault {
     /// A CLTU carries at least one octet.
@@ -31,8 +31,8 @@ pub enum CltuFault {
     NoMemory,
 }
 
-/// Writes the CLTU that carries a frame or other octets: the start sequence, the code blocks, with fill in the last of
-/// them if it needs some, and the tail sequence.
+/// Writes the CLTU that carries a frame or other octets: the start sequence, the code blocks, and the tail sequence.
+/// The last code block has fill if the octets don't fill it.
 ///
 /// The only allocation is the CLTU.
 pub fn write_cltu(alloc: Global, frame: &[u8]) -> Result<Vec<u8>, CltuFault>
@@ -52,7 +52,7 @@ pub fn write_cltu(alloc: Global, frame: &[u8]) -> Result<Vec<u8>, CltuFault>
     Ok(made)
 }
 
-// Returns the CLTU. Memory for all of it is requested at the start.
+// Returns the CLTU. Memory for all of it is allocated at the start.
 fn coded(alloc: Global, frame: &[u8]) -> Result<Vec<u8>, AllocError>
     requires { length frame.now ≤ most_octets }
     ensures { IfOk result (λ made. made.items ≡ cltu frame.now) }
@@ -71,7 +71,7 @@ fn coded(alloc: Global, frame: &[u8]) -> Result<Vec<u8>, AllocError>
     Ok(made)
 }
 
-// Adds the code block of the remaining octets, with its fill, if any octets remain.
+// If any octets remain, adds their code block, with its fill.
 fn push_last(made: &mut Vec<u8>, octets: &[u8])
     requires few { length octets.now < 7 }
     requires room { vec_len made.old + 8 * ((length octets.now + 6) / 7) + 8 ≤ vec_capacity made.old }
