@@ -100,8 +100,8 @@ seat-there [] id lt = absurd (omega (arith, lt))
 seat-there (x ∷ xs) zero lt = (x, refl)
 seat-there (x ∷ xs) (suc id) lt = seat-there xs id (omega (arith, lt))
 
--- if a seat's view changes, and its reports, the number of seats that it issued and whether it is a maker stay the
--- same, the facts about the first seat stay, too
+-- the facts about the first seat stay if a seat's view changes, as long as its reports, the number of seats that it
+-- issued and whether it is a maker stay the same
 first-stays : {D E : Type 0} (views : List (View D E)) (id : ℕ) (p v w : View D E) → get_elem? views 0 ≡ some p → get_elem? views id ≡ some v → w.reported ≡ v.reported → w.maker ≡ v.maker → w.own.issued ≡ v.own.issued
     → AreCounted views p → (q : View D E) × (get_elem? (set views id w) 0 ≡ some q) × (q.reported ≡ p.reported) × AreCounted (set views id w) q
 first-stays [] id p v w at here same maker issued counted = absurd (some-ne-none p (sym at))
@@ -419,7 +419,7 @@ module _ {S D E : Type 0} (log : S → Log D E) (fits : S → Type 0) (top : D) 
   pub issues : (id : ℕ) (v : View D E) → id ≡ 0 → v.live ≡ true → Splits Recorded id v (issued_one v) (newcomer v.own.seen)
   issues id v is_first live = subst (λ (i : ℕ). Splits Recorded i v (issued_one v) (newcomer v.own.seen)) (sym is_first) (issues-first v live)
 
-  -- the first seat learns what another has seen and made
+  -- another seat reports to the first one
   reports-first : (d : D) (v : View D E) (other : ℕ) (w : View D E) → v.live ≡ true → w.live ≡ true → w.maker ≡ true → Joins Recorded 0 v other w (reported_of v w) (gone d)
   reports-first d v other w live live' maker s b at apart there =
       let both = reported_of v w in

@@ -1,5 +1,5 @@
 pub mod Log
 pub mod Rule
 pub mod Word
--- a lock's identity, for the crates above
+-- the identity of a lock, for the crates that use this one
 pub use Rattle.atomic_table.specs.Seated.{TableId}

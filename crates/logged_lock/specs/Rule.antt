@@ -38,11 +38,11 @@ guest l = record { live = true; locks = false; maker = false; own = record { see
 abbrev pub issued_one : {D E : Type 0} → View D E → View D E
 issued_one v = record { live = v.live; locks = v.locks; maker = v.maker; own = record { seen = v.own.seen; made = v.own.made; issued = suc v.own.issued }; reported = v.reported }
 
--- the view that is left of a seat that was joined to the first one
+-- the view that remains of a seat after it was joined to the first one
 abbrev pub gone : {D E : Type 0} → D → View D E
 gone d = record { live = false; locks = false; maker = false; own = record { seen = record { head = d; entries = [] }; made = []; issued = 0 }; reported = [] }
 
--- the view of the first seat after it has learned what another had seen and made
+-- the view of the first seat after another seat has reported to it
 abbrev pub reported_of : {D E : Type 0} → View D E → View D E → View D E
 reported_of v w = record { live = v.live; locks = v.locks; maker = v.maker; own = v.own; reported = v.reported ++ w.own ∷ [] }
 
@@ -54,8 +54,8 @@ locked l v = record { live = true; locks = true; maker = v.maker; own = record {
 abbrev pub unlocked : {D E : Type 0} → View D E → View D E
 unlocked v = record { live = true; locks = false; maker = v.maker; own = v.own; reported = v.reported }
 
--- the view of a seat after it has released the lock with this entry, which is its own, at the place after all that it
--- had seen
+-- the view of a seat after it has released the lock with this entry, which it owns, and which follows all entries that
+-- it had seen
 abbrev pub unlocked_with : {D E : Type 0} → E → View D E → View D E
 unlocked_with e v = record {
   live = true;
@@ -87,7 +87,7 @@ pub record AreCounted {D E : Type 0} (views : List (View D E)) (first : View D E
   pub lead : first.maker ≡ true
   pub many : makers_in views + length first.reported ≡ suc first.own.issued
 
--- the lock is free: the protected data is in its slot, and its log is the one log
+-- the lock is free: the protected data is in its slot, and the log of this data is `now`
 pub record IsFree {S D E : Type 0} (log : S → Log D E) (fits : S → Type 0) (words : List ℕ) (homes : List (Option S)) (now : Log D E) (holder : Option ℕ) : Type 0 where
   pub kept : S
   pub mark : ℕ
@@ -146,8 +146,8 @@ abbrev pub NoSeatOwns : {D E : Type 0} → Log D E → List ℕ → Type 0
 NoSeatOwns now owners = (id : ℕ) → owned (seat_tag id) 0 owners now.entries ≡ []
 
 -- The log that was seen consists of the entries of the seats that were joined to the first one, and of the entries of
--- other seats. It consists of the former alone if all seats that the first one issued were joined to it, and it has
--- made nothing.
+-- other seats. The other seats have made none if all seats that the first one issued were joined to it, and the first
+-- one has made none.
 abbrev pub IsAccountedFor : {D E : Type 0} → View D E → Type 0
 IsAccountedFor v = (owners : List ℕ) × (length owners ≡ length v.own.seen.entries) × AreReported v.own.seen owners v.reported
     × (v.own.made ≡ [] → v.own.issued ≤ length v.reported → NoSeatOwns v.own.seen owners)

@@ -21,9 +21,9 @@ const FREE: u64 = 0;
 
 const LEFT: u64 = 1;
 
-// The words of a taken lock. `TAKEN` means no more than that. `SLEEPERS` means that a thread may sleep, and `ASKED`
-// that a thread has requested that the lock be left to threads that have slept. While the lock is taken its word only
-// rises.
+// The words of a taken lock. `TAKEN` means only that the lock is taken. `SLEEPERS` also means that a thread may sleep,
+// and `ASKED` that a thread has requested that the lock be left to threads that have slept. While the lock is taken,
+// its word only rises.
 const TAKEN: u64 = 2;
 
 const SLEEPERS: u64 = 3;
@@ -37,8 +37,8 @@ const WORDS: [u64; 33] = [FREE; 33];
 const WORD: usize = 16;
 
 // The number of times that a thread looks at the word of a taken lock before it sleeps, and the number of pauses after
-// its first look. After each further look it makes twice as many pauses. A look takes the word's cache line from the
-// thread that has the lock.
+// its first look. After each further look it makes twice as many pauses as after the look before. A look takes the
+// word's cache line from the thread that has the lock.
 const LOOKS: u32 = 6;
 
 const PAUSES: u32 = 32;
@@ -71,8 +71,8 @@ fn given_back(word: u64) -> u64
     if word == ASKED { LEFT } else { FREE }
 }
 
-/// A lock. The thread that has it has the data that it protects. A contract sees the lock's identity, and the head of
-/// the log, which never changes.
+/// A lock. The thread that has the lock also has the protected data. In contracts, the value of the lock is its
+/// identity and the head of the log, which never changes.
 #[derive(Drop)]
 pub struct LoggedLock<S: Logged<D, E>, D, E> {
     table: Table<S, View<D, E>, D, LockRule, Global>,
@@ -165,8 +165,8 @@ impl<S: Logged<D, E>, D: Head, E> LoggedLock<S, D, E> {
         TAKEN
     }
 
-    // Marks the word to show that a thread may sleep, sleeps while the word stays as it is, and returns the word
-    // afterwards.
+    // Marks the word to show that a thread may sleep, sleeps while the word stays as it is, and returns the last word
+    // that it saw. If the word changes before it is marked, the thread doesn't sleep.
     fn sleep<R: Wait>(&self, rt: &R, seat: &mut LockSeat<S, D, E>, word: u64, sleeps: u64) -> u64
         requires small { word ≤ 4 }
         requires own { seat.old.table_id ≡ self.now.id }
@@ -185,7 +185,7 @@ impl<S: Logged<D, E>, D: Head, E> LoggedLock<S, D, E> {
         self.spin()
     }
 
-    /// Takes the lock if it is free.
+    /// Takes the lock if it is free and isn't left to threads that have slept. Returns whether the lock was taken.
     pub fn try_lock(&self, seat: &mut LockSeat<S, D, E>) -> bool
         requires own { seat.old.table_id ≡ self.now.id }
         requires idle { IsIdle seat.old.me }
@@ -237,7 +237,7 @@ impl<S: Logged<D, E>, D: Head, E> LoggedLock<S, D, E> {
         }
     }
 
-    // Wakes a thread if one may sleep according to `word`, which the lock had before it was released.
+    // Wakes a thread if `word`, which was the lock's word before its release, shows that a thread may sleep.
     fn wake(&self, word: u64) {
         if TAKEN < word {
             self.table.shared.wake_one(WORD);
@@ -269,7 +269,7 @@ impl<S: Logged<D, E>, D: Head, E> LoggedLock<S, D, E> {
         self.wake(word);
     }
 
-    /// Creates a seat from which nothing can be made, for a thread that has none.
+    /// Creates a seat from which no entry can be made, for a thread without a seat.
     pub fn guest(&self) -> LockSeat<S, D, E>
         ensures own { result.table_id ≡ self.now.id }
         ensures head { result.me.0.own.seen.head ≡ self.now.head }
@@ -278,7 +278,7 @@ impl<S: Logged<D, E>, D: Head, E> LoggedLock<S, D, E> {
         self.table.shared.load_new_seat::<Sits>(WORD).1
     }
 
-    /// Creates a seat from which nothing was made, and which has seen what the first one has seen.
+    /// Creates a seat that has made no entry, and that has seen the part of the log that the first seat has seen.
     pub fn issue(&self, first: &mut LockSeat<S, D, E>) -> LockSeat<S, D, E>
         requires own { first.old.table_id ≡ self.now.id }
         requires first { first.old.id ≡ 0 }
@@ -291,7 +291,8 @@ impl<S: Logged<D, E>, D: Head, E> LoggedLock<S, D, E> {
         self.table.shared.split_seat::<Issues>(first)
     }
 
-    /// Lets the first seat know what another seat has seen and made. The other seat is consumed.
+    /// Reports to the first seat the part of the log that another seat has seen, and the entries that it has made. The
+    /// other seat is consumed.
     pub fn report(&self, first: &mut LockSeat<S, D, E>, other: LockSeat<S, D, E>)
         requires own { (first.old.table_id ≡ self.now.id) × (other.table_id ≡ self.now.id) }
         requires first { first.old.id ≡ 0 }
@@ -304,9 +305,10 @@ impl<S: Logged<D, E>, D: Head, E> LoggedLock<S, D, E> {
         self.table.shared.join_seat::<Reports>(first, other);
     }
 
-    /// Shows what the log consists of, through the first seat, which must have the lock. If the seats that reported to
-    /// it have made as many entries as the log has, the log is a merge of what they made. They have made that many if
-    /// all seats that the first one issued have reported, and it has made nothing itself.
+    /// Accounts for the entries of the log, through the first seat, which must have the lock. If the seats that
+    /// reported to the first one have made as many entries as the log has, the log is a merge of their entries. They
+    /// have made that many if all seats that the first one issued have reported, and the first one has made no entry
+    /// itself.
     pub fn account(&self, first: &mut LockSeat<S, D, E>)
         requires own { first.old.table_id ≡ self.now.id }
         requires first { first.old.id ≡ 0 }
@@ -320,14 +322,15 @@ impl<S: Logged<D, E>, D: Head, E> LoggedLock<S, D, E> {
         self.table.shared.load::<Accounts>(first, WORD);
     }
 
-    /// Returns the table for `slot_mut` of a seat that has the lock, which lends the protected data in slot 0.
+    /// Returns the table that the `slot_mut` of a seat needs. If the seat has the lock, `slot_mut` lends the protected
+    /// data, which is in slot 0.
     pub fn table(&self) -> &Shared<S, View<D, E>, D, LockRule>
         ensures { result.now.table_id ≡ self.now.id }
     {
         &self.table.shared
     }
 
-    /// Takes the protected data out, through the seat that has the lock, and puts `kept` in its place.
+    /// Replaces the protected data with `kept`, and returns the old data. The seat must have the lock.
     pub fn replace(&self, seat: &mut LockSeat<S, D, E>, kept: S) -> S
         requires own { seat.old.table_id ≡ self.now.id }
         requires locks { (old : S) × (seat.old.me.1 ≡ (0, old) ∷ []) }

@@ -62,8 +62,8 @@ impl<S, D, E, P: NextEntry<E>> Play<S, View<D, E>> for LeavesWith<P> {
     ghost then = { λ _ before _ after. after ≡ (unlocked_with P.entry before.0, []) };
 }
 
-/// The step that creates a seat from which nothing is made. The log that this seat has seen has the head that the table
-/// was given.
+/// The step that creates a seat from which no entry can be made. The log that this seat has seen has the head that the
+/// table was created with.
 pub struct Sits;
 
 impl<S, D, E> Play<S, View<D, E>> for Sits {
@@ -73,7 +73,7 @@ impl<S, D, E> Play<S, View<D, E>> for Sits {
     ghost then = { λ _ before _ after. (after ≡ (guest after.0.own.seen, [])) × (after.0.own.seen.head ≡ before.0.own.seen.head) };
 }
 
-/// The step by which the first seat learns what the log consists of.
+/// The step by which the first seat accounts for the entries of the log.
 pub struct Accounts;
 
 impl<S, D, E> Play<S, View<D, E>> for Accounts {
@@ -83,7 +83,7 @@ impl<S, D, E> Play<S, View<D, E>> for Accounts {
     ghost then = { λ _ before _ after. (after ≡ before) × IsAccountedFor before.0 };
 }
 
-/// The step that issues a new seat, which has seen what this one has seen.
+/// The step that issues a new seat, which has seen the part of the log that the issuing seat has seen.
 pub struct Issues;
 
 impl<D, E> Split<View<D, E>> for Issues {
@@ -94,7 +94,7 @@ impl<D, E> Split<View<D, E>> for Issues {
     ghost right = { λ v. newcomer v.own.seen };
 }
 
-/// The step by which the first seat learns what another has seen and made. The other seat is consumed.
+/// The step by which another seat reports to the first one. The other seat is consumed.
 pub struct Reports;
 
 impl<D: Head, E> Join<View<D, E>> for Reports {
@@ -105,5 +105,5 @@ impl<D: Head, E> Join<View<D, E>> for Reports {
     ghost spent = { gone D.blank };
 }
 
-/// A seat at a lock. It has no octets.
+/// A seat at a lock. It needs no memory.
 pub type LockSeat<S, D, E> = Seat<S, View<D, E>>;

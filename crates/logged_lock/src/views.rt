@@ -1,4 +1,4 @@
-//! The knowledge of the log, in all and at one seat.
+//! The log, and the view that a seat has of it.
 
 use std::collections::LinkedList;
 
@@ -18,20 +18,20 @@ pub struct Log<D, E> {
     pub entries: LinkedList<E>,
 }
 
-/// A type of heads, with a blank one for places where no head is meant.
+/// A type of heads. Its blank head stands in places where no head is meant.
 pub trait Head {
     ghost blank: { Self };
 }
 
-/// The log that one seat has seen, the entries that were made from the seat, each with its place in the log, and the
-/// number of seats that were issued from it. No value of this type is ever created.
+/// The account of one seat: the log that the seat has seen, the entries that it has made, each with its place in the
+/// log, and the number of seats that were issued from it. No value of this type is ever created.
 pub struct Account<D, E> {
     pub seen: Log<D, E>,
     pub made: LinkedList<(u64, E)>,
     pub issued: u64,
 }
 
-/// The knowledge at a seat. No value of this type is ever created.
+/// The view of a seat. No value of this type is ever created.
 pub struct View<D, E> {
     /// False for a seat that was joined to the first one, and true for any other.
     pub live: bool,

@@ -36,8 +36,8 @@ AreAnswered {S} limit Answers old (line ∷ lines) new text =
     (between : S) × (first : List ℕ) × (rest : List ℕ) × IsAnswered limit Answers old line between first
     × AreAnswered limit Answers between lines new rest × (text ≡ first ++ rest)
 
--- A line that was read is answered by the octets that were kept of it, or as too long. There is no line if the input
--- ended after a line feed.
+-- A line that was read gets the answer to its kept octets, or the answer for a line that is too long. There is no line
+-- if the input ended after a line feed.
 abbrev pub IsReadAnswered : {S : Type 0} → (S → List ℕ → S → List ℕ → Type 0) → S → LineRead → List ℕ → S → List ℕ → Type 0
 IsReadAnswered Answers old read kept new text =
     ((read.too_long ≡ true) × (new ≡ old) × (text ≡ too_long_text))

@@ -14,8 +14,8 @@ abbrev pub feed_of : Bool → List ℕ
 feed_of true = 10 ∷ []
 feed_of false = []
 
--- A reader lost a line and its line feed, or all that it had if there was no line feed. At most `limit` octets of the
--- line are kept.
+-- A line and its line feed were taken from a reader, or all octets of the reader if there was no line feed. At most
+-- `limit` octets of the line are kept.
 pub record IsLineRead (limit : ℕ) (old new : Option (List ℕ)) (kept : List ℕ) (read : LineRead) : Type 0 where
   pub line : List ℕ
   pub one : IsOneLine line
@@ -24,7 +24,7 @@ pub record IsLineRead (limit : ℕ) (old new : Option (List ℕ)) (kept : List �
   pub kept_is : kept ≡ take limit line
   pub too_long_is : read.too_long ≡ nat_lt limit (length line)
 
--- a reader lost a part of a line, which follows the octets that were kept before
+-- a part of a line was taken from a reader, and it follows the octets of the line that were kept before
 pub record IsPartRead (limit : ℕ) (old new : Option (List ℕ)) (before after : List ℕ) (part : Part) : Type 0 where
   pub octets : List ℕ
   pub one : IsOneLine octets

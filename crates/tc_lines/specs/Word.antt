@@ -23,7 +23,7 @@ is word text = pointwise nat_eq word text
 abbrev pub is_comment : List ℕ → Bool
 is_comment word = slice_index word 0 == 35
 
--- the next result, if there was one before, and otherwise the reason that there was none
+-- the second result if the first one is `Ok`, and otherwise the error of the first one
 abbrev pub after_ok : {A B E : Type 0} → Result A E → (A → Result B E) → Result B E
 after_ok (Ok x) next = next x
 after_ok (Err reason) next = Err reason

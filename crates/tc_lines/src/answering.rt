@@ -41,8 +41,8 @@ pub trait LineAnswerer {
 /// Answers lines until there are no more, and flushes after each answer.
 ///
 /// A line of more than `limit` octets is answered `bad too long`, and isn't kept. Octets after the last line feed are a
-/// line. If the octets of the reader are known, the answers to all its lines are written, or to the lines that it
-/// returned before it failed. After 2^64 - 1 lines the reader counts as failed.
+/// line. If the octets of the reader are known to its contract, all their lines are answered, or the first ones of them
+/// if the reader fails. After 2^64 - 1 lines the reader counts as failed.
 pub fn answer_lines<A: LineAnswerer, R: BufRead, W: Write>(
     alloc: Global,
     limit: usize,

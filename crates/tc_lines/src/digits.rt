@@ -9,8 +9,8 @@ use std::fmt;
 // The number of octets that are turned into digits at a time.
 const AT_ONCE: usize = 64;
 
-/// Octets, each of which is written as two hexadecimal digits. A packet or a unit may have 65,542 octets, so making the
-/// digits of all of them at once would request memory.
+/// Octets that are written as two hexadecimal digits each. A few at a time are written, since a packet or a unit may
+/// have 65,542 octets, and memory would have to be allocated for all digits at once.
 #[derive(Clone, Copy, Debug)]
 pub struct Digits<'a>(pub &'a [u8]);
 

@@ -2,7 +2,7 @@
 //! digits.
 //!
 //! [`answer_lines`] reads lines until there are no more, and has each answered by a [`LineAnswerer`]. It never keeps
-//! more octets of a line than a line may have. [`next_word`] takes the first word off a line, [`small_number`] and
+//! more octets of a line than the limit allows. [`next_word`] takes the first word off a line, [`small_number`] and
 //! [`large_number`] read a word as a number, and [`Digits`] are octets to be written as hexadecimal digits.
 #![tactic(auto)]
 

@@ -11,8 +11,8 @@ use std::io::{BufRead, ErrorKind};
 /// The result of reading a line whose octets are kept elsewhere.
 #[derive(Clone, Copy)]
 pub(crate) struct LineRead {
-    /// Whether a line feed ended the line. If none did, the input ended, and the line is empty if nothing came after
-    /// the last line feed.
+    /// Whether a line feed ended the line. If not, the input ended. Then the line is empty if nothing came after the
+    /// last line feed.
     pub(crate) ended: bool,
     /// Whether the line is longer than it may be. In that case only its front is kept.
     pub(crate) too_long: bool,
@@ -47,7 +47,7 @@ pub(crate) fn read_line<R: BufRead>(
 struct Part {
     // Whether the part was longer than the room for it.
     over: bool,
-    // Whether more of the line follows the part, as far as is known.
+    // Whether more of the line may follow the part.
     goes_on: bool,
     // Whether a line feed followed the part.
     ended: bool,
@@ -72,7 +72,7 @@ fn read_part<R: BufRead>(reader: &mut R, limit: usize, line: &mut Vec<u8>) -> io
     })
 }
 
-// Returns a part in which nothing was read if the read was interrupted, so that it is repeated. Returns any other
+// If the read was interrupted, returns a part without octets, so that the read is repeated. Otherwise returns the
 // error.
 fn after_error(error: io::Error) -> io::Result<Part>
     ensures { IfOk result (λ part. part ≡ nothing_yet) }
@@ -88,8 +88,8 @@ fn after_error(error: io::Error) -> io::Result<Part>
     }
 }
 
-// The front of octets up to a line feed: its number of octets without the line feed and with it, and whether there is
-// one.
+// The front of octets up to their first line feed: its length without the line feed, its length with it, and whether
+// there is a line feed.
 #[derive(Clone, Copy)]
 struct Front {
     line: usize,
@@ -124,7 +124,7 @@ fn front_of(octets: &[u8]) -> Front
     }
 }
 
-// Adds octets to a line up to its limit, and returns whether there were more.
+// Adds octets to a line up to its limit, and returns whether there were more than the limit allows.
 fn keep(line: &mut Vec<u8>, limit: usize, part: &[u8]) -> Result<bool, AllocError>
     requires { length line.old.items ≤ limit }
     ensures kept { OnOk result (line.new.items ≡ take limit (line.old.items ++ part.now)) }

@@ -6,8 +6,8 @@ ghost use Rattle.tc_lines.specs.Word.{is_separator as is_separator_octet, words}
 
 use memchr::memchr3;
 
-// The shortest input that is searched. Fewer octets are examined one by one, since starting a search takes as long as
-// that.
+// The shortest input that is searched. Shorter input is examined octet by octet, since that takes no longer than
+// starting a search.
 const LONG: usize = 64;
 
 /// Returns the first word and the octets after it.
@@ -46,8 +46,8 @@ fn word_length(octets: &[u8]) -> usize
     long_word_length(octets)
 }
 
-// Returns the number of octets before the first separator, by a search, whose code is kept apart from that for short
-// words.
+// Searches for the first separator, and returns the number of octets before it. The search isn't inlined, so that its
+// code stays apart from the code for short words.
 #[inline(never)]
 fn long_word_length(octets: &[u8]) -> usize
     ensures { result ≡ length (take_while (λ octet. not (is_separator_octet octet)) octets.now) }
