@@ -58,7 +58,7 @@ owned-renamed-old a b at (o ∷ os) (e ∷ es) n =
     ap (λ (t : Bool). cond t ((at, e) ∷ owned a (suc at) (map (renamed a b) os) es) (owned a (suc at) (map (renamed a b) os) es)) (renamed-old a b o n) ∙ owned-renamed-old a b (suc at) os es n
 owned-renamed-old a b at _ _ n = refl
 
--- the new name owns what the old one did
+-- the new name owns the places that the old name owned
 pub owned-renamed-new : {E : Type 0} (a b at : ℕ) (os : List ℕ) (es : List E) → owned b at os es ≡ [] → owned b at (map (renamed a b) os) es ≡ owned a at os es
 owned-renamed-new a b at (o ∷ os) (e ∷ es) none =
     dite (ℕ_discrete o b)

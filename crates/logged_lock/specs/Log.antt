@@ -36,7 +36,7 @@ total_made [] = 0
 total_made (a ∷ more) = length a.made + total_made more
 
 -- Each place of the log has one owner, and the k-th account has made exactly the entries at its places, in their order.
--- The log is therefore a merge of what the accounts have made. An owner that is none of the accounts has made nothing.
+-- The log is therefore a merge of the entries of the accounts. An owner that is none of the accounts has made nothing.
 pub record IsMergeOf {D E : Type 0} (entries : List E) (makers : List (Account D E)) : Type 0 where
   pub owners : List ℕ
   pub long : length owners ≡ length entries

@@ -224,8 +224,8 @@ impl<S: Logged<D, E>, D: Head, E> LoggedLock<S, D, E> {
         unreachable!()
     }
 
-    /// Takes the lock once it is free. A thread that waits looks at the lock for a while, and then sleeps until it is
-    /// released.
+    /// Takes the lock once it is free. A thread that waits looks at the lock for a while, and then sleeps until the lock
+    /// is released.
     pub fn lock<R: Wait>(&self, rt: &R, seat: &mut LockSeat<S, D, E>)
         requires own { seat.old.table_id ≡ self.now.id }
         requires idle { IsIdle seat.old.me }

@@ -15,9 +15,9 @@ pub fn the_field_is_the_remainder()
     ensures only { (r s : ℕ) (bits : List ℕ) → IsRemainder r bits → IsRemainder s bits → r ≡ s }
 {}
 
-/// Octets followed by the field over them pass. Adding the field to a frame of at most 1,022 octets yields a frame with
-/// the same header fields, which ends with the field over all octets before it. Adding the field to two different
-/// frames yields two different frames.
+/// Octets followed by the field over them pass the check. Adding the field to a frame of at most 1,022 octets yields a
+/// frame with the same header fields, which ends with the field over all octets before it. Adding the field to two
+/// different frames yields two different frames.
 pub fn a_field_comes_off_as_it_went_on()
     ensures passes { (octets : List ℕ) → Passes (octets ++ spelled (checksum_of octets)) }
     ensures frame { (frame : List ℕ) → IsWhole frame → length frame ≤ 1022

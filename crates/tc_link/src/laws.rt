@@ -13,7 +13,7 @@ ghost use Rattle.tc_link.specs.Window.{some_of_first};
 ghost use Rattle.tc_link.specs.Farm.{Row, E1, E7, E8, E10, entry, frame_row, after};
 ghost use Rattle.tc_link.specs.Clcw.{IsClcw, word_of, fields_of, reported};
 
-/// Octets begin with one frame at most.
+/// A list of octets begins with at most one frame.
 pub fn each_input_begins_with_one_frame_at_most()
     ensures { (octets one other : List ℕ) → BeginsWith octets one → BeginsWith octets other → one ≡ other }
 {}

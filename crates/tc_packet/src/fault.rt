@@ -1,4 +1,4 @@
-//! The fault that memory ran out.
+//! The fault of running out of memory.
 
 use std::alloc::{AllocError, AllocFailed};
 use thiserror::Error;

@@ -34,7 +34,7 @@ pub fn each_unit_has_one_cut()
     ensures only { (unit : List ℕ) (ps : List (List ℕ)) (rest : List ℕ) → IsCut unit ps rest → (ps ≡ packets_of unit) × (rest ≡ rest_of unit) }
 {}
 
-/// Octets begin with one packet at most.
+/// A list of octets begins with at most one packet.
 pub fn each_input_begins_with_one_packet_at_most()
     ensures { (octets : List ℕ) (n m : ℕ) → IsPacket (take n octets) → IsPacket (take m octets) → take n octets ≡ take m octets }
 {}
