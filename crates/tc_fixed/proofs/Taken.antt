@@ -1,4 +1,4 @@
--- The answers of takes, which depend on the items that wait.
+-- The results of taking an item, which depend on the items that wait.
 use Rattle.std.proofs.Common.{◌≡◌, ℕ, ◌<◌, ◌≤◌, Bool, true, false, cond, List, [], ◌∷◌, length, nat_lt, Option, Some, None, refl, sym, ap, arith}
 use Rattle.std.proofs.lemmas.Bool.Decides.{nat_tests}
 use Rattle.std.specs.Prelude.{slice_get, ◌↔◌, IsErrAnd, IsErrOf, Result, Ok, Err}
@@ -16,7 +16,7 @@ use Rattle.tc_fixed.specs.declared.faults.NoUnitTaken.TheVariants as unit_taking
 abbrev pub oldest : Option (List (List ℕ)) → Option (List ℕ)
 oldest items = option_and_then (λ xs. slice_get xs 0) items
 
--- the answer of a take, from the result of the copying
+-- the result of taking an item, from the result of copying it
 abbrev pub answer_by : {F : Type 0} → (NotCopied → F) → Result ℕ NotCopied → Result ℕ F
 answer_by fault (Ok count) = Ok count
 answer_by fault (Err why) = Err (fault why)
@@ -25,7 +25,7 @@ pub fault-answered : {F : Type 0} (fault : NotCopied → F) (reply : Result ℕ 
 fault-answered fault reply why (Err e) was is = rw was (ap (λ x. Err x) is)
 fault-answered fault reply why (Ok count) was is = absurd is
 
--- the answer has a fault exactly when the items that wait are the cause of it
+-- each fault is returned if and only if the packets that wait are the reason for it
 pub record Says (room : ℕ) (waiting : Option (List (List ℕ))) (answer : Result ℕ NothingTaken) : Type 0 where
   pub no_queue : IsErrOf answer taking.NoQueue ↔ (waiting ≡ None)
   pub empty : IsErrOf answer taking.Empty ↔ (waiting ≡ Some [])
@@ -46,7 +46,7 @@ by-packet room (Some (item ∷ later)) = by (nat_lt room (length item)) refl whe
 pub packet-says : (room : ℕ) (waiting : Option (List (List ℕ))) (reply : Result ℕ NotCopied) (answer : Result ℕ NothingTaken) → reply ≡ copied_out room waiting → answer ≡ answer_by packet_fault_of reply → Says room waiting answer
 packet-says room waiting reply answer reply_is is = rw (is, reply_is) (by-packet room waiting)
 
--- the answer of a unit queue has a fault exactly when the units that wait are the cause of it
+-- each fault is returned if and only if the units that wait are the reason for it
 pub record SaysOfUnit (room : ℕ) (waiting : Option (List (List ℕ))) (answer : Result ℕ NoUnitTaken) : Type 0 where
   pub no_map : IsErrOf answer unit_taking.NoMap ↔ (waiting ≡ None)
   pub empty : IsErrOf answer unit_taking.Empty ↔ (waiting ≡ Some [])

@@ -1,5 +1,5 @@
--- The contents of a channel in rooms: the core after the run of its journal within its limits, which must be limits
--- that its settings can have.
+-- The contents of a channel with fixed memory. Its core is that of the run of its journal within its limits, and its
+-- settings can have these limits.
 use Rattle.std.specs.Prelude.{List}
 use Rattle.tc_channel.specs.declared.settings.Settings.{Settings}
 use Rattle.tc_channel.specs.declared.event.Event.{Event}

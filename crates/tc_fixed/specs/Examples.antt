@@ -2,6 +2,6 @@
 use Rattle.std.specs.Prelude.{ℕ, [], ◌∷◌}
 use Rattle.tc_fixed.specs.declared.limits.Limits.{Limits}
 
--- limits with this one for the other MAPs, and with a limit of `octets` octets for each of two MAPs
+-- a limit of `octets` octets for each of two MAPs, and this limit for all others
 abbrev pub limits_on : ℕ → ℕ → ℕ → ℕ → Limits
 limits_on others one other octets = record { others = others; maps = record { map = one; octets = octets } ∷ record { map = other; octets = octets } ∷ [] }

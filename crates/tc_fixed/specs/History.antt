@@ -1,5 +1,4 @@
--- The view of a channel in rooms in contracts: its settings, its limits, and the events that it answered, the oldest
--- first.
+-- A channel with fixed memory as contracts see it: its settings, its limits, and its events, the oldest first.
 use Rattle.std.specs.Prelude.{List, [], ◌∷◌, ◌++◌}
 use Rattle.tc_channel.specs.declared.settings.Settings.{Settings}
 use Rattle.tc_channel.specs.declared.event.Event.{Event}
@@ -10,6 +9,6 @@ pub record LimitedHistory : Type 0 where
   pub limits : Limits
   pub journal : List Event
 
--- the view of the channel after one more event
+-- the channel one event later
 abbrev pub with_limited_event : LimitedHistory → Event → LimitedHistory
 with_limited_event history event = record history { journal = history.journal ++ event ∷ [] }

@@ -1,5 +1,5 @@
--- The limits on the length of units by MAP, the limits that a channel can have, and the faults of others. They are this
--- receiver's own rule.
+-- The limits on the length of units by MAP, the limits that a channel can have, and the faults of other limits. These
+-- rules are this receiver's own.
 use Rattle.std.specs.Prelude.{◌≡◌, ◌≢◌, ◌≤◌, ◌⊎◌, ◌==◌, ℕ, max, min, Bool, false, List, [], ◌∷◌, All, AllPairs, Any, if◌then◌else◌}
 use Rattle.std.specs.List.{AllByRecursion}
 use Rattle.tc_packet.specs.Reassembly.{largest_unit}
@@ -31,7 +31,7 @@ largest_in (m ∷ ms) others = largest_in ms (max others m.octets)
 abbrev pub largest_limit : Limits → ℕ
 largest_limit limits = largest_in limits.maps limits.others
 
--- the largest number of octets in a packet or a unit, which on a plain channel fits one data field
+-- the largest number of octets in a packet or a unit (on a plain channel, no more than in the largest data field)
 abbrev pub item_size : Limits → Bool → ℕ
 item_size limits segmented = min (largest_limit limits) (largest_item segmented)
 
@@ -39,7 +39,7 @@ item_size limits segmented = min (largest_limit limits) (largest_item segmented)
 abbrev pub limits_of : LentLimits → Limits
 limits_of lent = record { others = lent.others; maps = lent.maps.now }
 
--- no limit by MAP
+-- limits that list no MAP and allow each unit up to the largest one
 abbrev pub none : Limits
 none = record { others = largest_unit; maps = [] }
 
@@ -57,7 +57,7 @@ AreLimitedMapsApart maps = AllPairs (λ (m n : MapLimit). m.map ≢ n.map) maps
 abbrev pub HaveOctets : List MapLimit → Type 0
 HaveOctets maps = All (λ m. (1 ≤ m.octets) × (m.octets ≤ largest_unit)) maps
 
--- a plain channel, which has no segment headers, has no MAPs
+-- no MAP is listed on a plain channel, which has no segment headers
 abbrev pub LimitsMapsByHeaders : List MapLimit → Bool → Type 0
 LimitsMapsByHeaders maps segmented = segmented ≡ false → maps ≡ []
 
@@ -77,7 +77,7 @@ pub record AreLimits (s : Settings) (limits : Limits) : Type 0 where
   pub by_headers : LimitsMapsByHeaders limits.maps s.segmented
   pub listed : AreListed limits s.maps
 
--- The property of limits that are free of this fault. The faults of settings are defined elsewhere.
+-- The limits are free of this fault. The faults of settings are defined in tc_channel.
 abbrev pub IsFreeOfLimitsFault : Settings → Limits → LimitsFault → Type 0
 IsFreeOfLimitsFault s limits (faults.Settings fault) = Unit {0}
 IsFreeOfLimitsFault s limits faults.BadOthers = IsOthers limits.others s.segmented

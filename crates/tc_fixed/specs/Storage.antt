@@ -1,5 +1,5 @@
--- The number of bytes that creating a channel in rooms requests from an allocator, in a program for a machine of 64
--- bits.
+-- The number of bytes that the creation of a channel with fixed memory requests from an allocator, in a program for a
+-- machine of 64 bits.
 use Rattle.std.specs.Prelude.{ℕ, zero, suc, ◌+◌, ◌*◌, length, if◌then◌else◌}
 use Rattle.tc_packet.specs.Reassembly.{stream_count}
 use Rattle.tc_channel.specs.declared.settings.Settings.{Settings}
@@ -12,7 +12,8 @@ abbrev pub limits_below : Limits → ℕ → ℕ
 limits_below limits zero = 0
 limits_below limits (suc count) = limits_below limits count + limit_of limits count
 
--- with segment headers, the rooms of all streams of two services and 64 MAPs, each for the largest unit of its MAP
+-- the rooms of all streams of two services and 64 MAPs, each for the largest unit of its MAP, or none on a plain
+-- channel
 abbrev pub runs_storage : Settings → Limits → ℕ
 runs_storage s limits = if s.segmented then stream_count * run_words + 2 * limits_below limits 64 else 0
 

@@ -28,8 +28,8 @@ use tc_channel::{
 use tc_link::{Frame, Link, Report, clcw_word};
 use tc_rooms::{FixedRoom, Runs};
 
-// Steps that aren't counted. No other module can name this type, so the code that a channel's calls run elsewhere
-// counts everything that it examines.
+// A counter that counts no steps. No other module can name this type, so a function that a channel's calls are built on
+// can't create a counter of its own. It has to count every step with the counter that its caller passes.
 #[derive(Drop)]
 struct NoSteps;
 
@@ -43,11 +43,11 @@ impl Tick for NoSteps {
     fn tick(&mut self) {}
 }
 
-/// One virtual channel, as a [`ChannelWith`](tc_channel::ChannelWith): FARM-1, the buffer of accepted data fields,
-/// reassembly, the packet queues, the unit queues of chosen MAPs, and the journal of everything that it answered. It
-/// has a room for each data field, packet, unit and open run that it may ever hold, and only its creation requests
-/// memory. So no other call allocates, and none can be refused because memory ran out. A call that is refused leaves
-/// the channel as it was.
+/// One virtual channel with the parts of a [`ChannelWith`](tc_channel::ChannelWith): FARM-1, the buffer of accepted
+/// data fields, reassembly, the packet queues, the unit queues of chosen MAPs, and the journal of all events. It has a
+/// room for each data field, packet, unit and open run that it may ever hold, and only its creation requests memory. So
+/// no other call allocates, and none can be refused because memory ran out. A call that is refused leaves the channel
+/// as it was.
 #[derive(Drop)]
 pub struct FixedChannelWith<N: Noted> {
     settings: Settings,
@@ -56,7 +56,8 @@ pub struct FixedChannelWith<N: Noted> {
     journal: N,
 }
 
-/// A channel in rooms that only counts its events. Its journal can be read by contracts alone, and takes no memory.
+/// A channel with fixed memory that keeps only the number of its events. Its journal takes no memory, and only
+/// contracts can read it.
 pub type FixedChannel = FixedChannelWith<Unrecorded>;
 
 impl<N: Noted> Model for FixedChannelWith<N> {
@@ -71,8 +72,8 @@ impl<N: Noted> Model for FixedChannelWith<N> {
 }
 
 impl<N: Noted> FixedChannelWith<N> {
-    /// Creates a channel in S1, with nothing in it, an empty journal and no limit by MAP, so that a unit has at most
-    /// 65,542 octets. All memory that it ever has is requested here: [`storage`](crate::storage) bytes.
+    /// Creates a channel in S1, with nothing in it, an empty journal and no limits by MAP, so that a unit has at most
+    /// 65,542 octets. The call requests all memory that the channel ever has: [`storage`](crate::storage) bytes.
     pub fn new(alloc: Global, settings: Settings) -> Result<FixedChannelWith<N>, SettingsFault>
         ensures settings { IfOk result (λ channel. channel.settings ≡ settings) }
         ensures limits { IfOk result (λ channel. channel.limits ≡ none) }
@@ -119,9 +120,9 @@ impl<N: Noted> FixedChannelWith<N> {
         self.frame_with_steps(frame, &mut NoSteps)
     }
 
-    /// Processes a frame as [`frame`](FixedChannelWith::frame) does, and counts the steps. A step is a packet that is
-    /// cut from the unit that the frame completes, or a queue that is examined. A frame that isn't of Type-BD takes
-    /// none.
+    /// Processes a frame as [`frame`](FixedChannelWith::frame) does, and counts steps. One step is counted for each
+    /// packet that is cut from the unit that the frame completes, and one for each queue that is examined. A frame that
+    /// isn't of Type-BD takes no steps.
     pub fn frame_with_steps<C: Tick>(&mut self, frame: &Frame, steps: &mut C) -> FrameReply
         ensures allowed { IsAllowed self.old.settings }
         ensures lawful { IsLawfulWithin (limit_of self.old.limits) self.old.settings self.old.journal }
@@ -148,8 +149,8 @@ impl<N: Noted> FixedChannelWith<N> {
         self.release_with_steps(&mut NoSteps)
     }
 
-    /// Releases the oldest data field as [`release`](FixedChannelWith::release) does, and counts the steps, which are
-    /// those of [`frame_with_steps`](FixedChannelWith::frame_with_steps).
+    /// Releases the oldest data field as [`release`](FixedChannelWith::release) does, and counts steps as
+    /// [`frame_with_steps`](FixedChannelWith::frame_with_steps) does.
     pub fn release_with_steps<C: Tick>(
         &mut self,
         steps: &mut C,
@@ -185,8 +186,7 @@ impl<N: Noted> FixedChannelWith<N> {
         self.take_with_steps(apid, into, &mut NoSteps)
     }
 
-    /// Takes a packet as [`take`](FixedChannelWith::take) does, and counts the steps. A step is a queue that is
-    /// examined.
+    /// Takes a packet as [`take`](FixedChannelWith::take) does, and counts one step for each queue that is examined.
     pub fn take_with_steps<C: Tick>(
         &mut self,
         apid: u16,
@@ -223,7 +223,7 @@ impl<N: Noted> FixedChannelWith<N> {
         self.take_unit_with_steps(map, into, &mut NoSteps)
     }
 
-    /// Takes a unit as [`take_unit`](FixedChannelWith::take_unit) does, and counts the steps. A step is a queue that is
+    /// Takes a unit as [`take_unit`](FixedChannelWith::take_unit) does, and counts one step for each queue that is
     /// examined.
     pub fn take_unit_with_steps<C: Tick>(
         &mut self,
@@ -246,8 +246,8 @@ impl<N: Noted> FixedChannelWith<N> {
         Ok(count)
     }
 
-    /// Drops the oldest packet of the queue with this APID, if one waits, and returns whether one did.
-    /// [`oldest`](FixedChannelWith::oldest) lends it beforehand.
+    /// Drops the oldest packet of the queue with this APID, if one waits, and returns whether one did. Call
+    /// [`oldest`](FixedChannelWith::oldest) first to read it.
     pub fn drop_oldest(&mut self, apid: u16) -> bool
         ensures allowed { IsAllowed self.old.settings }
         ensures lawful { IsLawfulWithin (limit_of self.old.limits) self.old.settings self.old.journal }
@@ -262,8 +262,8 @@ impl<N: Noted> FixedChannelWith<N> {
         true
     }
 
-    /// Drops the oldest unit of the queue of this chosen MAP, if one waits, and returns whether one did.
-    /// [`oldest_unit`](FixedChannelWith::oldest_unit) lends it beforehand.
+    /// Drops the oldest unit of the queue of this chosen MAP, if one waits, and returns whether one did. Call
+    /// [`oldest_unit`](FixedChannelWith::oldest_unit) first to read it.
     pub fn drop_oldest_unit(&mut self, map: u8) -> bool
         ensures allowed { IsAllowed self.old.settings }
         ensures lawful { IsLawfulWithin (limit_of self.old.limits) self.old.settings self.old.journal }
@@ -278,8 +278,8 @@ impl<N: Noted> FixedChannelWith<N> {
         true
     }
 
-    /// Lends the octets of the packet that [`take`](FixedChannelWith::take) with this APID returns next. Returns `None`
-    /// if there is no such queue, or if it is empty. The call is no event.
+    /// Lends the octets of the packet that the next [`take`](FixedChannelWith::take) with this APID will copy. Returns
+    /// `None` if there is no such queue, or if it is empty. The call isn't an event.
     pub fn oldest(&self, apid: u16) -> Option<&[u8]>
         ensures packet { option_map (λ octets. octets.now) result ≡ take_reply_within (limit_of self.now.limits) self.now.settings self.now.journal apid }
         ensures allowed { IsAllowed self.now.settings }
@@ -288,7 +288,7 @@ impl<N: Noted> FixedChannelWith<N> {
         self.oldest_with_steps(apid, &mut NoSteps)
     }
 
-    /// Lends a packet as [`oldest`](FixedChannelWith::oldest) does, and counts the steps. A step is a queue that is
+    /// Lends a packet as [`oldest`](FixedChannelWith::oldest) does, and counts one step for each queue that is
     /// examined.
     pub fn oldest_with_steps<C: Tick>(&self, apid: u16, steps: &mut C) -> Option<&[u8]>
         ensures packet { option_map (λ octets. octets.now) result ≡ take_reply_within (limit_of self.now.limits) self.now.settings self.now.journal apid }
@@ -299,8 +299,8 @@ impl<N: Noted> FixedChannelWith<N> {
         self.channel_core.oldest(apid, steps)
     }
 
-    /// Lends the octets of the unit that [`take_unit`](FixedChannelWith::take_unit) with this MAP returns next. Returns
-    /// `None` if the MAP isn't chosen, or if its queue is empty. The call is no event.
+    /// Lends the octets of the unit that the next [`take_unit`](FixedChannelWith::take_unit) with this MAP will copy.
+    /// Returns `None` if the MAP isn't chosen, or if its queue is empty. The call isn't an event.
     pub fn oldest_unit(&self, map: u8) -> Option<&[u8]>
         ensures unit { option_map (λ octets. octets.now) result ≡ unit_reply_within (limit_of self.now.limits) self.now.settings self.now.journal map }
         ensures allowed { IsAllowed self.now.settings }
@@ -309,8 +309,8 @@ impl<N: Noted> FixedChannelWith<N> {
         self.oldest_unit_with_steps(map, &mut NoSteps)
     }
 
-    /// Lends a unit as [`oldest_unit`](FixedChannelWith::oldest_unit) does, and counts the steps. A step is a queue
-    /// that is examined.
+    /// Lends a unit as [`oldest_unit`](FixedChannelWith::oldest_unit) does, and counts one step for each queue that is
+    /// examined.
     pub fn oldest_unit_with_steps<C: Tick>(&self, map: u8, steps: &mut C) -> Option<&[u8]>
         ensures unit { option_map (λ octets. octets.now) result ≡ unit_reply_within (limit_of self.now.limits) self.now.settings self.now.journal map }
         ensures allowed { IsAllowed self.now.settings }
@@ -407,8 +407,8 @@ impl<N: Noted> FixedChannelWith<N> {
     }
 }
 
-// Creates the open runs of a new channel. A plain data field is a unit by itself, with the limit of the MAPs that
-// aren't listed.
+// Creates the open runs of a new channel. On a plain channel each data field is a unit by itself, and its limit is that
+// of the MAPs that aren't listed.
 fn open_none(alloc: Global, segmented: bool, limits: &Limits) -> Result<Runs<FixedRoom>, AllocError>
     requires others { IsOthers limits.now.others segmented }
     requires octets { HaveOctets limits.now.maps }

@@ -36,7 +36,7 @@ pub enum NoUnitTaken {
     NoRoom(usize),
 }
 
-/// The conversion of a fault that both kinds of queues have to the fault of a packet queue.
+/// The conversion of a fault that is common to both kinds of queues into the fault of a packet queue.
 impl From<NotCopied> for NothingTaken {
     ghost use Rattle.tc_fixed.specs.Taking.{packet_fault_of};
 
@@ -51,7 +51,7 @@ impl From<NotCopied> for NothingTaken {
     }
 }
 
-/// The conversion of a fault that both kinds of queues have to the fault of a MAP's unit queue.
+/// The conversion of a fault that is common to both kinds of queues into the fault of a MAP's unit queue.
 impl From<NotCopied> for NoUnitTaken {
     ghost use Rattle.tc_fixed.specs.Taking.{unit_fault_of};
 

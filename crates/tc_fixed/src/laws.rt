@@ -12,23 +12,23 @@ ghost use Rattle.tc_fixed.specs.Examples.{limits_on};
 ghost use Rattle.tc_fixed.specs.Limits.{AreLimits, AreLimitedMapsApart, IsFaultWithLimits, largest_limit, limit_of, none};
 ghost use Rattle.tc_fixed.specs.Storage.{storage_of, storage_within};
 
-/// A listed MAP has the limit that is listed for it, and each other MAP has the limit of the others. No limit is over
-/// the largest one.
+/// A listed MAP has the limit that is listed for it, and each MAP that isn't listed has the limit `others`. No limit is
+/// over the largest one.
 pub fn a_listed_map_has_its_own_limit()
     ensures listed { (limits : Limits) (m : MapLimit) → AreLimitedMapsApart limits.maps → Contains limits.maps m → limit_of limits m.map ≡ m.octets }
     ensures others { (limits : Limits) (map_id : ℕ) → AllByRecursion (λ (m : MapLimit). m.map ≢ map_id) limits.maps → limit_of limits map_id ≡ limits.others }
     ensures largest { (limits : Limits) (map_id : ℕ) → limit_of limits map_id ≤ largest_limit limits }
 {}
 
-/// Without limits by MAP, a channel in rooms has no limit for any MAP, and so runs as any other channel of tc_channel
-/// does.
+/// If no MAP is listed and the limit of the others is that of the largest unit, the limits are those of a channel of
+/// tc_channel. So a channel with these limits runs as a channel of tc_channel does.
 pub fn without_limits_each_unit_is_left()
     ensures { limit_of none ≡ no_limits }
 {}
 
-/// States examples of the faults of limits, worked out by hand. The first row has every fault that can occur together
-/// with the others. Each row after it mends the one before, to the last value that is allowed. A fault of the settings
-/// comes before all faults of limits.
+/// These limits have the fault that was worked out by hand. The limits of the first clause have every fault that can
+/// occur together with the others, and a fault of the settings comes first. Each of the next clauses repairs the fault
+/// of the clause before. The last clauses have the greatest values that are allowed, and values above them.
 pub fn limits_are_refused_so()
     ensures settings { IsFaultWithLimits (example.channel_of false 64 2 1 [] []) (limits_on 0 64 64 0) (faults.Settings settings_faults.BadVcid) }
     ensures others { IsFaultWithLimits (example.channel_of false 63 2 1 [] []) (limits_on 0 64 64 0) faults.BadOthers }
@@ -42,9 +42,9 @@ pub fn limits_are_refused_so()
     ensures large_limit { IsFaultWithLimits (example.channel_of true 63 2 1 [] []) (limits_on 65542 63 3 65543) faults.BadLimit }
 {}
 
-/// States examples of storage, worked out by hand: of a plain channel for one data field and one packet, of a channel
-/// with segment headers that also holds a unit of MAP 3, and of the latter channel with a limit of 100 octets for MAP 3
-/// and of 0 for the other MAPs.
+/// The storage of three channels is the one that was worked out by hand. The first is a plain channel for one data
+/// field and one packet. The second has segment headers, and also holds a unit of MAP 3. The third is the second with a
+/// limit of 100 octets for MAP 3 and of 0 for the other MAPs.
 pub fn storage_is_counted_so()
     ensures plain { storage_of example.plain ≡ 2166 }
     ensures headed { storage_of example.map_3_chosen ≡ 8526823 }

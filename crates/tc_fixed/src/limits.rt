@@ -26,12 +26,12 @@ pub struct MapLimit {
     pub octets: u32,
 }
 
-/// The limits on the length of units, by MAP. A longer unit is dropped, as one of more than 65,542 octets is when there
-/// are no limits.
+/// The limits on the length of units, by MAP. A longer unit is dropped. Without limits, only a unit of more than 65,542
+/// octets is dropped.
 #[derive(Debug, Drop, PartialEq, Eq)]
 pub struct Limits {
-    /// The largest number of octets in a unit of each MAP that isn't listed, at most 65,542. It may be 0 if there are
-    /// segment headers, in which case such a MAP completes only empty units. On a plain channel it is the limit of each
+    /// The largest number of octets in a unit of each MAP that isn't listed, at most 65,542. If there are segment
+    /// headers, it may be 0, and such a MAP then completes only empty units. On a plain channel it is the limit of each
     /// data field.
     pub others: u32,
     /// The MAPs with a limit of their own. No MAP is listed twice, and none is listed on a plain channel.
@@ -45,10 +45,11 @@ pub struct LentLimits<'a> {
     pub maps: &'a [MapLimit],
 }
 
-/// The reason why settings and limits don't make a channel: the first fault that they have, in this order.
+/// A reason why no channel can be created from settings and limits: the first fault that they have, in this order.
 #[derive(Clone, Copy, Debug, PartialEq, Eq, Error)]
 pub enum LimitsFault {
-    /// The settings have this fault. `NoMemory` means that nothing has a fault, and memory ran out.
+    /// The settings have this fault. `NoMemory` means that neither the settings nor the limits have a fault, and memory
+    /// ran out.
     #[error(transparent)]
     Settings(SettingsFault),
     #[error("bad limit of the other multiplexer access points")]
@@ -77,7 +78,7 @@ impl From<SettingsFault> for LimitsFault {
 }
 
 impl Limits {
-    /// Returns limits without any limit by MAP, so that a unit has at most 65,542 octets. They take no memory.
+    /// Returns limits that list no MAP, so that a unit of each MAP may have up to 65,542 octets. They take no memory.
     pub fn none(alloc: Global) -> Limits
         ensures { result ≡ none }
     {
@@ -263,7 +264,7 @@ fn are_maps_apart(maps: &[MapLimit]) -> bool
     true
 }
 
-// Returns whether each chosen MAP has a limit that isn't 0.
+// Returns whether each chosen MAP is listed or the limit of the MAPs that aren't listed is more than 0.
 fn are_listed(limits: LentLimits<'_>, chosen: &[MapSetting]) -> bool
     ensures { IsTrue result ↔ AreListed (limits_of limits.entry) chosen.now }
 {

@@ -14,10 +14,10 @@ use tc_packet::LARGEST_UNIT;
 const STREAMS: u128 = 128;
 
 /// Returns the number of bytes that [`FixedChannelWith::new`](crate::FixedChannelWith::new) requests from its allocator
-/// for these settings, if they make a channel, on a machine of 64 bits, or 2^64 - 1 if it is more. No other call of the
-/// channel requests any. This doesn't count what an allocator adds to a block, nor the memory of the lists of the
-/// settings themselves, whose size their creator chose. The computation takes one step for each queue and each MAP, and
-/// no memory.
+/// for these settings on a machine of 64 bits, provided that a channel can be created from them. The result is 2^64 - 1
+/// if the number is larger. No other call of the channel requests memory. The bytes that an allocator adds to a block
+/// aren't counted, and neither are the lists of the settings themselves, whose size the caller has chosen. The call
+/// takes one step for each queue and each MAP, and no memory.
 pub fn storage(settings: &Settings) -> u64
     ensures { result ≡ min (storage_of settings.now) (2 ^ 64 - 1) }
 {
@@ -33,8 +33,8 @@ pub fn storage_of_lent(settings: LentSettings<'_>) -> u64
 }
 
 /// Returns the number of bytes that [`FixedChannelWith::with_limits`](crate::FixedChannelWith::with_limits) requests
-/// for these settings and limits, counted as [`storage`] counts. The computation takes one step for each queue, and for
-/// each of the 64 MAPs one for each limit that is listed.
+/// for these settings and limits, counted as [`storage`] counts. The call takes one step for each queue and, for each
+/// of the 64 MAPs, one step for each listed limit.
 pub fn storage_with_limits(settings: &Settings, limits: &Limits) -> u64
     ensures { result ≡ min (storage_within settings.now limits.now) (2 ^ 64 - 1) }
 {

@@ -7,8 +7,8 @@ ghost use Rattle.tc_channel.specs.Journal.{event_of};
 use std::alloc::Global;
 use tc_channel::{EventsSeen, Journal, LentEvent, Unrecorded};
 
-/// A journal to which each event can be appended without memory. A channel in rooms is generic over it, so that its
-/// contracts hold for exactly the events that were noted.
+/// A journal to which each event can be appended without memory. A channel with fixed memory is generic over it, so
+/// that its contracts hold for exactly the events that were noted.
 pub trait Noted: Drop {
     // the events, the oldest first
     ghost noted: { Self → List Event };
@@ -21,7 +21,7 @@ pub trait Noted: Drop {
     fn note(&mut self, event: &LentEvent<'_>)
         ensures events { noted self.new ≡ noted self.old ++ event_of event.now ∷ [] };
 
-    /// Returns the events as contracts see them, in a value without octets.
+    /// Returns the events as contracts see them, in a value that takes no memory.
     fn seen(&self) -> EventsSeen
         ensures events { result.events ≡ noted self.now };
 

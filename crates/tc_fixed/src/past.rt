@@ -1,12 +1,12 @@
-//! The view of a channel in contracts, as a value without octets.
+//! A channel as contracts see it, in a value that takes no memory.
 
 use crate::limits::Limits;
 use std::marker::Model;
 use std::snapshot::Snapshot;
 use tc_channel::{EventsSeen, Settings};
 
-/// The settings of a channel, its limits and its journal at a moment, as contracts see them. It takes no memory, and no
-/// program can read it.
+/// The settings of a channel, its limits and its journal at one moment, as contracts see them. They take no memory, and
+/// no program can read them.
 #[derive(Drop)]
 pub struct Past {
     pub(crate) settings: Snapshot<Settings>,
