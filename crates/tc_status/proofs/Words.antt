@@ -1,4 +1,4 @@
--- The two flags of the link stand in bits of their own, for a crate above that sets them in a word that was read.
+-- The two flags of the link have bits of their own, so that another crate can set them in a word that was read.
 use Rattle.std.proofs.Common.{◌≡◌, ℕ, ◌+◌, ◌*◌, ◌^◌, refl, arith}
 use Rattle.tc_link.specs.declared.farm.Report.{Report}
 use Rattle.tc_link.specs.declared.clcw.Link.{Link}

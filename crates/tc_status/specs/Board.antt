@@ -1,5 +1,5 @@
--- The board of a channel: one word, which is the CLCW (CCSDS 232.0-B, 4.2) of the published history, and the knowledge
--- at each seat.
+-- The board of a channel: one word, which is the CLCW (CCSDS 232.0-B, 4.2) of the published history, and the histories
+-- that are known at each seat.
 use Rattle.std.specs.Prelude.{◌≡◌, ℕ, List, [], ◌∷◌, true, false}
 use mathlib.Core.Option.{some}
 use mathlib.Core.List.{IsPrefix}
@@ -27,7 +27,7 @@ pub record Watching : Type 0 where
 abbrev pub IsEarlier : History → History → Type 0
 IsEarlier old new = (new.settings ≡ old.settings) × IsPrefix old.journal new.journal
 
--- both flags of the link 0, since the reader of the word knows these flags and the channel doesn't
+-- both flags of the link are 0, because the reader of the word knows these flags and the channel doesn't
 abbrev pub no_flag : Link
 no_flag = record { no_rf = false; no_bit_lock = false }
 
@@ -39,7 +39,7 @@ status_word h = clcw h.settings h.journal no_flag
 abbrev pub view : History → View
 view h = record { live = true; seen = h; reported = h }
 
--- a history for places where none is meant
+-- a history that stands for none
 abbrev pub no_history : History
 no_history = record { settings = record { vcid = 0; width = 0; buffer = 0; first = 0; segmented = true; queues = []; maps = [] }; journal = [] }
 
@@ -74,7 +74,7 @@ pub record IsRead (before : Me Unit View) (found : ℕ) (after : Me Unit View) :
   pub word : found ≡ status_word after.0.seen
   pub later : IsEarlier before.0.seen after.0.seen
 
--- the history that was seen begins with the reported one, which needn't be known any longer
+-- the reported history is a beginning of the history that was seen, which then takes its place
 pub record IsCompared (before after : Me Unit View) : Type 0 where
   pub seat : after ≡ (view before.0.seen, before.1)
   pub later : IsEarlier before.0.reported before.0.seen

@@ -5,8 +5,8 @@ use std::alloc::Global;
 use std::marker::{Brand, PhantomData};
 use tc_channel::Past;
 
-/// The knowledge at a seat. No value of this type is ever created. In a contract each `Past` is the settings and the
-/// journal of a channel.
+/// The histories that are known at a seat. No value of this type is ever created. In a contract each `Past` is the
+/// settings and the journal of a channel.
 pub struct View {
     /// False for a seat that was joined to another one, and true for any other.
     pub live: bool,
@@ -71,7 +71,7 @@ impl Play<(), View> for Compares {
     ghost then = { λ _ before _ after. IsCompared before after };
 }
 
-/// The step that creates a seat with the view of the old one, which keeps this view.
+/// The step that creates a second seat with the view of the first one. The first seat keeps its view.
 pub struct Doubles;
 
 impl Split<View> for Doubles {
@@ -94,12 +94,12 @@ impl Join<View> for Reports {
 /// One word, which lies on the heap in a block of its own.
 pub type WordTable = Table<(), View, Past, BoardRule, Global>;
 
-/// A seat at a board. It has no bytes.
+/// A seat at a board. It takes no memory.
 pub type BoardSeat = Seat<(), View>;
 
-/// The word's table, between two arrays that are never used. The array before it keeps the data that a read goes
-/// through away from the pair of cache lines with the word, which processors fetch together. The array after it keeps
-/// these data away from the cache lines with the next channel's word.
+/// The word's table, between two arrays that nothing uses. Each read uses the table. The array before it keeps it off
+/// the cache lines with the word, and the array after it keeps it off those with the next channel's word. Each array has
+/// 128 bytes, a pair of cache lines, because processors fetch cache lines in pairs.
 #[derive(Drop)]
 pub struct Board {
     pub before: [u64; 16],

@@ -17,9 +17,9 @@ use tc_channel::{
 };
 use tc_link::Frame;
 
-/// The channel behind a lock, and the publisher of its status. A call that is refused leaves the channel as it was. A
-/// call that is answered publishes the channel before it returns, so that exactly the channel's journal is published
-/// between calls.
+/// A channel and the publisher of its status, which lie under a lock together. A call that is refused leaves the
+/// channel as it was. A call that is answered publishes the channel before it returns, so that between calls the
+/// published journal is exactly the channel's.
 #[derive(Drop)]
 pub struct DeskOf<J: Journal> {
     channel: ChannelWith<J>,
@@ -145,7 +145,8 @@ impl<J: Journal> DeskOf<J> {
         ensures lawful { IsLawful self.old.channel.settings self.old.channel.journal }
         ensures unchanged { self.new ≡ self.old }
     {
-        // This call is here for its contract, by which the settings are allowed and the journal is lawful.
+        // The contract of this call states that the settings are allowed and the journal is lawful. The proof needs
+        // both.
         let _ = self.channel.settings();
         self.publisher.watcher()
     }

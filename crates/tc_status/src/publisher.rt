@@ -37,8 +37,8 @@ impl Model for Publisher {
 }
 
 impl Publisher {
-    /// Creates a board with the settings of a channel, whose journal so far is its first publication. The board and its
-    /// word are the two allocations.
+    /// Creates the board of a channel, and publishes the channel's journal so far. The call makes two allocations, one
+    /// for the board and one for its word.
     pub fn new<J: Journal>(alloc: Global, channel: &ChannelWith<J>) -> Result<Publisher, NoMemory>
         ensures { IfOk result (λ publisher. publisher.published ≡ channel.now) }
     {

@@ -31,11 +31,11 @@ impl Model for Watcher {
 }
 
 impl Watcher {
-    /// Returns the CLCW of a moment of the channel, with both link flags 0. It takes one load, and waits for no other
-    /// thread.
+    /// Returns the CLCW of a moment of the channel, with both link flags 0. The call takes one load, and waits for no
+    /// other thread.
     ///
-    /// The moment is no earlier than that of the read before. It is the moment that was published last, but no contract
-    /// states this.
+    /// The moment is no earlier than that of the previous read. It is the moment that was published last, but no
+    /// contract states this.
     pub fn read(&mut self) -> u32
         ensures board { self.new.board ≡ self.old.board }
         ensures later { IsEarlier self.old.seen self.new.seen }
