@@ -1,11 +1,11 @@
--- The events that one operator makes alone are all events.
+-- If one operator alone makes events, they are all events of the journal.
 use Rattle.tc_desk.proofs.Names.{◌≡◌, ◌≢◌, ℕ, zero, suc, ◌+◌, ◌≤◌, List, [], ◌∷◌, ◌++◌, length, inl, inr, refl, sym, ap, ◌∙◌, arith, Event, IsBeginning, IsMergeOf, Moment, Own, made, length-append, nil_from_length, append-nil, same_from_push, owned, made_by, looked}
 use Rattle.std.proofs.lemmas.Bool.Decides.{eqb_tells}
 use mathlib.Core.List.{IsPrefix}
 use Rattle.logged_lock.proofs.Owned.{owned-own, owned-other}
 use Rattle.tc_desk.specs.Alone.{with_places, HasMadeAll, HasSeenItsOwn}
 
--- if nobody but the k-th maker owns a place, the k-th owns the first place, and so all of them if it owns the others
+-- if only the k-th maker owns places, it owns the first place, and so all of them if it owns the others
 own-step : (k at o : ℕ) (os : List ℕ) (e : Event) (es : List Event) → ((j : ℕ) → j ≢ k → owned j at (o ∷ os) (e ∷ es) ≡ [])
     → (((j : ℕ) → j ≢ k → owned j (suc at) os es ≡ []) → owned k (suc at) os es ≡ with_places (suc at) es) → owned k at (o ∷ os) (e ∷ es) ≡ with_places at (e ∷ es)
 own-step k at o os e es none rest = elim (eqb_tells o k) [
@@ -15,7 +15,7 @@ own-step k at o os e es none rest = elim (eqb_tells o k) [
   | inr h ↦ absurd (let nothing : (at, e) ∷ owned o (suc at) os es ≡ [] = sym (owned-own o at o os e es refl) ∙ none o h.1 in cc)
 ]
 
--- if nobody but the k-th maker owns a place, the k-th owns all of them
+-- if only the k-th maker owns places, it owns all of them
 all-own : (k at : ℕ) (os : List ℕ) (es : List Event) → length os ≡ length es → ((j : ℕ) → j ≢ k → owned j at os es ≡ []) → owned k at os es ≡ with_places at es
 all-own k at [] [] len none = refl
 all-own k at (o ∷ os) (e ∷ es) len none = own-step k at o os e es none (all-own k (suc at) os es (omega arith))

@@ -39,13 +39,13 @@ pub record IsAsked {R : Type 0} (ok : Moment → R → Type 0) (before : Moment)
 abbrev pub looked : Moment → Own → Own
 looked now own = record { seen = now; made = own.made; issued = own.issued }
 
--- The account of an operator that made this event at this moment. The event is the last that the operator has seen, at
--- its place in the journal, and the operator's own.
+-- The account of an operator that made this event at this moment. The event is the last one that the operator has seen,
+-- and the last one that it has made, with its place in the journal.
 abbrev pub made : Event → Moment → Own → Own
 made e now own = record { seen = with_entry now e; made = own.made ++ (length now.entries, e) ∷ []; issued = own.issued }
 
 -- The call was decided at a moment of the desk that continues all that the operator had seen. If it was answered, its
--- event is the next one of the journal, and of the operator's own.
+-- event is the next one of the journal, and the next one that the operator made.
 pub record IsCall {R F : Type 0} (e : Event) (ok : Moment → R → Type 0) (err : Moment → F → Type 0) (before : AtLock) (result : Result R F) (after : AtLock) : Type 0 where
   pub now : Moment
   pub later : IsBeginning before.own.seen now
@@ -78,13 +78,13 @@ HasSeenNoMore watcher m = board.IsEarlier watcher.seen (history_of m)
 abbrev pub HasMet : Moment → Watching → Type 0
 HasMet m watcher = HasSeen m (history_of m) watcher
 
--- A call, and a watcher of the desk's board. Before the call, the watcher had seen no more than the journal at the
--- call's moment. After it, the watcher has seen all that the operator has.
+-- A call that also lets a watcher of the desk's board see the channel. Before the call, the watcher had seen no more
+-- than the journal at the call's moment. After it, the watcher has seen all that the operator has seen.
 pub record IsMetCall {R F : Type 0} (e : Event) (ok : Moment → R → Type 0) (err : Moment → F → Type 0) (early : Watching) (before : AtLock) (result : Result R F) (late : Watching) (after : AtLock) : Type 0 where
   pub call : IsCall e (λ m r. ok m r × HasSeenNoMore early m) (λ m f. err m f × HasSeenNoMore early m) before result after
   pub met : HasMet after.own.seen late
 
--- the watcher met the desk at a moment, and nothing was made
+-- the watcher saw the channel as it was at a moment, and no event was made
 pub record IsMeeting (early : Watching) (before : AtLock) (late : Watching) (after : AtLock) : Type 0 where
   pub look : IsLook (λ m (done : Unit {0}). HasSeenNoMore early m) before tt after
   pub met : HasMet after.own.seen late

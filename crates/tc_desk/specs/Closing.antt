@@ -9,18 +9,20 @@ use Rattle.tc_desk.specs.Log.{Own, AtLock, accounts_of}
 abbrev pub IsBalanced : List Own → List Event → Type 0
 IsBalanced makers journal = (total_made makers ≡ length journal) × (length journal < 2 ^ 64 - 1)
 
--- The operators can close a desk whose owner has issued this many. Either all that were issued are among them, or they
--- have made as many events as the journal has. In both cases they have made fewer events than the largest count of 64
--- bits.
+-- These operators can close a desk whose owner has issued this many operators. Either all that were issued are among
+-- them, or they have made as many events as the journal has. In both cases they have made fewer events than the largest
+-- count of 64 bits.
 abbrev pub CanClose : ℕ → List Own → List Event → Type 0
 CanClose issued makers journal = (total_made makers < 2 ^ 64 - 1) × ((issued ≤ length makers) ⊎ (total_made makers ≡ length journal))
 
 -- the cause of an imbalance: not all issued operators are among these, or these have made too many events for a count
+-- of 64 bits
 abbrev pub IsCause : ℕ → List Own → Type 0
 IsCause issued makers = (length makers < issued) ⊎ (2 ^ 64 - 1 ≤ total_made makers)
 
--- The journal of the closed channel is a merge of what these operators made, and has as many events as they have made.
--- The moment that each of them had seen is a beginning of it, with the settings of the desk and its board.
+-- The journal of the closed channel is a merge of the events that these operators made, and has as many events as they
+-- have made. The moment that each operator had seen is a beginning of this journal, and has the settings and the board
+-- of the desk.
 pub record IsClosed (owner : AtLock) (operators : List AtLock) (closed : History) : Type 0 where
   pub settings : closed.settings ≡ owner.own.seen.head.settings
   pub balanced : IsBalanced (accounts_of operators) closed.journal

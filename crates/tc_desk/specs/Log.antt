@@ -33,7 +33,7 @@ Sight = View Identity Event
 abbrev pub history_of : Moment → History
 history_of m = record { settings = m.head.settings; journal = m.entries }
 
--- the identity for places where no desk is meant
+-- an identity that stands for no desk
 abbrev pub nowhere : Identity
 nowhere = record {
   settings = no_history.settings;
@@ -47,7 +47,7 @@ identity_of d = record { settings = d.channel.settings; board = d.board }
 abbrev pub moment_of : AtDesk → Moment
 moment_of d = record { head = identity_of d; entries = d.channel.journal }
 
--- the moment of the desk under the lock, which is there until it is taken out
+-- the moment of the desk under the lock, or an empty one if the desk was taken out
 abbrev pub desk_log : Option AtDesk → Moment
 desk_log None = start_of nowhere
 desk_log (Some d) = moment_of d

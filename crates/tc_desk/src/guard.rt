@@ -95,16 +95,16 @@ impl<J: Journal> DeskGuard<J> {
         )
     }
 
-    /// Returns whether this many operators, with this many events in all, are all that were issued, or have made as
-    /// many events as the journal has. A count of 2^64 - 1 stands for that number or more, and the result is then
-    /// false.
+    /// Returns whether this many operators, which have made `count` events in all, can close the desk. They can if they
+    /// are all operators that were issued, or if the journal has as many events as they have made. A count of 2^64 - 1
+    /// stands for that number or more, and the result is then false.
     pub(crate) fn can_close(&self, operators: usize, count: u64) -> bool
         ensures { (makers : List Own) → operators ≡ length makers → count ≡ min (total_made makers) (2 ^ 64 - 1) → (IsTrue result ↔ CanClose self.now.owner.own.issued makers self.now.now.entries) }
     {
         count != u64::MAX && (self.issued <= operators as u128 || self.events == count)
     }
 
-    /// Lets the owner know what an operator has seen and made.
+    /// Reports to the owner which events an operator has seen and made.
     pub(crate) fn report(&mut self, operator: DeskOperator)
         requires { operator.lock ≡ self.old.owner.lock }
         ensures { self.new ≡ reported_at self.old (operator.own ∷ []) }

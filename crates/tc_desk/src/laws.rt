@@ -9,22 +9,23 @@ ghost use Rattle.tc_channel.specs.declared.reply.ReleaseFault.{ReleaseFault};
 ghost use Rattle.tc_desk.specs.Call.{IsReleased, IsReleaseFault, made, looked};
 ghost use Rattle.tc_desk.specs.Alone.{HasMadeAll, HasSeenItsOwn};
 
-/// If a journal is a merge of what one operator made, that operator has made, and has seen, all of it.
+/// If a journal is a merge of the events of one operator alone, that operator has made, and has seen, all events of the
+/// journal.
 pub fn the_only_operator_made_the_whole_journal()
     ensures { (own : Own) (journal : List Event) → HasSeenItsOwn own → IsBeginning own.seen (record { head = own.seen.head; entries = journal }) → IsMergeOf journal (own ∷ [])
         → HasMadeAll own × (own.seen.entries ≡ journal) }
 {}
 
-/// If a journal is a merge of what several operators made, and only one of them made anything, that operator has made,
-/// and has seen, all of it.
+/// If a journal is a merge of the events of several operators, and only one of them made any, that operator has made,
+/// and has seen, all events of the journal.
 pub fn the_only_maker_made_the_whole_journal()
     ensures { (makers : List Own) (k : ℕ) (own : Own) (journal : List Event) → made_by makers k ≡ own.made → ((j : ℕ) → j ≢ k → made_by makers j ≡ []) → HasSeenItsOwn own
         → IsBeginning own.seen (record { head = own.seen.head; entries = journal }) → IsMergeOf journal makers → HasMadeAll own × (own.seen.entries ≡ journal) }
 {}
 
-/// If an operator has made everything that it has seen after a call, it had also made everything that it had seen
-/// before the call, and it was answered at exactly the moment that it had seen. So each answer to an operator that
-/// works alone is that of the journal of its own events so far.
+/// Suppose that after a call an operator has made all events that it has seen. Then this was so before the call, too,
+/// and the call was answered at exactly the moment that the operator had seen before. So each answer to an operator
+/// that works alone is that of the journal of its own events so far.
 pub fn one_alone_is_answered_after_its_own_events()
     ensures event { (before : Own) (now : Moment) (e : Event) → HasSeenItsOwn before → IsBeginning before.seen now → HasMadeAll (made e now before) → HasMadeAll before × (now ≡ before.seen) }
     ensures look { (before : Own) (now : Moment) → HasSeenItsOwn before → IsBeginning before.seen now → HasMadeAll (looked now before) → HasMadeAll before × (now ≡ before.seen) }

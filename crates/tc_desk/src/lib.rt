@@ -1,10 +1,10 @@
-//! The desk of a channel, behind a lock that remembers.
+//! The desk of a channel, behind a lock that logs the channel's events.
 //!
 //! Several threads share a [`LockedDesk`]. Each has a [`DeskOperator`] of its own, which the desk's [`DeskOwner`]
-//! creates, and uses it to run an [`Operation`]. Contracts see the identity of the lock, and what each operator has
-//! seen and made of the channel's journal. So each call is answered by this very channel's journal, and
-//! [`close_together`] returns channels whose journals are merges of what their operators made. Each call takes the lock
-//! once, and waits while another thread has it.
+//! creates, and uses it to run an [`Operation`]. Contracts see the identity of the lock, and which events of the
+//! channel's journal each operator has seen and made. So each answer follows from the journal of this channel, and
+//! [`close_together`] returns channels whose journals are merges of the events that their operators made. Each call
+//! takes the lock once, and waits while another thread has it.
 #![tactic(auto)]
 
 mod guard;

@@ -64,7 +64,7 @@ impl Model for DeskOperator {
 }
 
 /// The owner of a lock, through which operators are created and the channel is taken out. It counts the operators, and
-/// makes no events. Threads may share it, since a `&` to it offers nothing.
+/// makes no events. Threads may share it, since nothing can be done with a `&` to it.
 #[derive(Drop)]
 pub struct DeskOwner {
     badge: ResidentBadge<View<DeskHead, Event>>,
@@ -84,8 +84,8 @@ impl Model for DeskOwner {
         × ((view_in k.badge.badge.views).own.made ≡ []) × (k.issued ≡ issued_count (view_in k.badge.badge.views).own) };
 }
 
-// Takes the lock, runs the operation, and unlocks, with the event if the operation is answered. The answer is passed on
-// as it is, since each match on it would copy it.
+// Takes the lock, runs the operation, and unlocks. If the operation is answered, its event is logged with the unlock.
+// The answer is returned as it is, since each match on it would copy it.
 fn operate_by<P: Occasion, J: Journal, O: Operation<J>, R: Wait>(
     lock: &DeskLock<J>,
     rt: &R,
@@ -115,7 +115,7 @@ fn operate_by<P: Occasion, J: Journal, O: Operation<J>, R: Wait>(
     answer
 }
 
-// Runs the operation as `operate_by` does, and lets a watcher of the desk's board meet the desk before and after it.
+// Runs the operation as `operate_by` does, and lets a watcher of the desk's board see the channel before and after it.
 fn operate_met_by<P: Occasion, J: Journal, O: Operation<J>, R: Wait>(
     lock: &DeskLock<J>,
     rt: &R,
@@ -163,7 +163,7 @@ pub(crate) fn answer_at<J: Journal, Q: Question<J>>(
     kept.answer(question)
 }
 
-// Takes the lock, lets the watcher meet the desk, and unlocks.
+// Takes the lock, lets the watcher see the channel as it is, and unlocks.
 fn meet_by<J: Journal, R: Wait>(
     lock: &DeskLock<J>,
     rt: &R,
@@ -262,7 +262,7 @@ impl DeskOperator {
         *self.count
     }
 
-    // Returns the seat, once the operator has made all its events.
+    // Returns the seat of an operator that makes no more events.
     pub(crate) fn into_badge(self) -> DeskBadge
         ensures resting { IsResting result.views }
         ensures maker { (view_in result.views).maker ≡ true }
@@ -272,8 +272,8 @@ impl DeskOperator {
         badge
     }
 
-    /// Runs the operation on the desk under the lock. An answered operation is counted for this operator. It allocates
-    /// no more than the operation.
+    /// Runs the operation on the desk under the lock. An answered operation is counted for this operator. The call
+    /// allocates no more than the operation itself does.
     pub fn operate<J: Journal, O: Operation<J>, R: Wait>(
         &mut self,
         desk: &LockedDesk<J>,
@@ -290,9 +290,9 @@ impl DeskOperator {
         answer
     }
 
-    /// Runs the operation as [`operate`](DeskOperator::operate) does, and lets a watcher of the desk's board meet the
-    /// desk before and after it, while the lock is held once. The history that the watcher had seen is a beginning of
-    /// the journal at that moment. Afterwards the watcher has seen all that the operator has.
+    /// Runs the operation as [`operate`](DeskOperator::operate) does, and lets a watcher of the desk's board see the
+    /// channel before and after it, without unlocking in between. The history that the watcher had seen is a beginning
+    /// of the journal before the operation. Afterwards the watcher has seen all that the operator has seen.
     pub fn operate_met<J: Journal, O: Operation<J>, R: Wait>(
         &mut self,
         desk: &LockedDesk<J>,
@@ -317,9 +317,9 @@ impl DeskOperator {
         answer
     }
 
-    /// Lets a watcher of the desk's board meet the desk under the lock. The history that the watcher had seen is a
-    /// beginning of the journal at that moment. Afterwards the watcher has seen all that the operator has. Nothing is
-    /// allocated.
+    /// Lets a watcher of the desk's board see the channel under the lock. The history that the watcher had seen is a
+    /// beginning of the journal at that moment. Afterwards the watcher has seen all that the operator has seen. Nothing
+    /// is allocated.
     pub fn meet<J: Journal, R: Wait>(&mut self, desk: &LockedDesk<J>, rt: &R, watcher: &mut Watcher)
         requires ours { self.old.lock ≡ desk.now.id }
         requires board { watcher.old.board ≡ self.old.own.seen.head.board }

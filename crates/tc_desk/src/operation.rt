@@ -25,7 +25,7 @@ impl Occasion for Brand {
     ghost event = { Release };
 }
 
-/// The entry of a journal that is the event of a call.
+/// The journal entry that is the event of a call.
 pub(crate) struct Makes<P> {
     marker: PhantomData<P>,
 }
@@ -56,7 +56,7 @@ pub trait Operation<J: Journal> {
         ensures step { IsStep (event self.now) (answers self.now) (refuses self.now) (moment_of desk.old) result (moment_of desk.new) };
 }
 
-/// Runs the operation on the desk, and lets the watcher meet the desk before and after it.
+/// Runs the operation on the desk, and lets the watcher see the channel before and after it.
 pub(crate) fn run_met<J: Journal, O: Operation<J>>(
     desk: &mut DeskOf<J>,
     watcher: &mut Watcher,

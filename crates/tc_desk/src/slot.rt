@@ -45,8 +45,8 @@ impl DeskHead {
     }
 }
 
-/// A desk, until it is taken out, with nothing else on its cache lines, so that threads at other desks don't slow this
-/// one down.
+/// A place for a desk, which is empty once the desk was taken out. Nothing else lies on its cache lines, so that
+/// threads at other desks don't slow this one down.
 #[derive(Drop)]
 pub struct DeskSlot<J: Journal> {
     pub(crate) desk: CachePadded<Option<DeskOf<J>>>,
@@ -95,7 +95,7 @@ impl<J: Journal> DeskSlot<J> {
         question.ask(desk)
     }
 
-    // Lets the watcher meet the desk.
+    // Lets the watcher see the channel as it is.
     pub(crate) fn meet(&mut self, watcher: &mut Watcher)
         requires there { IsSome (padded_value self.old.desk) }
         requires board { watcher.old.board ≡ (desk_log (padded_value self.old.desk)).head.board }
@@ -107,7 +107,8 @@ impl<J: Journal> DeskSlot<J> {
     {
         let desk: &mut Option<DeskOf<J>> = &mut self.desk;
         let Some(desk) = desk else { unreachable!() };
-        // This call is here for its contract, by which the settings are allowed and the journal is lawful.
+        // The contract of this call states that the settings are allowed and the journal is lawful. The proof needs
+        // both.
         let _ = desk.channel().settings();
         desk.meet(watcher);
     }

@@ -23,7 +23,7 @@ pub trait OperatorList: Drop {
     fn operators(&self) -> &[DeskOperator]
         ensures { result.now ≡ at_desks self.now };
 
-    /// Returns the operators by value, once they have made all their events.
+    /// Returns the operators by value. They make no more events.
     fn into_operators(self) -> Vec<DeskOperator>
         ensures { result.items ≡ at_desks self };
 }
@@ -48,8 +48,8 @@ pub enum Refusal {
     /// A lock isn't free. No call of this crate returns with a lock taken, so the owner of the desks never sees this
     /// refusal.
     InUse,
-    /// The operators at one of the desks haven't made as many events as the channel's journal has, and aren't all that
-    /// the desk's owner issued, or they have made 2^64 - 1 events or more.
+    /// The operators at one of the desks don't account for its journal. Either they aren't all operators that were
+    /// issued and haven't made as many events as the journal has, or they have made 2^64 - 1 events or more.
     Unbalanced,
 }
 
@@ -132,7 +132,7 @@ fn leave_all<J: Journal>(owned_desks: &mut Vec<OwnedDesk<J>>, mut guards: Vec<De
     }
 }
 
-// Returns the number of events that the operators at the desk of this place have made in all, or 2^64 - 1 if there are
+// Returns the number of events that the operators at the desk at this place have made in all, or 2^64 - 1 if there are
 // more.
 fn count_at<C: OperatorList>(operator_lists: &[C], place: usize) -> u64
     requires { All (λ operator_list. place < length (C.at_desks operator_list)) operator_lists.now }
@@ -161,7 +161,7 @@ fn can_close_each<J: Journal, C: OperatorList>(
     true
 }
 
-// Lets the owner of each desk know what the operator there has seen and made.
+// Reports to the owner of each desk which events the operator there has seen and made.
 fn report_row<J: Journal>(guards: &mut [DeskGuard<J>], mut operators: Vec<DeskOperator>)
     requires { locks_of operators.items ≡ locks_of (owners_of guards.old) }
     ensures { guards.new ≡ reported_row guards.old operators.items }
@@ -171,7 +171,7 @@ fn report_row<J: Journal>(guards: &mut [DeskGuard<J>], mut operators: Vec<DeskOp
     }
 }
 
-// Lets the owners of the desks know what the operators of all lists have seen and made, list by list.
+// Reports to the owners of the desks which events the operators of all lists have seen and made, list by list.
 fn report_rows<J: Journal, C: OperatorList>(guards: &mut [DeskGuard<J>], operator_lists: Vec<C>)
     requires { AreOurs (owners_of guards.old) (map C.at_desks operator_lists.items) }
     ensures { guards.new ≡ reported_rows guards.old (map C.at_desks operator_lists.items) }
@@ -247,8 +247,8 @@ fn left_open<J: Journal, C: Drop>(
 }
 
 /// Takes the channels out of their locks, in the order of the desks, if all events of each journal were made by the
-/// operators of that desk. This is so if they are all operators that were issued. Two lists are allocated before any
-/// lock is taken. All locks are taken, and all counts are compared, before any desk is taken apart.
+/// operators of that desk. This is so if the lists have all operators that were issued. Two lists are allocated before
+/// any lock is taken. All locks are taken, and all counts are compared, before any channel is taken out.
 pub fn close_together<J: Journal, C: OperatorList>(
     alloc: Global,
     owned_desks: Vec<OwnedDesk<J>>,
@@ -279,9 +279,9 @@ pub fn close_together<J: Journal, C: OperatorList>(
     Ok(take_all_out(guards, room))
 }
 
-/// Takes the channels out of their locks, in the order of the desks, whoever made their events. Nothing is promised
-/// about operators. Two lists are allocated before any lock is taken. The refusal is `NoMemory` or `InUse`, and all
-/// desks are returned with it.
+/// Takes the channels out of their locks, in the order of the desks, whoever made their events. The contract promises
+/// nothing about operators. Two lists are allocated before any lock is taken. The refusal is `NoMemory` or `InUse`, and
+/// all desks are returned with it.
 pub fn take_out_together<J: Journal>(
     alloc: Global,
     owned_desks: Vec<OwnedDesk<J>>,

@@ -1,5 +1,5 @@
--- A badge can't be read through a `&`. Such a `&` has only a part of what the badge owns, which may go to another
--- thread.
+-- A badge can't be read through a `&`. Such a `&` has only a part of the resources that the badge owns, and this part
+-- may go to another thread.
 use Rattle.tc_desk.proofs.Names.{RattleType, IsSync, part_keyless, the_row}
 use Rattle.tc_desk.proofs.Sent.{resident_send}
 
