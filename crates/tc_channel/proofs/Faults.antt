@@ -26,7 +26,7 @@ pub no-fault : (s : Settings) (fault : SettingsFault) → IsAllowed s → IsFaul
 unfolding IsFault
 no-fault s fault = none-first s faults_in_order fault
 
--- ---- the fault that settings have: facts on lists of two items, and on the faults before it
+-- ---- the fault that settings have, with facts about lists of two items and about the faults that come before it
 pub both : {A : Type 0} (P : A → Type 0) (one other : A) → P one → P other → All P (one ∷ other ∷ [])
 both P one other p q zero d inside = p
 both P one other p q (suc zero) d inside = q

@@ -111,11 +111,11 @@ pass-on qs p ps all cs rooms g k =
     let before = k.count in
     record { places = k.places; keys = k.keys; rooms = k.rooms; put = sym g.put ∙ k.put; count = omega arith }
 
--- this holds if no queue takes the packet
+-- if no queue takes the packet, the pass is under way with the packets that are left
 pub none-on : (qs : List StoredQueue) (p : List ℕ) (ps all : List (List ℕ)) (cs : List Placed) (rooms : List ℕ) → NoneFor p (keys_of qs) → IsUnderWay qs (p ∷ ps) all cs rooms → IsUnderWay qs ps all cs rooms
 none-on qs p ps all cs rooms none k = pass-on qs p ps all cs rooms (goes-none p ps (put_all qs cs) (rw k.keys none)) k
 
--- this holds if the packet's queue is full
+-- if the packet's queue is full, the pass is under way with the packets that are left
 pub full-on : (qs : List StoredQueue) (p : List ℕ) (ps all : List (List ℕ)) (cs : List Placed) (rooms : List ℕ) (i a n : ℕ) → AreDistinct (keys_of qs) → i < length qs → a ≡ get_or (keys_of qs) i a → is_for a p ≡ true
     → n ≡ get_or rooms i n → n ≡ 0 → IsUnderWay qs (p ∷ ps) all cs rooms → IsUnderWay qs ps all cs rooms
 full-on qs p ps all cs rooms i a n distinct lt is for_it room none k =

@@ -1,4 +1,4 @@
--- The stored parts of a channel over one event.
+-- The stored parts of a channel before and after one event.
 use Rattle.tc_channel.proofs.Names.{◌≡◌, ℕ, ◌<◌, ◌≤◌, Bool, true, List, [], ◌∷◌, ◌++◌, length, map, drop, Option, refl, sym, ap, ◌∙◌, arith, IsSome, nat_lt, drop-append-le, drop-drop, map_push, length-map, length-append, length-drop, Kind, IsWhole, kind_of, Row, E1, E6, E10, number_of, frame_row, entry, accepts, after, Settings, Event, Frame, Release, ChannelState, Accepted, buffer, HasStep, step, row_of, kept, first_of, map_of, Inside, HoldsWithin, FollowsWithin, FollowsKindWithin, EndsWithin, EndsAtOnceWithin, Delivery, IsDelivered, header_of, passed_on, run_within, IsLawfulWithin, Ad}
 use Rattle.std.proofs.lemmas.List.{drop-map}
 use Rattle.circular_buffer.specs.Buffer.{Buffer}

@@ -24,7 +24,7 @@ pub ends-at-once-is : (limits : ℕ → ℕ) (store : Store) (kind : Kind) (fiel
     → EndsAtOnceWithin (limit_at store (stream_place Bd field)) kind (open_runs store) field unit → EndsAtOnceWithin (limits (map_of field)) kind (open_runs store) field unit
 ends-at-once-is limits store kind field unit have ends = subst (λ (n : ℕ). EndsAtOnceWithin n kind (open_runs store) field unit) (limit-is limits store Bd field have) ends
 
--- a field that was staged, and whose unit is delivered, has moved its stream on
+-- once the unit of a staged field was delivered, the open run of the field's stream is the next one
 pub committed-follows : (old mid new : Store) (ended : Ended) (service : Service) (field : List ℕ) (at : ℕ) → at ≡ stream_place service field → new ≡ committed ended at mid
     → mid.segmented ≡ old.segmented → ((place : ℕ) → limit_at mid place ≡ limit_at old place)
     → ((fields : List (List ℕ)) → LeaveWithin fields old (stream_place service field) → LeaveWithin (fields ++ field ∷ []) (committed ended (stream_place service field) mid) (stream_place service field))

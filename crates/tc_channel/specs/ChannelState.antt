@@ -44,7 +44,7 @@ empty_queue q = queue_with q.apid q.capacity
 abbrev pub empty_unit_queue : MapSetting → Queue
 empty_unit_queue m = queue_with m.map m.capacity
 
--- the limits of a channel that has no limit by MAP: no unit is longer than the largest
+-- the limits of a channel without limits by MAP: no unit is longer than the largest
 unfoldable pub no_limits : ℕ → ℕ
 no_limits map_id = largest_unit
 

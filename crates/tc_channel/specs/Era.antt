@@ -75,7 +75,7 @@ abbrev pub ComesFromWithin : (ℕ → ℕ) → Settings → List Event → List 
 ComesFromWithin limits s before later x sent = (place : ℕ) (e : Event) → slice_get later place ≡ Some e
     → IsOfSender x sent (length (accepted_since_within limits s before (before ++ take place later))) e
 
--- the definitions above for a channel that has no limit by MAP
+-- the definitions above for a channel without limits by MAP
 
 abbrev pub IsEra : Settings → List Event → List Event → List Event → ℕ → Type 0
 IsEra s journal before later x = IsEraWithin no_limits s journal before later x

@@ -87,7 +87,7 @@ buffered_fields_within limits s journal = buffer (run_within limits s journal)
 unfoldable pub clcw_within : (ℕ → ℕ) → Settings → List Event → Link → ℕ
 clcw_within limits s journal link = word_of (run_within limits s journal).report s.vcid link
 
--- the replies of a channel that has no limit by MAP
+-- the replies of a channel without limits by MAP
 
 abbrev pub frame_reply : Settings → List Event → List ℕ → FrameReply
 frame_reply s journal octets = frame_reply_within no_limits s journal octets

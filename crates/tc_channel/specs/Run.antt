@@ -94,7 +94,7 @@ run_within limits s journal = run_from s (first_state_within limits s) journal
 unfoldable pub IsLawfulWithin : (ℕ → ℕ) → Settings → List Event → Type 0
 IsLawfulWithin limits s journal = AreSteps s (first_state_within limits s) journal
 
--- the run of a channel that has no limit by MAP
+-- the run of a channel without limits by MAP
 
 abbrev pub run : Settings → List Event → ChannelState
 run s journal = run_within no_limits s journal

@@ -66,7 +66,7 @@ release_steps_within limits s journal = delivery_steps (unit_of (run_within limi
 abbrev pub take_steps : ℕ → ℕ → ℕ
 take_steps key count = 2 * looks_for key count
 
--- the steps of a channel that has no limit by MAP
+-- the steps of a channel without limits by MAP
 
 abbrev pub frame_steps : Settings → List Event → List ℕ → ℕ
 frame_steps s journal octets = frame_steps_within no_limits s journal octets

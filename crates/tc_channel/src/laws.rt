@@ -1,5 +1,5 @@
-//! Laws over the definitions. A law over the run of a journal holds for each run, with any limit for each MAP
-//! (`run_within`). So it also holds for a channel that has no limit by MAP (`run`).
+//! Laws over the definitions. A law over the run of a journal holds with any limit for each MAP (`run_within`), and so
+//! it also holds without limits by MAP (`run`).
 #![tactic(auto, using(crate::proofs::Closing::laws))]
 
 ghost use Rattle.std.specs.Prelude.{List, ℕ, ◌≡◌, ◌≤◌, ◌<◌, ◌+◌, ◌*◌, ◌%◌, ◌^◌, ◌++◌, ◌↔◌, Option, Some, None, false, [], ◌∷◌, ◌≢◌, IsTrue, length, map, slice_get};
@@ -141,8 +141,8 @@ pub fn queues_are_those_of_the_settings()
 {}
 
 /// No event changes the limits. A unit that reassembly makes is passed to the queues if and only if it is no longer
-/// than the limit of its MAP. Without limits for single MAPs each unit is passed to the queues, because none is longer
-/// than the largest unit.
+/// than the limit of its MAP. Without limits by MAP, each unit is passed to the queues, because none is longer than the
+/// largest unit.
 pub fn a_unit_beyond_the_limit_of_its_map_is_none()
     ensures stays { (limits : ℕ → ℕ) (s : Settings) (journal : List Event) → (run_within limits s journal).limit ≡ limits }
     ensures within { (limits : ℕ → ℕ) (s : Settings) (journal : List Event) (service : Service) (field octets : List ℕ)

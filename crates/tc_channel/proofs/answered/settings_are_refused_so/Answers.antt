@@ -46,8 +46,7 @@ maps-not a b n = first-not (λ (m : MapSetting). m.map ≤ 63) (chosen a n) (cho
 units-not : (a b n : ℕ) → ¬ ((1 ≤ n) × (n ≤ 256)) → ¬ HaveUnitCapacities (two_maps a b n)
 units-not a b n = first-not (λ (m : MapSetting). (1 ≤ m.capacity) × (m.capacity ≤ 256)) (chosen a n) (chosen b n ∷ [])
 
--- the first three conditions on settings, and the remaining ones: the first three hold for the greatest values and for
--- the least values
+-- the conditions on settings, with the first three apart, which hold for the greatest values and for the least values
 
 abbrev Front : ℕ → ℕ → ℕ → Type 0 → Type 0
 Front v w b Later = IsVcid v × (IsWidth w × (IsBufferSize b × Later))
