@@ -35,7 +35,7 @@ def output(words: Sequence[object], given: str = "", folder: Path = TOP, **names
 
 
 def instructions(words: Sequence[object], given: str = "", within: Sequence[str] = ()) -> int:
-    """Returns how many instructions a program and its children take, or only these of its functions."""
+    """Returns how many instructions a program and its children take, or how many its functions in `within` take."""
     with tempfile.TemporaryDirectory() as room:
         counted = ["valgrind", "--tool=callgrind", "--callgrind-out-file=/dev/null", "--trace-children=yes", f"--log-file={room}/%p"]
         output([*counted, *(f"--toggle-collect={name}" for name in within), *words], given)

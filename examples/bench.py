@@ -28,7 +28,7 @@ def start(fecf: bool, tclive: Optional[Path]) -> Receiver:
 
 def run(seed: int, fecf: bool, count: int = 300, tclive: Optional[Path] = None, tcmake: Path = TOP / "tcmake",
         begin: Callable[[bool, Optional[Path]], ContextManager[Any]] = start) -> str:
-    """Sends `count` packets over what `begin` begins, and returns how many frames that took."""
+    """Sends `count` packets to the receiver that `begin` starts, and returns how many frames that took."""
     # pylint: disable=too-many-locals  # one loop, from the CLCW to the packets
     dice, acknowledged, sent = random.Random(seed), 0, 0
     past: List[bytes] = []
@@ -55,7 +55,7 @@ def run(seed: int, fecf: bool, count: int = 300, tclive: Optional[Path] = None, 
     return f"{count} packets came in their order, each once; {len(past)} frames were sent, {past.count(unlock)} of them Unlocks"
 
 def say(what: Callable[[], str]) -> None:
-    """Prints the result. A program that isn't there is named, and one that isn't built has said so itself."""
+    """Prints the result. Exits with a message if a program is missing, and with the status of a program that failed."""
     try:
         print(what())
     except (NotStarted, OSError) as error:

@@ -1,4 +1,4 @@
-"""Sends the packets of bench.py over both edges of tcrx-bench: CLTUs go up, and telemetry frames bring CLCWs down. One
+"""Sends the packets of bench.py to tcrx-bench in CLTUs, and reads the CLCWs that come down in telemetry frames. One
 CLTU in five is lost, and of all other octets one bit in a thousand is turned.
 
 Usage: python3 examples/bench_cltu.py SEED [--udp] [--detect] [--randomised]
@@ -53,8 +53,8 @@ class Edges(bench_udp.Remote):
         self.frames.send(turned(self.dice, IDLE + (b"" if self.dice.random() < LOST else cltu) + IDLE))
 
     def clcw(self, vcid: int) -> Clcw:
-        """Returns the CLCW of a telemetry frame that was made when everything that was sent had come. It is the second
-        frame from now on."""
+        """Returns the CLCW of a telemetry frame that was made after everything that was sent had arrived. That is the
+        second frame from now on."""
         while select.select([self.clcws], [], [], 0)[0]:
             self.clcws.recv(2048)
         self.clcws.recv(2048)

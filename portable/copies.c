@@ -1,8 +1,9 @@
 /*
- * The three functions that compiled code needs from a C library, without WebAssembly's instructions for them, because
- * wasm2c of wabt 1.0.32 gives those to a big-endian machine in the wrong order. Also the function that compiled code
- * needs from a compiler's own library, a product of numbers of 128 bits, with which it sees whether a product of 64
- * bits overflows. This file is built with -fno-builtin, so that none of them becomes a call of itself.
+ * The three functions that compiled code needs from a C library. They don't use WebAssembly's instructions for copying
+ * and filling, because wasm2c of wabt 1.0.32 translates those for a big-endian machine in the wrong order. The file
+ * also has the function that compiled code needs from a compiler's own library. It multiplies numbers of 128 bits, by
+ * which the code detects whether a product of 64 bits overflows. This file is built with -fno-builtin, so that none of
+ * them becomes a call of itself.
  */
 #include <stddef.h>
 #include <stdint.h>

@@ -40,8 +40,9 @@ static uint64_t size_for(uint64_t count) {
     return size;
 }
 
-/* Returns whether there is room, for which the memory may grow. If it can't grow, the result is 2^32 - 1 where
- * addresses of 64 bits were lowered to 32, and otherwise 2^64 - 1. */
+/* Returns whether there is room, and grows the memory for it if necessary. If the memory can't grow, memory.grow
+ * returns 2^32 - 1 in a module whose addresses were lowered from 64 bits to 32, and 2^64 - 1 otherwise. The low 32 bits
+ * are the same in both cases. */
 static int has_room(uint64_t count) {
     const uint64_t end = __builtin_wasm_memory_size(0) * PAGE;
     const uint64_t pages = cut + count <= end ? 0 : (cut + count - end + PAGE - 1) / PAGE;
@@ -62,8 +63,8 @@ void *heap_cut(uint64_t count, uint64_t alignment) {
     return (void *)place;
 }
 
-/* Grows the memory at once for this many octets that are going to be requested. Returns whether there is room for them
- * then. */
+/* Grows the memory at once for this many octets that are going to be requested. Returns whether it then has room for
+ * them. */
 int heap_reserve(uint64_t count) {
     if (cut == 0) {
         cut = (uintptr_t)&__heap_base;
@@ -80,7 +81,8 @@ static slot *cut_slot(uint64_t size) {
     return made;
 }
 
-/* Takes a free slot of this size, one from the rest of the memory, or a larger one. */
+/* Takes a free slot of this size. If there is none, cuts one from the rest of the memory, and if that fails, takes a
+ * free slot of a larger size. */
 static slot *take_slot(uint64_t size) {
     slot *taken = size < SIZES && free_slots[size] == NULL ? cut_slot(size) : NULL;
     for (; taken == NULL && size < SIZES; size++) {

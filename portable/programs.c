@@ -1,7 +1,7 @@
 /*
- * What the three programs call besides the C library, for a processor for which the kit doesn't have it: the words of
- * the command line, the number of the last error, and the memory of channels with its growth. tools/target links this
- * with the programs. It isn't proved.
+ * The functions that the three programs call besides the C library, for a processor for which the kit doesn't provide
+ * them. They give the words of the command line and the number of the last error, and allocate, grow and free memory.
+ * tools/target links this with the programs. It isn't proved.
  */
 #include "../c/tcrx_memory.c"
 

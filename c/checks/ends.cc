@@ -398,8 +398,8 @@ void check_settings() {
     const tcrx::Queue four[] = {{5, 8}, {6, 8}, {7, 8}, {8, 8}};
     const tcrx::Limit one[] = {{0, 1024}};
     expect(tcrx::storage(eight, four, {}, {0, one}).value() == 49624, "the storage of four queues of 8 with units of 1,024 octets");
-    // 1,051 for the buffer, 5,120 and 2 * 64 * 65,542 for open runs, 64 for each queue, 65,574 for each packet, and
-    // 4,096 for the table.
+    // The storage has 1,051 bytes for the buffer, 5,120 and 2 * 64 * 65,542 for open runs, 64 for each queue, 65,574
+    // for each packet, and 4,096 for the table.
     std::vector<tcrx::Queue> many;
     for (std::uint16_t apid = 0; apid < 256; apid++) {
         many.push_back({apid, 256});

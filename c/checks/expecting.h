@@ -1,4 +1,4 @@
-/* Counts the comparisons of the checks, and shows the first 20 that fail. Also draws the numbers of the checks. */
+/* Counts the comparisons of the checks, and shows the first 20 that fail. Also draws random numbers for the checks. */
 #ifndef EXPECTING_H
 #define EXPECTING_H
 

@@ -1,7 +1,7 @@
 /*
- * FARM-1 as a table that is written here from CCSDS 232.1-B, 6.3, and shares nothing with the library. Also the counts
- * of its comparisons. The place of an N(S) in the window is found by searching for how far it is ahead of V(R) or
- * behind it.
+ * FARM-1 as a table that is written here from CCSDS 232.1-B, 6.3, and shares nothing with the library. The file also
+ * has the counts of the comparisons. The place of an N(S) in the window is found by searching for how far it is ahead
+ * of V(R) or behind it.
  */
 #ifndef FARM_H
 #define FARM_H

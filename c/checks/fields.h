@@ -3,8 +3,8 @@
  * for fields.c and ends.cc. All of it was worked out by hand, from CCSDS 232.0-B, 4.1 and 4.2, CCSDS 133.0-B, 4.1, and
  * CCSDS 232.1-B, 6.3. Fill follows each frame and packet.
  *
- * Fields are numbers here, and not in a record of the header, so that a record whose fields have each other's names is
- * found.
+ * The fields are plain numbers here, and not records of the header, so that the checks find a record in which two
+ * fields have swapped names.
  */
 #ifndef FIELDS_H
 #define FIELDS_H
@@ -86,10 +86,10 @@ static const made_row command_rows[] = {
 static const made_row fecf_row = {{0x22, 0xa3, 0x94, 0x09, 0xc8, 0xc0, 0xaa, 0xbb, 0x4c, 0x91}, 10};
 
 /*
- * The frame of the first of frame_rows in a CLTU, and with the random sequence. The parity bits were worked out by long
- * division of the polynomials, and the sequence bit by bit, in Python, from CCSDS 231.0-B. Then the CLCW with all
- * fields but one other than 0, in telemetry frames of 13 and 15 octets, for spacecraft 675, virtual channel 5, with
- * counts 200 and 77 (CCSDS 132.0-B, 4.1).
+ * These are the frame of the first of frame_rows in a CLTU, and that frame with the random sequence added. The parity
+ * bits were worked out by long division of the polynomials, and the sequence bit by bit, in Python, from CCSDS 231.0-B.
+ * Then comes a CLCW (status field 7, virtual channel 37, No RF Available, FARM-B counter 2, V(R) 181) in telemetry
+ * frames of 13 and 15 octets for spacecraft 675 and virtual channel 5, with counts 200 and 77 (CCSDS 132.0-B, 4.1).
  */
 static const uint8_t cltu_octets[] = {0xeb, 0x90, 0x22, 0xa3, 0x94, 0x07, 0xc8, 0xc0, 0xaa, 0xf0, 0xbb, 0x55, 0x55,
                                       0x55, 0x55, 0x55, 0x55, 0x3e, 0xc5, 0xc5, 0xc5, 0xc5, 0xc5, 0xc5, 0xc5, 0x79};

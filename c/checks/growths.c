@@ -3,7 +3,8 @@
  * creation requests no more. Each time the status must be TCRX_NO_MEMORY, no channel may be held, and no block of it
  * may be left. Then each kind of call is made once with its first block refused, and none may request any. Packets and
  * units that are taken must be those that were sent. Nothing may be left of a channel that was freed, and the address
- * must not be null when no block is given. Settings that create no channel are in storage.c.
+ * that rattle_alloc returns must not be null even if it gives no block. Settings that create no channel are in
+ * storage.c.
  *
  * The memory is that of tcrx_memory.c, which is linked with this program. Its calls of malloc are refused, which the
  * linker leads here by --wrap=malloc and --wrap=free. The last line of the output is the number of refused blocks.
@@ -141,7 +142,7 @@ static tcrx_status take_unit(void) {
 }
 
 #ifdef PORTABLE
-/* The requests of the portable form for memory stay inside it. */
+/* The portable C serves its channels from its own memory, and has no rattle_alloc that could be called here. */
 static bool is_never_null(void) {
     return true;
 }

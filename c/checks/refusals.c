@@ -66,7 +66,7 @@ static void check_clcws(void) {
     }
 }
 
-/* Returns these octets in a block of exactly their size, so that a tool sees what lies beyond. */
+/* Returns these octets in a block of exactly their size, so that a tool detects each access beyond them. */
 static uint8_t *block(const uint8_t *from, size_t count) {
     uint8_t *at = (uint8_t *)malloc(count == 0 ? 1 : count);
     if (at == NULL) {

@@ -24,7 +24,7 @@ static _Thread_local long blocks;
 
 /*
  * Refuses the request with this number, counted from 0 for the next one. If the number is below 0, none is refused.
- * Returns what was left of the number before, which is below 0 if that request was met.
+ * Returns what was left of the previous number, which is below 0 if the request with that number was refused.
  */
 long tcrx_refuse(long growth) {
     const long left = given_first;

@@ -1,7 +1,7 @@
 /*
- * Gives a decoder of CLTUs COUNT times a stream of 32 CLTUs that carry frames of 1,024 octets, in pieces of 4,096
- * octets. Prints how many candidate frames ended, and how many code blocks were corrected and rejected. Or checks the
- * frame error control field of a frame of 1,024 octets COUNT times.
+ * Gives a stream of 32 CLTUs, which carry frames of 1,024 octets, to a decoder COUNT times, in pieces of 4,096 octets.
+ * Prints how many candidate frames ended, and how many code blocks were corrected and rejected. With `sum` it checks
+ * the frame error control field of a frame of 1,024 octets COUNT times.
  *
  *   stream COUNT MODE WRONG      MODE is detect or correct; WRONG is how many of the 147 code blocks of each CLTU have a wrong bit
  *   stream COUNT sum
@@ -16,8 +16,8 @@ enum { FRAME = 1024, BLOCKS = 147, CLTU = 8 * BLOCKS + 10, CLTUS = 32, PIECE = 4
 
 static uint8_t stream[CLTUS * CLTU], carried[TCRX_DECODER_ROOM];
 
-/* Fills the stream with CLTUs that carry octets from a generator, and turns a bit in this many of their code blocks
- * each. Returns whether the CLTUs were written. */
+/* Fills the stream with CLTUs that carry octets from a generator, and flips a bit in this many code blocks of each.
+ * Returns whether the CLTUs were written. */
 static int fill_stream(unsigned long wrong) {
     uint8_t frame[FRAME];
     uint32_t number = 1;

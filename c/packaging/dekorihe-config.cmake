@@ -1,9 +1,9 @@
-# What find_package(dekorihe) gives:
-#   dekorihe::tcrx         the shared library, whose memory is that of malloc; not there where it wasn't installed
+# The targets that find_package(dekorihe) defines:
+#   dekorihe::tcrx         the shared library, whose memory is that of malloc (missing if it wasn't installed)
 #   dekorihe::tcrx_static  the static library, without memory: link it with one of the next two, or with two functions of your own
 #   dekorihe::memory       tcrx_memory.c, the memory over malloc
 #   dekorihe::array        tcrx_static.c, the memory in a static array of your program's
-# The last two are C files that are compiled with your target, by the compiler for C++ where the project has no C.
+# The last two are C files that are compiled with your target, by the compiler for C++ if the project has no C.
 get_filename_component(_dekorihe "${CMAKE_CURRENT_LIST_DIR}/../../.." ABSOLUTE)
 
 if(NOT TARGET dekorihe::tcrx_static)
@@ -15,7 +15,7 @@ if(NOT TARGET dekorihe::tcrx_static)
     foreach(_dekorihe_file IN ITEMS memory static)
         set(_dekorihe_${_dekorihe_file} "${_dekorihe}/share/dekorihe/tcrx_${_dekorihe_file}.c")
         if(NOT "C" IN_LIST _dekorihe_languages)
-            # A file for C would be left out without a word.
+            # CMake would silently leave out a file for C.
             file(WRITE "${CMAKE_CURRENT_BINARY_DIR}/dekorihe/tcrx_${_dekorihe_file}.cc"
                 "#include \"${_dekorihe_${_dekorihe_file}}\"\n")
             set(_dekorihe_${_dekorihe_file} "${CMAKE_CURRENT_BINARY_DIR}/dekorihe/tcrx_${_dekorihe_file}.cc")

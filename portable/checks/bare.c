@@ -143,7 +143,7 @@ static void bring(const line *read) {
     say_field(" rest ", reply.rest);
 }
 
-/* Returns whether the call was refused, and says so. */
+/* Returns whether the call was refused, and prints the refusal if it was. */
 static bool is_refused(tcrx_status status) {
     if (status == TCRX_EMPTY) {
         say("refused empty");

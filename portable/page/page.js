@@ -1,5 +1,5 @@
 "use strict";
-/* Draws the page, and handles what the reader does. All answers come from the file before this one. */
+/* Draws the page, and handles what the reader does. All answers come from receiver.js, which stands before this file in the page. */
 
 const by = (id) => document.getElementById(id);
 const given = JSON.parse(by("given").textContent);
@@ -18,7 +18,7 @@ function make(name, attributes = {}, ...children) {
   return element;
 }
 
-/* Returns a word that explains itself in its place. */
+/* Returns a word as a button that opens its explanation, or as plain text if it has none. */
 function term(name, text = name) {
   if (!Object.hasOwn(given.words, name)) return document.createTextNode(text);
   return make("button", {type: "button", class: "term", popovertarget: `word-${Object.keys(given.words).indexOf(name)}`}, text);
@@ -32,7 +32,7 @@ function drawWords() {
   document.querySelectorAll("[data-term]").forEach((place, i) => {
     const label = place.closest("label");
     if (label !== null) {
-      // Otherwise the label would be that of the word, which can be pressed, too.
+      // Otherwise the label would belong to the button that the word becomes, and not to the field.
       const input = label.querySelector("input");
       input.id = input.id || `field-${i}`;
       label.htmlFor = input.id;
@@ -41,7 +41,7 @@ function drawWords() {
   });
 }
 
-/* Draws the frame by its parts, with their octets and what they say. */
+/* Draws the parts of the frame, with their octets and their meaning. */
 function drawParts(octets, isPlain) {
   const list = make("div", {class: "parts"});
   for (const {from, to, says} of maker.parts(octets, isPlain)) {
@@ -57,7 +57,7 @@ const isPlain = (octets) => {
   return frame.status === STATUS.DONE && channelOf(frame.vcid) !== undefined && channelOf(frame.vcid).settings.plain;
 };
 
-/* Returns what FARM-1's table says of the step, in words. */
+/* Returns, in words, the entry of FARM-1's table for the step. */
 function entryOf({event, before}) {
   const row = given.table.rows[event - 1];
   return event === 0 ? "" : `${row[0]}, in ${given.table.head[before.state]}: ${row[before.state]}`;
@@ -96,7 +96,7 @@ function drawTable() {
   by("lit").textContent = last.event > 0 ? entryOf(last) : "The row of the last step will be lit.";
 }
 
-/* Returns where a number stands in the window. */
+/* Returns the part of the window in which a number lies. */
 function placeOf(number, {vr, width}) {
   const ahead = (number - vr + 256) % 256;
   if (ahead === 0) return "expected";
@@ -215,7 +215,7 @@ function addSetting(line) {
   runTo(steps);
 }
 
-/* Returns the frames that the fields make, with the line of tcmake that makes the same. */
+/* Returns the frames that the fields make, with the line for which tcmake makes the same frames. */
 function madeOfFields() {
   const kind = by("kind").value;
   const number = (id) => Number(by(id).value);

@@ -192,7 +192,7 @@ function readLine(text) {
   return line;
 }
 
-/* Returns by how many letters two words differ, which are left out, added or changed. */
+/* Returns how many letters must be left out, added or changed to turn one word into the other. */
 function distance(one, other) {
   let row = Array.from({length: other.length + 1}, (_, i) => i);
   for (let i = 1; i <= one.length; i += 1) {
@@ -211,7 +211,7 @@ const BOUNDS = {
   "bad application": "APID is 0 to 2046", "bad capacity": "CAPACITY is 1 to 256", "bad map": "MAP is 0 to 63", "bad units": "CAPACITY is 1 to 256",
 };
 
-/* Returns what may help with a bad line, besides its fault. */
+/* Returns a hint for a bad line, or an empty text if there is none. */
 function hintFor(line, why) {
   if (Object.hasOwn(BOUNDS, why)) return ` (${BOUNDS[why]})`;
   if (line.fault === "unknown command") {
@@ -292,7 +292,7 @@ class Run {
     if (isBadCount) return "bad units";
     return channel.settings.plain ? "map on plain channel" : null;
   }
-  /* Creates all channels. The library checks their settings once more, in which there is no fault any more. */
+  /* Creates all channels. The library checks their settings once more, and can find no other fault in them. */
   makeAll() {
     for (const channel of this.channels.values()) {
       if (channel.make() !== STATUS.DONE) this.fault = `line ${this.at}: no memory`;
@@ -436,7 +436,7 @@ class Maker {
     if (part === "unsegmented") return [...lines, ...this.packets(body)];
     return body.length === 0 ? lines : [...lines, `body ${toHex(body)}`];
   }
-  /* Returns what octets say as a frame, line by line. */
+  /* Returns lines that describe the frame at the front of octets. */
   explain(octets) {
     const frame = this.library.readFrame(octets);
     if (frame.status !== STATUS.DONE) return [`refused ${REFUSALS[frame.status]}`];
@@ -446,7 +446,7 @@ class Maker {
     const head = `header ${kind} scid ${frame.scid} vc ${frame.vcid} ns ${frame.ns} octets ${frame.length} fill ${fill}`;
     return [head, ...this.explainField({...frame, octets}, field)];
   }
-  /* Returns the parts of a frame by their octets, with what each says. */
+  /* Returns the parts of a frame, each with the places of its octets and with its meaning. */
   parts(octets, isPlain) {
     const frame = this.library.readFrame(octets);
     if (frame.status !== STATUS.DONE) return [{from: 0, to: octets.length, name: "no frame", says: REFUSALS[frame.status]}];

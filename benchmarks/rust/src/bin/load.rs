@@ -128,7 +128,7 @@ fn work_list(vcid: u8, rounds: u32) -> WorkList {
     WorkList { vcid, jobs }
 }
 
-/// Makes as many rounds on each channel, by one worker for each.
+/// Makes `rounds` rounds on each channel, with a worker for each channel.
 fn by_workers(vcids: &[u8], rounds: u32) -> u64 {
     let lists: Vec<WorkList> = vcids.iter().map(|it| work_list(*it, rounds)).collect();
     let mut station = new_station(vcids);

@@ -104,7 +104,8 @@ fn refused_limits_say_why() {
     assert!(Channel::with_limits(&eight, &limits).is_ok());
 }
 
-/// 1,051 octets for the buffer, 5,120 and 2 * 64 * 65,542 for open runs, 64 for each queue, 65,574 for each packet, and 4,096 for the table.
+/// The storage has 1,051 octets for the buffer, 5,120 and 2 * 64 * 65,542 for open runs, 64 for each queue, 65,574 for each
+/// packet, and 4,096 for the table.
 #[test]
 fn a_storage_of_more_octets_than_32_bits_count() {
     let queues: Vec<Queue> = (0..256).map(|apid| Queue { apid, capacity: 256 }).collect();
@@ -235,7 +236,7 @@ fn frames_field_by_field() {
     }
 }
 
-/// Each flag alone, from No RF Available to Retransmit, and the largest status field.
+/// The words have each flag alone, from No RF Available to Retransmit. The last word has the largest status field.
 #[test]
 fn clcws_field_by_field() {
     let words = [0x0194_84b5, 0x0194_44b5, 0x0194_24b5, 0x0194_14b5, 0x0194_0cb5, 0x1d94_04b5];
