@@ -18,7 +18,7 @@ unfolding xors
 sum a b =
     rw (xor_mod a b 8, octet-sum a b 8, octet-sum a b 16, octet-sum a b 24, octet-sum a b 32, octet-sum a b 40, octet-sum a b 48, octet-sum a b 56) refl
 
--- the front of the sum with zeros, and of the sum with one bit
+-- A sum with zeros changes no octet, and a sum with one bit flips this bit. Both hold of the first octets alone.
 none-turned : (os ps : List ℕ) (n : ℕ) → length os ≤ n → take (length os) (xors (os ++ ps) (zeros n)) ≡ os
 unfolding xors
 none-turned [] ps n less = refl

@@ -139,8 +139,8 @@ fn expected(r: &mut Report) -> Act
     }
 }
 
-// Most frames are in sequence and find room. The transitions of all other frames are compiled apart from the path of an
-// accepted frame. So if a comparison in front of a transition is changed, no other code moves.
+// Most frames are in sequence and find room. All other arrivals are rare, so their transitions are compiled apart from the
+// path of an accepted frame.
 #[cold]
 #[inline(never)]
 fn full(r: &mut Report)
