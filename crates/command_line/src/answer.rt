@@ -15,7 +15,7 @@ use strsim::{jaro, osa_distance};
 /// The exit status of a bad command line.
 pub(crate) const BAD_COMMAND_LINE: u8 = 2;
 
-/// Returns the words with which a program was started, its name first. If they can't be used, the reason goes to
+/// Returns the words with which a program was started, its name first. If the words can't be used, the reason goes to
 /// standard error.
 pub(crate) fn words_of<R: Env + AllocGlobal + Eprint>(
     rt: &R,
@@ -61,10 +61,10 @@ pub(crate) fn print<R: AllocGlobal + Print + Eprint>(
     }
 }
 
-// The largest number of slips with which a word is still taken for a misspelt command, and the largest likeness of the
-// two words for which `clap` suggests no command itself.
+// The largest number of slips with which a word is still taken for a misspelt command.
 const SLIPS: usize = 2;
 
+// The largest likeness of the two words for which the command is suggested. If they are more alike, `clap` suggests it.
 const UNALIKE: f64 = 0.7;
 
 // Names the command that the first word was perhaps meant to be, if `clap` hasn't suggested it.

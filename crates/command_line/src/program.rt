@@ -77,7 +77,7 @@ pub(crate) fn spacecraft_of<R: Eprint>(rt: &R, asked: Asked) -> Result<u16, Exit
     }
 }
 
-// Returns the meaning of the words, of which the program's name is the first. An error is a text to print: help, the
+// Returns the meaning of the words, which begin with the program's name. An error is a text to print: help, the
 // version, or the reason why the words are refused.
 fn judge<'a, S: AsStr>(alloc: Global, program: &Program, words: &'a [S]) -> Result<Asked, Error> {
     let command = command(alloc, program)?

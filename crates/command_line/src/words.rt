@@ -4,7 +4,7 @@ use std::alloc::AllocError;
 use std::env::{Env, FillError};
 use std::fmt;
 
-/// A fault for which the words of the command line can't be used.
+/// A reason why the words of the command line can't be used.
 #[derive(Debug, Drop)]
 pub(crate) enum WordsFault {
     /// The first word that isn't UTF-8, with its place after the program's name.
@@ -34,7 +34,7 @@ pub(crate) fn read_words<R: Env + AllocGlobal>(rt: &R) -> Result<Vec<String>, Wo
     Ok(words)
 }
 
-// The number of octets for which a word has room at first.
+// The number of octets that a word has room for at first.
 const FIRST_ROOM: usize = 256;
 
 // Returns the octets of the word at a place, if there is one.

@@ -22,7 +22,7 @@ use Rattle.tc_rack.specs.declared.answer.Answer.TheVariants.{Clcw, Refused}
 use Rattle.tc_rack.specs.declared.answer.Refusal.TheVariants.{UnknownChannel}
 use Rattle.tc_rack.specs.declared.operation.Operation.TheVariants as operations
 
--- the laws of a desk on which these proofs rest
+-- the laws about desks that these proofs rest on
 pub record AloneLaws : Type 0 where
   pub event : (before : Own) (now : Moment) (e : Event) → HasSeenItsOwn before → IsBeginning before.seen now → HasMadeAll (made e now before) → HasMadeAll before × (now ≡ before.seen)
   pub look : (before : Own) (now : Moment) → HasSeenItsOwn before → IsBeginning before.seen now → HasMadeAll (looked now before) → HasMadeAll before × (now ≡ before.seen)
@@ -37,7 +37,7 @@ channel_at d = linked d.own.seen
 abbrev pub rack_of : Staffed → Racked
 rack_of m = record { scid = m.station.scid; channels = map channel_at m.operator.desks }
 
--- the operator has seen of each desk at least the events that it has made
+-- at each desk, the operator has seen at least the events that it has made
 abbrev pub AreSeen : List AtLock → Type 0
 AreSeen desks = All (λ (d : AtLock). HasSeenItsOwn d.own) desks
 
@@ -59,7 +59,7 @@ pub record IsSound (m : Staffed) : Type 0 where
 abbrev pub IsAlone : Staffed → Type 0
 IsAlone m = AreAlone m.operator.desks × AreEach IsLevel m.operator.desks m.watchers
 
--- The second station, which a step of the first leads to, is sound. If the operator is alone after the step, it was
+-- A step leads from the first station to the second, which is sound. If the operator is alone after the step, it was
 -- alone before the step, and `Holds` holds.
 abbrev pub Follows : Staffed → Staffed → Type 0 → Type 0
 Follows m new Holds = IsSound new × (IsAlone new → IsAlone m × Holds)
@@ -93,9 +93,9 @@ module _ (laws : AloneLaws) (Answers : Linked → Answer → Linked → Type 0) 
             (λ made. subst (board.IsEarlier (history_of a.next.own.seen)) (sym a.met.1) (beginning-self (history_of a.next.own.seen)));
       }
 
-  -- If the operator is alone after this answer, it was alone before the answer, which is that of the channel that it
-  -- had seen. `IsAlone` states that the operator has made all events, and that each watcher has seen exactly the events
-  -- that the operator has seen.
+  -- If the operator is alone after this answer, it was alone before, and the answer is that of the channel as the
+  -- operator had seen it. `IsAlone` states that the operator has made all events, and that each watcher has seen
+  -- exactly the events that the operator has seen.
   changed : IsAlone new → IsAlone m × Changes (rack_of m) vcid (λ before after. Answers before answer after) (rack_of new)
   changed alone =
       let desks = m.operator.desks in
@@ -140,7 +140,7 @@ located m octets UnknownChannel sound (frame, ours, none) = (frame, ours.0, ours
 located m octets (Frame f) sound why = why
 located m octets OtherSpacecraft sound why = why
 
--- the desk of the channel whose CLCW its watcher read
+-- the desk of the channel whose watcher read the CLCW
 read-desk : (place vcid : ℕ) (m new : Staffed) (answer : Answer) → IsSound m → IsPlace m.station vcid place → IsReadAt place vcid m answer new
     → (d : AtLock) × (slice_get m.operator.desks place ≡ Some d) × (d.own.seen.head.settings.vcid ≡ vcid)
 read-desk place vcid m new answer sound here a =

@@ -11,7 +11,7 @@ use Rattle.tc_channel.specs.declared.reply.TakeUnitFault.TheVariants as unit_fau
 use Rattle.tc_desk.specs.Call as at_desk
 use Rattle.tc_rack.specs.declared.answer.Answer.TheVariants.{Frame, Release, Take, Unit as TakeUnit, Refused}
 
--- a call that succeeded or failed, and the answer of the channel at that moment
+-- for this result of a call, the channel gives this answer at the moment of the call
 abbrev IsReported : {R F : Type 0} → ℕ → Event → (Moment → R → Type 0) → (Moment → F → Type 0) → (Linked → Answer → Linked → Type 0) → Answer → Result R F → Type 0
 IsReported vcid e ok err Answers answer (Ok a) = (m : Moment) → m.head.settings.vcid ≡ vcid → ok m a → Answers (linked m) answer (linked (with_entry m e))
 IsReported vcid e ok err Answers answer (Err f) = (m : Moment) → m.head.settings.vcid ≡ vcid → err m f → Answers (linked m) answer (linked m)
@@ -81,7 +81,7 @@ release-empty m after vcid call =
 
 -- ---- takes
 
--- the packet that was taken has a type whose octets are known
+-- the packet is the oldest one that waits (its type may be any whose octets are known)
 abbrev pub IsPacket : {P : Type 0} → (P → List ℕ) → ℕ → Moment → P → Type 0
 IsPacket octets_of apid now p = at_desk.IsOldestPacket apid now (octets_of p)
 

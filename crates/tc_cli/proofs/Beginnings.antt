@@ -1,4 +1,5 @@
--- Histories that are beginnings of each other, and lists of desks with the histories that their watchers have seen.
+-- Histories each of which is a beginning of the other, and lists of desks with the histories that their watchers have
+-- seen.
 use Rattle.std.proofs.Common.{◌≡◌, ℕ, List, [], ◌∷◌, ◌++◌, Some, length, inl, inr, refl, sym, ap, ◌∙◌, subst, arith, slice_get, slice_set}
 use Rattle.tc_cli.proofs.Names.{AtLock, Event, HasMadeAll, History, IsEarlier, Own, Watching, eqb_tells, history_of, length-append, nil_from_length, same_Some}
 use Rattle.std.proofs.lemmas.List.{append-nil}
@@ -6,7 +7,7 @@ use mathlib.Core.List.{IsPrefix}
 use Rattle.tc_desk.specs.Alone.{with_places}
 use Rattle.tc_cli.proofs.Lists.{set-at, set-else, set-elsewhere, set-there}
 
--- lists that are beginnings of each other are equal
+-- two lists are equal if each is a beginning of the other
 prefix-same : (es fs : List Event) → IsPrefix es fs → IsPrefix fs es → es ≡ fs
 prefix-same es fs p q =
     let none : p.0 ≡ [] =
@@ -19,7 +20,7 @@ beginning-same a b p q =
     let journals = prefix-same a.journal b.journal p.1 q.1 in
     λ i. record { settings = q.0 i; journal = journals i }
 
--- `P` holds of each desk and of the history that its watcher has seen
+-- `P` holds for each desk and the history that its watcher has seen
 abbrev pub AreEach : (AtLock → History → Type 0) → List AtLock → List Watching → Type 0
 AreEach P desks watchers = (k : ℕ) (d : AtLock) (w : Watching) → slice_get desks k ≡ Some d → slice_get watchers k ≡ Some w → P d w.seen
 
@@ -39,7 +40,7 @@ module _ (P : AtLock → History → Type 0) (desks more : List AtLock) (watcher
     | inr h ↦ all k d w (set-else desks more place k next d desk h.1 at) (set-else watchers read place k late w watched h.1 here)
   ]
 
-  -- if `P` holds of the new lists, and of the desk and the watcher that were replaced, it holds of the old lists
+  -- if `P` holds for the new lists, and for the desk and the watcher that were replaced, it holds for the old lists
   pub each-back : AreEach P more read → P there early.seen → AreEach P desks watchers
   each-back all one k d w at here = elim (eqb_tells k place) [
     | inl h ↦ same-each P there d early w (same_Some there d (sym was ∙ (ap (slice_get desks) (sym h.1) ∙ at))) (same_Some early w (sym seat ∙ (ap (slice_get watchers) (sym h.1) ∙ here))) one
@@ -48,7 +49,7 @@ module _ (P : AtLock → History → Type 0) (desks more : List AtLock) (watcher
         (ap (λ (l : List Watching). slice_get l k) watched ∙ (set-elsewhere watchers place k late h.1 ∙ here))
   ]
 
-  -- if `P` holds of the new lists, it holds of the new desk and the new watcher
+  -- if `P` holds for the new lists, it holds for the new desk and the new watcher
   pub each-there : AreEach P more read → P next late.seen
   each-there all =
       all place next late (ap (λ (l : List AtLock). slice_get l place) desk ∙ set-there desks place there next was) (ap (λ (l : List Watching). slice_get l place) watched ∙ set-there watchers place early late seat)

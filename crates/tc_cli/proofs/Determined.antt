@@ -56,7 +56,7 @@ same-line octets line after other rest one two = same-parts octets line after ot
 
 -- ---- no two channels have the same id
 
--- each id stands at one place only
+-- each id occurs at one place only
 abbrev pub AreApart : List ℕ → Type 0
 AreApart ids = (one other vcid : ℕ) → slice_get ids one ≡ Some vcid → slice_get ids other ≡ Some vcid → one ≡ other
 
@@ -66,7 +66,7 @@ same-at id xs apart vcid one other x y at is to too =
     let place = apart one other vcid (mapped-at id xs one x at ∙ ap (λ (z : ℕ). Some z) is) (mapped-at id xs other y to ∙ ap (λ (z : ℕ). Some z) too) in
     (place, same_Some x y (sym at ∙ (ap (slice_get xs) place ∙ to)))
 
--- ids stay apart if one more is added that none of them is
+-- distinct ids stay distinct if an id is added that is none of them
 apart-push : (ids : List ℕ) (new : ℕ) → AreApart ids → ((place : ℕ) → slice_get ids place ≡ Some new → ⊥) → AreApart (ids ++ new ∷ [])
 apart-push ids new apart none one other vcid at to =
     let first = push-cases ids new vcid one at in
@@ -98,7 +98,7 @@ frame-determined frame old new other answer another (is, next) (too, then) = (is
 pub release-determined : IsDetermined IsReleaseAnswered
 release-determined old new other answer another one two = grind arith
 
--- nothing waits, since there is no queue, or it is empty
+-- nothing waits, since there is no queue, or since the queue is empty
 abbrev IsNoneThere : Option (List (List ℕ)) → Answer → Answer → Type 0
 IsNoneThere waiting without answer = ((waiting ≡ None) × (answer ≡ without)) ⊎ ((waiting ≡ Some []) × (answer ≡ answers.Refused Empty))
 
@@ -177,7 +177,7 @@ operation-ids (operations.Take vcid apid) old new answer a = channel-ids (IsTake
 operation-ids (operations.Unit vcid map_id) old new answer a = channel-ids (IsUnitAnswered map_id) (unit-kept map_id) vcid old new answer a
 operation-ids (operations.Clcw vcid) old new answer (read, still) = ap (λ (r : Racked). map vcid_of r.channels) still
 
--- a CLCW is that of the channel with the id
+-- a request for a CLCW has only one answer
 word-determined : (vcid : ℕ) (rack : Racked) (answer another : Answer) → AreApart (map vcid_of rack.channels) → IsClcwAnswer vcid rack answer → IsClcwAnswer vcid rack another → answer ≡ another
 word-determined vcid rack answer another apart (inl (place, channel, at, is)) (inl (second, other, to, too)) =
     is ∙ (ap reported_word (same-at vcid_of rack.channels apart vcid place second channel other at.0 at.1 to.0 to.1).1 ∙ sym too)
@@ -317,7 +317,7 @@ module _ (only : IsOneAtMost) (scid : ℕ) where
 
   -- ---- all lines
 
-  -- a line, from the same progress, has only one answer and one effect
+  -- from one progress, a line has only one answer and one effect
   next-determined : (line : List ℕ) (old new other : Progress) (answer another : Option Answer) → AreApart (ids_of old) → IsLineAnswered (IsPerformed scid) old line new answer
       → IsLineAnswered (IsPerformed scid) old line other another → (new ≡ other) × (answer ≡ another)
   next-determined line old new other answer another apart (said, is, does, a) (again, too, did, b) =
@@ -325,7 +325,7 @@ module _ (only : IsOneAtMost) (scid : ℕ) where
       let moved = subst (λ (s : Said). Does (phase_of old) (instruction_of s) (phase_of other) × IsInstructionAnswered (IsPerformed scid) old (instruction_of s) other another) same (did, b) in
       line-determined (instruction_of said) old new other answer another apart does a moved.0 moved.1
 
-  -- two ways through the same number of lines are the same
+  -- two ways through the same number of lines lead to the same progress, with the same answers
   same-way : (script : List ℕ) (answers others : List (Option Answer)) (progress other : Progress) (rest left : List ℕ) → AreAnswers (IsPerformed scid) script answers progress rest
       → AreAnswers (IsPerformed scid) script others other left → length answers ≡ length others → (rest ≡ left) × (progress ≡ other) × (answers ≡ others)
   same-way script answers others progress other rest left at_first at_first long = (refl, refl, refl)
@@ -344,7 +344,7 @@ module _ (only : IsOneAtMost) (scid : ℕ) where
       let both = next-determined line old progress other answer another (all-apart script before old from leads) answered reported_here in
       (parts.1, both.0, λ i. one.2 i ++ both.1 i ∷ [])
 
-  -- a way through lines begins with one through fewer lines, after which a line follows
+  -- a way through some lines begins with a way through any smaller number of lines, after which another line follows
   shorter-way : (script : List ℕ) (answers : List (Option Answer)) (progress : Progress) (rest : List ℕ) (count : ℕ) → AreAnswers (IsPerformed scid) script answers progress rest → count < length answers
       → (first : List (Option Answer)) × (old : Progress) × (from : List ℕ) × (line : List ℕ) × (after : List ℕ)
       × AreAnswers (IsPerformed scid) script first old from × IsFirstLine from line after × (length first ≡ count)

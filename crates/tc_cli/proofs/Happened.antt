@@ -33,7 +33,7 @@ moment s journal = record { head = record { settings = s; board = nowhere.board 
 abbrev pub IsTriedNext : Settings → Event → List Event → List Event → Type 0
 IsTriedNext s e old new = (CanBeMade e (moment s old) × (new ≡ old ++ e ∷ [])) ⊎ (CannotBeMade e (moment s old) × (new ≡ old))
 
--- the journal of its channel before and after a job
+-- the channel's journal before and after a job
 abbrev pub Happens : ℕ → ℕ → Settings → Order → List Event → List Event → Type 0
 Happens scid vcid s (orders.Bring octets) old new =
     (frame : List ℕ) × BeginsWith octets frame × ((header_of frame).scid ≡ scid) × ((header_of frame).vcid ≡ vcid) × IsTriedNext s (events.Frame frame) old new
@@ -41,7 +41,7 @@ Happens scid vcid s orders.Release old new = IsTriedNext s events.Release old ne
 Happens scid vcid s (orders.Take apid) old new = IsTriedNext s (events.Take apid) old new
 Happens scid vcid s (orders.TakeUnit map_id) old new = IsTriedNext s (events.TakeUnit map_id) old new
 
--- the journal of a channel before and after a list of jobs
+-- the channel's journal before and after a list of jobs
 abbrev pub AllHappen : ℕ → ℕ → Settings → List Job → List Event → List Event → Type 0
 AllHappen scid vcid s [] old new = new ≡ old
 AllHappen scid vcid s (job ∷ jobs) old new = (mid : List Event) × Happens scid vcid s job.order old mid × AllHappen scid vcid s jobs mid new
@@ -63,7 +63,7 @@ moved-cannot : (e : Event) (m : Moment) (s : Settings) (j : List Event) → m.he
 moved-cannot (events.Frame octets) m s j p q cannot = cannot
 moved-cannot e m s j p q cannot = subst (λ (x : Settings × List Event). CannotBeMade e (moment x.0 x.1)) (λ i. (p i, q i)) cannot
 
--- only one journal can come next
+-- if an event can be made, the new journal is the old one followed by the event, and otherwise it is the old one
 next-can : (e : Event) (m : Moment) (s : Settings) (old new : List Event) → m.head.settings ≡ s → m.entries ≡ old → CanBeMade e m → IsTriedNext s e old new → new ≡ old ++ e ∷ []
 next-can e m s old new p q can (inl (there, is)) = is
 next-can e m s old new p q can (inr (none, is)) = absurd (not-both e (moment s old) (moved-can e m s old p q can) none)
@@ -74,7 +74,7 @@ next-cannot e m s old new p q cannot (inr (none, is)) = is
 
 -- ---- the events that a worker makes
 
--- the laws on which these proofs rest
+-- the laws that these proofs rest on
 pub record WorkLaws : Type 0 where
   pub frame : IsOneAtMost
   pub event : (before : Own) (now : Moment) (e : Event) → HasSeenItsOwn before → IsBeginning before.seen now → HasMadeAll (made e now before) → HasMadeAll before × (now ≡ before.seen)
@@ -83,21 +83,21 @@ pub record WorkLaws : Type 0 where
   pub maker : (makers : List Own) (k : ℕ) (own : Own) (journal : List Event) → made_by makers k ≡ own.made → ((j : ℕ) → j ≢ k → made_by makers j ≡ []) → HasSeenItsOwn own
       → IsBeginning own.seen (record { head = own.seen.head; entries = journal }) → IsMergeOf journal makers → HasMadeAll own × (own.seen.entries ≡ journal)
 
--- the events that an operator has seen and made at the desk of this place
+-- the events that an operator has seen and made at the desk at this place
 abbrev pub desk_at : ℕ → AtStation → AtLock
 desk_at place o = slice_index_or o.desks place nobody
 
--- the operator has seen these settings and this journal there
+-- at this desk, the operator has seen these settings and this journal
 abbrev pub HasSeen : Settings → List Event → AtLock → Type 0
 HasSeen s journal d = (d.own.seen.head.settings ≡ s) × (d.own.seen.entries ≡ journal)
 
--- At one desk: if the worker has, after the jobs, made all events that it has seen there, this was also true before
--- them, and if it had seen the old journal, it has now seen the new one.
+-- At one desk: if, after the jobs, the worker has made all events that it has seen, this was also true before the jobs.
+-- In that case, if the worker had seen the old journal before the jobs, it has seen the new one after them.
 abbrev IsMadeOf : Settings → List Event → List Event → AtLock → AtLock → Type 0
 IsMadeOf s old new before after =
     HasSeenItsOwn before.own → HasSeenItsOwn after.own × (HasMadeAll after.own → HasMadeAll before.own × (HasSeen s old before → HasSeen s new after))
 
--- a worker made nothing elsewhere, and made these events at the desk of its list
+-- a worker made no event at any other desk, and `IsMadeOf` holds at the desk of its list
 pub record IsWorkedAt (s : Settings) (place : ℕ) (old new : List Event) (before after : AtStation) : Type 0 where
   pub elsewhere : (other : ℕ) → other ≢ place → (desk_at other after).own.made ≡ (desk_at other before).own.made
   pub here : IsMadeOf s old new (desk_at place before) (desk_at place after)
@@ -122,7 +122,7 @@ worked-more s place old mid new before between after first second = record {
       );
 }
 
--- `IsMadeOf` holds of a desk, if these facts hold of the events that the operator has seen and made afterwards
+-- `IsMadeOf` holds for a desk if these facts hold for the events that the operator has seen and made afterwards
 desk-grown : (there next : AtLock) (now : Moment) (o : Own) (s : Settings) (old new : List Event) → next.own ≡ o → o.seen.head ≡ now.head → (HasSeenItsOwn there.own → HasSeenItsOwn o)
     → (HasSeenItsOwn there.own → HasMadeAll o → HasMadeAll there.own × (now ≡ there.own.seen)) → (now.head.settings ≡ s → now.entries ≡ old → o.seen.entries ≡ new) → IsMadeOf s old new there next
 desk-grown there next now o s old new is head its law journal = λ own. (

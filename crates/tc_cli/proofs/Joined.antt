@@ -26,7 +26,7 @@ first-place (x ∷ vs) (suc k) v at apart =
     ap (λ (b : Bool). cond (not b) (1 + position_or_len (λ y. y == v) vs) 0) e
     ∙ omega (arith, first-place vs k v at (λ j lt. apart (suc j) (omega (arith, lt))))
 
--- if no two ids are the same, each id has its place
+-- if no two ids are the same, an id has the place at which it occurs
 pub place-of : (station : Roster) (k v : ℕ) → AllPairs (λ (a b : ℕ). a ≢ b) station.vcids → slice_get station.vcids k ≡ Some v → IsPlace station v k
 place-of station k v distinct at =
     let vs = station.vcids in
@@ -67,7 +67,7 @@ account-at [] place k o at = absurd (none-some o at)
 account-at (p ∷ ops) place zero o at = ap (λ (x : AtStation). some (desk_at place x).own) (same_Some p o at)
 account-at (p ∷ ops) place (suc k) o at = account-at ops place k o at
 
--- the settings that are known of the desk at a place
+-- the settings that an operator has seen at the desk at a place
 desk-settings : (desks : List AtLock) (k : ℕ) (s : Settings) → slice_get (map (λ (h : Identity). h.settings) (heads_of desks)) k ≡ Some s
     → (slice_index_or desks k nobody).own.seen.head.settings ≡ s
 desk-settings [] k s at = absurd (none-some s at)
@@ -83,7 +83,7 @@ nothing-at o place nothing = elim (cases_lt place (length o.desks)) [
 
 -- ---- a plan that was carried out
 
--- a station that has issued operators has the same plan
+-- issuing operators leaves the plan of a station as it is
 issued-planned : (parted : Parted) (station : Roster) (n : ℕ) (rack : Racked) → station ≡ record parted.station { issued = n } → IsPlanned parted rack → IsPlanned (record parted { station = station }) rack
 issued-planned parted station n rack issued planned =
     subst (λ (s : Roster). IsPlanned (record parted { station = s }) rack) (sym issued)
@@ -100,7 +100,7 @@ module _ (laws : WorkLaws) (station : Roster) (lists : List WorkList) (rack : Ra
   settings-at : (k : ℕ) (c : Linked) → slice_get rack.channels k ≡ Some c → slice_get (settings_in station) k ≡ Some c.history.settings
   settings-at k c at = ap (λ (l : List Settings). slice_get l k) (sym planned.settings) ∙ mapped-at (λ (y : Linked). y.history.settings) rack.channels k c at
 
-  -- a worker has made the journal of the channel of its list
+  -- a worker has made the journal of its list's channel
   shift-worked : (shifts : List Shift) → map (λ (s : Shift). s.list) shifts ≡ lists → AllByRecursion (IsShift station) shifts → lowest shifts ≡ None → (k : ℕ) (x : Shift) (c : Linked)
       → slice_get shifts k ≡ Some x → slice_get rack.channels k ≡ Some c → IsWorkedAt c.history.settings k [] c.history.journal x.before x.after
   shift-worked shifts same each none k x c at here =
@@ -109,7 +109,7 @@ module _ (laws : WorkLaws) (station : Roster) (lists : List WorkList) (rack : Ra
       list-worked laws station k x.list.vcid x.list.jobs c.history.settings [] c.history.journal x.before x.after
       (place-of station k x.list.vcid planned.distinct id) (planned.jobs k x.list c list here) (all-made station shifts each none k x at)
 
-  -- the channel of a list once the station is closed
+  -- the channel of a list, once the station is closed
   one-closed : (shifts : List Shift) (befores ops : List AtStation) → map (λ (s : Shift). s.list) shifts ≡ lists → map (λ (s : Shift). s.before) shifts ≡ befores → map (λ (s : Shift). s.after) shifts ≡ ops
       → AllByRecursion (IsShift station) shifts → lowest shifts ≡ None → All HasMadeNothing befores → All (KnowsDesks station) befores
       → (k : ℕ) (c : Linked) (x : Shift) (owned_desk : AtLock) (h : History) → slice_get rack.channels k ≡ Some c → slice_get shifts k ≡ Some x
@@ -150,7 +150,7 @@ module _ (laws : WorkLaws) (station : Roster) (lists : List WorkList) (rack : Ra
       let same : h.settings ≡ c.history.settings = closed.settings ∙ settings in
       λ i. record { settings = same i; journal = journal i }
 
-  -- all channels once the station is closed
+  -- all channels, once the station is closed
   all-closed : (befores ops : List AtStation) (closed : List History) → All HasMadeNothing befores → All (KnowsDesks station) befores → AreWorked station lists None befores ops
       → AreClosedTogether station ops closed → closed ≡ histories rack
   all-closed befores ops closed nothing knows (shifts, of-lists, of-befores, of-ops, each, none) (owned_desks, owned, all) =

@@ -5,7 +5,7 @@ use Rattle.std.proofs.lemmas.List.{get_or-map, length-map, map-set, set-get_or, 
 use Rattle.std.proofs.lemmas.List.Elements.{All-set}
 use Rattle.std.proofs.lemmas.Option.{get_or_from_slice_get, none-some, same_Some, slice_get-get_or, slice_get-map, slice_get_within}
 
--- the element at a place within the list
+-- each place within a list has an element
 pub element : {X : Type 0} (xs : List X) (k : ℕ) → k < length xs → (x : X) × (slice_get xs k ≡ Some x)
 element [] k lt = absurd (omega arith)
 element (x ∷ xs) zero lt = (x, refl)
@@ -21,11 +21,11 @@ unmapped f [] k y at = absurd (none-some y at)
 unmapped f (x ∷ xs) zero y at = (x, refl, same_Some (f x) y at)
 unmapped f (x ∷ xs) (suc k) y at = unmapped f xs k y at
 
--- the elements at a place of two lists that are mapped to the same list
+-- if two lists are mapped to the same list, their elements at the same place are mapped to the same element
 pub same-at : {X Y Z : Type 0} (f : X → Z) (g : Y → Z) (xs : List X) (ys : List Y) (k : ℕ) (x : X) (y : Y) → map f xs ≡ map g ys → slice_get xs k ≡ Some x → slice_get ys k ≡ Some y → f x ≡ g y
 same-at {X} {Y} {Z} f g xs ys k x y same at here = same_Some (f x) (g y) (sym (mapped-at f xs k x at) ∙ (ap (λ (l : List Z). slice_get l k) same ∙ mapped-at g ys k y here))
 
--- a list is another one mapped, if each of its elements is the image of the element at the same place
+-- a list is the image of another one, if each of its elements is the image of the element at the same place
 pub same-mapped : {X Y : Type 0} (f : X → Y) (xs : List X) (ys : List Y) → length ys ≡ length xs
     → ((k : ℕ) (x : X) (y : Y) → slice_get xs k ≡ Some x → slice_get ys k ≡ Some y → y ≡ f x) → ys ≡ map f xs
 same-mapped f [] [] long each = refl
@@ -88,6 +88,6 @@ any-mapped {X} f xs k v at = let there = unmapped f xs k v at in any-here (λ (x
 pub was-there : {X : Type 0} (P : X → Type 0) (xs : List X) (k : ℕ) (x : X) → slice_get xs k ≡ Some x → All P xs → P x
 was-there P xs k x at all = subst P (get_or_from_slice_get xs k x x at) (all k x (slice_get_within xs k x at))
 
--- if all elements have a property after one is replaced, and the old one had it, all elements had it before
+-- if all elements have a property after one is replaced, and the replaced one had it, all elements had it before
 pub all-back : {X : Type 0} (P : X → Type 0) (xs : List X) (k : ℕ) (x y : X) → slice_get xs k ≡ Some x → P x → All P (slice_set xs k y) → All P xs
 all-back P xs k x y at here all = subst (All P) (set-set xs k y x ∙ set-same xs k x at) (All-set P (slice_set xs k y) k x here all)

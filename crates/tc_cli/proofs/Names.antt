@@ -1,4 +1,4 @@
--- The types, definitions and lemmas that most proofs speak of, imported from one file.
+-- Types, definitions and lemmas that most proofs use, imported from one file.
 pub use Rattle.logged_lock.specs.Log.{IsBeginning, IsMergeOf, made_by}
 pub use Rattle.std.proofs.lemmas.Bool.{cases_lt, eqb-true}
 pub use Rattle.std.proofs.lemmas.Bool.Decides.{eqb_tells}

@@ -1,5 +1,5 @@
--- The jobs of a script, sorted by their channels, and its progress by its lines alone: each list has exactly the jobs
--- that make the journal of its channel.
+-- The jobs of a script, sorted by their channels, and its progress as a function of its lines alone. Each list has
+-- exactly the jobs that make the journal of its channel.
 use Rattle.std.proofs.Common.{◌≡◌, ℕ, zero, suc, ◌+◌, List, [], ◌∷◌, ◌++◌, ◌⊎◌, Option, None, Some, map, length, inl, inr, refl, sym, ap, ◌∙◌, subst, arith, ◌≢◌, AllPairs, Contains, slice_get, slice_set}
 use Rattle.tc_cli.proofs.Names.{Add, Answer, AreAnswers, AreParted, ArePartedFor, Channel, Clcw, Does, Empty, Event, Frame, GivesToFound, HasChannel, Instruction, IsAnswerOf, IsChannelAnswer, IsClcwAnswer, IsDoneSo, IsFrameAnswer, IsFrameAnswered, IsFrameGiven, IsGiven, IsInstructionAnswered, IsParted, IsPerformed, IsRackLocateFault, IsReleaseAnswered, IsTakeAnswered, IsUnitAnswered, Job, Linked, LocateFault, NoMap, NoQueue, Nothing, Operating, Operation, Order, Parted, Phase, Plan, Progress, Racked, Release, SettingUp, Settings, Take, TakeUnit, Unlocated, WorkList, at_first, buffered_fields, empty_list, eqb_tells, header_of, instruction_of, later, length-map, map-map, new_linked, new_rack, none_parted, one_more, one_parted, option_and_then, phase_of, rack-found, rack_for, settings_in, slice_get-get_or, slice_get_within, reported_word, vcid_of, waiting_packets, waiting_units, with_job}
 use Rattle.std.proofs.lemmas.List.{map-id}
@@ -66,7 +66,7 @@ new-planned scid list found new =
           subst (λ (x : List Job × List Event). AllHappen found.station.scid l.vcid c.history.settings x.0 [] x.1) (λ i. (sym no-jobs i, sym no-events i)) refl;
     }
 
--- one more job in a list, and the channel of this list after the job
+-- a job is added to a list, and the channel of this list is the one after the job
 moved-planned : (found : Parted) (rack : Racked) (place : ℕ) (l : WorkList) (c new : Linked) (job : Job) → IsPlanned found rack
     → slice_get found.lists place ≡ Some l → slice_get rack.channels place ≡ Some c → new.history.settings ≡ c.history.settings
     → Happens found.station.scid l.vcid c.history.settings job.order c.history.journal new.history.journal
@@ -91,7 +91,7 @@ moved-planned found rack place l c new job planned at here same happens = record
   ];
 }
 
--- the channel has an answer that `Answers` allows, and its journal after the answer is the one that the job makes
+-- the channel has an answer that `Answers` allows, after which its journal is the one that the job makes
 abbrev CanAnswer : (Linked → Answer → Linked → Type 0) → ℕ → Order → Linked → Type 0
 CanAnswer Answers scid order c =
     (answer : Answer) × (new : Linked) × Answers c answer new × (new.history.settings ≡ c.history.settings)
@@ -151,8 +151,8 @@ unit-can scid map_id c = elim (waits-or-not (waiting_units c.history.settings c.
   ]
 ]
 
--- these channels give the operation an answer that `Answers` allows, and the channels after it are those of the plan
--- with the operation's job
+-- these channels give the operation an answer that `Answers` allows, and afterwards they are those of the plan with the
+-- operation's job
 abbrev IsAnsweredSo : (Racked → Answer → Racked → Type 0) → Parted → Racked → Type 0
 IsAnsweredSo Answers parted rack = (answer : Answer) × (new : Racked) × Answers rack answer new × IsPlanned parted new
 
@@ -282,7 +282,8 @@ line-planned scid number (TakeUnit vcid map_id) plan new progress matched does p
 line-planned scid number (Clcw vcid) plan new progress matched does parts =
     parts-planned scid (operations.Clcw vcid) (λ before after. after ≡ before) plan new progress matched parts (word-planned vcid)
 
--- lines whose jobs are sorted have answers when they are carried out in order, which leads to the channels of the plan
+-- If the jobs of lines are sorted, these lines also have answers when they are carried out in order, and lead to the
+-- channels of the plan.
 pub all-planned : (scid : ℕ) (script : List ℕ) (count : ℕ) (plan : Plan) (rest : List ℕ) → AreParted scid script count plan rest
     → (answers : List (Option Answer)) × (progress : Progress) × AreAnswers (IsPerformed scid) script answers progress rest × AreMatched plan progress
 all-planned scid script count plan rest none_parted = ([], SettingUp [], at_first, refl)

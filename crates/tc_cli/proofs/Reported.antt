@@ -1,4 +1,4 @@
--- Channels in rising order of ids have only one order, if each id is that of one channel.
+-- If no two channels have the same id, only one order of the channels has rising ids.
 use Rattle.std.proofs.Common.{◌≡◌, ◌<◌, ◌≤◌, ℕ, zero, suc, ◌+◌, cond, Bool, List, [], ◌∷◌, Some, map, length, drop, get_or, slice_get, inl, inr, refl, sym, ap, ◌∙◌, subst, arith, eq-eqb, ◌==◌, Contains, IsPermutation}
 use Rattle.tc_cli.proofs.Names.{AreRising, History, eqb_tells, get_or_from_slice_get, same_Some, slice_get_within}
 use Rattle.std.specs.List.{sum_by}
@@ -55,7 +55,7 @@ rest-counts c cs d ds head same vcid =
     let first : one_of vcid c ≡ one_of vcid d = ap (λ (v : ℕ). cond (v == vcid) 1 0) head in
     omega (arith, one, two, first, same vcid)
 
--- the ids are the same, place by place
+-- two lists in rising order have the same ids, if each id occurs as often in one as in the other
 same-ids : (cs ds : List History) → AreRising cs → AreRising ds → ((vcid : ℕ) → count vcid cs ≡ count vcid ds) → map vcid_of cs ≡ map vcid_of ds
 same-ids [] [] rising rises same = refl
 same-ids [] (d ∷ ds) rising rises same = let own = count-own d ds in absurd (omega (arith, own, same (vcid_of d)))

@@ -10,7 +10,7 @@ pub set-up : {O : Type 0} (stage : Stage O) (list : List Settings) → phase_of 
 set-up (SettingUp settings) list is = cc
 set-up (Operating there) list is = absurd cc
 
--- a bad line after good ones is the first bad one; if memory ran out at it, the lines before it are good
+-- a bad line after good ones is the first bad one, and if memory ran out at the line, the lines before it are good
 pub first-bad : (script rest line after : List ℕ) (before : ℕ) (phase : Phase) (reason : Reason)
     → (reason ≡ NoMemory) ⊎ IsBadLine phase line reason → Leads script before phase rest → IsFirstLine rest line after → length script ≤ script_limit
     → ((reason ≡ NoMemory) × IsReached script (before + 1)) ⊎ ((length script ≤ script_limit) × IsFirstBad script (before + 1) reason)
@@ -34,7 +34,7 @@ end-fault (Err fault) scid session script rest count phase leads end within (inr
 end-fault (Err fault) scid session script rest count phase leads end within (inr (inr memory)) =
     subst (IsScriptFault script) (sym memory) (inl (refl, inl (phase, rest, leads)))
 
--- lines that give their jobs are good
+-- lines whose jobs are given are good
 pub parted-leads : (scid : ℕ) (script : List ℕ) (count : ℕ) (plan : Plan) (rest : List ℕ) → AreParted scid script count plan rest → Leads script count (phase_of plan) rest
 parted-leads scid script count plan rest none_parted = starts
 parted-leads scid script count plan rest (one_parted {count = before} {plan = old} leads next parted) =

@@ -1,4 +1,4 @@
--- A session whose station was closed together with its one operator: its answers follow from the lines before them.
+-- If the station of a session was closed together with its one operator, each answer follows from the lines before it.
 use Rattle.std.proofs.Common.{◌≡◌, ◌<◌, ℕ, List, [], Option, All, length, get_or, inl, inr, refl, sym, ap, ◌∙◌, subst, arith, IsPermutation}
 use Rattle.tc_cli.proofs.Names.{Add, Answer, AreAnswers, AreClosedTogether, AtStation, Channel, Clcw, Does, Frame, History, Instruction, IsAnswerOf, IsClosed, IsDoneSo, IsInstructionAnswered, IsStaffedFound, IsStaffedOperated, IsNumberReported, IsPerformed, IsScriptReport, Staffed, Nothing, Operating, Operation, Phase, Progress, Racked, Release, Roster, Session, SettingUp, Take, TakeUnit, at_first, column, operator_lists_of, histories, instruction_of, nobody, one_more, phase_of, rack-found, rack_for, slice_get-get_or}
 use Rattle.tc_cli.specs.Written.{IsSessionReport}
@@ -6,7 +6,7 @@ use Rattle.tc_rack.specs.declared.operation.Operation.TheVariants as operations
 use Rattle.tc_cli.proofs.Scripts.{set-up}
 use Rattle.tc_cli.proofs.Alone.{AloneLaws, IsAlone, IsSound, all-level, all-met-alone, answered-alone, closed-alone, new-rack, new-sound, rack_of}
 
--- the progress of the session, by the lines alone
+-- the progress of the session, as a function of the lines alone
 abbrev pub progress_of : Session → Progress
 progress_of (SettingUp list) = SettingUp list
 progress_of (Operating m) = Operating (rack_of m)
@@ -23,7 +23,7 @@ phase-of : (s : Session) → phase_of s ≡ phase_of (progress_of s)
 phase-of (SettingUp list) = refl
 phase-of (Operating m) = refl
 
--- The second session, which a step of the first leads to, is sound. If the operator is alone after the step, it was
+-- A step leads from the first session to the second, which is sound. If the operator is alone after the step, it was
 -- alone before the step, and `Holds` holds.
 abbrev GoesOn : Session → Session → Type 0 → Type 0
 GoesOn s new Holds = IsSoundSession new × (IsAloneSession new → IsAloneSession s × Holds)

@@ -1,5 +1,5 @@
--- A configuration has none of the faults that the settings of a station may have, except that it may be empty. Facts on
--- a new station.
+-- A configuration has none of the faults that the settings of a station may have, except that it may be empty. A new
+-- station has the ids of its settings.
 use Rattle.std.proofs.Common.{◌≡◌, ℕ, ◌<◌, List, length, get_or, sym, ap, ◌∙◌, subst, arith, All}
 use Rattle.tc_cli.proofs.Names.{Roster, Settings, get_or_from_slice_get, length-map, slice_get_within}
 use Rattle.std.proofs.lemmas.List.{get_or-map, get_or-take, get_or_default, length-take}
@@ -23,7 +23,7 @@ pub no-refusal : (no_fault : (s : Settings) (f : SettingsFault) → IsAllowed s 
 no-refusal no_fault list vcid f allowed (i, s, at, v, fault, before) =
     no_fault s f (subst IsAllowed (get_or_from_slice_get list i s s at) (allowed i s (slice_get_within list i s at))) fault
 
--- a new station has the ids of its settings, all of them different
+-- a new station has the ids of its settings, which are all different
 pub new-ordered : (scid : ℕ) (list : List Settings) (station : Roster) → IsNewStation scid list station → IsOrdered station
 new-ordered scid list station new = record {
   named = ap vcids_of new.settings ∙ sym new.vcids;

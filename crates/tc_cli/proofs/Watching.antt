@@ -1,4 +1,4 @@
--- The watchers of a script's channels, each of which watches the desk at its place.
+-- The watchers of a script's channels. Each belongs to the desk at its own place.
 use Rattle.std.proofs.Common.{◌≡◌, ◌<◌, ◌+◌, ℕ, List, [], ◌∷◌, ◌++◌, Some, length, map, get_or, inl, inr, refl, sym, ap, ◌∙◌, subst, arith, ◌==◌, slice_get, slice_set, add-one}
 use Rattle.tc_cli.proofs.Names.{AtStation, HasMetAt, HaveMet, Identity, IsEarlier, IsPlace, IsWordAnswer, Staffed, Roster, Settings, Watching, clcw, eqb_tells, length-map, length-set, no_flag, position-Some, same_Some, slice_get-get_or}
 use Rattle.std.proofs.lemmas.Option.{slice_get_read}
@@ -18,7 +18,7 @@ as-many station ordered =
     sym (length-map station.heads settings)
     ∙ (sym (length-map (map settings station.heads) (λ (s : Settings). s.vcid)) ∙ ap (length {A = ℕ}) ordered.named)
 
--- a watcher is replaced by another one of the same desk
+-- a watcher is replaced by another watcher of the same desk
 pub watcher-set : (station : Roster) (watchers : List Watching) (place : ℕ) (early late : Watching) → AreWatchersOf station watchers → slice_get watchers place ≡ Some early → IsWatcherAt station place late
     → AreWatchersOf station (slice_set watchers place late)
 watcher-set station watchers place early late all was one = (
@@ -47,7 +47,7 @@ one-watcher-more station vcids items next w i vcid ordered whole is many inside 
 
 -- ---- the watcher at a place meets its desk
 
--- the watcher at a place watches the channel there
+-- the watcher at a place belongs to the channel at that place
 pub meets-at : (station : Roster) (items : List Watching) (vcids : List ℕ) (place vcid : ℕ) (w : Watching) → IsOrdered station → vcids ≡ station.vcids → AreWatchersOf station items → place < length items
     → vcid ≡ get_or vcids place vcid → w ≡ get_or items place w → IsPlace station vcid place × (slice_get items place ≡ Some w) × IsWatcherOf station vcid w
 meets-at station items vcids place vcid w ordered whole all inside id is =
@@ -59,14 +59,14 @@ meets-at station items vcids place vcid w ordered whole all inside id is =
     let one = all.1 place w seat in
     (here, seat, (one.0, (place, here, one.1), one.2, one.3))
 
--- the place of a channel is also that of a watcher
+-- there is a watcher at the place of each channel
 pub watched-place : (station : Roster) (items : List Watching) (place vcid : ℕ) → IsOrdered station → AreWatchersOf station items → IsPlace station vcid place → place < length items
 watched-place station items place vcid ordered all here =
     let found = position-Some (λ v. v == vcid) station.vcids place 0 here in
     let within = found.0 in
     omega (arith, within, all.0, as-many station ordered)
 
--- the watcher there watches the desk there
+-- the watcher at the place of a channel belongs to the desk at that place
 pub meets-of : (station : Roster) (items : List Watching) (place vcid : ℕ) (w : Watching) → IsOrdered station → AreWatchersOf station items → IsPlace station vcid place → w ≡ get_or items place w
     → (slice_get items place ≡ Some w) × IsWatcherAt station place w
 meets-of station items place vcid w ordered all here is =
@@ -80,11 +80,11 @@ has-met station operator next items place vcid early late here seat (p, there, m
     let same : p ≡ place = same_Some p place (sym there ∙ here) in
     record { vcid = vcid; early = early; late = late; watched = seat; meeting = subst (λ (k : ℕ). IsMetAt k vcid early operator late next) same met; watchers = refl; station = refl }
 
--- the history that a watcher read is that of its desk
+-- a watcher that has read on still belongs to its desk
 pub read-of : (station : Roster) (place : ℕ) (early late : Watching) → IsWatcherAt station place early → late.board ≡ early.board → IsEarlier early.seen late.seen → IsWatcherAt station place late
 read-of station place early late (head, at, board, settings) same later = (head, at, same ∙ board, later.0 ∙ settings)
 
--- the answer of a line that requests a CLCW
+-- the answer to a line that requests a CLCW
 pub word-answered : (station : Roster) (operator : AtStation) (items : List Watching) (place vcid word : ℕ) (early late : Watching) → IsPlace station vcid place → slice_get items place ≡ Some early
     → IsWatcherAt station place early → IsEarlier early.seen late.seen → IsLawful late.seen.settings late.seen.journal → word ≡ clcw late.seen.settings late.seen.journal no_flag
     → IsWordAnswer vcid (record { station = station; operator = operator; watchers = items }) (Clcw vcid word) (record { station = station; operator = operator; watchers = slice_set items place late })

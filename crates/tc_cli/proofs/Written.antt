@@ -13,14 +13,14 @@ use Rattle.tc_cli.specs.Written.{IsSessionReportWritten, IsScriptUnreported, IsS
 use Rattle.tc_cli.proofs.Alone.{AloneLaws}
 use Rattle.tc_cli.proofs.Sessions.{progress_of, reported-alone}
 
--- if one result is Ok exactly when another is, a fact that holds if the one is Ok also holds if the other is Ok
+-- if one result is `Ok` exactly when another is, a fact that holds if the one is `Ok` also holds if the other is `Ok`
 pub on-ok-same : {T U E F : Type 0} (r : Result T E) (s : Result U F) (A : Type 0) → is_ok s ≡ is_ok r → OnOk r A → OnOk s A
 on-ok-same (Ok x) (Ok y) A same holds = holds
 on-ok-same (Ok x) (Err f) A same holds = tt
 on-ok-same (Err e) (Ok y) A same holds = let no : ⊥ = cc in absurd no
 on-ok-same (Err e) (Err f) A same holds = tt
 
--- if a fact follows from two others that hold if a result is Ok, it also holds if the result is Ok
+-- if a fact follows from two others that hold if a result is `Ok`, it also holds if the result is `Ok`
 pub on-ok-both : {T E : Type 0} (r : Result T E) (A B C : Type 0) → (A → B → C) → OnOk r A → OnOk r B → OnOk r C
 on-ok-both (Ok x) A B C follows a b = follows a b
 on-ok-both (Err e) A B C follows a b = tt
@@ -91,7 +91,7 @@ end-cut-short (Err fault) scid script count session rest a b c (answers, leads, 
 end-cut-short (Err fault) scid script count session rest a b c so-far end (inr (inr memory)) (inr kept) =
     subst (IsScriptCutShort scid script a c) (sym memory) (inl (refl, inr (inr (unreported scid script count session rest a b c so-far end kept))))
 
--- a fault for which the station isn't closed is a fault of the session's report
+-- a fault in closing the station is a fault of the session's report
 pub not-closed : (scid : ℕ) (session : Session) (staffed met : Staffed) (station : Roster) (operator : AtStation) (operators : List AtStation) (lines : ℕ) (fault : ScriptFault)
     → IsStaffedFound scid session staffed → AllHaveMet staffed met → station ≡ met.station → operator ≡ met.operator → operators ≡ operator ∷ []
     → IsScriptCloseFault station operators lines fault → IsReportFault scid session lines fault
@@ -154,7 +154,7 @@ read-cut-short (Some script) scid a (Line number reason) why = inl (why.1, inl (
 read-cut-short (Some script) scid a Write why = tt
 read-cut-short (Some script) scid a Unbalanced why = absurd why
 
--- if the octets of the reader are known, they are the script
+-- if the octets of the reader are known, they are the script that was carried out
 pub whole-written : (done : Result (Unit {0}) ScriptFault) (known : Option (List ℕ)) (scid : ℕ) (script read : List ℕ) (a b c : Option (List ℕ))
     → script ≡ read → IfSome known (λ octets. read ≡ octets) → OnOk done (IsScriptWritten scid script a b) → Keeps b c → OnOk done (IfSome known (λ octets. IsScriptWritten scid octets a c))
 whole-written done known scid script read a b c whole is written kept =

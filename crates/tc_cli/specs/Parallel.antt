@@ -20,7 +20,7 @@ use Rattle.tc_rack.specs.declared.stage.Stage.TheVariants.{SettingUp, Operating}
 abbrev pub Plan : Type 0
 Plan = Stage Parted
 
--- the jobs that an operation finds: none, at a new station, if no operation came before
+-- the jobs that an operation finds, which are none, at a new station, if no operation came before
 abbrev pub ArePartedFor : ℕ → Plan → Parted → Type 0
 ArePartedFor scid (SettingUp list) found = IsNewlyParted scid list found
 ArePartedFor scid (Operating parted) found = found ≡ parted
@@ -32,8 +32,8 @@ Begins scid old new = (found : Parted) × ArePartedFor scid old found × (new �
 abbrev pub GivesToFound : ℕ → (Parted → Parted → Type 0) → Plan → Plan → Type 0
 GivesToFound scid Gives old new = (found parted : Parted) × ArePartedFor scid old found × Gives found parted × (new ≡ Operating parted)
 
--- the job of a line is given to its channel; a CLCW or a blank line has no job, and the set-up of a line is known from
--- the phase
+-- The job of a line is given to the line's channel. A blank line has no job, and neither has a request for a CLCW. The
+-- phase describes the effect of a line that sets something up.
 abbrev pub IsParted : ℕ → ℕ → Plan → Instruction → Plan → Type 0
 IsParted scid line old Nothing new = new ≡ old
 IsParted scid line old (Channel settings) new = Unit {0}
@@ -44,32 +44,33 @@ IsParted scid line old (Take vcid apid) new = GivesToFound scid (IsGiven vcid (r
 IsParted scid line old (TakeUnit vcid map_id) new = GivesToFound scid (IsGiven vcid (record { line = line; order = orders.TakeUnit map_id })) old new
 IsParted scid line old (Clcw vcid) new = GivesToFound scid (λ before after. after ≡ before) old new
 
--- the line with this number is good and leads from the first plan to the second, and its job is given to its channel
+-- the line with this number is good and leads from the first plan to the second, and its job is given to the line's
+-- channel
 abbrev pub IsLineParted : ℕ → ℕ → Plan → List ℕ → Plan → Type 0
 IsLineParted scid number plan line new =
     (said : Said) × (line_of (words line) ≡ Ok said) × Does (phase_of plan) (instruction_of said) (phase_of new)
     × IsParted scid number plan (instruction_of said) new
 
--- the first lines of a script are good and give their jobs, each with the number of its line: this number of lines
--- leads to this plan, and leaves these octets
+-- The first lines of a script are good, and their jobs are given, each with the number of its line. This number of
+-- lines leads to this plan, and leaves these octets.
 pub data AreParted (scid : ℕ) (script : List ℕ) : ℕ → Plan → List ℕ → Type 0 where
   none_parted : AreParted scid script 0 (SettingUp []) script
   one_parted : {count : ℕ} {plan new : Plan} {rest line after : List ℕ}
       → AreParted scid script count plan rest → IsFirstLine rest line after → IsLineParted scid (count + 1) plan line new
       → AreParted scid script (count + 1) new after
 
--- the channels after the workers of the whole script, of which there are none if none was set up
+-- the channels after the workers of the whole script are done (if no channel was set up, there is none)
 abbrev pub AreWorkedChannels : ℕ → List ℕ → List History → Type 0
 AreWorkedChannels scid script channels =
     (count : ℕ) × (plan : Plan) × AreParted scid script count plan []
     × (((phase_of plan ≡ Setup []) × (channels ≡ [])) ⊎ ((found : Parted) × ArePartedFor scid plan found × IsWorkedOut found channels))
 
--- the workers of the whole script have left its station out of balance, and this is the cause
+-- the workers of the whole script have left its station out of balance, and there is a cause for it
 abbrev pub AreWorkedUnbalanced : ℕ → List ℕ → Type 0
 AreWorkedUnbalanced scid script =
     (count : ℕ) × (plan : Plan) × (found : Parted) × AreParted scid script count plan [] × ArePartedFor scid plan found × IsWorkedUnbalanced found
 
--- a script that is reported to be out of balance has a cause for it
+-- if a script is reported to be out of balance, there is a cause for it
 abbrev pub HasCause : ℕ → List ℕ → ScriptFault → Type 0
 HasCause scid script Unbalanced = AreWorkedUnbalanced scid script
 HasCause scid script fault = Unit {0}

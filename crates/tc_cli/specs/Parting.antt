@@ -1,4 +1,4 @@
--- The jobs of a script, sorted by the channels for which they are, and their results after the workers.
+-- The jobs of a script, sorted by the channels that they are for, and their results after the workers.
 use Rattle.std.specs.Prelude.{◌≡◌, ℕ, List, [], ◌∷◌, ◌++◌, ◌⊎◌, All, Any, length, map, slice_get, slice_set, Some, None}
 use Rattle.tc_channel.specs.Journal.{History}
 use Rattle.tc_channel.specs.declared.settings.Settings.{Settings}
@@ -48,20 +48,21 @@ HasWorkList lists vcid = Any (λ (l : WorkList). l.vcid ≡ vcid) lists
 abbrev pub IsListAt : List WorkList → ℕ → ℕ → WorkList → Type 0
 IsListAt lists vcid place l = (slice_get lists place ≡ Some l) × (l.vcid ≡ vcid)
 
--- the job comes last in the list of this channel, and all other lists stay; if there is no such channel, all lists stay
+-- The job comes last in the list of this channel, and all other lists stay. If there is no such channel, all lists
+-- stay.
 abbrev pub IsGiven : ℕ → Job → Parted → Parted → Type 0
 IsGiven vcid job old new =
     ((place : ℕ) × (l : WorkList) × IsListAt old.lists vcid place l × (new ≡ record old { lists = slice_set old.lists place (with_job l job) }))
     ⊎ (¬ HasWorkList old.lists vcid × (new ≡ old))
 
--- octets go to the channel for which they are, if there is one
+-- octets go to the channel that they are for, if there is one
 abbrev pub IsFrameGiven : ℕ → List ℕ → Parted → Parted → Type 0
 IsFrameGiven line octets old new =
     ((vcid : ℕ) × (frame : List ℕ) × IsLocated old.station octets vcid frame × IsGiven vcid (record { line = line; order = Bring octets }) old new)
     ⊎ ((fault : LocateFault) × IsLocateFault old.station octets fault × (new ≡ old))
 
--- the station has issued an operator for each list, which had made nothing before; these operators did all jobs, and
--- the station was closed together with them
+-- The station has issued an operator for each list. These operators had made no event before, and did all jobs. The
+-- station was closed together with them.
 pub record IsWorkedOut (parted : Parted) (channels : List History) : Type 0 where
   pub station : Roster
   pub befores : List AtStation
@@ -76,14 +77,14 @@ pub record IsWorkedOut (parted : Parted) (channels : List History) : Type 0 wher
 abbrev pub IsJobLine : List WorkList → ℕ → Type 0
 IsJobLine lists line = Any (λ (l : WorkList). Any (λ (job : Job). job.line ≡ line) l.jobs) lists
 
--- the station has issued an operator for each list, which had made nothing before; these operators did all jobs, and
--- the station is out of balance for this cause
+-- The station has issued an operator for each list. These operators had made no event before, and did all jobs. The
+-- station is out of balance, and there is a cause.
 abbrev pub IsWorkedUnbalanced : Parted → Type 0
 IsWorkedUnbalanced parted =
     (station : Roster) × (befores operators : List AtStation) × (station ≡ record parted.station { issued = length parted.lists })
     × All HasMadeNothing befores × AreWorked station parted.lists None befores operators × IsCauseAtStation station operators
 
--- a fault for which the jobs of a script of `lines` lines aren't all done, or their station isn't closed in balance
+-- the fault if not all jobs of a script with `lines` lines are done, or if their station isn't closed in balance
 abbrev pub IsWorkFault : ℕ → Parted → ScriptFault → Type 0
 IsWorkFault lines parted fault =
     ((fault ≡ Unbalanced) × IsWorkedUnbalanced parted) ⊎ (fault ≡ Line lines NoMemory) ⊎ ((line : ℕ) × IsJobLine parted.lists line × (fault ≡ Line line NoMemory))

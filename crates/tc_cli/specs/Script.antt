@@ -1,4 +1,4 @@
--- The lines of a script, one after the other, and the lines at which a script ends early.
+-- The lines of a script in order, and the lines at which a script ends early.
 use Rattle.std.specs.Prelude.{◌≡◌, ◌<◌, ◌≤◌, ℕ, ◌+◌, List, [], ◌⊎◌, length, Ok, Err}
 use Rattle.tc_text.specs.Reading.{IsFirstLine, script_limit}
 use Rattle.tc_text.specs.Word.{words}
@@ -20,13 +20,13 @@ use Rattle.tc_desk.specs.declared.together.Refusal.TheVariants as refusals
 abbrev pub IsGoodLine : Phase → List ℕ → Phase → Type 0
 IsGoodLine phase line new = (said : Said) × (line_of (words line) ≡ Ok said) × Does phase (instruction_of said) new
 
--- the first lines of a script are good: this number of them leads to this phase, and leaves these octets
+-- the first lines of a script are good: this number of lines leads to this phase, and leaves these octets
 pub data Leads (script : List ℕ) : ℕ → Phase → List ℕ → Type 0 where
   starts : Leads script 0 (Setup []) script
   goes_on : {count : ℕ} {phase new : Phase} {rest line after : List ℕ}
       → Leads script count phase rest → IsFirstLine rest line after → IsGoodLine phase line new → Leads script (count + 1) new after
 
--- a reason, other than memory, for which the line that comes at a phase is bad
+-- a reason, other than lack of memory, why a line that comes in this phase is bad
 abbrev pub IsBadLine : Phase → List ℕ → Reason → Type 0
 IsBadLine phase line reason =
     (line_of (words line) ≡ Err reason) ⊎ ((said : Said) × (line_of (words line) ≡ Ok said) × IsBad phase (instruction_of said) reason)
@@ -51,26 +51,26 @@ IsGood script = (count : ℕ) × (phase : Phase) × Leads script count phase []
 abbrev pub AreFirstGood : List ℕ → ℕ → Type 0
 AreFirstGood script count = (phase : Phase) × (rest : List ℕ) × Leads script count phase rest
 
--- the line with this number was reached: all lines up to it are good, or all lines before it are and there is such a
--- line; the number is 0 before the first line
+-- The line with this number was reached. Either all lines up to it are good, or all lines before it are good and there
+-- is such a line. The number is 0 before the first line.
 abbrev pub IsReached : List ℕ → ℕ → Type 0
 IsReached script number =
     AreFirstGood script number
     ⊎ ((before : ℕ) × (phase : Phase) × (rest line after : List ℕ) × Leads script before phase rest × IsFirstLine rest line after × (number ≡ before + 1))
 
--- a fault for which the station of a script of `lines` lines isn't closed together with these operators: it is out of
--- balance only if there is this cause
+-- The fault if the station of a script with `lines` lines isn't closed together with these operators. If the station is
+-- out of balance, there is a cause.
 abbrev pub IsScriptCloseFault : Roster → List AtStation → ℕ → ScriptFault → Type 0
 IsScriptCloseFault station operators lines fault = ((fault ≡ Unbalanced) × IsCauseAtStation station operators) ⊎ (fault ≡ Line lines NoMemory)
 
--- the fault of a script of `lines` lines whose station isn't closed; a lock that isn't free is reported as it is when a
--- station alone is closed
+-- The fault of a script with `lines` lines whose station isn't closed. A lock that isn't free is reported as lack of
+-- memory, as a station's `close` reports it.
 abbrev pub close_fault : ℕ → Refusal → ScriptFault
 close_fault lines refusals.NoMemory = Line lines NoMemory
 close_fault lines refusals.InUse = Line lines NoMemory
 close_fault lines refusals.Unbalanced = Unbalanced
 
--- a fault for which a script with these octets ends early
+-- a fault that ends a script with these octets early
 abbrev pub IsScriptFault : List ℕ → ScriptFault → Type 0
 IsScriptFault script Read = Unit {0}
 IsScriptFault script TooLong = script_limit < length script

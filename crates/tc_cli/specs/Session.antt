@@ -1,4 +1,4 @@
--- A script whose lines are carried out in order at a station: the station that an operation finds, and the answer of
+-- A script whose lines are carried out in order at a station: the station that an operation finds, and the answer to
 -- the operation.
 use Rattle.std.specs.Prelude.{ℕ}
 use Rattle.tc_cli.specs.Staffed.{Staffed, IsNewlyStaffed, AreAsCounted, IsStaffedAnswer}
@@ -11,12 +11,12 @@ use Rattle.tc_text.specs.declared.fault.Reason.{Reason}
 abbrev pub Session : Type 0
 Session = Stage Staffed
 
--- the station that an operation finds: the one that is there, or a new one if no operation came before
+-- the station that an operation finds, which is new if no operation came before
 abbrev pub IsStaffedFound : ℕ → Session → Staffed → Type 0
 IsStaffedFound scid session found = IsFound (IsNewlyStaffed scid) session found
 
--- the session after a refused line: as it was, or, if memory ran out, with the station, whose operator has counted no
--- more than before
+-- The session after a refused line. It is as it was or, if memory ran out, it has the station that the operation found,
+-- and the operator's counts are as before.
 abbrev pub IsSessionLeft : ℕ → Reason → Session → Session → Type 0
 IsSessionLeft scid reason old new = IsLeft (IsNewlyStaffed scid) AreAsCounted reason old new
 

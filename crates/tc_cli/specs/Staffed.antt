@@ -1,5 +1,5 @@
--- A station with the one operator that it has issued, and a watcher of each channel: the answers of its operations at
--- the desks of its channels, and the journals that its watchers have seen.
+-- A station with the one operator that it has issued, and a watcher of each channel: the answers to operations at the
+-- desks of its channels, and the journals that its watchers have seen.
 use Rattle.std.specs.Prelude.{◌≡◌, ◌⊎◌, ℕ, zero, suc, List, Contains, Some, Result, length, slice_get, slice_set}
 use Rattle.logged_lock.specs.Log.{IsBeginning, with_entry}
 use Rattle.tc_channel.specs.declared.settings.Settings.{Settings}
@@ -24,7 +24,7 @@ use Rattle.tc_rack.specs.declared.answer.Refusal.TheVariants.{Unlocated, Unknown
 use Rattle.tc_rack.specs.declared.operation.Operation.{Operation}
 use Rattle.tc_rack.specs.declared.operation.Operation.TheVariants as operations
 
--- the station, the view and the events of its operator, and the view of the watcher of each channel
+-- the views of the station, of its operator with the operator's events, and of the watcher of each channel
 pub record Staffed : Type 0 where
   pub station : Roster
   pub operator : AtStation
@@ -40,16 +40,16 @@ pub record IsNewlyStaffed (scid : ℕ) (list : List Settings) (m : Staffed) : Ty
   pub nothing : HasMadeNothing m.operator
   pub watchers : AreWatchersOf m.station m.watchers
 
--- the station is the same, and its operator has counted as much as before; the operator and the watchers may have seen
--- more
+-- The station is the same, and its operator has counted as much as before. The operator and the watchers may have seen
+-- more.
 abbrev pub AreAsCounted : Staffed → Staffed → Type 0
 AreAsCounted old new = (new.station ≡ old.station) × (tally new.operator ≡ tally old.operator)
 
--- the channel of a desk at some moment; no flag of its link is set, since a script sets none
+-- the channel of a desk at some moment, with no flag of its link set, since a script sets none
 abbrev pub linked : Moment → Linked
 linked m = record { history = history_of m; link = no_flag }
 
--- The operator made this call at its desk of this place, and the channel's watcher met the desk before and after the
+-- The operator made this call at its desk at this place, and the channel's watcher met the desk before and after the
 -- call. The other watchers are as they were.
 pub record IsStaffedCall {R F : Type 0} (place vcid : ℕ) (e : Event) (ok : Moment → R → Type 0) (err : Moment → F → Type 0) (before : Staffed) (result : Result R F) (after : Staffed) : Type 0 where
   pub early : Watching
@@ -59,10 +59,10 @@ pub record IsStaffedCall {R F : Type 0} (place vcid : ℕ) (e : Event) (ok : Mom
   pub watchers : after.watchers ≡ slice_set before.watchers place late
   pub station : after.station ≡ before.station
 
--- The channel with this id, at the desk of this place, gave this answer at a moment whose journal continues all that
--- the operator had seen of it, and all that the channel's watcher had seen. If the operation is an event, it is the
--- next one of the journal, and one of the operator's own. After it, the watcher has seen all that the operator has. The
--- other desks, and their watchers, are as they were.
+-- The channel with this id, at the desk at this place, gave this answer. It did so at a moment whose journal continues
+-- all that the operator and the channel's watcher had seen of the channel. If the operation is an event, it is the next
+-- event of the journal, and one of the operator's own. Afterwards the watcher has seen all that the operator has. The
+-- other desks and their watchers are as they were.
 pub record IsAnsweredAt (place vcid : ℕ) (Answers : Linked → Answer → Linked → Type 0) (before : Staffed) (answer : Answer) (after : Staffed) : Type 0 where
   pub there : AtLock
   pub next : AtLock
@@ -96,8 +96,9 @@ IsBringAnswer octets m answer after =
     ((place vcid : ℕ) × (frame : List ℕ) × IsPlaced m.station octets place vcid frame × IsAnsweredAt place vcid (IsFrameAnswered frame) m answer after)
     ⊎ ((fault : LocateFault) × IsLocateFault m.station octets fault × (answer ≡ Refused (Unlocated fault)) × (after ≡ m))
 
--- The watcher of this place, whose channel has this id, read a CLCW without flags of the link. It is the CLCW of all
--- that the watcher has then seen, which continues all that it had seen before. Nothing else is changed.
+-- The watcher at this place, whose channel has this id, read a CLCW without flags of the link. It is the CLCW of the
+-- history that the watcher has seen after the read, which continues the history that it had seen before. Nothing else
+-- changes.
 pub record IsReadAt (place vcid : ℕ) (before : Staffed) (answer : Answer) (after : Staffed) : Type 0 where
   pub head : Identity
   pub early : Watching
@@ -110,7 +111,8 @@ pub record IsReadAt (place vcid : ℕ) (before : Staffed) (answer : Answer) (aft
   pub word : answer ≡ Clcw vcid (clcw late.seen.settings late.seen.journal no_flag)
   pub change : after ≡ record before { watchers = slice_set before.watchers place late }
 
--- the answer is the CLCW of the channel with this id, read by its watcher without its lock, or there is no such channel
+-- the answer is the CLCW of the channel with this id, read by the channel's watcher without a lock, or there is no such
+-- channel
 abbrev pub IsWordAnswer : ℕ → Staffed → Answer → Staffed → Type 0
 IsWordAnswer vcid m answer after =
     ((place : ℕ) × IsPlace m.station vcid place × IsReadAt place vcid m answer after)
@@ -124,7 +126,7 @@ IsStaffedAnswer (operations.Take vcid apid) old answer new = IsDeskAnswer vcid (
 IsStaffedAnswer (operations.Unit vcid map_id) old answer new = IsDeskAnswer vcid (IsUnitAnswered map_id) old answer new
 IsStaffedAnswer (operations.Clcw vcid) old answer new = IsWordAnswer vcid old answer new
 
--- the watcher of this place met the desk there, through the operator; the other watchers are as they were
+-- The watcher at this place met its desk, through the operator. The other watchers are as they were.
 pub record HasMetAt (place : ℕ) (before : Staffed) (after : Staffed) : Type 0 where
   pub vcid : ℕ
   pub early : Watching

@@ -5,12 +5,12 @@ use Rattle.tc_station.specs.Moments.{IsWatcherAt}
 use Rattle.tc_station.specs.Roster.{Roster, settings_in}
 use Rattle.tc_station.specs.StationSettings.{vcids_of}
 
--- a station whose channels have the ids of their settings, all of them different
+-- a station whose channels have the ids of their settings, which are all different
 pub record IsOrdered (station : Roster) : Type 0 where
   pub named : vcids_of (settings_in station) ≡ station.vcids
   pub distinct : AllPairs (λ (a b : ℕ). a ≢ b) station.vcids
 
--- each of these watchers watches the desk at its place
+-- each of these watchers belongs to the desk at its own place
 abbrev pub AreWatching : Roster → List Watching → Type 0
 AreWatching station watchers = (place : ℕ) (w : Watching) → slice_get watchers place ≡ Some w → IsWatcherAt station place w
 

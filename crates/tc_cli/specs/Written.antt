@@ -1,5 +1,4 @@
--- The text that a script writes if it is carried out in order: the answers of its lines, one after the other, and the
--- final report.
+-- The text that a script writes if it is carried out in order: the answers to its lines, and the final report.
 use Rattle.std.specs.Prelude.{◌≡◌, ◌⊎◌, ⊤, ℕ, ◌+◌, List, [], ◌∷◌, ◌++◌, Option, IsPermutation, length, Ok}
 use Rattle.std.specs.List.{flat_map}
 use Rattle.std.specs.Io.KnownBytes.{Appends, Keeps}
@@ -36,8 +35,8 @@ IsLineAnswered Operates old line new answer =
     (said : Said) × (line_of (words line) ≡ Ok said) × Does (phase_of old) (instruction_of said) (phase_of new)
     × IsInstructionAnswered Operates old (instruction_of said) new answer
 
--- the first lines of a script are good, and have these answers, one entry for each line: they lead to this stage, and
--- leave these octets
+-- The first lines of a script are good, and have these answers, one entry for each line. They lead to this stage, and
+-- leave these octets.
 pub data AreAnswers {O : Type 0} (Operates : Operation → Stage O → Answer → Stage O → Type 0) (script : List ℕ) : List (Option Answer) → Stage O → List ℕ → Type 0 where
   at_first : AreAnswers Operates script [] (SettingUp []) script
   one_more : {answers : List (Option Answer)} {stage new : Stage O} {rest line after : List ℕ} {answer : Option Answer}
@@ -48,27 +47,27 @@ pub data AreAnswers {O : Type 0} (Operates : Operation → Stage O → Answer �
 abbrev pub answers_text : List (Option Answer) → List ℕ
 answers_text answers = flat_map answer_line answers
 
--- the text is the report at the end of a script with this progress, on all its channels, each with the journal that the
--- operations made; there is no report if no channel was set up
+-- The text is the report at the end of a script with this progress. It is about all channels of the script, each with
+-- the journal that the operations made. There is no report if no channel was set up.
 abbrev pub IsScriptReport : ℕ → Progress → List ℕ → Type 0
 IsScriptReport scid progress text =
     ((phase_of progress ≡ Setup []) × (text ≡ []))
     ⊎ ((channels : List History) × IsPermutation (histories (rack_for scid progress)) channels × IsReportOf channels text)
 
--- the text is the report on a station that was found at the end of a session, and closed together with its operator
--- once each watcher had met its desk; there is no report if no channel was set up
+-- The text is the report at the end of a session. Each watcher met its desk, and then the station was closed together
+-- with its operator. There is no report if no channel was set up.
 abbrev pub IsSessionReport : ℕ → Session → List ℕ → Type 0
 IsSessionReport scid session text =
     ((phase_of session ≡ Setup []) × (text ≡ []))
     ⊎ ((found met : Staffed) × (channels : List History) × IsStaffedFound scid session found × AllHaveMet found met × IsOurs met.station met.operator
     × IsClosedReport met.station (met.operator ∷ []) channels × IsReportOf channels text)
 
--- a station that was found at the end of a session is out of balance once each watcher had met its desk, for this cause
+-- at the end of a session, once each watcher had met its desk, the station is out of balance, and there is a cause
 abbrev pub IsSessionUnbalanced : ℕ → Session → Type 0
 IsSessionUnbalanced scid session =
     (found met : Staffed) × IsStaffedFound scid session found × AllHaveMet found met × IsCauseAtStation met.station (met.operator ∷ [])
 
--- a fault for which a session of `lines` good lines gets no report, or only a part of it
+-- a fault that leaves a session of `lines` good lines without a report, or with only a part of it
 abbrev pub IsReportFault : ℕ → Session → ℕ → ScriptFault → Type 0
 IsReportFault scid session lines fault = (fault ≡ Write) ⊎ ((fault ≡ Unbalanced) × IsSessionUnbalanced scid session) ⊎ (fault ≡ Line lines NoMemory)
 
@@ -76,41 +75,43 @@ IsReportFault scid session lines fault = (fault ≡ Write) ⊎ ((fault ≡ Unbal
 abbrev pub IsSessionReportWritten : ℕ → Session → Option (List ℕ) → Option (List ℕ) → Type 0
 IsSessionReportWritten scid session old new = (text : List ℕ) × IsSessionReport scid session text × Appends old new text
 
--- known octets grow by the answers of all lines of the script, in order, and then by the report; each follows from the
--- lines before it, by definitions in which there is no station
+-- Known octets grow by the answers to all lines of the script, in order, and then by the report. Each answer, and the
+-- report, follows from the lines before it, by definitions in which there is no station.
 abbrev pub IsScriptWritten : ℕ → List ℕ → Option (List ℕ) → Option (List ℕ) → Type 0
 IsScriptWritten scid script old new =
     (answers : List (Option Answer)) × (progress : Progress) × (report : List ℕ) × AreAnswers (IsPerformed scid) script answers progress []
     × IsScriptReport scid progress report × Appends old new (answers_text answers ++ report)
 
--- the script has a line with this number for which `IsSo` holds, and known octets grow by the answers of the lines
--- before it alone; each answer is that of some moment of its channel's desk, since the station isn't closed
+-- The script has a line with this number for which `IsSo` holds, and known octets grow by the answers to the lines
+-- before it alone. Since the station isn't closed, each answer is only known to be the one at some moment of its
+-- channel's desk.
 abbrev pub IsWrittenBefore : ℕ → List ℕ → ℕ → (Session → List ℕ → Type 0) → Option (List ℕ) → Option (List ℕ) → Type 0
 IsWrittenBefore scid script number IsSo old new =
     (answers : List (Option Answer)) × (session : Session) × (rest : List ℕ) × (line : List ℕ) × (after : List ℕ)
     × AreAnswers (IsStaffedOperated scid) script answers session rest × IsFirstLine rest line after × IsSo session line
     × (number ≡ length answers + 1) × Appends old new (answers_text answers)
 
--- known octets grow by the answers of all lines, of which there are `count`, and by no report
+-- known octets grow by the answers to all `count` lines, and by no report
 abbrev pub IsScriptUnreported : ℕ → List ℕ → ℕ → Option (List ℕ) → Option (List ℕ) → Type 0
 IsScriptUnreported scid script count old new =
     (answers : List (Option Answer)) × (session : Session) × AreAnswers (IsStaffedOperated scid) script answers session [] × (count ≡ length answers)
     × Appends old new (answers_text answers)
 
--- memory ran out before the first line, which is reported as line 0, or at the line with this number, or for the
--- report, after the last line
+-- memory ran out at the line with this number, which is 0 before the first line, and that of the last line at the
+-- report
 abbrev pub IsOutOfMemory : ℕ → List ℕ → ℕ → Option (List ℕ) → Option (List ℕ) → Type 0
 IsOutOfMemory scid script number old new =
     ((number ≡ 0) × Keeps old new) ⊎ IsWrittenBefore scid script number (λ _ _. ⊤) old new ⊎ IsScriptUnreported scid script number old new
 
--- known octets grow by the answers of all lines, and by no report, since the station is out of balance
+-- known octets grow by the answers to all lines, and by no report, since the station is out of balance
 abbrev pub IsScriptUnbalanced : ℕ → List ℕ → Option (List ℕ) → Option (List ℕ) → Type 0
 IsScriptUnbalanced scid script old new =
     (answers : List (Option Answer)) × (session : Session) × AreAnswers (IsStaffedOperated scid) script answers session [] × IsSessionUnbalanced scid session
     × Appends old new (answers_text answers)
 
--- the text that was written if a script ends early: nothing if it wasn't read, the answers of the lines before the one
--- that ends it, or those of all lines if counts are out of balance; nothing is known if writing failed
+-- The text that was written if a script ends early. There is none if the script wasn't read. Otherwise it is the
+-- answers to the lines before the one that ended the script, or to all lines if the counts are out of balance. If
+-- writing failed, nothing is known about the text.
 abbrev pub IsScriptCutShort : ℕ → List ℕ → Option (List ℕ) → Option (List ℕ) → ScriptFault → Type 0
 IsScriptCutShort scid script old new (Line number reason) =
     ((reason ≡ NoMemory) × IsOutOfMemory scid script number old new)
@@ -120,7 +121,7 @@ IsScriptCutShort scid script old new TooLong = Keeps old new
 IsScriptCutShort scid script old new Write = Unit {0}
 IsScriptCutShort scid script old new Unbalanced = IsScriptUnbalanced scid script old new
 
--- known octets grow by the report that the script has when its lines are carried out in order
+-- known octets grow by the report that the script has if its lines are carried out in order
 abbrev pub IsWrittenInParallel : ℕ → List ℕ → Option (List ℕ) → Option (List ℕ) → Type 0
 IsWrittenInParallel scid script old new =
     (answers : List (Option Answer)) × (progress : Progress) × (text : List ℕ) × AreAnswers (IsPerformed scid) script answers progress []

@@ -1,4 +1,4 @@
-//! A look at the frames of a script: whether they end with frame error control fields.
+//! Checks whether the frames of a script end with frame error control fields.
 
 ghost use Rattle.std.specs.Prelude.{◌≤◌, length};
 
@@ -8,7 +8,7 @@ use tc_fecf::without_field;
 use tc_text::{Line, next_line, parse_line};
 
 /// Returns whether a script that was carried out has a frame, and each of its frames is whole and ends with its field.
-/// If memory runs out, the answer is no. It is a hint for the user, on which no contract depends.
+/// If memory runs out, the result is `false`. It is a hint for the user, on which no contract depends.
 pub(crate) fn each_frame_has_its_field(alloc: Global, script: &[u8]) -> bool {
     let mut has_frame = false;
     let mut rest = from_next_frame(script);

@@ -18,7 +18,7 @@ const NO_WRITER: ScriptFault = ScriptFault::Line {
 };
 
 /// Runs the script of standard input as [`run_script`](crate::run_script) does, and writes to standard output. If all
-/// of the script was carried out, the result tells whether each of its frames ended with its frame error control field.
+/// of the script was carried out, returns whether each of its frames ended with its frame error control field.
 pub fn run_input<R: AllocGlobal + Input + Print + Wait>(
     rt: &R,
     scid: u16,

@@ -153,8 +153,8 @@ fn part_line(
     part(plan, alloc, scid, line, Instruction::of(alloc, said))
 }
 
-// Gives the job of a line to its channel, or carries out its set-up. A line that is refused leaves the plan as it is,
-// unless memory ran out before the first operation.
+// Adds the job of a line to the list of the line's channel, or carries out the set-up of the line. A line that is
+// refused leaves the plan as it is, unless memory ran out before the first operation.
 fn part(
     plan: &mut Plan,
     alloc: Global,
@@ -194,7 +194,7 @@ fn part(
     }
 }
 
-// Gives the octets of a line to the channel for which they are.
+// Gives the octets of a line to the channel that they are for.
 fn give_frame(
     plan: &mut Plan,
     alloc: Global,
@@ -273,7 +273,7 @@ fn begin_anew(plan: &mut Plan, alloc: Global, scid: u16) -> Result<(), Reason>
     }
 }
 
-// Returns the jobs so far. If no operation came before, the station is created from the configuration.
+// Returns the jobs so far. If no operation came before, the station is created first, from the configuration.
 fn start(plan: Plan, alloc: Global, scid: u16) -> Result<Parted, Reason>
     requires { scid ≤ 1023 }
     ensures parted { IfOk result (ArePartedFor scid plan) }

@@ -1,4 +1,4 @@
-//! Jobs, sorted by the channels for which they are, and carried out by one worker for each channel.
+//! Jobs that are sorted by channel, and carried out by one worker for each channel.
 
 ghost use Rattle.std.specs.Prelude.{◌≡◌, ◌≢◌, ◌≤◌, ◌⊎◌, [], All, IfOk, IfErr, OnOk, OnErr, MatchOption};
 ghost use Rattle.tc_cli.specs.Parting.{IsNewlyParted, IsGiven, IsFrameGiven, HasWorkList, IsListAt, IsWorkedOut, IsWorkFault};

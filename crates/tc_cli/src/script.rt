@@ -26,9 +26,9 @@ use tc_text::{Reason, ScriptFault, next_line, parse_line, read_whole};
 /// The script, of 1,048,576 octets at most, is read whole and kept before the first line is carried out. If the octets
 /// of the reader are known, a script is carried out to its end only if each line is good, and a bad line that ends it
 /// is the first one. Each answer, and the report, then follows from the lines before it. This holds for a CLCW, too,
-/// although it is read without its channel's lock: the reader of a CLCW meets its channel at each operation, and once
-/// more before the report. If the script ends early, only the answers of the lines before that point are written,
-/// unless a write failed.
+/// although it is read without its channel's lock: the watcher that reads it meets the channel at each operation on the
+/// channel, and once more before the report. If the script ends early, only the answers to the lines before that point
+/// are written, unless a write failed.
 pub fn run_script<T: Wait, R: Read, W: Write>(
     rt: &T,
     alloc: Global,

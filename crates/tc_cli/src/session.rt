@@ -13,7 +13,7 @@ use tc_text::Reason;
 /// The progress of a script whose operations are carried out one after the other.
 pub(crate) type Session = Stage<StaffedStation>;
 
-/// The creator of the station of the spacecraft with this id, with its operator and its watchers.
+/// The backend that creates the station of the spacecraft with this id, with the station's operator and its watchers.
 #[derive(Drop)]
 pub(crate) struct StationBackend<'rt, T: Wait> {
     pub(crate) rt: &'rt T,

@@ -18,7 +18,8 @@ use tc_station::{CountingStation, Located, Operator, OperatorsFault};
 use tc_status::Watcher;
 use tc_text::Reason;
 
-/// A station with the one operator that it has issued, and a watcher for each channel, which meets its channel at each operation.
+/// A station with the one operator that it has issued, and a watcher for each channel. Each watcher meets its channel
+/// at each operation on the channel.
 #[derive(Drop)]
 pub(crate) struct StaffedStation {
     station: CountingStation,
@@ -42,7 +43,7 @@ impl Model for StaffedStation {
 }
 
 impl StaffedStation {
-    /// Creates a staffed station from one that has issued no operator yet, with its first operator and with
+    /// Creates a staffed station from a station that has issued no operator yet. It gets its first operator, and
     /// watchers of the channels with these ids, which are all its channels.
     pub(crate) fn new(
         rt: &impl Wait,
@@ -101,8 +102,8 @@ impl StaffedStation {
         self.station.meet(rt, &mut self.operator, watcher, vcid);
     }
 
-    // Carries out the operation on the channel at this place, which has this id. Its watcher meets the channel before
-    // and after it.
+    // Carries out the operation on the channel at this place, which has this id. The channel's watcher meets the
+    // channel before and after the operation.
     fn operate_met<O: DeskOperation<Unrecorded>>(
         &mut self,
         rt: &impl Wait,

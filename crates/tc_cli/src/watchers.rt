@@ -11,7 +11,7 @@ use tc_station::{CountingStation, WatcherFault};
 use tc_status::Watcher;
 use tc_text::Reason;
 
-/// The flags of the link. Neither is set, because the program has no radio.
+/// Link flags that are both 0, because the program has no radio.
 pub(crate) const NO_FLAGS: Link = Link {
     no_rf: false,
     no_bit_lock: false,

@@ -2,19 +2,19 @@
 use Rattle.tc_station.proofs.Names.{◌≡◌, ℕ, ◌+◌, ◌<◌, List, [], ◌∷◌, length, map, get_or, set, Option, Some, Result, Ok, Err, refl, sym, ap, ◌∙◌, subst, arith, ◌==◌, position, slice_get, slice_index, eqb-true, map-map, get_or-map, length-map, length-append, position-Some, slice_get_read, TableId, Event, Settings, Moment, Own, AtLock, count_of, IsCall, made, heads_of, locks_of, settings_of_desks, vcids_of, AtStation, IsOurs, IsPlace, KnowsTheSame, Roster, at_station, counts_of, tallied, tally, raised, raised_at, IsCallAt, IsCounted, IsErrAnd, MatchResult, OnOk, OnErr, map-set, set-get_or, looked}
 use Rattle.tc_station.proofs.Counts.{raised-is}
 
--- a list of values read from desks stays if one desk is replaced by another with an equal value
+-- a list of values read from desks stays the same if one desk is replaced by another with an equal value
 pub same-set : {A : Type 0} (f : AtLock → A) (desks : List AtLock) (place : ℕ) (there next : AtLock) → there ≡ get_or desks place there → f next ≡ f there → map f (set desks place next) ≡ map f desks
 same-set f desks place there next is same =
     map-set f desks place next
     ∙ (ap (λ x. set (map f desks) place x) (same ∙ ap f is)
     ∙ (sym (map-set f desks place (get_or desks place there)) ∙ ap (map f) (set-get_or desks place there)))
 
--- the parts of the desk that never change are as they were
+-- a call leaves the constant parts of the desk as they were
 pub head-kept : {R F : Type 0} (e : Event) (ok : Moment → R → Type 0) (err : Moment → F → Type 0) (there next : AtLock) (r : Result R F) → IsCall e ok err there r next → next.own.seen.head ≡ there.own.seen.head
 head-kept e ok err there next (Ok a) c = ap (λ (o : Own). o.seen.head) c.answer.1 ∙ c.later.0
 head-kept e ok err there next (Err f) c = ap (λ (o : Own). o.seen.head) c.answer.1 ∙ c.later.0
 
--- one more event is counted, and no more
+-- an event that is made raises the count by one
 count-made : (e : Event) (now : Moment) (own : Own) → count_of (made e now own) ≡ raised (count_of own)
 count-made e now own =
     let one : length (made e now own).made ≡ length own.made + 1 = length-append own.made ((length now.entries, e) ∷ []) in
@@ -34,7 +34,7 @@ pub as-many : (vcids : List ℕ) (desks : List AtLock) → vcids_of (settings_of
 as-many vcids desks ids =
     sym (length-map desks (λ (o : AtLock). o.own.seen.head.settings)) ∙ (sym (length-map (settings_of_desks desks) (λ (s : Settings). s.vcid)) ∙ ap (length {A = ℕ}) ids)
 
--- the desk of this place has this id
+-- the channel of the desk at this place has this id
 pub id-of : (vcids : List ℕ) (desks : List AtLock) (place vcid : ℕ) (there : AtLock) → vcids_of (settings_of_desks desks) ≡ vcids → there ≡ get_or desks place there → position (λ v. v == vcid) vcids ≡ Some place
     → (place < length desks) × (there.own.seen.head.settings.vcid ≡ vcid)
 id-of vcids desks place vcid there ids is at =
@@ -49,7 +49,7 @@ id-of vcids desks place vcid there ids is at =
 abbrev pub at_owned_desks : ℕ → List ℕ → ℕ → List AtLock → Roster
 at_owned_desks scid vcids issued owned_desks = record { scid = scid; vcids = vcids; issued = issued; locks = locks_of owned_desks; heads = heads_of owned_desks }
 
--- a call at the operator's desk of a place
+-- a call at the operator's desk at a place
 module _ {R F : Type 0} (e : Event) (ok : Moment → R → Type 0) (err : Moment → F → Type 0) (station : Roster) (o : AtStation) (vcids : List ℕ) (desks : List AtLock) (place : ℕ) (there next : AtLock) (r : Result R F)
     (view : at_station vcids desks ≡ o) (ids : vcids_of (settings_of_desks desks) ≡ vcids) (ours : IsOurs station o) (is : there ≡ get_or desks place there) (c : IsCall e ok err there r next) where
   abbrev changed : AtStation
@@ -71,7 +71,7 @@ module _ {R F : Type 0} (e : Event) (ok : Moment → R → Type 0) (err : Moment
   pub heads-kept : KnowsTheSame o changed
   heads-kept = same-set (λ (d : AtLock). d.own.seen.head) desks place there next is (head-kept e ok err there next r c) ∙ ap (λ (x : AtStation). heads_of x.desks) view
 
--- a call at the operator's desk of a place, which is that of a channel
+-- a call at the operator's desk at the place of a channel
 module _ {R F : Type 0} (e : Event) (ok : Moment → R → Type 0) (err : Moment → F → Type 0) (station : Roster) (o : AtStation) (vcids : List ℕ) (desks : List AtLock) (place vcid : ℕ) (there next : AtLock) (r : Result R F)
     (view : at_station vcids desks ≡ o) (ids : vcids_of (settings_of_desks desks) ≡ vcids) (ours : IsOurs station o) (place_is : IsPlace station vcid place)
     (is : there ≡ get_or desks place there) (c : IsCall e ok err there r next) where
@@ -105,7 +105,7 @@ module _ {R F : Type 0} (e : Event) (ok : Moment → R → Type 0) (err : Moment
     knows = heads-kept e ok err station o vcids desks place there next r view ids ours is c;
   }
 
--- the operator's desk of a place and the station's have equal locks
+-- at a place, the operator's desk and the station's desk have the same lock
 pub same-lock-at : (station : Roster) (o : AtStation) (vcids owned : List ℕ) (scid issued : ℕ) (desks owned_desks : List AtLock) (place : ℕ) (there owned_desk : AtLock)
     → at_station vcids desks ≡ o → IsOurs station o → at_owned_desks scid owned issued owned_desks ≡ station → place < length desks → place < length owned_desks
     → there ≡ get_or desks place there → owned_desk ≡ get_or owned_desks place owned_desk → there.lock ≡ owned_desk.lock
@@ -116,7 +116,7 @@ same-lock-at station o vcids owned scid issued desks owned_desks place there own
     let same : locks_of desks ≡ locks_of owned_desks = ap (λ (x : AtStation). locks_of x.desks) view ∙ (ours.1 ∙ sym (ap (λ (x : Roster). x.locks) seen)) in
     ap lock is ∙ (sym mine ∙ (ap (λ (l : List TableId). get_or l place owned_desk.lock) same ∙ (theirs ∙ ap lock (sym owned_desk_is))))
 
--- the operator's desk at the place of a channel and the station's have equal locks
+-- at the place of a channel, the operator's desk and the station's desk have the same lock
 pub same-lock : (station : Roster) (o : AtStation) (vcids owned : List ℕ) (scid issued : ℕ) (desks owned_desks : List AtLock) (place vcid : ℕ) (there owned_desk : AtLock)
     → at_station vcids desks ≡ o → vcids_of (settings_of_desks desks) ≡ vcids → IsOurs station o → at_owned_desks scid owned issued owned_desks ≡ station → vcids_of (settings_of_desks owned_desks) ≡ owned → IsPlace station vcid place
     → there ≡ get_or desks place there → owned_desk ≡ get_or owned_desks place owned_desk → there.lock ≡ owned_desk.lock
@@ -125,7 +125,7 @@ same-lock station o vcids owned scid issued desks owned_desks place vcid there o
     let at_owned_desk : position (λ v. v == vcid) owned ≡ Some place = ap (λ (x : Roster). position (λ v. v == vcid) x.vcids) seen ∙ place_is in
     same-lock-at station o vcids owned scid issued desks owned_desks place there owned_desk view ours seen (id-of vcids desks place vcid there ids is at).0 (id-of owned owned_desks place vcid owned_desk owned_desk_ids owned_desk_is at_owned_desk).0 is owned_desk_is
 
--- a call with another answer at its moment
+-- if another answer holds at the moment of a call, it can take the place of the call's answer
 answered-so : {R F S G : Type 0} (place vcid : ℕ) (e : Event) (ok : Moment → R → Type 0) (err : Moment → F → Type 0) (ok2 : Moment → S → Type 0) (err2 : Moment → G → Type 0) (before after : AtStation) (r : Result R F) (r2 : Result S G)
     (c : IsCallAt place vcid e ok err before r after) → MatchResult r2 (λ a. ok2 c.call.now a × (c.next.own ≡ made e c.call.now c.there.own)) (λ f. err2 c.call.now f × (c.next.own ≡ looked c.call.now c.there.own))
     → IsCallAt place vcid e ok2 err2 before r2 after

@@ -13,7 +13,7 @@ set-there desks place d next at =
 pub owned_desk-there : (owned_desks : List AtLock) (n : ℕ) → n < length owned_desks → (owned_desk : AtLock) × (slice_get owned_desks n ≡ Some owned_desk)
 owned_desk-there owned_desks n lt = (get_or owned_desks n nobody, slice_get-get_or owned_desks n nobody lt)
 
--- the k-th operator's account at the desk of a place
+-- the k-th operator's account at the desk at a place
 account-there : (ops : List AtStation) (place k : ℕ) (o : AtStation) (d : AtLock) → slice_get ops k ≡ Some o → slice_get o.desks place ≡ Some d
     → get_elem? (accounts_of (column place (operator_lists_of ops))) k ≡ some d.own
 account-there [] place k o d at there = absurd (none-some o at)
@@ -38,7 +38,7 @@ seen-in-closed station place o channel there at since =
     let longer = subst (λ (d : AtLock). IsBeginning d.own.seen on.after.own.seen) same on.longer in
     (owned_desk.0.own.seen.head, sym one.settings, beginning-trans there.own.seen on.after.own.seen closed longer begun)
 
--- the law of the desk on which this rests
+-- the law about desks that these proofs rest on
 abbrev pub Stands : Type 0
 Stands = (before : Own) (now : Moment) (e : Event) (closed : Moment) → IsBeginning (made e now before).seen closed
     → (slice_get closed.entries (length now.entries) ≡ Some e) × (now ≡ record { head = closed.head; entries = take (length now.entries) closed.entries })
@@ -56,8 +56,8 @@ answered stands station place vcid e ok err before after r channel c since =
     let stood = stands c.there.own now e closed begun in
     (seen.0, length now.entries, seen.1, stood.0, subst (λ (m : Moment). ok m r) stood.1 answer.0, (c.next, at, (c.there.own.made, ap (λ (o : Own). o.made) answer.1)))
 
--- a CLCW that was read before a meeting, with or without other reads in between, is that of a place in the journal that
--- was returned
+-- a CLCW that was read before a meeting, with or without other reads in between, is the CLCW at a place in the journal
+-- that was returned
 pub shown : (station : Roster) (place vcid : ℕ) (link : Link) (early mid late met : Watching) (word : ℕ) (before after : AtStation) (channel : History)
     → IsWordRead link early word mid → board.IsEarlier mid.seen late.seen → IsMetAt place vcid late before met after → IsClosedSince station place after channel → IsShownIn channel early link word
 shown station place vcid link early mid late met word before after channel (later, of) on m since =

@@ -8,13 +8,13 @@ pub as-call : (early : Watching) (there : AtLock) (late : Watching) (next : AtLo
 as-call early there late next m =
     record { now = m.look.now; later = m.look.later; moment = m.look.moment; lock = m.look.lock; answer = (m.look.answer, m.look.looked) }
 
--- the operator's desk at the place of a watcher is there
+-- the operator has a desk at the place of a watcher
 pub desk-there : (station : Roster) (desks : List AtLock) (place : ℕ) (w : Watching) → heads_of desks ≡ station.heads → IsWatcherAt station place w → place < length desks
 desk-there station desks place w heads (head, at, board, settings) =
     let within = slice_get_within station.heads place head at in
     omega (arith, within, ap (length {A = Identity}) heads, length-map desks (λ (d : AtLock). d.own.seen.head))
 
--- the head of that desk, and the board of its watcher
+-- the head of the desk at the place of a watcher, and the watcher's board
 pub head-at : (station : Roster) (desks : List AtLock) (place : ℕ) (there : AtLock) (w : Watching) → heads_of desks ≡ station.heads → there ≡ get_or desks place there → IsWatcherAt station place w
     → (slice_get station.heads place ≡ Some there.own.seen.head) × (w.board ≡ there.own.seen.head.board)
 head-at station desks place there w heads is (head, at, board, settings) =
@@ -36,7 +36,7 @@ pub watcher-kept : (station : Roster) (place : ℕ) (there next : AtLock) (late 
 watcher-kept station place there next late known head met =
     (there.own.seen.head, known, met.0 ∙ ap (λ (h : Identity). h.board) head, ap (λ (h : History). h.settings) met.1 ∙ ap (λ (h : Identity). h.settings) head)
 
--- the channel of a watcher is among those of the station
+-- the channel of a watcher is one of the station's
 pub channel-there : (station : Roster) (vcids : List ℕ) (vcid : ℕ) (w : Watching) (place : Option ℕ) → vcids ≡ station.vcids → IsWatcherOf station vcid w → place ≡ position (λ v. v == vcid) vcids → place ≡ None → ⊥
 channel-there station vcids vcid w place whole (head, (p, here, of), board, settings) is none =
     none-some p (sym none ∙ (is ∙ (ap (λ (l : List ℕ). position (λ v. v == vcid) l) whole ∙ here)))

@@ -9,7 +9,7 @@ settings-heads owned_desks = sym (map-map (λ (h : Identity). h.settings) (λ (o
 pub same-settings : (old new : List AtLock) → heads_of new ≡ heads_of old → settings_of_desks new ≡ settings_of_desks old
 same-settings old new same = settings-heads new ∙ (ap (map (λ (h : Identity). h.settings)) same ∙ sym (settings-heads old))
 
--- owned desks that were returned are the station's
+-- facts about owned desks that were returned with the same locks, heads and numbers of issued operators
 pub length-same : (old new : List AtLock) → AreSame old new → length new ≡ length old
 length-same old new same = sym (length-map new (λ (o : AtLock). o.lock)) ∙ (ap (length {A = TableId}) same.0 ∙ length-map old (λ (o : AtLock). o.lock))
 
@@ -92,7 +92,7 @@ are-ours station owned_desks operators locks all =
     All-map (λ (operator_list : List AtLock). locks_of operator_list ≡ locks_of owned_desks) (λ (o : AtStation). o.desks) operators
     (All-weaker (IsOurs station) (λ (o : AtStation). locks_of o.desks ≡ locks_of owned_desks) (λ o ours. ours.1 ∙ locks) operators all)
 
--- the operators that arrive at the desks
+-- new operators at the desks
 pub arrival-settings : (owned_desks : List AtLock) → settings_of_desks (map arrival owned_desks) ≡ settings_of_desks owned_desks
 arrival-settings owned_desks = map-map _ _ owned_desks
 
@@ -112,11 +112,11 @@ issued-fresh n vcids owned_desks operators long is =
     let new : tally (newcomer_at_desks vcids owned_desks) ≡ fresh vcids = ap (λ (cs : List ℕ). record { vcids = vcids; counts = cs }) (arrival-counts owned_desks ∙ ap (λ (k : ℕ). replicate k 0) long) in
     ap tallies is ∙ (tallies-replicate n (newcomer_at_desks vcids owned_desks) ∙ ap (replicate n) new)
 
--- a fact about one operator holds for all, if they are equal
+-- a fact about one operator holds for all operators that are equal to it
 pub issued-all : (P : AtStation → Type 0) (n : ℕ) (o : AtStation) (operators : List AtStation) → operators ≡ replicate n o → P o → All P operators
 issued-all P n o operators is one = All-same P operators (replicate n o) is (All-replicate P n o one)
 
--- the parts of a station's desk that never change are those of the channel with this id
+-- at the place of a channel, the constant parts of the owned desk are those of the station's desk for this channel
 pub desk-of : (station : Roster) (owned_desks : List AtLock) (place vcid : ℕ) (owned_desk : AtLock) → vcids_of (settings_of_desks owned_desks) ≡ station.vcids → heads_of owned_desks ≡ station.heads → owned_desk ≡ get_or owned_desks place owned_desk → position (λ v. v == vcid) station.vcids ≡ Some place
     → (owned_desk.own.seen.head.settings.vcid ≡ vcid) × IsDeskOf station vcid owned_desk.own.seen.head
 desk-of station owned_desks place vcid owned_desk ids heads is at =
@@ -148,7 +148,7 @@ settings-each _ _ long each = absurd (omega arith)
 pub closed-settings : (owned_desks : List AtLock) (operator_lists : List (List AtLock)) (closed : List History) → AreClosed owned_desks operator_lists closed → map (λ (h : History). h.settings) closed ≡ settings_of_desks owned_desks
 closed-settings owned_desks operator_lists closed are = settings-each owned_desks closed are.as_many (λ place owned_desk channel at there. (are.each place owned_desk channel at there).settings)
 
--- a cause at one desk is one at the station
+-- a cause of imbalance at one desk is a cause at the station
 all-at : (n : ℕ) (owned_desks : List AtLock) (place : ℕ) (owned_desk : AtLock) → HaveIssued n owned_desks → slice_get owned_desks place ≡ Some owned_desk → owned_desk.own.issued ≡ n
 all-at n owned_desks place owned_desk have at =
     let inside = slice_get_within owned_desks place owned_desk at in

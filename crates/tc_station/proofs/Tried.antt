@@ -14,7 +14,7 @@ use Rattle.tc_station.specs.declared.faults.TakeRefused.TheVariants as take_refu
 use Rattle.tc_station.specs.declared.faults.TakeUnitRefused.TheVariants as unit_refusals
 use Rattle.tc_station.specs.declared.work.Order.TheVariants as orders
 
--- a call at one desk that wasn't refused because memory ran out: its event was made if it could be
+-- unless memory ran out, a call at a desk made its event if the event could be made
 pub tried-at : {R F : Type 0} (place vcid : ℕ) (e : Event) (ok : Moment → R → Type 0) (err : Moment → F → Type 0) (before after : AtStation) (r : Result R F) → ((m : Moment) (a : R) → ok m a → CanBeMade e m)
     → ((m : Moment) (f : F) → r ≡ Err f → err m f → CannotBeMade e m) → IsCallAt place vcid e ok err before r after → IsTriedAt place vcid e before after
 tried-at place vcid e ok err before after (Ok a) can cannot c =
@@ -22,8 +22,8 @@ tried-at place vcid e ok err before after (Ok a) can cannot c =
 tried-at place vcid e ok err before after (Err f) can cannot c =
     (Err tt, err-call place vcid e ok err (λ m _. CanBeMade e m) (λ m _. CannotBeMade e m) before after (Err f) f tt c refl (λ m p. cannot m f refl p))
 
--- a call on a channel that wasn't refused because memory ran out: its event was made if it could be, or the station
--- doesn't have the channel
+-- unless memory ran out, a call on a channel made its event if the event could be made, or the station doesn't have the
+-- channel
 pub tried-on : {R F : Type 0} (station : Roster) (vcid : ℕ) (e : Event) (ok : Moment → R → Type 0) (err : Moment → F → Type 0) (unknown : F) (before after : AtStation) (r : Result R F) → ((m : Moment) (a : R) → ok m a → CanBeMade e m)
     → ((m : Moment) (f : F) → r ≡ Err f → err m f → CannotBeMade e m) → IsCallOn station vcid e ok err unknown before r after → IsTriedOn station vcid e before after
 tried-on station vcid e ok err unknown before after r can cannot (inl c) = inl (c.0, c.1, tried-at c.0 vcid e ok err before after r can cannot c.2)
@@ -36,7 +36,7 @@ brought station own octets ok err before after r cannot (inl c) =
     inl (c.0, c.1, c.2, c.3, tried-at c.0 c.1 (events.Frame c.2) (ok c.1 c.2) (err c.2) before after r (λ m a p. tt) (λ m f is p. cannot c.2 m f is p) c.4)
 brought station own octets ok err before after r cannot (inr c) = inr (c.0, c.1, c.3)
 
--- an event that the station refuses for a reason other than memory can't be made
+-- an event that the station refuses for a reason other than lack of memory can't be made
 pub not-released : (m : Moment) (said : ReleaseRefused) → (said ≡ release_refusals.NoMemory → ⊥) → IsNotReleased m said → CannotBeMade events.Release m
 not-released m said other (release_faults.Empty, is, p) = p
 not-released m said other (release_faults.NoMemory, is, p) = absurd (other is)

@@ -9,8 +9,8 @@ abbrev is-ok : {R F : Type 0} → Result R F → Type 0
 is-ok (Ok r) = Unit {0}
 is-ok (Err f) = ⊥
 
--- the channel at whose desk an operator made its last call is returned, if the operator is among those with which the
--- station is closed
+-- if an operator is among those that the station is closed with, the channel at whose desk it made its last call is
+-- returned
 given-out : (station : Roster) (place : ℕ) (before after : AtStation) (there next : AtLock) (operators : List AtStation) (closed : List History) (number : ℕ)
     → IsOurs station before → slice_get before.desks place ≡ Some there → after.desks ≡ slice_set before.desks place next
     → slice_get operators number ≡ Some after → AreClosedTogether station operators closed

@@ -42,7 +42,7 @@ table-of ids table few t v = by (ltb n (length ids)) refl where
       let none : (k : ℕ) → k < length ids → get_or ids k 0 ≢ v = λ k lt e. true≢false (sym (eq-eqb (get_or ids k 0) v e) ∙ fails_before_first (λ x. x == v) ids k 0 (omega (arith, lt, ge))) in
       sym (ap entry_place (t.apart v none))
 
--- distinct ids are no more than there are possible ids
+-- there are at most 64 distinct ids
 pub few-ids : (ids : List ℕ) → AllPairs (λ x y. x ≢ y) ids → All (λ v. v ≤ 63) ids → length ids ≤ 64
 few-ids ids distinct small = length-le_from_distinct_below ids 64 (IsDistinct-from_AllPairs Decides-eqb ids distinct) below where
   below : (q : ℕ) → list_any (eqb q) ids ≡ true → q < 64
@@ -83,7 +83,7 @@ not-there ids v is (k, lt, e) = by (ltb n (length ids)) refl is where
       let ge = ltb-false n (length ids) far in
       true≢false (sym (eq-eqb (get_or ids k v) v e) ∙ fails_before_first (λ x. x == v) ids k v (omega (arith, lt, ge)))
 
--- the statement of a contract about a place
+-- the result of a search for an id, as the contract of the search states it
 pub found-there : (ids : List ℕ) (v : ℕ) (place : Option ℕ) → place ≡ position (λ x. x == v) ids → MatchOption place (¬ Contains ids v) (λ k. (k < length ids) × (slice_index ids k ≡ v))
 found-there ids v None is = not-there ids v is
 found-there ids v (Some k) is = let at = position-Some (λ x. x == v) ids k 0 (sym is) in (at.0, eqb-true (get_or ids k 0) v at.1)

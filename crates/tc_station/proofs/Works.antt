@@ -100,7 +100,7 @@ is-there station v place at = let s = position-Some (λ w. w == v) station.vcids
 abbrev JobRaises : Roster → ℕ → ℕ → Order → ℕ → ℕ → Type 0
 JobRaises station own v order c d = Between (cond (brings_to station v order) 1 0) (cond (is_other own v order) 1 0) c d
 
--- a job in a list may raise only the count of the list's own channel, and by no more than one
+-- an operation on a channel may raise only the count of this channel, and by no more than one
 tried-step : (station : Roster) (own : ℕ) (a b : Tally) → IsTried own a b → IsTallyOf station a → (v place : ℕ) → IsPlace station v place
     → Between 0 (cond (own == v) 1 0) (slice_index a.counts place) (slice_index b.counts place)
 tried-step station own a b (inl d) f v place at = rw d (other-step station own v place a f at)
@@ -120,7 +120,7 @@ steps station own (j ∷ js) a b done f v place at =
     let rest = steps station own js done.0 b done.2 (tally-kept station own j.order a done.0 done.1 f) v place at in
     rw (sum_by-cons (λ (i : Job). cond (brings_to station v i.order) 1 0) j js, sum_by-cons (λ (i : Job). cond (is_other own v i.order) 1 0) j js) (between-both _ _ _ _ _ _ _ first rest)
 
--- no count falls
+-- a job lowers no count
 tried-rises : (own : ℕ) (a b : Tally) → IsTried own a b → NoCountFalls a b
 tried-rises own a b (inl d) place = rw d (rises (position (λ w. w == own) a.vcids) a.counts place)
 tried-rises own a b (inr d) place = rw d (omega arith)
@@ -137,7 +137,7 @@ jobs-rise station own (j ∷ js) a b done place =
     let rest = jobs-rise station own js done.0 b done.2 place in
     omega (arith, first, rest)
 
--- no count falls through one list
+-- the jobs of one list lower no count
 list-rises : (station : Roster) (list : WorkList) (line : Option ℕ) (a b : Tally) → IsWorked station list line a b → NoCountFalls a b
 list-rises station list None a b w = jobs-rise station list.vcid list.jobs a b w
 list-rises station list (Some line) a b w = jobs-rise station list.vcid (take w.0 list.jobs) a b w.5

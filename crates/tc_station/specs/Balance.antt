@@ -4,7 +4,7 @@ use Rattle.std.specs.List.{sum_by}
 use Rattle.tc_channel.specs.Journal.{History, IsNumberReported}
 use Rattle.tc_station.specs.Tally.{AtStation}
 
--- the number of operations on the channel at a place that all operators together have counted
+-- the number of operations that all operators together have counted for the channel at a place
 abbrev pub counted_by_all : ℕ → List AtStation → ℕ
 counted_by_all place operators = sum_by (λ (o : AtStation). slice_index o.counts place) operators
 

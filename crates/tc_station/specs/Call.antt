@@ -21,7 +21,7 @@ use Rattle.tc_station.specs.declared.faults.TakeRefused.{TakeRefused}
 use Rattle.tc_station.specs.declared.faults.TakeUnitRefused.{TakeUnitRefused}
 use Rattle.tc_station.specs.declared.station.Brought.{Brought}
 
--- The operator made this call at its desk of this place, whose channel has this id. Its other desks are as they were.
+-- The operator made this call at its desk at this place, whose channel has this id. Its other desks are as they were.
 pub record IsCallAt {R F : Type 0} (place vcid : ℕ) (e : Event) (ok : Moment → R → Type 0) (err : Moment → F → Type 0) (before : AtStation) (result : Result R F) (after : AtStation) : Type 0 where
   pub there : AtLock
   pub next : AtLock
@@ -31,8 +31,8 @@ pub record IsCallAt {R F : Type 0} (place vcid : ℕ) (e : Event) (ok : Moment �
   pub others : after.desks ≡ slice_set before.desks place next
   pub vcids : after.vcids ≡ before.vcids
 
--- The operator made this call, and it was counted for that channel if it was answered. The operator stays the
--- station's, and knows its desks as before.
+-- The operator made this call, and it was counted for that channel if it was answered. The operator still belongs to
+-- the station, and the settings and boards that it has seen at its desks are as before.
 pub record IsCounted {R F : Type 0} (station : Roster) (place vcid : ℕ) (e : Event) (ok : Moment → R → Type 0) (err : Moment → F → Type 0) (before : AtStation) (result : Result R F) (after : AtStation) : Type 0 where
   pub call : IsCallAt place vcid e ok err before result after
   pub counted : OnOk result (tally after ≡ tallied vcid (tally before))
@@ -47,7 +47,7 @@ pub record IsMetCallAt {R F : Type 0} (place vcid : ℕ) (e : Event) (ok : Momen
   pub at : IsCallAt place vcid e (λ m r. ok m r × HasSeenNoMore early m) (λ m f. err m f × HasSeenNoMore early m) before result after
   pub met : HasMet at.next.own.seen late
 
--- A watcher met the operator's desk of this place, and nothing was made. The operator's other desks are as they were.
+-- A watcher met the operator's desk at this place, and no event was made. The operator's other desks are as they were.
 pub record IsMetAt (place vcid : ℕ) (early : Watching) (before : AtStation) (late : Watching) (after : AtStation) : Type 0 where
   pub there : AtLock
   pub next : AtLock
@@ -64,8 +64,8 @@ IsCallOn {R = R} {F = F} station vcid e ok err unknown before result after =
     ((place : ℕ) × IsPlace station vcid place × IsCallAt place vcid e ok err before result after)
     ⊎ (¬ Contains station.vcids vcid × (result ≡ Err unknown) × (after ≡ before))
 
--- The operator brought the frame at the front of the octets to the desk of the channel that the frame names, or there
--- is no such frame or channel, as the answer says, and nothing happened.
+-- The operator brought the frame at the front of the octets to the desk of the channel that the frame names. Otherwise
+-- there is no such frame or channel, the answer gives the reason, and nothing happened.
 abbrev pub IsBringCall : {R : Type 0} → Roster → List ℕ → (ℕ → List ℕ → Moment → R → Type 0) → (List ℕ → Moment → BringFault → Type 0) → AtStation → Result R BringFault → AtStation → Type 0
 IsBringCall {R = R} station octets ok err before result after =
     ((place vcid : ℕ) × (frame : List ℕ) × IsPlaced station octets place vcid frame × IsCallAt place vcid (Frame frame) (ok vcid frame) (err frame) before result after)
@@ -87,7 +87,7 @@ IsNotBrought grows frame m fault = (fault ≡ NoMemory) × (grows ≡ false → 
 abbrev pub IsNotBroughtWatched : List ℕ → Moment → BringFault → Type 0
 IsNotBroughtWatched frame m fault = fault ≡ NoMemory
 
--- the desk refused, and this is the station's refusal for that fault
+-- the desk refused, and this is the station's refusal for the desk's fault
 abbrev pub IsNotReleased : Moment → ReleaseRefused → Type 0
 IsNotReleased m refused = (fault : ReleaseFault) × (refused ≡ release_refused fault) × IsReleaseFault m fault
 

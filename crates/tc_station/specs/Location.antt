@@ -1,4 +1,4 @@
--- The channel of a station for which octets are meant.
+-- The channel of a station that octets are for.
 use Rattle.std.specs.Prelude.{◌≡◌, ◌≢◌, ℕ, List, Contains, position, ◌==◌, Some}
 use Rattle.tc_link.specs.Frame.{BeginsWith, header_of, fault_of}
 use Rattle.tc_station.specs.Roster.{Roster}
@@ -25,7 +25,7 @@ IsLocateFault station octets (Frame f) = fault_of octets ≡ Some f
 IsLocateFault station octets OtherSpacecraft = (frame : List ℕ) × BeginsWith octets frame × ((header_of frame).scid ≢ station.scid)
 IsLocateFault station octets UnknownChannel = (frame : List ℕ) × IsOurs station octets frame × ¬ Contains station.vcids (header_of frame).vcid
 
--- the reason why octets were not brought, which is running out of memory only if they are for a channel of the station
+-- The reason why octets weren't brought. Memory can run out only if they are for a channel of the station.
 abbrev pub IsBringFault : Roster → List ℕ → BringFault → Type 0
 IsBringFault station octets (Locate f) = IsLocateFault station octets f
 IsBringFault station octets NoMemory = (vcid : ℕ) × (frame : List ℕ) × IsLocated station octets vcid frame

@@ -1,5 +1,5 @@
 -- The view of a station in contracts: its spacecraft id, the ids of its virtual channels in order, the number of
--- operators that it has issued, and, for the desk of each channel, its lock and its parts that never change.
+-- operators that it has issued, and, for the desk of each channel, its lock and its constant parts.
 use Rattle.std.specs.Prelude.{◌≡◌, ◌==◌, ℕ, List, All, map, position, slice_get, Some}
 use Rattle.tc_channel.specs.declared.settings.Settings.{Settings}
 use Rattle.tc_desk.specs.{TableId}
@@ -21,7 +21,7 @@ settings_in station = map (λ (h : Identity). h.settings) station.heads
 abbrev pub IsPlace : Roster → ℕ → ℕ → Type 0
 IsPlace station vcid place = position (λ v. v == vcid) station.vcids ≡ Some place
 
--- these are the parts that never change of the desk of the channel with this id
+-- these are the constant parts of the desk whose channel has this id
 abbrev pub IsDeskOf : Roster → ℕ → Identity → Type 0
 IsDeskOf station vcid head = (place : ℕ) × IsPlace station vcid place × (slice_get station.heads place ≡ Some head)
 

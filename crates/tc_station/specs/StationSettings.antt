@@ -1,4 +1,5 @@
--- The settings that make a station, and the faults of others. The spacecraft id has 10 bits (CCSDS 232.0-B, 4.1.2.5).
+-- The settings from which a station can be created, and the faults of other settings. The spacecraft id has 10 bits
+-- (CCSDS 232.0-B, 4.1.2.5).
 use Rattle.std.specs.Prelude.{◌≡◌, ◌≢◌, ℕ, ◌≤◌, List, [], All, AllPairs, Any, map, take, slice_get, Some}
 use Rattle.tc_channel.specs.declared.settings.Settings.{Settings}
 use Rattle.tc_channel.specs.declared.settings.SettingsFault.{SettingsFault}
@@ -20,7 +21,7 @@ abbrev pub IsFirstDouble : List Settings → ℕ → Type 0
 IsFirstDouble list vcid =
     (i : ℕ) × (s : Settings) × (slice_get list i ≡ Some s) × (s.vcid ≡ vcid) × HaveDistinctVcids (take i list) × Any (λ (t : Settings). t.vcid ≡ vcid) (take i list)
 
--- the first entry that makes no channel has this id and this fault
+-- the first entry from which no channel can be created has this id and this fault
 abbrev pub IsFirstRefused : List Settings → ℕ → SettingsFault → Type 0
 IsFirstRefused list vcid f =
     (i : ℕ) × (s : Settings) × (slice_get list i ≡ Some s) × (s.vcid ≡ vcid) × IsFault s f × All IsAllowed (take i list)

@@ -28,7 +28,7 @@ counts_of desks = map (λ (d : AtLock). count_of d.own) desks
 abbrev pub at_station : List ℕ → List AtLock → AtStation
 at_station vcids desks = record { vcids = vcids; counts = counts_of desks; desks = desks }
 
--- an operator at a desk that has made nothing, and has seen what the desk's owner has seen
+-- a new operator at a desk, which has made no event, and has seen what the desk's owner has seen
 abbrev pub arrival : AtLock → AtLock
 arrival owned_desk = record { lock = owned_desk.lock; own = record { seen = owned_desk.own.seen; made = []; issued = 0 } }
 
@@ -44,11 +44,11 @@ issued_more n owned_desks = map (λ (p : AtLock). record { lock = p.lock; own = 
 abbrev pub IsOurs : Roster → AtStation → Type 0
 IsOurs station o = (o.vcids ≡ station.vcids) × (locks_of o.desks ≡ station.locks)
 
--- the moments that the operator has seen of its desks have their settings and boards
+-- the settings and boards that the operator has seen at its desks are those of the station's desks
 abbrev pub KnowsDesks : Roster → AtStation → Type 0
 KnowsDesks station o = heads_of o.desks ≡ station.heads
 
--- the operator knows its desks as before
+-- the settings and boards that the operator has seen at its desks are as before
 abbrev pub KnowsTheSame : AtStation → AtStation → Type 0
 KnowsTheSame before after = heads_of after.desks ≡ heads_of before.desks
 
@@ -63,7 +63,7 @@ fresh vcids = record { vcids = vcids; counts = replicate (length vcids) 0 }
 abbrev pub count_in : ℕ → Tally → Option ℕ
 count_in vcid t = option_map (slice_index t.counts) (position (λ v. v == vcid) t.vcids)
 
--- one more, except that the largest count of 64 bits stays
+-- a count that is raised by one, but never beyond the largest number of 64 bits
 abbrev pub raised : ℕ → ℕ
 raised n = if nat_lt n 18446744073709551615 then n + 1 else n
 

@@ -13,7 +13,7 @@ use Rattle.tc_station.specs.Roster.{Roster, IsPlace}
 use Rattle.tc_station.specs.Tally.{AtStation}
 use Rattle.tc_station.specs.Together.{AreClosedTogether}
 
--- the moment that an operator has seen at the desk of this place continues the one that it had seen there before
+-- the moment that an operator has seen at the desk at this place continues the one that it had seen there before
 pub record HasGoneOn (place : ℕ) (early late : AtStation) : Type 0 where
   pub before : AtLock
   pub after : AtLock
@@ -21,8 +21,8 @@ pub record HasGoneOn (place : ℕ) (early late : AtStation) : Type 0 where
   pub is : slice_get late.desks place ≡ Some after
   pub longer : IsBeginning before.own.seen after.own.seen
 
--- the station was closed together with its operators, one of which is this operator after it has gone on, and the
--- channel is that of this place
+-- the station was closed together with its operators, one of which is this operator, perhaps after further calls, and
+-- the channel is the one at this place
 pub record IsClosedSince (station : Roster) (place : ℕ) (operator : AtStation) (channel : History) : Type 0 where
   pub operators : List AtStation
   pub closed : List History
@@ -33,12 +33,12 @@ pub record IsClosedSince (station : Roster) (place : ℕ) (operator : AtStation)
   pub among : slice_get operators number ≡ Some last
   pub on : HasGoneOn place operator last
 
--- this event, with this number, is the last that the operator has made at the desk of this place
+-- this event, with this number, is the last that the operator has made at the desk at this place
 abbrev pub IsItsLast : ℕ → AtStation → ℕ → Event → Type 0
 IsItsLast place operator n e = (desk : AtLock) × (slice_get operator.desks place ≡ Some desk) × ((earlier : List (ℕ × Event)) × (desk.own.made ≡ earlier ++ (n, e) ∷ []))
 
--- the event has a place in the channel's journal, its answer is the one at the events before it, and it is the last
--- that the operator has made
+-- the event has a place in the channel's journal, its answer is the one that the earlier events give, and it is the
+-- last event that the operator has made
 abbrev pub IsAnsweredIn : ℕ → AtStation → History → Event → (List Event → Type 0) → Type 0
 IsAnsweredIn place operator channel e Answers = (n : ℕ) × (slice_get channel.journal n ≡ Some e) × Answers (take n channel.journal) × IsItsLast place operator n e
 
@@ -46,19 +46,19 @@ IsAnsweredIn place operator channel e Answers = (n : ℕ) × (slice_get channel.
 abbrev pub IsGivenOut : Roster → ℕ → List History → ℕ → History → Type 0
 IsGivenOut station vcid closed place channel = IsPlace station vcid place × (slice_get closed place ≡ Some channel)
 
--- this channel was returned, the event has a place in its journal, with this answer there, and is the last that the
--- operator has made
+-- This channel was returned. The event has a place in its journal, with this answer there, and is the last event that
+-- the operator has made.
 abbrev pub IsAnsweredAmong : Roster → ℕ → AtStation → List History → Event → (Settings → List Event → Type 0) → Type 0
 IsAnsweredAmong station vcid operator closed e Answers =
     (place : ℕ) × (channel : History) × IsGivenOut station vcid closed place channel × IsAnsweredIn place operator channel e (Answers channel.settings)
 
--- the watcher read this CLCW, with these flags of the link, of the history that it has then seen, which continues what
--- it had seen before
+-- The watcher read this CLCW, with these flags of the link. It is the CLCW of the history that the watcher has seen
+-- after the read, which continues the history that the watcher had seen before.
 abbrev pub IsWordRead : Link → Watching → ℕ → Watching → Type 0
 IsWordRead link early word late = board.IsEarlier early.seen late.seen × (word ≡ clcw late.seen.settings late.seen.journal link)
 
--- the CLCW is that of a place in the channel's journal, and the part of the journal that the watcher had seen doesn't
--- go beyond this place
+-- the CLCW is the one at a place in the channel's journal, and the part of the journal that the watcher had seen
+-- doesn't go beyond this place
 abbrev pub IsShownIn : History → Watching → Link → ℕ → Type 0
 IsShownIn channel early link word =
     (n : ℕ) × (length early.seen.journal ≤ n) × (n ≤ length channel.journal) × (word ≡ clcw channel.settings (take n channel.journal) link)

@@ -29,7 +29,7 @@ CannotBeMade events.Release m = buffered_fields m.head.settings m.entries ≡ []
 CannotBeMade (events.Take apid) m = (waiting_packets m.head.settings m.entries apid ≡ None) ⊎ (waiting_packets m.head.settings m.entries apid ≡ Some [])
 CannotBeMade (events.TakeUnit map_id) m = (waiting_units m.head.settings m.entries map_id ≡ None) ⊎ (waiting_units m.head.settings m.entries map_id ≡ Some [])
 
--- The event was made at the desk of this place, whose channel has this id, if it could be made. Otherwise nothing was
+-- The event was made at the desk at this place, whose channel has this id, if it could be made. Otherwise nothing was
 -- made there.
 abbrev pub IsTriedAt : ℕ → ℕ → Event → AtStation → AtStation → Type 0
 IsTriedAt place vcid e before after = (r : Result (Unit {0}) (Unit {0})) × IsCallAt place vcid e (λ m _. CanBeMade e m) (λ m _. CannotBeMade e m) before r after
@@ -39,7 +39,7 @@ abbrev pub IsTriedOn : Roster → ℕ → Event → AtStation → AtStation → 
 IsTriedOn station vcid e before after =
     ((place : ℕ) × IsPlace station vcid place × IsTriedAt place vcid e before after) ⊎ (¬ Contains station.vcids vcid × (after ≡ before))
 
--- the effect at the desks of a job of this channel's list that wasn't refused because memory ran out
+-- the effect at the desks of a job in this channel's list, unless the job was refused because memory ran out
 abbrev pub IsJobMade : Roster → ℕ → Order → AtStation → AtStation → Type 0
 IsJobMade station vcid (orders.Bring octets) before after =
     ((place v : ℕ) × (frame : List ℕ) × IsPlaced station octets place v frame × IsTriedAt place v (events.Frame frame) before after)

@@ -1,7 +1,7 @@
 -- A table of the places of virtual channel ids in a list. An id has 6 bits (CCSDS 232.0-B, 4.1.2.6).
 use Rattle.std.specs.Prelude.{◌≡◌, ◌==◌, ℕ, List, get_or, position, Option, Some, None, if◌then◌else◌}
 
--- the place that an entry stands for, or none
+-- the place that an entry stands for, or `None` if it stands for no place
 abbrev pub entry_place : ℕ → Option ℕ
 entry_place entry = if entry == 64 then None else Some entry
 

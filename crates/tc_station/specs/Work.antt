@@ -19,7 +19,7 @@ use Rattle.tc_station.specs.declared.work.WorkList.{WorkList}
 abbrev pub IsTried : ℕ → Tally → Tally → Type 0
 IsTried vcid before after = (after ≡ tallied vcid before) ⊎ (after ≡ before)
 
--- the effect on the counts of a job of this channel's list that wasn't refused because memory ran out
+-- the effect on the counts of a job in this channel's list, unless the job was refused because memory ran out
 abbrev pub IsDone : Roster → ℕ → Order → Tally → Tally → Type 0
 IsDone station vcid (Bring octets) before after =
     ((v : ℕ) × (frame : List ℕ) × IsLocated station octets v frame × (after ≡ tallied v before))
@@ -33,7 +33,7 @@ abbrev pub AreDone : Roster → ℕ → List Job → Tally → Tally → Type 0
 AreDone station vcid [] before after = after ≡ before
 AreDone station vcid (job ∷ jobs) before after = (mid : Tally) × IsDone station vcid job.order before mid × AreDone station vcid jobs mid after
 
--- A job of this channel's list that may run out of memory. Octets for no channel are passed over.
+-- memory may run out for this job in this channel's list (octets that are for no channel are passed over)
 abbrev pub MayWantMemory : Roster → ℕ → Order → Type 0
 MayWantMemory station vcid (Bring octets) = (v : ℕ) × (frame : List ℕ) × IsLocated station octets v frame
 MayWantMemory station vcid Release = Contains station.vcids vcid
@@ -49,7 +49,7 @@ IsWorked station list (Some line) before after =
 -- the result of working on a list
 pub record Shift : Type 0 where
   pub list : WorkList
-  -- the line that was refused because memory ran out
+  -- the line of the job that was refused because memory ran out
   pub refused : Option ℕ
   pub before : AtStation
   pub after : AtStation
@@ -101,12 +101,12 @@ is_other own vcid Release = own == vcid
 is_other own vcid (Take apid) = own == vcid
 is_other own vcid (TakeUnit map_id) = own == vcid
 
--- `n` more, except that the largest count of 64 bits stays
+-- a count that is raised by `n`, but never beyond the largest number of 64 bits
 abbrev pub raised_by : ℕ → ℕ → ℕ
 raised_by n count = max count (min (count + n) 18446744073709551615)
 
--- the count of each channel rose by at least the number of jobs that bring a frame to it, and at most by those and, if
--- it is the list's channel, the other jobs
+-- The count of each channel rose by at least the number of jobs that bring a frame to it. For the list's channel it
+-- rose by at most the number of these and the other jobs, and for any other channel by no more than these.
 abbrev pub IsRaised : Roster → WorkList → Tally → Tally → Type 0
 IsRaised station list before after =
     (vcid place : ℕ) → position (λ v. v == vcid) station.vcids ≡ Some place →

@@ -1,4 +1,5 @@
-//! The balance between the operators' counts and the journals of a closed station, or the numbers of their events.
+//! Comparisons of the operators' counts with the journals of a closed station, or with the numbers of events that its
+//! channels report.
 
 ghost use Rattle.std.specs.Prelude.{◌≡◌, ◌<◌, ◌↔◌, length, IsTrue, All};
 ghost use Rattle.tc_station.specs.Balance.{counted_by_all, IsInBalance, AreInBalance, AreInReportedBalance};

@@ -9,7 +9,7 @@ use tc_channel::{Channel, CountingChannel, ReleaseFault, SettingsFault, TakeFaul
 use tc_link::LocateFault;
 use thiserror::Error;
 
-/// The reason why settings don't make a station.
+/// The reason why a station can't be created from settings.
 #[derive(Clone, Copy, Debug, PartialEq, Eq, Error)]
 pub enum StationFault {
     #[error("the spacecraft id is over 1023")]
@@ -19,7 +19,7 @@ pub enum StationFault {
     /// The first virtual channel id that also occurs earlier in the list.
     #[error("virtual channel {0} is there twice")]
     DoubleVcid(u8),
-    /// The virtual channel id of the first settings that don't make a channel, and the reason why they don't.
+    /// The virtual channel id of the first settings from which no channel can be created, and the reason.
     #[error("virtual channel {0}: {1}")]
     Settings(u8, SettingsFault),
     #[error("no memory")]
@@ -106,8 +106,8 @@ pub enum CloseFault {
     Missing(Station, Vec<Operator>),
     #[error("no memory")]
     NoMemory(Station, Vec<Operator>),
-    /// The channels are out of their locks. The virtual channel id of one of them isn't that of its place, or its
-    /// number of events isn't the one that the operators counted for it.
+    /// The channels were taken out of their locks. The virtual channel id of one of them isn't that of its place, or
+    /// its number of events isn't the one that the operators counted for it.
     #[error("the operators' counts and the journals differ")]
     Unbalanced(Vec<Channel>, Vec<Operator>),
 }
@@ -130,8 +130,8 @@ pub enum CountingCloseFault {
     Missing(CountingStation, Vec<Operator>),
     #[error("no memory")]
     NoMemory(CountingStation, Vec<Operator>),
-    /// The channels are out of their locks. The virtual channel id of one of them isn't that of its place, or its
-    /// number of events isn't the one that the operators counted for it, or it has 2^64 - 1 events or more.
+    /// The channels were taken out of their locks. The virtual channel id of one of them isn't that of its place, or
+    /// its number of events isn't the one that the operators counted for it, or it has 2^64 - 1 events or more.
     #[error("the operators' counts and the numbers of events differ")]
     Unbalanced(Vec<CountingChannel>, Vec<Operator>),
 }

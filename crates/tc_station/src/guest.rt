@@ -1,4 +1,4 @@
-//! The requests of a station to its desks without an operator.
+//! Questions that a station puts to its desks for a thread without an operator.
 
 ghost use Rattle.std.specs.Prelude.{⊤};
 
@@ -7,7 +7,7 @@ use tc_channel::Journal;
 use tc_desk::Question;
 use tc_status::DeskOf;
 
-/// The passing of a gate.
+/// A question that passes a gate.
 #[derive(Drop)]
 pub(crate) struct Passing<'a, G> {
     pub(crate) gate: &'a G,
@@ -21,7 +21,7 @@ impl<J: Journal, G: Gate> Question<J> for Passing<'_, G> {
 
     fn ask(&self, desk: &mut DeskOf<J>) {
         self.gate.pass(self.vcid);
-        // This call is here for its contract, by which the journal is lawful.
+        // This call is made for its contract, which states that the journal is lawful.
         let _ = desk.channel().settings();
     }
 }

@@ -12,12 +12,12 @@ use std::marker::Model;
 use tc_channel::Journal;
 use tc_desk::{DeskOperator, OperatorList, OwnedDesk};
 
-/// An operator of the channels of a station, with a count for each channel of the operations that were answered. One
-/// thread has it at a time.
+/// An operator of the channels of a station, with a count of the answered operations on each channel. Only one thread
+/// has the operator at a time.
 #[derive(Drop)]
 pub struct Operator {
     vcids: Vec<u8>,
-    // The station runs operations through these.
+    // The station runs operations through these operators.
     pub(crate) desks: Vec<DeskOperator>,
 }
 
@@ -55,7 +55,7 @@ pub(crate) fn place_of(vcids: &[u8], vcid: u8) -> Option<usize>
     vcids.iter().position(|v| *v == vcid)
 }
 
-/// Room for an operator: the ids of its channels, and a list for its operators at their desks.
+/// Memory for an operator: the ids of its channels, and a list with room for its operators at the channels' desks.
 #[derive(Drop)]
 pub(crate) struct Room {
     vcids: Vec<u8>,
@@ -73,7 +73,7 @@ impl Room {
     }
 }
 
-// Creates an operator at each of these desks, which has made nothing, in a list with room for them.
+// Creates an operator at each of these desks, in a list with room for them. The operators have made no event.
 fn desk_operators<J: Journal>(
     mut operators: Vec<DeskOperator>,
     owned_desks: &mut [OwnedDesk<J>],
@@ -90,7 +90,7 @@ fn desk_operators<J: Journal>(
 }
 
 impl Operator {
-    /// Creates an operator that has made nothing, and has seen what the owners of these desks have seen.
+    /// Creates an operator that has made no event, and has seen what the owners of these desks have seen.
     pub(crate) fn new<J: Journal>(room: Room, owned_desks: &mut [OwnedDesk<J>]) -> Operator
         requires room { IsRoomFor (vcids_of (settings_of_desks owned_desks.old)) room }
         ensures issued { owned_desks.new ≡ map with_one_issued owned_desks.old }
@@ -110,7 +110,7 @@ impl Operator {
         Some(self.desks[place].count())
     }
 
-    /// Does nothing. By its contract each channel has a count.
+    /// Does nothing. Its contract states that each channel has a count.
     pub(crate) fn has_a_count_for_each_channel(&self)
         ensures { length self.now.counts ≡ length self.now.vcids }
     {

@@ -146,7 +146,7 @@ impl<J: Journal> StationOf<J> {
         self.vcids.place_of(vcid)
     }
 
-    /// Issues operators, at most 65,535 over the station's life. Each needs a list of ids and one of its operators at
+    /// Issues operators, at most 65,535 over the station's life. Each needs a list of ids and a list of operators at
     /// the desks. All memory is allocated before the first operator is issued.
     pub fn operators(&mut self, n: u16) -> Result<Vec<Operator>, OperatorsFault>
         ensures fresh { IfOk result (λ operators. map tally operators.items ≡ replicate n (fresh self.old.vcids)) }
@@ -279,10 +279,10 @@ impl<J: Journal> StationOf<J> {
         Ok(watcher)
     }
 
-    /// Returns the CLCW of a moment of the watcher's channel, with these link flags. It takes one load and no lock, and
-    /// waits for no other thread.
+    /// Returns the CLCW of the watcher's channel at some moment, with these link flags. The call takes one load and no
+    /// lock, and waits for no other thread.
     ///
-    /// The moment is no earlier than that of the read before.
+    /// The moment is no earlier than that of the previous read.
     pub fn watch(&self, watcher: &mut Watcher, link: Link) -> u32
         ensures board { watcher.new.board ≡ watcher.old.board }
         ensures watcher { (vcid : ℕ) → IsWatcherOf self.now vcid watcher.old → IsWatcherOf self.now vcid watcher.new }
@@ -322,9 +322,9 @@ impl<J: Journal> StationOf<J> {
         Ok((Brought { vcid, reply }, watcher))
     }
 
-    /// Runs the operation on the channel at this place. The channel's watcher meets it before and after the operation,
-    /// and the channel's lock is held once for all of this. So the watcher had seen no more than the journal before the
-    /// operation, and afterwards it has seen all that the operator has.
+    /// Runs the operation on the channel at this place. The channel's watcher meets the channel before and after the
+    /// operation, and the channel's lock is held once for all of this. So the watcher had seen no more than the journal
+    /// before the operation, and afterwards it has seen all that the operator has.
     pub fn operate_met<O: Operation<J>, R: Wait>(
         &self,
         rt: &R,
@@ -366,7 +366,7 @@ impl<J: Journal> StationOf<J> {
         operator.desks[place].meet(owned_desk.desk(), rt, watcher);
     }
 
-    // Runs the operation on the desk of the channel at this place, which has this id, through the operator there.
+    // Runs the operation at the desk at this place, whose channel has this id, on behalf of the operator.
     fn operate<O: Operation<J>, R: Wait>(
         &self,
         rt: &R,
@@ -397,7 +397,7 @@ impl<J: Journal> StationOf<J> {
         self.desks[place].desk().ask_as_guest(rt, question)
     }
 
-    /// Passes the gate once, under the lock of the channel if there is one.
+    /// Passes the gate once, under the lock of the channel with this id, if there is such a channel.
     pub(crate) fn pass<G: Gate, R: Wait>(&self, rt: &R, gate: &G, vcid: u8) {
         match self.vcids.place_of(vcid) {
             None => gate.pass(vcid),
@@ -433,11 +433,12 @@ impl<J: Journal> StationOf<J> {
         }
     }
 
-    /// Ends the station: takes the channels out of their locks, if these operators have made all events of their
-    /// journals. This is so if all operators that the station issued are given, and they have made fewer than 2^64 - 1
-    /// events of each channel. The journal of each channel is then a merge of what they made, and what each of them had
-    /// seen is a beginning of it. Two lists are allocated before any lock is taken. The law
-    /// [`from_a_sender_to_packets`](crate::from_a_sender_to_packets) states the consequences for a sender.
+    /// Closes the station, and takes the channels out of their locks, if these operators have made all events of the
+    /// channels' journals. They have if all operators that the station issued are given, and together they have made
+    /// fewer than 2^64 - 1 events of each channel. The journal of each channel is then a merge of the events that the
+    /// operators made, and the history that each operator had seen is a beginning of it. Two lists are allocated before
+    /// any lock is taken. The law [`from_a_sender_to_packets`](crate::from_a_sender_to_packets) states the consequences
+    /// for a sender.
     pub fn close_together(
         self,
         operators: Vec<Operator>,
@@ -485,11 +486,11 @@ impl<J: Journal> StationOf<J> {
 impl StationOf<Recorded> {
     ghost use Rattle.tc_station.specs.Faults.{IsCloseFault};
 
-    /// Ends the station: takes the channels out of their locks and compares their journals with the operators' counts.
-    /// Two lists are allocated before any lock is taken. Any operators with counts for these channels may be given,
-    /// including those of another station. For this station's own operators, [`StationOf::close_together`] promises
-    /// more. A lock that isn't free would be reported as [`CloseFault::NoMemory`], but the owner of the station never
-    /// sees that.
+    /// Closes the station, takes the channels out of their locks, and compares their journals with the operators'
+    /// counts. Two lists are allocated before any lock is taken. Any operators with counts for these channels may be
+    /// given, including those of another station. For this station's own operators, [`StationOf::close_together`]
+    /// promises more. A lock that isn't free would be reported as [`CloseFault::NoMemory`], but the owner of the
+    /// station never sees that.
     pub fn close(self, operators: Vec<Operator>) -> Result<Vec<Channel>, CloseFault>
         requires ours { All (λ o. o.vcids ≡ self.vcids) operators.items }
         ensures all { IfOk result (λ _. self.issued ≤ vec_len operators) }
@@ -516,9 +517,9 @@ impl StationOf<Recorded> {
 impl StationOf<Unrecorded> {
     ghost use Rattle.tc_station.specs.Faults.{IsCountingCloseFault};
 
-    /// Ends the station: takes the channels out of their locks and compares the numbers of their events with the
+    /// Closes the station, takes the channels out of their locks, and compares the numbers of their events with the
     /// operators' counts. The number 2^64 - 1 stands for that many events or more, so it is never in balance. In all
-    /// other respects it is like the close of a [`Station`].
+    /// other respects this call is like the close of a [`Station`].
     pub fn close(self, operators: Vec<Operator>) -> Result<Vec<CountingChannel>, CountingCloseFault>
         requires ours { All (λ o. o.vcids ≡ self.vcids) operators.items }
         ensures all { IfOk result (λ _. self.issued ≤ vec_len operators) }
@@ -562,8 +563,8 @@ fn double_vcid(list: &[Settings]) -> Option<u8>
     None
 }
 
-// Checks that each of the settings is one that a channel can have. Otherwise it returns the id and the fault of the
-// first that isn't.
+// Checks that a channel can have each of the settings. If not, returns the id and the fault of the first settings that
+// no channel can have.
 fn check_each(list: &[Settings]) -> Result<(), (u8, SettingsFault)>
     ensures { MatchResult result (λ _. All IsAllowed list.now) (λ fault. IsFirstRefused list.now fault.0 fault.1) }
 {

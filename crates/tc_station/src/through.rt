@@ -40,16 +40,16 @@ use tc_desk::each_event_stands_at_its_place;
 ///   the one that the model gives at the journal before the event. The event, with its number, is the last that the
 ///   operator has made at that time. So one thread could have made all calls, in the journal's order, and got the same
 ///   answers.
-/// - `words`: Each CLCW that a watcher read before a meeting, however often it read again in between, is that of a
-///   place in that journal. The part of the journal that the watcher had seen doesn't go beyond this place.
-/// - `sent`: An era is the journal's part since a Set V(R) was last obeyed, or else all of it. Suppose that the Type-AD
-///   frames of an era are those of one sender, numbered on from the V(R) with which the era starts, and that none came
-///   256 or more numbers early or late. Then the Type-AD data fields of the era that were released are what was sent,
-///   each once, in order.
+/// - `words`: Each CLCW that a watcher read before a meeting, even if it read again in between, is the CLCW at a place
+///   in that journal. The part of the journal that the watcher had seen doesn't go beyond this place.
+/// - `sent`: An era is the part of the journal since a Set V(R) was last obeyed, or the whole journal if none was.
+///   Suppose that the Type-AD frames of an era are those of one sender, numbered from the V(R) at the start of the era,
+///   and that none came 256 or more numbers early or late. Then the Type-AD data fields of the era that were released
+///   are those that were sent, each once, in order.
 /// - `given`: The packets that all takes of an application returned are, in order, packets made from the data fields
 ///   that the channel passed on: those of the era, the Type-AD fields of earlier eras, and the Type-BD fields between
 ///   them. `given_units` states this for the units of a chosen MAP.
-/// - `whole`: If there are as many of these as the fields make, none is left out.
+/// - `whole`: If the takes returned as many packets or units as these fields make, none is missing.
 ///
 /// Each call of an operator continues all that the operator had seen (`later` of `IsCall`), and so do several calls
 /// together.
@@ -99,7 +99,7 @@ pub fn from_a_sender_to_packets()
 ///   `take_unit`.
 /// - `words` is about each read of a watcher by `watch` before its `meet`. In between, the watcher may have read on.
 ///
-/// The operator comes to the close as the call left it. If it made other calls in between, the statement requires
+/// The station is closed with the operator as the call left it. If it made other calls in between, the law requires
 /// `HasGoneOn`, which each further call promises, too (`later` of `IsCall`).
 pub fn what_calls_answered_stands_in_the_closed_journals()
     ensures frames { (station : Roster) (octets : List ℕ) (grows : Bool) (before after : AtStation) (brought : Brought) (operators : List AtStation) (closed : List History) (number : ℕ)

@@ -53,7 +53,7 @@ pub struct WorkList {
     pub jobs: Items<Job>,
 }
 
-// The locks lend the journals and their entries from thread to thread.
+// The bounds are needed because the locks pass the journals and their entries from thread to thread.
 impl<J: Journal + Send> StationOf<J>
 where
     J::Entry: Send,
@@ -62,10 +62,10 @@ where
     ghost use Rattle.tc_station.specs.Work.{IsDone, MayWantMemory, IsWorked, AreStaffed, AreWorked, IsTallyOf, NoCountFalls, IsRaised, line_of_fault};
 
     /// Carries out each list of jobs in a thread of its own, with the operator at the list's place. A refusal for any
-    /// reason but memory is passed over. A list is given up at the first job that is refused because memory ran out.
-    /// The other lists are carried out in full, and the lowest line of such a job is reported. If no further thread
-    /// starts, the running thread works off the remaining lists, one by one. Only the operations themselves request
-    /// memory.
+    /// reason other than memory is passed over. The rest of a list is left out after the first job that is refused
+    /// because memory ran out. The other lists are carried out in full, and the lowest line of such a job is reported.
+    /// If no further thread starts, the running thread carries out the remaining lists, one by one. Only the operations
+    /// themselves request memory.
     pub fn work<G: Gate + Sync, R: Threads + Wait + Sync>(
         &self,
         rt: &R,
@@ -111,7 +111,7 @@ where
         self.work_halves(rt, gate, front_lists, back_lists, front, back)
     }
 
-    // Carries out one half of the lists in a thread of its own.
+    // Carries out each half of the lists, in two threads if another one can be started.
     #[cycle(work)]
     fn work_halves<G: Gate + Sync, R: Threads + Wait + Sync>(
         &self,

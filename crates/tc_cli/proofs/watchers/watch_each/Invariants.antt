@@ -2,7 +2,7 @@ use Rattle.std.proofs.Common.{◌≡◌, ◌≤◌, length, vec_len, vec_capacit
 use Rattle.tc_cli.specs.Watched.{AreWatching}
 use Rattle.tc_cli.proofs.watchers.watch_each.Given as goal
 
--- there is a watcher for each of the channels so far
+-- there is a watcher for each channel that the loop has passed
 abbrev pub invariant-loop-vcid : goal.invariant-loop-vcid
 invariant-loop-vcid g l = record {
   each : AreWatching l.station l.watchers.items;
