@@ -111,7 +111,7 @@ IsEndedSaid ErrorControl frame rest text =
     ((plain : List ℕ) × (frame ≡ frame_with_field plain) × (taking_fault_of frame ≡ None) × IsWholeSaid plain rest text)
     ⊎ ((fault : FieldFault) × (taking_fault_of frame ≡ Some fault) × (text ≡ field_fault_text fault))
 
--- the explanation of the frame with which octets begin, or the reason why they begin with none
+-- the explanation of the frame that octets begin with, or the reason why they don't begin with a frame
 abbrev pub IsExplained : Ending → List ℕ → List ℕ → Type 0
 IsExplained ending octets text =
     ((frame : List ℕ) × (rest : List ℕ) × IsDelimited octets frame rest × IsEndedSaid ending frame rest text)

@@ -407,8 +407,8 @@ impl<J: Journal> StationOf<J> {
         }
     }
 
-    // Returns the ids, and the channels out of their locks. Returns the whole station if memory runs out for their
-    // lists, or if a lock isn't free.
+    // Returns the ids and the channels, which are taken out of their locks. Returns the whole station if memory runs
+    // out for the lists, or if a lock isn't free.
     fn into_channels(self) -> Result<(Vec<u8>, Vec<ChannelWith<J>>), StationOf<J>>
         ensures vcids { IfOk result (λ parts. parts.0.items ≡ self.vcids) }
         ensures channels { IfOk result (λ parts. vec_len parts.1 ≡ length self.vcids) }

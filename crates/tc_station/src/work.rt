@@ -62,10 +62,10 @@ where
     ghost use Rattle.tc_station.specs.Work.{IsDone, MayWantMemory, IsWorked, AreStaffed, AreWorked, IsTallyOf, NoCountFalls, IsRaised, line_of_fault};
 
     /// Carries out each list of jobs in a thread of its own, with the operator at the list's place. A refusal for any
-    /// reason other than memory is passed over. The rest of a list is left out after the first job that is refused
-    /// because memory ran out. The other lists are carried out in full, and the lowest line of such a job is reported.
-    /// If no further thread starts, the running thread carries out the remaining lists, one by one. Only the operations
-    /// themselves request memory.
+    /// reason other than lack of memory is passed over. The rest of a list is left out after the first job that is
+    /// refused because memory ran out. The other lists are carried out in full, and the lowest line of such a job is
+    /// reported. If no further thread starts, the running thread carries out the remaining lists, one by one. Only the
+    /// operations themselves request memory.
     pub fn work<G: Gate + Sync, R: Threads + Wait + Sync>(
         &self,
         rt: &R,
