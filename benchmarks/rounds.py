@@ -31,7 +31,7 @@ def packets_of(rounds: int, bring: Callable[[bytes], Brought | Refused], release
 
 
 def main() -> int:
-    """Makes the rounds that the words ask for."""
+    """Makes the rounds that the command line requests."""
     way, rounds = sys.argv[1], int(sys.argv[2])
     if way == "channel":
         with Channel(1, width=10, buffer=4, first=0, queues={5: 16}) as channel:

@@ -13,8 +13,8 @@ sys.path.insert(0, str(TOP / "clients/python"))
 from tcrx import NotStarted, Receiver
 
 def link(dice: random.Random, past: List[bytes], turning: bool) -> Iterator[bytes]:
-    """Yields what the link makes of the newest frame: one in five is lost, an old one comes again, and up to 16 bits in
-    a row are turned."""
+    """Yields the frames that arrive when the newest one is sent. One in five times it is lost, and one in five times an old
+    frame comes again. If `turning` is set, one in five frames has up to 16 bits in a row flipped."""
     for octets in [past[-1]] * (dice.random() > 0.2) + [dice.choice(past[-40:])] * (dice.random() < 0.2):
         turned = dice.randrange(1, 1 << 16) << dice.randrange(8 * len(octets) - 15) if turning and dice.random() < 0.2 else 0
         yield (int.from_bytes(octets, "big") ^ turned).to_bytes(len(octets), "big")

@@ -1,5 +1,5 @@
 """Sends the packets of bench.py to tcrx-bench in CLTUs, and reads the CLCWs that come down in telemetry frames. One
-CLTU in five is lost, and of all other octets one bit in a thousand is turned.
+CLTU in five is lost, and of all other octets one bit in a thousand is flipped.
 
 Usage: python3 examples/bench_cltu.py SEED [--udp] [--detect] [--randomised]
 """
@@ -19,19 +19,19 @@ import bench
 import bench_udp
 from tcrx import Clcw
 
-# The share of CLTUs that are lost, the share of bits that are turned, the octets between CLTUs, and the telemetry frames per second.
+# The share of CLTUs that are lost, the share of bits that are flipped, the octets between CLTUs, and the telemetry frames per second.
 LOST, TURNED, IDLE, RATE = 0.2, 0.001, b"\x55" * 16, "250"
 
 
 def turned(dice: random.Random, octets: bytes) -> bytes:
-    """Returns what a bad link makes of octets."""
+    """Returns octets as a bad link delivers them, with some bits flipped."""
     wrong = sum((dice.random() < TURNED) << bit for bit in range(8 * len(octets)))
     return (int.from_bytes(octets, "big") ^ wrong).to_bytes(len(octets), "big")
 
 
 class Edges(bench_udp.Remote):
-    """What the sender needs from a receiver, over CLTUs and telemetry frames. A tcmake makes the CLTUs and reads the
-    telemetry frames."""
+    """The calls of a receiver that the sender needs, over CLTUs and telemetry frames. A tcmake makes the CLTUs and reads
+    the telemetry frames."""
 
     # pylint: disable-next=too-many-arguments  # the bench, and what was chosen
     def __init__(self, ports: Dict[str, int], clcws: socket.socket, seed: int, randomised: bool, tcmake: Path) -> None:
@@ -47,7 +47,7 @@ class Edges(bench_udp.Remote):
         return self.maker.stdout.readline().split()
 
     def bring(self, octets: bytes) -> None:
-        """Sends what the link makes of a frame in its CLTU, or only of the octets between CLTUs."""
+        """Sends a frame in its CLTU over the bad link, or only the octets between CLTUs if the CLTU is lost."""
         digits = self.ask(f"random {octets.hex()}")[1] if self.randomised else octets.hex()
         cltu = bytes.fromhex(self.ask(f"cltu {digits}")[1])
         self.frames.send(turned(self.dice, IDLE + (b"" if self.dice.random() < LOST else cltu) + IDLE))
@@ -78,8 +78,8 @@ def through(dice: random.Random, past: List[bytes], turning: bool) -> Iterator[b
 # pylint: disable-next=too-many-arguments  # what may be chosen
 def run(seed: int, udp: bool = False, mode: str = "correct", randomised: bool = False, tclive: Optional[Path] = None,
         tcmake: Path = TOP / "tcmake") -> str:
-    """Sends packets until each has arrived. Returns how many frames that took, and what the bench says of the
-    sender."""
+    """Sends packets until each has arrived. Returns how many frames that took, and what the bench prints about
+    the sender."""
     said: List[str] = []
     words = ["--tc-udp" if udp else "--tc-tcp", "0", "--cltu", mode, *["--randomised"] * randomised, "--tcmake", str(tcmake), "--tm-udp", "PLACE",
              "--tm-rate", RATE, "--tm-length", "64", "--tm-fecf", "--sender", "1", "10"]

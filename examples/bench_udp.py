@@ -25,7 +25,7 @@ PORTS = ("--tc-udp", "0", "--clcw-udp", "PLACE", "--period", PERIOD)
 
 
 class Remote:
-    """What the sender needs from a receiver, over the ports of a bench that releases and takes by itself."""
+    """The calls of a receiver that the sender needs, over the ports of a bench that releases and takes by itself."""
 
     def __init__(self, ports: Dict[str, int], clcws: socket.socket) -> None:
         self.clcws = clcws
@@ -35,7 +35,7 @@ class Remote:
         self.left = b""
 
     def bring(self, octets: bytes) -> None:
-        """Sends what the link makes of a frame."""
+        """Sends octets, as the link delivers them."""
         self.frames.send(octets)
 
     def clcw(self, vcid: int) -> Clcw:

@@ -1,7 +1,7 @@
 // Checks the edge cases of tcrx.hpp, for checks/bindings: channels that are moved, dropped, freed and used after that,
 // each request for memory refused in turn, two channels in two threads, views of nothing, each field of what is read
-// and reported, by the rows of fields.h, and settings that are rejected. Linked with c/checks/refusing_memory.c. The
-// last line of the output is the number of checks that passed.
+// and reported, by the rows of fields.h, and settings that are rejected. The program is linked with
+// c/checks/refusing_memory.c. The last line of the output is the number of checks that passed.
 #include "../tcrx.hpp"
 #include "fields.h"
 

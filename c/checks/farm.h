@@ -31,8 +31,8 @@ static inline void expect(bool good, const char *what, tcrx_farm farm, unsigned 
     }
 }
 
-/* Returns where N(S) is in the sliding window of this width. The positive part of the window is ahead of V(R), and its
- * negative part behind. */
+/* Returns the place of N(S) in the sliding window of this width. The positive part of the window is ahead of V(R), and
+ * its negative part behind. */
 static inline uint8_t place_of(unsigned width, unsigned vr, unsigned ns) {
     if (ns == vr) {
         return EXPECTED;

@@ -101,7 +101,7 @@ def comments() -> list[tuple[str, str]]:
 
 
 def main() -> int:
-    """Makes each check, and prints what was found."""
+    """Makes each check, and prints the results."""
     said = versions() + shown_code() + layouts() + same_version()
     has_doxygen = shutil.which("doxygen") is not None
     said += comments() if has_doxygen else []

@@ -84,7 +84,7 @@ static uint64_t items_of(const plan *p) {
     return items;
 }
 
-/* Returns what a static array has for the channel, by the macros for its parts. */
+/* Returns how many bytes a static array has for the channel, by the macros for its parts. */
 static uint64_t static_storage(const plan *p) {
     uint64_t parts = TCRX_STORAGE_BUFFER(p->settings.buffer) + TCRX_STORAGE_LIMITS(p->limited ? p->limit_count : 0);
     if (p->settings.segmented == 1) parts += TCRX_STORAGE_SEGMENTED(all_limits(p));

@@ -19,8 +19,8 @@ typedef struct {
     unsigned most, frames, refused, over_the_bound, overlong;
 } receiver;
 
-/* Takes in what a CLTU carried. The random sequence comes off, then one frame after another, each as long as its length
- * field says. */
+/* Takes in the octets that a CLTU carried. Removes the random sequence, and then takes one frame after another, each as
+ * long as its length field says. */
 static void receive_candidate(receiver *at) {
     static uint8_t plain[CARRIED];
     size_t left = tcrx_randomise(at->carried, at->decoder.carried, plain, sizeof plain).length;

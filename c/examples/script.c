@@ -125,7 +125,8 @@ typedef struct {
     uint8_t no_rf, no_bit_lock;
 } receiver;
 
-/* What is set up, and the rack. From the first operation on, each channel is at the place of its id in the rack. */
+/* The channels that are set up, and the rack. From the first operation on, each channel is at the place of its id in
+ * the rack. */
 static receiver receivers[CHANNELS];
 static tcrx_channel rack[CHANNELS];
 static bool is_operating;

@@ -1,7 +1,7 @@
 /*
- * A stand-in for what F Prime generates from the model in c/examples/fprime.cc, and for what that includes. It was
- * written for this repository so that the example compiles and runs: ports print. It isn't a part of F Prime, and shows
- * nothing about it.
+ * A stand-in for the code that F Prime generates from the model in c/examples/fprime.cc, and for the headers that this
+ * code includes. It was written for this repository so that the example compiles and runs. Its ports print. It isn't a
+ * part of F Prime, and shows nothing about it.
  */
 #ifndef TC_RECEIVER_COMPONENT_AC_HPP
 #define TC_RECEIVER_COMPONENT_AC_HPP

@@ -1,5 +1,5 @@
-/* The stand-in's bus. It brings two frames, and octets that aren't a frame, to c/examples/cfs.c, and prints what that
- * sends. */
+/* The stand-in's bus. It brings two frames, and octets that aren't a frame, to c/examples/cfs.c, and prints the
+ * messages that this application sends. */
 #include "cfe.h"
 
 #include <stdarg.h>

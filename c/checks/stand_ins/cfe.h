@@ -1,6 +1,6 @@
 /*
- * A stand-in for cfe.h of cFS. It has what c/examples/cfs.c uses of it, and was written for this repository from the
- * names and parameters of the public interface, so that the example compiles and runs. It isn't a part of cFS, and
+ * A stand-in for cfe.h of cFS. It has the parts that c/examples/cfs.c uses, and was written for this repository from
+ * the names and parameters of the public interface, so that the example compiles and runs. It isn't a part of cFS, and
  * shows nothing about it.
  */
 #ifndef CFE_H
