@@ -53,8 +53,8 @@ pub fn channels_of_a_script_do_not_touch_each_other()
 /// Two stations are closed, each together with its operators. Suppose that a channel of one has the settings of a
 /// channel of the other, and that the operators made the same events at it, each at the same place of its journal. Then
 /// the two channels that are given out are the same, whatever was done at other channels. So each call on the channel
-/// had the same answer, too, which is that of the model after the journal before the call (`from_a_sender_to_packets`
-/// of tc_station).
+/// had the same answer, too, because each answer is the model's after the journal up to the call
+/// (`from_a_sender_to_packets` of tc_station).
 pub fn channels_of_a_station_do_not_touch_each_other()
     ensures { (station other : Roster) (operators others : List AtStation) (closed shut : List History) (place at : ℕ) (one two : History)
         → AreClosedTogether station operators closed → AreClosedTogether other others shut → slice_get closed place ≡ Some one → slice_get shut at ≡ Some two

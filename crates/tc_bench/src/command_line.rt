@@ -7,7 +7,7 @@ pub(crate) enum Kind {
     Recorded,
     /// A channel whose journal takes no memory.
     Counting,
-    /// A channel whose journal takes no memory, and for which all else has rooms that are created with the channel.
+    /// A channel whose journal takes no memory, and which keeps all else in rooms that are created with it.
     Rooms,
 }
 
@@ -31,7 +31,7 @@ pub(crate) enum Action<'a> {
     Scores,
     /// This number of rounds of a load on a channel of this form, whose sum is printed.
     Rounds(Kind, Load, u32),
-    /// The filling of a channel, or calls of each kind on it, as this word says.
+    /// The filling of a channel, or calls of each kind on it. This word says which of them, and on which channel.
     Fill(&'a str),
     /// A single call with this name, on a channel with this number of queues.
     Worst(&'a str, u16),

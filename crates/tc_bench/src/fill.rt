@@ -67,8 +67,8 @@ static HOSTILE_ROWS: [Row; 16] = [
     (Piece::Packet, (70, 1), 1, DROPPED),
     (UNIT, (0, 3), 9, ONE),
     (UNIT, (0, 3), 9, DROPPED),
-    // On each MAP of each service a run of as many octets as a unit may have, then one more octet, which drops the run,
-    // and a last segment, which ends nothing.
+    // Each MAP of each service gets a run of as many octets as a unit may have, then one more octet, which drops the
+    // run, and then a last segment, which ends nothing.
     (Piece::Run(Kind::Released), (0, 64), 64, NOTHING),
     (Piece::Run(Kind::Bypassing), (0, 64), 64, NOTHING),
     (GONE_ON, (0, 64), 64, NOTHING),

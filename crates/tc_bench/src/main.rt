@@ -3,8 +3,8 @@
 //!
 //! With no argument it runs the load and prints scores that each answer changes, so that a receiver with other answers
 //! prints other scores. With `rounds recorded`, `rounds counting` or `rounds rooms` and a number it makes this number
-//! of rounds on a bare channel of that form, of Type-AD frames or of the load that another word names, and prints the
-//! score of their answers.
+//! of rounds on a bare channel of that form, and prints the score of their answers. The rounds bring Type-AD frames, or
+//! the load that another word names.
 //!
 //! With `fill` and `plain`, `one` or `many` it creates a counting channel of that plan, prints the bound of its memory,
 //! and fills it. `plain_7`, `plain_8` and `plain_63` are plans of plain channels with that number of queues. With `fill

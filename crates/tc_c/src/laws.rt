@@ -60,9 +60,9 @@ pub fn each_status_has_a_number()
     ensures { (st : Status) → status_of (code_of st) ≡ Some st }
 {}
 
-/// No two faults have the same status. This holds for the faults of octets with which no frame begins, of octets that
-/// are for none of the channels, of frames that aren't written, of frame error control fields, of settings, and of
-/// settings with limits.
+/// No two faults of one kind have the same status. The kinds are the faults of octets with which no frame begins, of
+/// octets that are for none of the channels, of frames that aren't written, of frame error control fields, of settings,
+/// and of settings with limits.
 pub fn each_fault_has_a_status_of_its_own()
     ensures frames { (one other : FrameFault) → frame_status one ≡ frame_status other → one ≡ other }
     ensures locations { (one other : LocateFault) → locate_status one ≡ locate_status other → one ≡ other }

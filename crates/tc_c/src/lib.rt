@@ -1,6 +1,6 @@
 //! The receiver's calls for C. Those for FARM-1, CLCWs, transfer frames, space packets, CLTUs and telemetry frames work
-//! on plain numbers, records and octets, keep no state and allocate nothing. Others work on a channel that the caller
-//! holds by a seat in its own memory, or on many channels in an array of seats.
+//! on plain numbers, records and octets, keep no state and allocate nothing. Others work on a channel that a seat in
+//! the caller's memory holds, or on many channels in an array of seats.
 //!
 //! Each call returns a status, alone or as the first field of a record. No call keeps a pointer that is passed to it.
 //! The header `c/tcrx.h` documents these calls for callers in C.

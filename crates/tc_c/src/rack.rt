@@ -171,9 +171,9 @@ fn bring_checked(seats: &mut [Seat], scid: u16, octets: &[u8]) -> RackReplyRecor
 /// follow the frame are fill.
 ///
 /// The call fails with BadFlag for another `fecf`. Then, if `fecf` is 1, it fails as `tcrx_check_fecf_at` does. It
-/// fails with the first fault of the octets if no frame begins with them, with OtherSpacecraft for a frame for another
-/// spacecraft, and with UnknownChannel for a frame for no channel. Each channel then stays as it was. Only the calls
-/// that create channels request memory.
+/// fails with the first fault of the octets if no frame begins with them, with OtherSpacecraft if the frame is for
+/// another spacecraft, and with UnknownChannel if it is for none of the channels. Each channel then stays as it was.
+/// Only the calls that create channels request memory.
 #[unsafe(no_mangle)]
 pub extern "C" fn tcrx_rack_frame_at(
     seats: &mut [Seat],

@@ -1,5 +1,5 @@
--- A CLTU with few wrong bits is the arrival of its frame, and octets in CLTUs bring about the events of the session at
--- a receiver.
+-- The frame of a CLTU with few wrong bits arrives, and octets in CLTUs bring about the events of the session at a
+-- receiver.
 use Rattle.tc_ends.proofs.Names.{Action, AltersNothing, AreBrought, AreCarried, AreEventsAt, AreEventsOf, AreNearBlocks, Asks, Bool, Brings, CarryWell, Coming, Decoding, Event, Frame, IsCarried, IsNearCltu, IsWhole, List, Loop, Mode, None, Octets, Option, Reception, Searching, Step, [], after-fits, after_block, ap, append-nil, append_assoc, arith, cltu_fault_of, decoded, enclosed, events, events_at, false, fill, filled, filled-fits, filled-front, frame_with_field-alike, frames_of, inl, inr, is_fill, is_start, length, length-append, map, most_octets, nat_tests, one-frame, reception_step, refl, some-octets, state_after, state_behind, subst, suc, sym, take, taken, true, ℕ, ◌++◌, ◌+◌, ◌<◌, ◌∙◌, ◌∷◌, ◌≡◌, ◌≤◌}
 
 -- the state after octets, and the candidate frames that they end

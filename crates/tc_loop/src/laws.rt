@@ -119,8 +119,8 @@ pub fn a_session_comes_to_this()
     ensures two_begun { begun example.one_lost 8 ≡ 2 }
 {}
 
-/// A sender reads these report values as was worked out by hand, with a window of 10 or 255, and a first frame with the
-/// number 250 or 0.
+/// With a window of 10 or 255, and a first frame with the number 250 or 0, a sender reads these report values as was
+/// worked out by hand.
 pub fn report_values_are_read_so()
     ensures none { heard 250 10 0 250 ≡ 0 }
     ensures modulo_256 { heard 250 10 0 3 ≡ 9 }
