@@ -12,8 +12,7 @@ pub enum Difference<'a> {
     Fault { found: &'a str, expected: &'a str },
 }
 
-/// Returns the first difference between the answers and the text of the fault that a script led to, and the expected
-/// ones.
+/// Compares the answers to a script, and the text of its fault, with the expected ones. Returns the first difference.
 pub fn compare<'a>(
     answers: &[u8],
     fault: &'a str,

@@ -28,7 +28,7 @@ ghost use Rattle.tc_c.specs.Farm.{IsFarm, first_farm, record_of, farm_of, arriva
 ghost use Rattle.tc_c.specs.Frame.{kind_number, kind_value, header_record, frame_record};
 ghost use Rattle.tc_c.specs.Packet.{packet_record, written_packet};
 
-/// Each FARM-1 can be read from its record. If a FARM-1 can be read from a record, the record is that FARM-1's.
+/// Each FARM-1 can be read from its record. If a FARM-1 can be read from a record, it is the record of that FARM-1.
 pub fn a_record_reads_back()
     ensures back { (farm : Machine) → IsFarm farm → farm_of (record_of farm) ≡ Ok farm }
     ensures kept { (kept : FarmRecord) (farm : Machine) → farm_of kept ≡ Ok farm → record_of farm ≡ kept }

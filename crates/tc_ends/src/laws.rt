@@ -32,7 +32,8 @@ ghost use Rattle.tc_ends.specs.Examples as example;
 
 use tc_write::the_segments_of_a_unit_make_the_unit;
 
-/// The segments of a unit, after any fields of their stream, end this unit at the last field, and none before.
+/// After any earlier fields of their stream, the segments of a unit end this unit at the last segment, and end no unit
+/// before it.
 pub fn the_segments_of_a_unit_end_it_once()
     ensures { (map size : ℕ) (unit : List ℕ) (before fields : List (List ℕ)) → 1 ≤ size → 1 ≤ length unit → length unit ≤ 65542
         → AreSegments map size unit fields → EndAtLast before fields unit }
