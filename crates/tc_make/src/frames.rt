@@ -11,8 +11,8 @@ use tc_link::{Command, Header, WriteFault, write_frame};
 use tc_packet::Segment;
 use tc_write::segment_octet;
 
-/// Makes the frame with this header. Its data field carries the octets, after a segment header if one is given (CCSDS
-/// 232.0-B, 4.1.2 and 4.1.3).
+/// Makes the frame with this header. Its data field carries the octets, after a segment header if one is given
+/// (CCSDS 232.0-B, 4.1.2 and 4.1.3).
 ///
 /// The data field, including the segment header, needs to have 1 to 1,019 octets. Only the data field and the frame are
 /// allocated.
