@@ -76,7 +76,7 @@ put-copies wanted done ps (w ∷ ws) place at fit =
     let rest = put-copies wanted (done ++ w' ∷ []) ps ws (place + 1) (omega arith) fit.1 in
     one ∙ ap (λ (x : List StoredQueue). put_all x (copies_from wanted (place + 1) ps ws)) (sym (append_assoc done (w' ∷ []) ws)) ∙ rest ∙ append_assoc done (w' ∷ []) (map (λ (x : StoredQueue). with_items x (share wanted ps x)) ws)
 
--- once the copies are put, each queue has its share
+-- once the copies are put into the queues, each queue has its share
 pub shares-put : (wanted : ℕ → List ℕ → Bool) (ps : List (List ℕ)) (ws : List StoredQueue) → Fit ws → put_all ws (copies_from wanted 0 ps ws) ≡ map (λ (w : StoredQueue). with_items w (share wanted ps w)) ws
 shares-put wanted ps ws fit = put-copies wanted [] ps ws 0 refl fit
 

@@ -192,7 +192,7 @@ passed-as-sent limits c journal before later x sent lawful era comes =
     ap (λ (l : List (List ℕ)). drop n l) (fields-in-order limits c journal lawful)
     ∙ (rest-released n r accepted ∙ sent-fields sent 0 (r - n) (drop n accepted) (λ i a is. all i a is ∙ ap sent (omega arith)) inside)
 
--- the items that takes gave are, in order, items that the passed data fields make
+-- the items that were taken are, in order, items that the passed data fields make
 
 pub packets-given-of-made : (limits : ℕ → ℕ) (c : Settings) (journal : List Event) (apid : ℕ) (q : Queue) → queue_of apid (run_within limits c journal).queues ≡ Some q
     → IsPartOf (packets_given c apid (first_state_within limits c) journal) (packets_made limits c apid (run_within limits c journal).passed)

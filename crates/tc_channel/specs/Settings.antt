@@ -1,5 +1,5 @@
--- The settings that a channel can have, and the faults of others. The limits are this receiver's own. The APID 2047
--- marks idle packets (CCSDS 133.0-B, 4.1.2.3.4).
+-- The settings that a channel can have, and the faults of other settings. The limits on the buffer and on the queues are
+-- rules of this receiver, and not of a standard. The APID 2047 marks idle packets (CCSDS 133.0-B, 4.1.2.3.4).
 use Rattle.std.specs.Prelude.{◌≡◌, ◌≢◌, ◌<◌, ◌≤◌, ◌⊎◌, ℕ, false, List, [], ◌∷◌, All, AllPairs}
 use Rattle.tc_link.specs.Window.{IsWidth}
 use Rattle.tc_channel.specs.declared.settings.QueueSetting.{QueueSetting}

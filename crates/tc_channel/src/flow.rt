@@ -1,4 +1,4 @@
-//! Laws on the data that leaves a channel: it is the data that came in, in order.
+//! Laws about the data that leaves a channel. It is part of the data that came in, in the same order.
 #![tactic(auto, using(crate::proofs::Closing::flow))]
 
 ghost use Rattle.std.specs.Prelude.{◌≡◌, ◌≤◌, ◌∷◌, ◌+◌, ◌%◌, ℕ, true, List, [], Some, length, map, take};

@@ -27,14 +27,14 @@ pub struct Holding {
     pub maps: Items<MapHolding>,
 }
 
-/// The number of packets that wait in the queue of an APID.
+/// An APID, and the number of packets that wait in its queue.
 #[derive(Clone, Copy, Debug, PartialEq, Eq)]
 pub struct QueueHolding {
     pub apid: u16,
     pub packets: usize,
 }
 
-/// The number of units that wait in the queue of a chosen MAP.
+/// A chosen MAP, and the number of units that wait in its queue.
 #[derive(Clone, Copy, Debug, PartialEq, Eq)]
 pub struct MapHolding {
     pub map: u8,

@@ -152,9 +152,9 @@ pub fn a_unit_beyond_the_limit_of_its_map_is_none()
         → unit_of (run s journal) service field ≡ unit_ended (run s journal).segmented (stream service (map_of field) (run s journal).passed) field }
 {}
 
-/// A sender numbers its frames from 0 on. These frames may come or not, as was worked out by hand: an accepted frame
-/// may come once more, even much later, and a frame may come after two that were lost. No frame may come 256 numbers
-/// late or early.
+/// States examples, worked out by hand, of frames that may come from a sender that numbers its frames from 0 on. An
+/// accepted frame may come again, even 255 frames late, and a frame may come after two others were lost. No frame may
+/// come 256 frames late or early.
 pub fn a_sender_s_frames_may_come_so()
     ensures repeated { IsSent 0 (λ i. field_of (example.packet_octets 0)) 1 (example.packet_octets 0) }
     ensures late { IsSent 0 (λ i. field_of (example.packet_octets 0)) 255 (example.packet_octets 0) }

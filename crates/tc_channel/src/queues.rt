@@ -27,7 +27,8 @@ use tc_rooms::{Ended, GrowingRoom, Room, Runs};
 #[derive(Drop)]
 pub struct Queues<R: Room> {
     queues: BoxedSlice<Queue<R>>,
-    // the place of the queue with each key that an APID can be, if there are 8 queues or more
+    // The table has an entry for each possible APID: the place of the queue with that key, or the number of queues if
+    // there is none. It is empty if there are fewer than 8 queues, or too many for a table.
     table: BoxedSlice<u16>,
 }
 
@@ -178,10 +179,10 @@ fn unit_of<'a, R: Room>(runs: &'a Runs<R>, field: &'a [u8], ended: Ended) -> Opt
 }
 
 /// Delivers the unit that a data field ended, if it ended one, without moving it first. If memory runs out, all queues
-/// are as they were before the call. A step is counted for each packet that is cut from the unit, and for each queue
-/// that is looked at while one is found, committed or rolled back. So the number of steps grows as the number of the
-/// unit's packets times the number of queues that are looked at to find one queue. That number is one if there are 8
-/// queues or more, otherwise at most the number of all queues.
+/// are as they were before the call. A step is counted for each packet that is cut from the unit. A step is also counted
+/// for each queue that is looked at in a search for a queue, or that is committed or rolled back. So the number of steps
+/// grows as the number of the unit's packets times the number of queues that one search looks at. A search looks at one
+/// queue if there is a table, and otherwise at most at all of them.
 #[inline(always)]
 pub(crate) fn deliver_ended<R: Room, C: Tick>(
     runs: &Runs<R>,
