@@ -170,7 +170,7 @@ impl Channel {
     /// Brings the frame at the front of octets to the channel. The call doesn't look at the spacecraft and the channel
     /// that the frame is for. A [`Rack`] does that.
     pub fn frame(&mut self, octets: &[u8]) -> Result<Brought, BringError> {
-        // SAFETY: a channel is held, by nobody else, and there are as many octets as the count says.
+        // SAFETY: this value holds a channel, nobody else uses it, and there are as many octets as the count says.
         let reply = unsafe { sys::tcrx_channel_frame_at(self.0.get_mut(), octets.as_ptr(), octets.len()) };
         if reply.status != sys::DONE {
             return Err(BringError::of(reply.status, 0));
@@ -181,7 +181,7 @@ impl Channel {
 
     /// Releases the oldest data field from the buffer to reassembly and the queues.
     pub fn release(&mut self) -> Result<Delivery, ReleaseError> {
-        // SAFETY: a channel is held, by nobody else.
+        // SAFETY: this value holds a channel, and nobody else uses it.
         let delivery = unsafe { sys::tcrx_channel_release_at(self.0.get_mut()) };
         if delivery.status != sys::DONE {
             return Err(ReleaseError::of(delivery.status, 0));
@@ -192,7 +192,7 @@ impl Channel {
     /// Takes the oldest packet out of a queue, writes it to the front of `room`, and returns it from there. If the room
     /// is too short, the packet stays in the queue, and the error says how many octets it needs.
     pub fn take<'room>(&mut self, apid: u16, room: &'room mut [u8]) -> Result<&'room [u8], TakeError> {
-        // SAFETY: a channel is held, by nobody else, and the room is as long as it says.
+        // SAFETY: this value holds a channel, nobody else uses it, and the room is as long as it says.
         let written = unsafe { sys::tcrx_channel_take_at(self.0.get_mut(), apid, room.as_mut_ptr(), room.len()) };
         if written.status == sys::DONE {
             Ok(&room[..written.length])
@@ -203,7 +203,7 @@ impl Channel {
 
     /// Takes the oldest unit out of the queue of a chosen MAP, as `take` takes a packet. A unit may have no octets.
     pub fn take_unit<'room>(&mut self, map: u8, room: &'room mut [u8]) -> Result<&'room [u8], TakeError> {
-        // SAFETY: a channel is held, by nobody else, and the room is as long as it says.
+        // SAFETY: this value holds a channel, nobody else uses it, and the room is as long as it says.
         let written = unsafe { sys::tcrx_channel_take_unit_at(self.0.get_mut(), map, room.as_mut_ptr(), room.len()) };
         if written.status == sys::DONE {
             Ok(&room[..written.length])
@@ -290,7 +290,7 @@ impl Rack<'_> {
     /// channel, too.
     pub fn frame(&mut self, octets: &[u8]) -> Result<(u8, Brought), RackError> {
         let (at, count) = (self.channels.as_mut_ptr().cast(), self.channels.len());
-        // SAFETY: the channels are records of the library, held by nobody else, and there are as many of them and of
+        // SAFETY: the channels are records of the library that nobody else uses, and there are as many of them and of
         // octets as the counts say.
         let reply = unsafe { sys::tcrx_rack_frame_at(at, count, self.scid, self.fecf.into(), octets.as_ptr(), octets.len()) };
         if reply.status != sys::DONE {
@@ -330,7 +330,7 @@ impl Rack<'_> {
 
 impl Drop for Channel {
     fn drop(&mut self) {
-        // SAFETY: a channel is held, by nobody else, and isn't used after this.
+        // SAFETY: this value holds a channel that nobody else uses, and that isn't used after this.
         unsafe { sys::tcrx_channel_free_at(self.0.get_mut()) };
     }
 }
