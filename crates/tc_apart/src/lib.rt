@@ -3,7 +3,7 @@
 //! ([`channels_of_a_script_do_not_touch_each_other`]), and about the channels that a station gives out
 //! ([`channels_of_a_station_do_not_touch_each_other`]).
 //!
-//! Another law leads from a sender's packets to the packets that takes give, over any threads:
+//! Another law leads from a sender's packets to the packets that are taken, over any threads:
 //! [`a_station_gives_out_what_a_loop_sent`].
 #![tactic(auto)]
 

@@ -1,4 +1,4 @@
-//! A law that leads from a sender's packets to the packets that takes give, over any threads.
+//! A law that leads from a sender's packets to the packets that are taken, over any threads.
 
 ghost use Rattle.std.specs.Prelude.{Bool, List, ℕ, ◌++◌, ◌≡◌, length, slice_get, Some};
 ghost use Rattle.std.specs.List.{AllByRecursion};
@@ -27,10 +27,10 @@ use tc_write::the_segments_of_a_unit_make_the_unit;
 /// link.
 ///
 /// - `passed`: The Type-AD data fields of the era that were released are those that were sent, each once and in order.
-/// - `given`: Takes gave the packets that `packets_that_are_sent_are_given` (tc_ends) promises for the packets that the
-///   sender sent.
+/// - `given`: The packets that were taken are those that `packets_that_are_sent_are_given` (tc_ends) promises for the
+///   packets that the sender sent.
 /// - `in_cltus`: This also holds for the whole way, from a ground system's packets, over the start of an era and in
-///   CLTUs with wrong bits, to the packets that takes gave. The premises are those of `packets_in_cltus_are_given`
+///   CLTUs with wrong bits, to the packets that were taken. The premises are those of `packets_in_cltus_are_given`
 ///   (tc_ends).
 pub fn a_station_gives_out_what_a_loop_sent()
     ensures passed { (station : Roster) (operators : List AtStation) (closed : List History) (place : ℕ) (channel : History) (l : Loop) (session : List Action)

@@ -1,4 +1,4 @@
--- The way from the packets of a sender to the packets that takes give.
+-- The way from the packets of a sender to the packets that are taken.
 use Rattle.tc_ends.proofs.Names.{Ad, AllByRecursion, AreGivenOf, Bd, Bool, CarryUnits, ComesFromWithin, Event, HasMapsByHeaders, IsEraWithin, IsLawfulWithin, IsPartOf, IsSendable, List, Passed, Queue, SendsPackets, Service, Settings, Some, [], all_joined, all_made, ap, append-nil, append_assoc, arith, behind_ad, cond, drop, eqb, false, fields_passed, filter, filter-append, first_state_within, inl, inr, is_chosen_map, is_in, length, map, map-append, map_in, on_map, packets-given-of-made, packets_ended, packets_for, packets_given, packets_in_era, packets_made, passed-as-sent, passed_before, passed_in, queue_of, refl, released_since, run_within, same_service, sent_from, stream, stream_in, stream_unit, subst, suc, sym, true, unit_on, units-given-of-made, units_ended, units_given, units_made, unless_chosen, until_ad, zero, ℕ, ◌++◌, ◌+◌, ◌-◌, ◌∙◌, ◌∷◌, ◌≡◌, ◌≤◌}
 use Rattle.tc_channel.proofs.Lossless.{packets-all-given}
 use Rattle.tc_ends.proofs.Segmented.{Makes}
@@ -134,7 +134,7 @@ module _ (limits : ℕ → ℕ) (s : Settings) (journal before : List Event) (se
           ap (λ (x : List (List ℕ)). unless_chosen s id (packets_for apid x))
           (made-append (stream_unit limits s Bd id) old new rest ∙ ap (λ (x : List (List ℕ)). bd ++ x) (none-by-bd s.segmented limits s id (sent_from sent (released_since limits s before journal) (n - released_since limits s before journal)) (old ++ new)) ∙ append-nil bd)
 
-  -- the units of a chosen MAP that takes gave are units that were sent on it
+  -- the units of a chosen MAP that were taken are units that were sent on it
   pub units-of-sent : Makes → (later : List Event) (x : ℕ) (units : List (List ℕ)) (map_id : ℕ) (q : Queue)
       → IsLawfulWithin limits s journal → IsEraWithin limits s journal before later x → ComesFromWithin limits s before later x sent
       → s.segmented ≡ true → is_chosen_map s map_id ≡ true → CarryUnits true map_id units (on_map true map_id (sent_from sent 0 n)) → AllByRecursion (IsSendable limits true map_id) units

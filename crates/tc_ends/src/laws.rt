@@ -89,9 +89,9 @@ pub fn written_frames_carry_the_segments()
         → AreSegments map_id size unit (map field_of frames) }
 {}
 
-/// This law leads from a sender's packets to the packets that takes give. Suppose that the first n data fields of a
+/// This law leads from a sender's packets to the packets that are taken. Suppose that the first n data fields of a
 /// sender carry units of packets in segments, for each MAP in order. On a channel without segment headers, each field
-/// is a unit, and all units are one stream, that of MAP 0. Then all packets that takes of an application ever gave
+/// is a unit, and all units are one stream, that of MAP 0. Then all packets that were ever taken for an application
 /// come, in order, first from the data fields before the era, and then from a merge of the packets that were sent on
 /// each MAP and those that Type-BD brought. If the era is the whole journal, there are none before it (`start`). Some
 /// packets may be left out, such as those dropped at a full queue (`given`).
@@ -104,7 +104,7 @@ pub fn packets_that_are_sent_are_given()
     the_segments_of_a_unit_make_the_unit();
 }
 
-/// The units of a chosen MAP that takes gave are, in order, units that were sent on the MAP. Some may be left out.
+/// The units of a chosen MAP that were taken are, in order, units that were sent on the MAP. Some may be left out.
 pub fn units_that_are_sent_are_given()
     ensures { (limits : ℕ → ℕ) (s : Settings) (journal before later : List Event) (x : ℕ) (sent : ℕ → List ℕ) (n : ℕ) (units : List (List ℕ)) (map_id : ℕ) (q : Queue)
         → IsLawfulWithin limits s journal → IsEraWithin limits s journal before later x → ComesFromWithin limits s before later x sent
@@ -126,10 +126,11 @@ pub fn numbered_frames_send_packets()
         → (k : ℕ) → k < length frames → (header_of (slice_index_or frames k [])).ns ≡ (header.ns + k) % 256 }
 {}
 
-/// This law leads from a ground system's packets to the packets that takes give, over the start of an era and over
+/// This law leads from a ground system's packets to the packets that are taken, over the start of an era and over
 /// links that lose, repeat and delay frames, but keep their order. The sender sends Set V(R) and then its packets, in
 /// units on any MAPs. It numbers the frames, sends them by its window, and sends no others. When it believes that Set
-/// V(R) was obeyed, this is true. Then takes gave what [`packets_that_are_sent_are_given`] promises.
+/// V(R) was obeyed, this is true. Then the packets that were taken are those that [`packets_that_are_sent_are_given`]
+/// promises.
 pub fn packets_from_a_start_are_given()
     ensures { (s : Start) (header : Header) (units : List UnitSent) (frames : List (List ℕ)) (apid : ℕ) (q : Queue) → IsStart s
         → AllByRecursion (CanBeSent s.loop.limits s.loop.settings.segmented) units → AreNumbered s.loop.settings.segmented header units frames → AreFrom (era s).frames frames → SendsOnly (length frames) (era_session s)
@@ -151,12 +152,12 @@ pub fn a_cltu_with_few_wrong_bits_brings_its_frame()
         → state_behind mode (Searching last) (Octets octets) ≡ Searching 0 }
 {}
 
-/// This law covers the whole way, from a ground system's packets to the packets that takes give. The sender is that of
+/// This law covers the whole way, from a ground system's packets to the packets that are taken. The sender is that of
 /// [`packets_from_a_start_are_given`]. Its frames come in CLTUs, as octets in which any bits may be flipped, over links
 /// that keep order. Suppose that error detection lets no altered frame through. Detection uses the parity of the code
 /// blocks, the frame's length and, if frames have one, the frame error control field. A frame that is refused is lost,
-/// and a CLTU with few wrong bits arrives ([`a_cltu_with_few_wrong_bits_brings_its_frame`]). Then takes gave what
-/// [`packets_that_are_sent_are_given`] promises.
+/// and a CLTU with few wrong bits arrives ([`a_cltu_with_few_wrong_bits_brings_its_frame`]). Then the
+/// packets that were taken are those that [`packets_that_are_sent_are_given`] promises.
 pub fn packets_in_cltus_are_given()
     ensures { (s : Start) (header : Header) (units : List UnitSent) (frames : List (List ℕ)) (apid : ℕ) (q : Queue) (mode : Mode) (field : Bool) (state : Reception) (coming : List Coming) (came : List Event)
         → IsStart s → AllByRecursion (CanBeSent s.loop.limits s.loop.settings.segmented) units → AreNumbered s.loop.settings.segmented header units frames → AreFrom (era s).frames frames → SendsOnly (length frames) (era_session s)
