@@ -1,4 +1,4 @@
-//! The stations that are loaded.
+//! The stations that the rounds of a load run on.
 
 use crate::plan::LOADED;
 use crate::sender::SCID;

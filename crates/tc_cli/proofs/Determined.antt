@@ -66,7 +66,7 @@ same-at id xs apart vcid one other x y at is to too =
     let place = apart one other vcid (mapped-at id xs one x at ∙ ap (λ (z : ℕ). Some z) is) (mapped-at id xs other y to ∙ ap (λ (z : ℕ). Some z) too) in
     (place, same_Some x y (sym at ∙ (ap (slice_get xs) place ∙ to)))
 
--- distinct ids stay distinct if an id is added that is none of them
+-- distinct ids stay distinct if an id that isn't among them is added
 apart-push : (ids : List ℕ) (new : ℕ) → AreApart ids → ((place : ℕ) → slice_get ids place ≡ Some new → ⊥) → AreApart (ids ++ new ∷ [])
 apart-push ids new apart none one other vcid at to =
     let first = push-cases ids new vcid one at in

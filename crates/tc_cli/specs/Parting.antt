@@ -48,8 +48,8 @@ HasWorkList lists vcid = Any (λ (l : WorkList). l.vcid ≡ vcid) lists
 abbrev pub IsListAt : List WorkList → ℕ → ℕ → WorkList → Type 0
 IsListAt lists vcid place l = (slice_get lists place ≡ Some l) × (l.vcid ≡ vcid)
 
--- The job comes last in the list of this channel, and all other lists stay. If there is no such channel, all lists
--- stay.
+-- The job is appended to the list of this channel, and the other lists stay the same. If there is no such channel, all
+-- lists stay the same.
 abbrev pub IsGiven : ℕ → Job → Parted → Parted → Type 0
 IsGiven vcid job old new =
     ((place : ℕ) × (l : WorkList) × IsListAt old.lists vcid place l × (new ≡ record old { lists = slice_set old.lists place (with_job l job) }))

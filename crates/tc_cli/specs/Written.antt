@@ -71,27 +71,28 @@ IsSessionUnbalanced scid session =
 abbrev pub IsReportFault : ℕ → Session → ℕ → ScriptFault → Type 0
 IsReportFault scid session lines fault = (fault ≡ Write) ⊎ ((fault ≡ Unbalanced) × IsSessionUnbalanced scid session) ⊎ (fault ≡ Line lines NoMemory)
 
--- known octets grow by the report
+-- the report is appended to the octets written before it, if these are known
 abbrev pub IsSessionReportWritten : ℕ → Session → Option (List ℕ) → Option (List ℕ) → Type 0
 IsSessionReportWritten scid session old new = (text : List ℕ) × IsSessionReport scid session text × Appends old new text
 
--- Known octets grow by the answers to all lines of the script, in order, and then by the report. Each answer, and the
--- report, follows from the lines before it, by definitions in which there is no station.
+-- If the octets written so far are known, the answers of all lines of the script, in order, and then the report are
+-- appended to them. Each answer and the report follow from the lines before them, by definitions in which there is no
+-- station.
 abbrev pub IsScriptWritten : ℕ → List ℕ → Option (List ℕ) → Option (List ℕ) → Type 0
 IsScriptWritten scid script old new =
     (answers : List (Option Answer)) × (progress : Progress) × (report : List ℕ) × AreAnswers (IsPerformed scid) script answers progress []
     × IsScriptReport scid progress report × Appends old new (answers_text answers ++ report)
 
--- The script has a line with this number for which `IsSo` holds, and known octets grow by the answers to the lines
--- before it alone. Since the station isn't closed, each answer is only known to be the one at some moment of its
--- channel's desk.
+-- The script has a line with this number for which `IsSo` holds. If the octets written so far are known, only the answers
+-- of the lines before it are appended to them. Each answer is that of some moment of its channel's desk, since the
+-- station isn't closed.
 abbrev pub IsWrittenBefore : ℕ → List ℕ → ℕ → (Session → List ℕ → Type 0) → Option (List ℕ) → Option (List ℕ) → Type 0
 IsWrittenBefore scid script number IsSo old new =
     (answers : List (Option Answer)) × (session : Session) × (rest : List ℕ) × (line : List ℕ) × (after : List ℕ)
     × AreAnswers (IsStaffedOperated scid) script answers session rest × IsFirstLine rest line after × IsSo session line
     × (number ≡ length answers + 1) × Appends old new (answers_text answers)
 
--- known octets grow by the answers to all `count` lines, and by no report
+-- the answers of all `count` lines are appended to the octets written so far, if these are known, and no report is
 abbrev pub IsScriptUnreported : ℕ → List ℕ → ℕ → Option (List ℕ) → Option (List ℕ) → Type 0
 IsScriptUnreported scid script count old new =
     (answers : List (Option Answer)) × (session : Session) × AreAnswers (IsStaffedOperated scid) script answers session [] × (count ≡ length answers)
@@ -103,7 +104,8 @@ abbrev pub IsOutOfMemory : ℕ → List ℕ → ℕ → Option (List ℕ) → Op
 IsOutOfMemory scid script number old new =
     ((number ≡ 0) × Keeps old new) ⊎ IsWrittenBefore scid script number (λ _ _. ⊤) old new ⊎ IsScriptUnreported scid script number old new
 
--- known octets grow by the answers to all lines, and by no report, since the station is out of balance
+-- the answers of all lines are appended to the octets written so far, if these are known, and no report is, since the
+-- station is out of balance
 abbrev pub IsScriptUnbalanced : ℕ → List ℕ → Option (List ℕ) → Option (List ℕ) → Type 0
 IsScriptUnbalanced scid script old new =
     (answers : List (Option Answer)) × (session : Session) × AreAnswers (IsStaffedOperated scid) script answers session [] × IsSessionUnbalanced scid session
@@ -121,7 +123,8 @@ IsScriptCutShort scid script old new TooLong = Keeps old new
 IsScriptCutShort scid script old new Write = Unit {0}
 IsScriptCutShort scid script old new Unbalanced = IsScriptUnbalanced scid script old new
 
--- known octets grow by the report that the script has if its lines are carried out in order
+-- the report that the script has when its lines are carried out in order is appended to the octets written so far, if
+-- these are known
 abbrev pub IsWrittenInParallel : ℕ → List ℕ → Option (List ℕ) → Option (List ℕ) → Type 0
 IsWrittenInParallel scid script old new =
     (answers : List (Option Answer)) × (progress : Progress) × (text : List ℕ) × AreAnswers (IsPerformed scid) script answers progress []

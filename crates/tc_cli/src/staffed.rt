@@ -43,8 +43,8 @@ impl Model for StaffedStation {
 }
 
 impl StaffedStation {
-    /// Creates a staffed station from a station that has issued no operator yet. It gets its first operator, and
-    /// watchers of the channels with these ids, which are all its channels.
+    /// Creates a staffed station from a station that has issued no operator yet. `vcids` are the ids of all channels of
+    /// the station. The call issues the first operator, and creates a watcher of each channel.
     pub(crate) fn new(
         rt: &impl Wait,
         alloc: Global,

@@ -43,7 +43,7 @@ nowhere = record {
 abbrev pub identity_of : AtDesk → Identity
 identity_of d = record { settings = d.channel.settings; board = d.board }
 
--- the moment of a desk as it is
+-- the moment of a desk at present: its identity, and its channel's journal
 abbrev pub moment_of : AtDesk → Moment
 moment_of d = record { head = identity_of d; entries = d.channel.journal }
 

@@ -1,5 +1,5 @@
 -- The limits on the length of units by MAP, the limits that a channel can have, and the faults of other limits. These
--- rules are this receiver's own.
+-- are rules of this receiver, and not of a standard.
 use Rattle.std.specs.Prelude.{◌≡◌, ◌≢◌, ◌≤◌, ◌⊎◌, ◌==◌, ℕ, max, min, Bool, false, List, [], ◌∷◌, All, AllPairs, Any, if◌then◌else◌}
 use Rattle.std.specs.List.{AllByRecursion}
 use Rattle.tc_packet.specs.Reassembly.{largest_unit}

@@ -120,7 +120,7 @@ arrived l session s k from last free empty =
       ever-more l session (session ++ action ∷ []) (record { ns = h.ns; field = drop 5 octets }) (ap (λ (c : ChannelState). c.accepted) is ∙ takes (row_of l.settings b octets) octets b row state),
     )
 
--- the round
+-- one round of actions, by which one more frame is accepted
 
 four-more : (xs : List Action) (a b c d : Action) → (((xs ++ a ∷ []) ++ b ∷ []) ++ c ∷ []) ++ d ∷ [] ≡ xs ++ (a ∷ b ∷ c ∷ d ∷ [])
 four-more [] a b c d = refl

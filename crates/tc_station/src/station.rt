@@ -323,8 +323,8 @@ impl<J: Journal> StationOf<J> {
     }
 
     /// Runs the operation on the channel at this place. The channel's watcher meets the channel before and after the
-    /// operation, and the channel's lock is held once for all of this. So the watcher had seen no more than the journal
-    /// before the operation, and afterwards it has seen all that the operator has.
+    /// operation, and the channel's lock is held from the first meeting to the second. So the watcher had seen no more
+    /// than the journal before the operation, and afterwards it has seen all that the operator has.
     pub fn operate_met<O: Operation<J>, R: Wait>(
         &self,
         rt: &R,
