@@ -14,8 +14,8 @@
 
 typedef uint32_t u32;
 
-/* One more than the most octets of a frame, so that a call sees that octets follow it. The longest frames are those of
- * telemetry. */
+/* The number of octets that a call is given at most: the longest frame, which is a telemetry frame of 2,048 octets, and
+ * one more, by which the call sees that octets follow the frame. */
 enum { MOST_FRAME = 2049 };
 
 static u32 numbers[16];
@@ -29,7 +29,7 @@ int heap_reserve(uint64_t count);
 void *heap_take(uint64_t count);
 void heap_give(void *at);
 
-/* The form in which the library gets its memory. In its LLVM module the two are numbers of 64 bits. */
+/* A block of memory, as the library receives it. In the library's LLVM module both fields are numbers of 64 bits. */
 typedef struct {
     uint64_t given;
     uint64_t at;

@@ -1,5 +1,5 @@
-/* The practical limit for a channel of fixed storage: a channel written by hand in C, which gives the same answers,
- * creates its rooms at the start, and has no journal. */
+/* A channel written by hand in C, with which the library's channel of fixed storage is compared. It gives the same
+ * answers, creates its rooms at the start, and has no journal. */
 #ifndef CHANNEL_H
 #define CHANNEL_H
 
