@@ -17,24 +17,24 @@ ALIAS = r"^typedef (?P<kind>\w+) (?P<alias>\w+);"
 ENUM = r"^enum \{(?P<constants>[^}]*)\};"
 CALL = r"^(?P<inline>static inline )?(?P<call>\w[\w ]*? \*?tcrx_\w+\([^)]*\))(?:;| \{\n.*?^\})"
 BEHIND = r"[ \t]*(?:/\*\*?<?(.*?)\*/)?"
-# What goes by other names where the words are read than in the comments.
+# Names in comments that Markdown shows as code.
 IN_CODE = re.compile(r"(`[^`]+`)|#?\b((?:tcrx|TCRX|rattle)_\w+(?:\.[ch]\b)?|\w+\.[acho]\b)(?:\(\))?")
 
 
 @dataclass
 class Item:
-    """What a comment is about: its kind, its text in the header, and what the comment says."""
+    """An item of the header that a comment describes: its kind, its text, and the comment."""
 
     kind: str
     text: str
     comment: str
     parts: List[Tuple[str, str, str]] = field(default_factory=list)
-    """The constants with their values, or the fields with their types, each with what is said of it."""
+    """The constants with their values, or the fields with their types, each with its description."""
     is_inline: bool = False
-    """Of a call: it is C of the header over one that the library exports, which has the same name with _at."""
+    """Whether a call is C in the header, which calls an exported function. That function has the same name, with _at at its end."""
 
     def parameters(self) -> List[Tuple[str, str]]:
-        """The parameters of a call, each with what is said of it, if that is more than its name."""
+        """Returns the parameters of a call with their descriptions, except those whose description is only their name."""
         found = re.findall(r"^@param (\w+)\s+(.*?)(?=^@|\Z)", self.comment, re.M | re.S)
         return [(name, sentence(words)) for name, words in found if words.strip().lower() != f"the {name}"]
 
@@ -49,25 +49,25 @@ class Group:
 
 
 def uncommented(text: str) -> str:
-    """The words of a comment, paragraphs separated by an empty line."""
+    """Returns the words of a comment, with an empty line between paragraphs."""
     lines = [re.sub(r"^\s*\*? ?", "", line).rstrip() for line in text.strip().split("\n")]
     return "\n".join(lines).strip()
 
 
 def constants_of(body: str) -> List[Tuple[str, str, str]]:
-    """The constants of an enumeration, with their values and comments."""
+    """Returns the constants of an enumeration, with their values and comments."""
     found = re.findall(r"(TCRX_\w+) = (\d+),?" + BEHIND, body, re.S)
     return [(name, value, uncommented(comment)) for name, value, comment in found]
 
 
 def fields_of(body: str) -> List[Tuple[str, str, str]]:
-    """The fields of a record, with their types and comments."""
+    """Returns the fields of a record, with their types and comments."""
     found = re.findall(r"^ *(\w+ \*?)(\w+);" + BEHIND, body, re.M | re.S)
     return [(name, kind.strip(), uncommented(comment)) for kind, name, comment in found]
 
 
 def item_of(found: "re.Match[str]", comment: str) -> Item:
-    """An item, by the pattern that found it."""
+    """Returns the item that a match of one of the patterns stands for."""
     if found["macro"] and found["value"].startswith("("):
         return Item("call", found["macro"] + found["value"].partition(")")[0] + ")", comment)
     if found["macro"]:
@@ -86,7 +86,7 @@ def item_of(found: "re.Match[str]", comment: str) -> Item:
 
 
 def groups_of(header: str) -> Tuple[str, List[Group]]:
-    """What the comment of the file says, and the parts of the header. What is in no group is in one without a title."""
+    """Returns the text of the file's comment, and the parts of the header. Items that are in no group are in one without a title."""
     header = re.sub(r"/\*\* @cond \*/.*?/\*\* @endcond \*/|^TCRX_TO_BE_READ\n", "", header, flags=re.M | re.S)
     front, groups, comment, end = "", [Group("", "")], "", 0
     for found in re.finditer("|".join((COMMENT, DEFINE, STRUCT, ALIAS, ENUM, CALL)), header, re.M | re.S):
@@ -107,22 +107,22 @@ def groups_of(header: str) -> Tuple[str, List[Group]]:
 
 
 def prose(text: str) -> str:
-    """A comment's words as Markdown, on one line."""
+    """Returns a comment's words as Markdown, on one line."""
     text = re.sub(r"@(?:brief|file \S+)", "", text)
     return " ".join(IN_CODE.sub(lambda found: found[1] or f"`{found[2]}`", text).split())
 
 
 def sentence(text: str) -> str:
-    """A comment's words by themselves."""
+    """Returns a comment's words on one line, without the full stop if they are a single sentence."""
     return prose(text).rstrip(".") if text.count(". ") == 0 else prose(text)
 
 
 def name_of(item: Item) -> str:
-    """The name of a call."""
+    """Returns the name of a call."""
     return re.split(r"\W+", item.text.partition("(")[0])[-1]
 
 
-# --- What the library exports ---
+# --- The interface of the library ---
 
 class Call(NamedTuple):
     """A call: its name for callers in C, that of the function that is exported, the type of its answer, its parameters by type and
@@ -136,7 +136,7 @@ class Call(NamedTuple):
 
 
 class Interface(NamedTuple):
-    """What the library exports, in the order in which the header describes it."""
+    """The constants, records and calls that the library exports, in the order in which the header describes them."""
 
     version: List[int]
     enumerations: List[Item]
@@ -144,19 +144,19 @@ class Interface(NamedTuple):
     calls: List[Call]
 
     def statuses(self) -> Dict[str, str]:
-        """The statuses, with what each means."""
+        """Returns the statuses with their meanings."""
         return {name: words for item in self.enumerations for name, _, words in item.parts if item.parts[0][0] == "TCRX_DONE"}
 
 
 def parameter_of(text: str) -> Tuple[str, str]:
-    """A parameter's type and name."""
+    """Returns a parameter's type and name."""
     parted = re.fullmatch(r"(.*[ *])(\w+)", text)
     assert parted, text
     return parted[1].strip(), parted[2]
 
 
 def exported_calls(calls: Dict[str, Item]) -> List[Call]:
-    """The calls of the library, of all that the header declares. To them a text is octets."""
+    """Returns the calls that the library exports, from all calls that the header declares. Their texts are octets."""
     exported = []
     for name, item in calls.items():
         if item.text.startswith("tcrx_"):
@@ -167,7 +167,7 @@ def exported_calls(calls: Dict[str, Item]) -> List[Call]:
 
 
 def interface_of(header: str) -> Interface:
-    """What the library exports, by the text of its header."""
+    """Returns the constants, records and calls that the library exports, from the text of its header."""
     items = [item for group in groups_of(header)[1] for item in group.items]
     macros = {name: value for item in items if item.kind == "macro" for name, value, _ in item.parts}
     return Interface([int(macros[f"TCRX_API_{part}"]) for part in ("MAJOR", "MINOR", "PATCH")],
