@@ -1,4 +1,4 @@
--- What is written after the last line, with or without the final report.
+-- The text that is written after the last line, with or without the final report.
 use Rattle.tc_live.proofs.Names.{◌≡◌, ◌⊎◌, ℕ, Bool, false, List, Option, None, Some, IfSome, Result, Ok, Err, inl, inr, sym, subst, both_ways, All-permutation, Appends-trans, Appends-kept, ◌↔◌, All, IsPermutation, IsTrue, OnOk, IfOk, IfErr, Keeps, histories, Receiving, rack_at, IsClosingFault, IsReceptionCutShort, IsLineSaid, IsReportWritten, IsNumberUnreported, IsReceptionWritten, fault_at_lines, line_limit, FrameEnds}
 use Rattle.tc_lines.specs.Answering as lines
 use Rattle.tc_lines.specs.declared.answering.ServingFault.{ServingFault as AnsweringFault}

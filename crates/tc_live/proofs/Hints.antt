@@ -1,4 +1,4 @@
--- Numbers whose words are missing.
+-- Hints for lines that lack the words of some numbers.
 use Rattle.tc_live.proofs.Names.{◌≡◌, List, [], ◌∷◌, None, refl, first_misfit}
 use Rattle.tc_live.specs.declared.hint.Number.{Number}
 
