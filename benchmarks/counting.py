@@ -1,4 +1,4 @@
-"""What the measuring programs share: commands that must succeed, and instructions as callgrind counts them."""
+"""Functions that the measuring programs share. They run commands that must succeed, and count instructions by callgrind."""
 from __future__ import annotations
 
 import os

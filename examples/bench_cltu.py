@@ -30,8 +30,8 @@ def turned(dice: random.Random, octets: bytes) -> bytes:
 
 
 class Edges(bench_udp.Remote):
-    """The calls of a receiver that the sender needs, over CLTUs and telemetry frames. A tcmake makes the CLTUs and reads
-    the telemetry frames."""
+    """A receiver that the sender reaches over CLTUs and telemetry frames. A tcmake makes the CLTUs and reads the telemetry
+    frames."""
 
     # pylint: disable-next=too-many-arguments  # the bench, and what was chosen
     def __init__(self, ports: Dict[str, int], clcws: socket.socket, seed: int, randomised: bool, tcmake: Path) -> None:

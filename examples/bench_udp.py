@@ -25,7 +25,7 @@ PORTS = ("--tc-udp", "0", "--clcw-udp", "PLACE", "--period", PERIOD)
 
 
 class Remote:
-    """The calls of a receiver that the sender needs, over the ports of a bench that releases and takes by itself."""
+    """A receiver that the sender reaches over the ports of a bench. The bench releases and takes by itself."""
 
     def __init__(self, ports: Dict[str, int], clcws: socket.socket) -> None:
         self.clcws = clcws

@@ -330,8 +330,8 @@ static void check_lists(void) {
     expect(status_of(plain, NULL, 0, good_maps, 2) == TCRX_PLAIN_MAP, "a MAP of a plain channel", 0);
 }
 
-/* Returns the status of a new channel within limits. A channel that is created is freed. Its storage isn't compared
- * here, because storage.c does that. */
+/* Returns the status of a new channel within limits. A channel that is created is freed. Its storage isn't
+ * compared here, because storage.c does that. */
 static tcrx_status limited(tcrx_settings settings, const tcrx_map *maps, size_t m, uint32_t others, const tcrx_limit *limits, size_t l) {
     tcrx_channel channel = TCRX_HOLDS_NONE;
     const tcrx_status status = tcrx_channel_new_with_limits(&channel, settings, good_queues, 2, maps, m, others, limits, l);

@@ -125,8 +125,8 @@ typedef struct {
     uint8_t no_rf, no_bit_lock;
 } receiver;
 
-/* The channels that are set up, and the rack. From the first operation on, each channel is at the place of its id in
- * the rack. */
+/* The settings of each channel, and the rack. From the first operation on, each channel is at the place of its id in the
+ * rack. */
 static receiver receivers[CHANNELS];
 static tcrx_channel rack[CHANNELS];
 static bool is_operating;
@@ -410,7 +410,7 @@ static reason operate(command what) {
     return NULL;
 }
 
-/* --- What a line says --- */
+/* --- The words of a line --- */
 
 typedef struct {
     const char *name;
