@@ -27,7 +27,7 @@ more-state mode o d n f g on less room made next =
     let short = lt-ltb (length (take d.count (drop d.carried f))) 7 (omega arith) in
     rw (next, made, on, short, carried-stays d.carried d.count o f, block-more d.carried d.count o f room)
 
--- after its eighth octet, all octets of a block are there
+-- after its eighth octet, a block is complete
 full : (h : ℕ) (f : List ℕ) → h + 7 < length f → ltb (length (take 7 (drop h f))) 7 ≡ false
 full h f room =
     let long = block-length h 7 f room in

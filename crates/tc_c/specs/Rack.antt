@@ -43,7 +43,7 @@ abbrev pub IsLocatedAmong : List (Option LimitedHistory) → ℕ → List ℕ �
 IsLocatedAmong channels scid octets place frame h =
     BeginsWith octets frame × ((header_of frame).scid ≡ scid) × IsFirstWithVcid channels (header_of frame).vcid place h
 
--- the reason why octets are for none of the channels: the first of these that applies
+-- the reason why octets are for none of the channels: the first of these faults that applies
 abbrev pub IsLocateFaultAmong : List (Option LimitedHistory) → ℕ → List ℕ → LocateFault → Type 0
 IsLocateFaultAmong channels scid octets (Frame fault) = fault_of octets ≡ Some fault
 IsLocateFaultAmong channels scid octets OtherSpacecraft = (frame : List ℕ) × BeginsWith octets frame × ((header_of frame).scid ≢ scid)

@@ -10,7 +10,7 @@ pub set-up : {O : Type 0} (stage : Stage O) (list : List Settings) → phase_of 
 set-up (SettingUp settings) list is = cc
 set-up (Operating there) list is = absurd cc
 
--- a bad line after good ones is the first bad one, and if memory ran out at the line, the lines before it are good
+-- A bad line after good ones is the first bad one. If memory ran out at a line, the lines before it are good.
 pub first-bad : (script rest line after : List ℕ) (before : ℕ) (phase : Phase) (reason : Reason)
     → (reason ≡ NoMemory) ⊎ IsBadLine phase line reason → Leads script before phase rest → IsFirstLine rest line after → length script ≤ script_limit
     → ((reason ≡ NoMemory) × IsReached script (before + 1)) ⊎ ((length script ≤ script_limit) × IsFirstBad script (before + 1) reason)

@@ -32,8 +32,8 @@ Begins scid old new = (found : Parted) × ArePartedFor scid old found × (new �
 abbrev pub GivesToFound : ℕ → (Parted → Parted → Type 0) → Plan → Plan → Type 0
 GivesToFound scid Gives old new = (found parted : Parted) × ArePartedFor scid old found × Gives found parted × (new ≡ Operating parted)
 
--- The job of a line is given to the line's channel. A blank line has no job, and neither has a request for a CLCW. The
--- phase describes the effect of a line that sets something up.
+-- The job of a line is given to its channel. A blank line or a CLCW has no job. Nothing is stated about a line that
+-- sets up, because the phase determines its effect.
 abbrev pub IsParted : ℕ → ℕ → Plan → Instruction → Plan → Type 0
 IsParted scid line old Nothing new = new ≡ old
 IsParted scid line old (Channel settings) new = Unit {0}
@@ -51,8 +51,8 @@ IsLineParted scid number plan line new =
     (said : Said) × (line_of (words line) ≡ Ok said) × Does (phase_of plan) (instruction_of said) (phase_of new)
     × IsParted scid number plan (instruction_of said) new
 
--- The first lines of a script are good, and their jobs are given, each with the number of its line. This number of
--- lines leads to this plan, and leaves these octets.
+-- The first lines of a script, of which there are this number, are good. Each job of these lines was given to its
+-- channel with the number of its line. This leads to this plan, and these octets of the script remain.
 pub data AreParted (scid : ℕ) (script : List ℕ) : ℕ → Plan → List ℕ → Type 0 where
   none_parted : AreParted scid script 0 (SettingUp []) script
   one_parted : {count : ℕ} {plan new : Plan} {rest line after : List ℕ}

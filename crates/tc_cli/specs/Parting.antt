@@ -61,8 +61,8 @@ IsFrameGiven line octets old new =
     ((vcid : ℕ) × (frame : List ℕ) × IsLocated old.station octets vcid frame × IsGiven vcid (record { line = line; order = Bring octets }) old new)
     ⊎ ((fault : LocateFault) × IsLocateFault old.station octets fault × (new ≡ old))
 
--- The station has issued an operator for each list. These operators had made no event before, and did all jobs. The
--- station was closed together with them.
+-- The station has issued an operator for each list. Before the first job the operators had made no event. They did all
+-- jobs, and the station was closed together with them.
 pub record IsWorkedOut (parted : Parted) (channels : List History) : Type 0 where
   pub station : Roster
   pub befores : List AtStation
@@ -77,8 +77,8 @@ pub record IsWorkedOut (parted : Parted) (channels : List History) : Type 0 wher
 abbrev pub IsJobLine : List WorkList → ℕ → Type 0
 IsJobLine lists line = Any (λ (l : WorkList). Any (λ (job : Job). job.line ≡ line) l.jobs) lists
 
--- The station has issued an operator for each list. These operators had made no event before, and did all jobs. The
--- station is out of balance, and there is a cause.
+-- The station has issued an operator for each list. Before the first job the operators had made no event. They did all
+-- jobs, and the station is out of balance for this cause.
 abbrev pub IsWorkedUnbalanced : Parted → Type 0
 IsWorkedUnbalanced parted =
     (station : Roster) × (befores operators : List AtStation) × (station ≡ record parted.station { issued = length parted.lists })

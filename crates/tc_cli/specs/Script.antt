@@ -52,7 +52,7 @@ abbrev pub AreFirstGood : List ℕ → ℕ → Type 0
 AreFirstGood script count = (phase : Phase) × (rest : List ℕ) × Leads script count phase rest
 
 -- The line with this number was reached. Either all lines up to it are good, or all lines before it are good and there
--- is such a line. The number is 0 before the first line.
+-- is such a line. Before the first line, the number is 0.
 abbrev pub IsReached : List ℕ → ℕ → Type 0
 IsReached script number =
     AreFirstGood script number
@@ -63,8 +63,8 @@ IsReached script number =
 abbrev pub IsScriptCloseFault : Roster → List AtStation → ℕ → ScriptFault → Type 0
 IsScriptCloseFault station operators lines fault = ((fault ≡ Unbalanced) × IsCauseAtStation station operators) ⊎ (fault ≡ Line lines NoMemory)
 
--- The fault of a script with `lines` lines whose station isn't closed. A lock that isn't free is reported as lack of
--- memory, as a station's `close` reports it.
+-- The fault of a script of `lines` lines whose station isn't closed. A lock that isn't free is reported as running out
+-- of memory.
 abbrev pub close_fault : ℕ → Refusal → ScriptFault
 close_fault lines refusals.NoMemory = Line lines NoMemory
 close_fault lines refusals.InUse = Line lines NoMemory

@@ -40,12 +40,12 @@ pub record IsNewlyStaffed (scid : ℕ) (list : List Settings) (m : Staffed) : Ty
   pub nothing : HasMadeNothing m.operator
   pub watchers : AreWatchersOf m.station m.watchers
 
--- The station is the same, and its operator has counted as much as before. The operator and the watchers may have seen
--- more.
+-- The station is the same, and its operator has counted as many events as before. The operator and the watchers may
+-- have seen more.
 abbrev pub AreAsCounted : Staffed → Staffed → Type 0
 AreAsCounted old new = (new.station ≡ old.station) × (tally new.operator ≡ tally old.operator)
 
--- the channel of a desk at some moment, with no flag of its link set, since a script sets none
+-- The channel of a desk at some moment. No flag of its link is set, since a script sets none.
 abbrev pub linked : Moment → Linked
 linked m = record { history = history_of m; link = no_flag }
 
@@ -126,7 +126,7 @@ IsStaffedAnswer (operations.Take vcid apid) old answer new = IsDeskAnswer vcid (
 IsStaffedAnswer (operations.Unit vcid map_id) old answer new = IsDeskAnswer vcid (IsUnitAnswered map_id) old answer new
 IsStaffedAnswer (operations.Clcw vcid) old answer new = IsWordAnswer vcid old answer new
 
--- The watcher at this place met its desk, through the operator. The other watchers are as they were.
+-- The watcher of this place met the desk there, through the operator. The other watchers stay the same.
 pub record HasMetAt (place : ℕ) (before : Staffed) (after : Staffed) : Type 0 where
   pub vcid : ℕ
   pub early : Watching

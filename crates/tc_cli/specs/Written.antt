@@ -47,15 +47,15 @@ pub data AreAnswers {O : Type 0} (Operates : Operation → Stage O → Answer �
 abbrev pub answers_text : List (Option Answer) → List ℕ
 answers_text answers = flat_map answer_line answers
 
--- The text is the report at the end of a script with this progress. It is about all channels of the script, each with
--- the journal that the operations made. There is no report if no channel was set up.
+-- The text is the report at the end of a script with this progress. It covers all channels of the script, each with the
+-- journal that the operations made. There is no report if no channel was set up.
 abbrev pub IsScriptReport : ℕ → Progress → List ℕ → Type 0
 IsScriptReport scid progress text =
     ((phase_of progress ≡ Setup []) × (text ≡ []))
     ⊎ ((channels : List History) × IsPermutation (histories (rack_for scid progress)) channels × IsReportOf channels text)
 
--- The text is the report at the end of a session. Each watcher met its desk, and then the station was closed together
--- with its operator. There is no report if no channel was set up.
+-- The text is the report on a station that was found at the end of a session, and closed together with its operator
+-- once each watcher had met its desk. There is no report if no channel was set up.
 abbrev pub IsSessionReport : ℕ → Session → List ℕ → Type 0
 IsSessionReport scid session text =
     ((phase_of session ≡ Setup []) × (text ≡ []))
@@ -111,9 +111,9 @@ IsScriptUnbalanced scid script old new =
     (answers : List (Option Answer)) × (session : Session) × AreAnswers (IsStaffedOperated scid) script answers session [] × IsSessionUnbalanced scid session
     × Appends old new (answers_text answers)
 
--- The text that was written if a script ends early. There is none if the script wasn't read. Otherwise it is the
--- answers to the lines before the one that ended the script, or to all lines if the counts are out of balance. If
--- writing failed, nothing is known about the text.
+-- The text that was written if a script ends early. It is empty if the script wasn't read. It is the answers of the
+-- lines before the one that ends the script, or those of all lines if counts are out of balance. If writing failed,
+-- nothing is known about it.
 abbrev pub IsScriptCutShort : ℕ → List ℕ → Option (List ℕ) → Option (List ℕ) → ScriptFault → Type 0
 IsScriptCutShort scid script old new (Line number reason) =
     ((reason ≡ NoMemory) × IsOutOfMemory scid script number old new)

@@ -16,7 +16,8 @@ pub enum FieldFault {
     /// The octets don't begin with a frame.
     #[error("no frame: {0}")]
     NoFrame(FrameFault),
-    /// Octets follow the frame. A field is at the very end of the octets, so it isn't searched for in front of fill.
+    /// Octets follow the frame. The frame error control field must be the last two octets, so it isn't looked for before
+    /// fill.
     #[error("octets after the frame")]
     Fill,
     /// A frame with a field has at most 1,024 octets.

@@ -204,8 +204,8 @@ module _ (s : Start) (k : IsStart s) where
   untaught (Arrive j r) n a early = grind (arith, nat_tests)
   untaught _ n a early = grind (arith, nat_tests)
 
-  -- the frames of the era that the sender knows in the session are those that it knows in the era's loop (it knows none
-  -- before it believes that Set V(R) was obeyed)
+  -- The frames of the era that the sender knows in the session are those that it knows in the era's loop. Before it
+  -- believes that Set V(R) was obeyed, it knows none.
   pub known-in-era : (t : ℕ) → known (era s) (era_session s) t ≡ known_since s t
   known-in-era zero = ap (known_from s.loop s.session 0) (sym (drop_all {X = Action} s.believed [] (omega arith)))
   known-in-era (suc t) = by (slice_get s.session t) refl (known-in-era t) where

@@ -8,7 +8,7 @@ pub as-call : (early : Watching) (there : AtLock) (late : Watching) (next : AtLo
 as-call early there late next m =
     record { now = m.look.now; later = m.look.later; moment = m.look.moment; lock = m.look.lock; answer = (m.look.answer, m.look.looked) }
 
--- the operator has a desk at the place of a watcher
+-- the operator has a desk at the place of each watcher
 pub desk-there : (station : Roster) (desks : List AtLock) (place : ℕ) (w : Watching) → heads_of desks ≡ station.heads → IsWatcherAt station place w → place < length desks
 desk-there station desks place w heads (head, at, board, settings) =
     let within = slice_get_within station.heads place head at in

@@ -2,7 +2,7 @@ use Rattle.std.proofs.Common.{◌≤◌, ◌+◌, length}
 use Rattle.tc_cli.proofs.Written.{IsSoFar}
 use Rattle.tc_cli.proofs.script.run_lines.Given as goal
 
--- Each line so far was good, and its answer is written. A line has at least one octet, which may be its line feed.
+-- Each line so far was good, and its answer was written. A line has at least one octet, which may be its line feed.
 abbrev pub invariant-loop-octets : goal.invariant-loop-octets
 invariant-loop-octets g l = record {
   counted : l.line + length l.rest ≤ length l.fn.script;
