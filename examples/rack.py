@@ -11,7 +11,7 @@ APPLICATIONS = {1: 5, 2: 7}
 
 # pylint: disable-next=too-many-arguments  # they are what a frame has
 def send(rack: Rack, vcid: int, application: int, octet: int, *, ns: int = 0, bypass: bool = False, turned: int = 0) -> None:
-    """Does what a ground test does: sends an octet in a packet, in a frame, with its frame error control field. A bit
+    """Acts as a ground test: sends an octet in a packet, in a frame, with its frame error control field. A bit
     of it may be turned on the way."""
     packet = write_packet(application, 0, bytes([octet]))
     frames = write_segments(packet, scid=SPACECRAFT, vcid=vcid, ns=ns, map=0, bypass=bypass)

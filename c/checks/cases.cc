@@ -1,4 +1,4 @@
-// Does a script on standard input through channels of tcrx.hpp, one for each `channel` line. Prints the answers and the
+// Runs the script on standard input through channels of tcrx.hpp, one for each `channel` line. Prints the answers and the
 // final report in the words of the program tcrx, for checks/bindings.
 //
 //    cases SCID    for the spacecraft with this id

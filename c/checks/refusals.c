@@ -132,7 +132,7 @@ static void check_writing(void) {
     check_write(bypass, 0, 0, TCRX_BAD_FLAG, 0, 36);
 }
 
-/* The buffer to which calls write. */
+/* The buffer for the octets that a call writes. */
 static uint8_t made[1030];
 
 static uint8_t *fresh(void) {

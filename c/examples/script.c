@@ -136,7 +136,7 @@ static uint8_t has_fecf;
 /* The reason why a line is bad, or null. */
 typedef const char *reason;
 
-/* Asks the library whether a channel can be created from what is set up. */
+/* Asks the library whether a channel can be created from the settings. */
 static reason judge(const receiver *at) {
     switch (tcrx_storage(at->settings, at->queues, at->queue_count, at->maps, at->map_count).status) {
     case TCRX_DONE: return NULL;
@@ -446,7 +446,7 @@ static command command_of(void) {
     return COMMANDS;
 }
 
-/* Does the line that was split. Returns the reason if the line is bad. */
+/* Carries out the line that was split. Returns the reason if the line is bad. */
 static reason do_line(command what) {
     if (what == COMMANDS) {
         return "unknown command";

@@ -298,7 +298,7 @@ class Run {
       if (channel.make() !== STATUS.DONE) this.fault = `line ${this.at}: no memory`;
     }
   }
-  /* Does the next operation, and skips lines without words before it. Returns what was done, or null at the end. */
+  /* Carries out the next operation, and skips lines without words before it. Returns what was done, or null at the end. */
   step() {
     while (!this.isAtEnd() && this.lines[this.at].what === "") this.at += 1;
     if (this.isAtEnd()) return null;
