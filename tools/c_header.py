@@ -125,8 +125,8 @@ def name_of(item: Item) -> str:
 # --- The interface of the library ---
 
 class Call(NamedTuple):
-    """A call: its name for callers in C, that of the function that is exported, the type of its answer, its parameters by type and
-    name, and what is said of it."""
+    """A call: its name for callers in C, the name of the exported function, the type of its result, its parameters by type and name, and
+    its comment."""
 
     name: str
     exported: str
