@@ -21,8 +21,8 @@ pub record HasGoneOn (place : ℕ) (early late : AtStation) : Type 0 where
   pub is : slice_get late.desks place ≡ Some after
   pub longer : IsBeginning before.own.seen after.own.seen
 
--- the station was closed together with its operators, one of which is this operator, perhaps after further calls, and
--- the channel is the one at this place
+-- The station was closed together with its operators. One of them is this operator, which may have made more calls. The
+-- channel is the one at this place.
 pub record IsClosedSince (station : Roster) (place : ℕ) (operator : AtStation) (channel : History) : Type 0 where
   pub operators : List AtStation
   pub closed : List History

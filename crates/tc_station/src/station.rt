@@ -366,7 +366,8 @@ impl<J: Journal> StationOf<J> {
         operator.desks[place].meet(owned_desk.desk(), rt, watcher);
     }
 
-    // Runs the operation at the desk at this place, whose channel has this id, on behalf of the operator.
+    // Runs the operation on the desk at this place, by the operator's part for that desk. The desk's channel has the id
+    // `vcid`.
     fn operate<O: Operation<J>, R: Wait>(
         &self,
         rt: &R,
