@@ -31,7 +31,7 @@ OWN_FILES = ("pyproject.toml", "packing.py", "py.typed", *(f"{module}.py" for mo
 
 
 def version() -> str:
-    """That of the client."""
+    """Returns the version of the client."""
     found = re.search(r'^__version__ = "(.*)"$', (HERE / "tcrx.py").read_text(encoding="utf-8"), re.M)
     if found is None:
         raise ValueError("tcrx.py has no version")
@@ -39,7 +39,7 @@ def version() -> str:
 
 
 def metadata() -> str:
-    """What the package says of itself."""
+    """Returns the metadata of the package."""
     return (f"Metadata-Version: 2.1\nName: {NAME}\nVersion: {version()}\n"
             "Summary: A CCSDS telecommand receiver: a live program's client, and a virtual channel in the process\n"
             "License: Apache-2.0\nRequires-Python: >=3.9\nClassifier: Typing :: Typed\n")

@@ -114,7 +114,7 @@ class Bench:  # pylint: disable=too-many-instance-attributes  # it is made of th
     # --- The begin ---
 
     def _engine_of(self, process: tcrx.Process) -> Engine:
-        """What writes to a program and reads from it."""
+        """Returns an engine, which writes to a program and reads from it."""
         def ended(over: "asyncio.Future[str]") -> None:
             if (over.result() or not self.craft.is_renewing) and not self.over.done():
                 self.over.set_result(over.result())
@@ -123,13 +123,13 @@ class Bench:  # pylint: disable=too-many-instance-attributes  # it is made of th
         return engine
 
     def _maker_of(self, options: Namespace) -> Optional[Engine]:
-        """What decodes CLTUs and makes telemetry frames, where one of both is asked for."""
+        """Returns the engine that decodes CLTUs and makes telemetry frames, or `None` if the options request neither."""
         if not options.cltu and not options.has_telemetry:
             return None
         return self._engine_beside([options.tcmake or tcrx.find_program("tcmake", "--tcmake FILE"), *["--fecf"] * options.tm_fecf], MAKER)
 
     def _engine_beside(self, words: List[str], speech: Speech) -> Engine:
-        """What writes to a program beside the receiver. If it ends, so does the bench."""
+        """Returns the engine of a program beside the receiver. If that program ends, so does the bench."""
         def ended(over: "asyncio.Future[str]") -> None:
             if over.result() and not self.over.done():
                 self.over.set_result(over.result())
@@ -152,7 +152,7 @@ class Bench:  # pylint: disable=too-many-instance-attributes  # it is made of th
         self.engine.heard = self.watches.see
 
     def _judged(self) -> None:
-        """Something of a sender was judged: that is news, and the receiver goes on where it had to wait."""
+        """Called when an event of a sender was judged. Counts the change, and lets the receiver go on if it had to wait."""
         self.craft.changes += 1
         self.craft.step()
 
@@ -221,7 +221,7 @@ class Bench:  # pylint: disable=too-many-instance-attributes  # it is made of th
         return FrameConnection(port, Cutter(self.options.scid, self.options.fill, self.options.resync, self.options.fecf))
 
     def _edges(self) -> Dict[str, object]:
-        """What is known of CLTUs and telemetry frames, as values of JSON."""
+        """Returns the state of CLTUs and telemetry frames as values of JSON."""
         return {"cltu": self.decoding.state() if self.decoding else None, "telemetry": self.telemetry.state() if self.telemetry else None}
 
     def _visitor(self, port: Port) -> Visitor:
@@ -230,7 +230,7 @@ class Bench:  # pylint: disable=too-many-instance-attributes  # it is made of th
         return Visitor(port, self.web)
 
     def _sender(self, kind: str) -> Callable[[bytes], None]:
-        """What sends to all places of a kind."""
+        """Returns a function that sends to all places of a kind."""
         targets, ports = [target for target in self.targets if target.port.place.kind == f"{kind}-udp"], self.listening.get(f"{kind}-tcp", [])
         readers = readers_sender(ports)
         marked = (lambda octets: readers(MARKER + octets)) if kind == "tm" and self.options.tm_marker else readers

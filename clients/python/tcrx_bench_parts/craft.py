@@ -55,7 +55,7 @@ class Turn:  # pylint: disable=too-few-public-methods  # a record, made for each
 
 
 class Event:  # pylint: disable=too-few-public-methods  # a record, made for each frame
-    """What happened, for those who watch; its number, and the CLCW behind it."""
+    """An event for the connections that watch: its number, its answer, and the CLCW after it."""
 
     __slots__ = ("number", "turn", "answer", "word")
 
@@ -102,15 +102,15 @@ class Craft:  # pylint: disable=too-many-instance-attributes  # what is known of
         self.frames = self.packets = self.units = self.refused_of_ports = 0
         self.last_events: Deque[Event] = deque(maxlen=LAST_EVENTS)
         self.last_notes: Deque[Dict[str, object]] = deque(maxlen=LAST_NOTES)
-        """What happened on ports, in a list of its own, so that no peer drives the receiver's events out."""
+        """The events of ports. They have a list of their own, so that no peer can push the receiver's events out."""
         self.count_of_events = self.count_of_notes = self.changes = 0
         self.send_clcw: Callable[[bytes], None] = lambda octets: None
         self.send_packet: Callable[[bytes], None] = lambda octets: None
         self.send_unit: Callable[[bytes], None] = lambda octets: None
         self.edges: Callable[[], Dict[str, object]] = lambda: {"cltu": None, "telemetry": None}
-        """What is known of CLTUs and telemetry frames, as values of JSON."""
+        """Returns the state of CLTUs and telemetry frames as values of JSON."""
         self.senders: Callable[[], List[Dict[str, object]]] = list
-        """What is reported of senders, as values of JSON."""
+        """Returns the reports on senders as values of JSON."""
         self.begun_channel: Callable[[int, int], None] = lambda vcid, first: None
         """Called with a channel that is set up, and its V(R)."""
         self.is_behind: Callable[[], bool] = lambda: False
@@ -454,7 +454,7 @@ class Craft:  # pylint: disable=too-many-instance-attributes  # what is known of
 
 
 def state_of(channel: Channel) -> Dict[str, object]:
-    """What is known of a channel, as values of JSON."""
+    """Returns the state of a channel as values of JSON."""
     clcw = Clcw(int(channel.word, 16))
     return {
         "channel": channel.vcid, "width": channel.width, "plain": channel.plain, "vr": clcw.vr, "clcw": f"{clcw.word:08x}",

@@ -34,7 +34,7 @@ KEYS = "keys: l loses the next frames, o locks channel 1 out, u unlocks it, q en
 
 
 def stand_in(program: str) -> Optional[str]:
-    """What takes the place of a `tclive` that isn't built, where it can be made; else nothing."""
+    """Returns a program that takes the place of a `tclive` that isn't built, or `None` if no such program is needed or can be made."""
     ran = subprocess.run([program, "--version"], env={**os.environ, **NO_BUILD}, stdin=subprocess.DEVNULL, stdout=subprocess.DEVNULL,
                          stderr=subprocess.DEVNULL, check=False)
     if ran.returncode != NOT_BUILT:
@@ -113,7 +113,7 @@ class Demo:
         self.quit: Callable[[], None] = lambda: None
 
     def port(self) -> int:
-        """Where CLCWs are to be sent."""
+        """The port to which CLCWs are to be sent."""
         return int(self.socket.getsockname()[1])
 
     def begin(self, frames: int, quit_bench: Callable[[], None]) -> None:

@@ -55,7 +55,7 @@ class Piece:  # pylint: disable=too-few-public-methods  # a record, made for eac
 
 
 class Decoding:
-    """What finds frames in CLTUs, and hands them to the ports on which they came."""
+    """A part of the bench that finds frames in CLTUs, and hands them to the ports on which they came."""
 
     def __init__(self, options: Namespace, maker: Engine, hub: Hub) -> None:
         self.mode, self.randomised, self.most, self.maker, self.hub = options.cltu, options.randomised, options.cltu_frames, maker, hub
@@ -167,7 +167,7 @@ class Decoding:
         return [Turn(now, piece.source, line) for line, _, piece in self.maker.pending if isinstance(piece, Piece)]
 
     def state(self) -> Dict[str, object]:
-        """What is known, as values of JSON."""
+        """Returns the state as values of JSON."""
         return {"mode": self.mode, "randomised": self.randomised, "most_frames": self.most, "refused_candidates": self.hub.craft.refused_of_ports,
                 **{what: self.counts[what] for what in CLTU_COUNTS}}
 
@@ -180,7 +180,7 @@ class CltuConnection(Connection):
         self.decoding = decoding
         self.stream: Optional[Stream] = None
         self.front: Optional[bytes] = b""
-        """What came first, until it is known to be no browser's."""
+        """The first octets of the stream, which are kept until it is clear that no browser sends them."""
 
     def opened(self) -> None:
         """Takes a decoder."""
@@ -262,7 +262,7 @@ class Telemetry:
         self.send(frame)
 
     def state(self) -> Dict[str, object]:
-        """What is known, as values of JSON."""
+        """Returns the state as values of JSON."""
         chosen = self.options
         return {"length": chosen.tm_length, "rate": chosen.tm_rate, "vcid": chosen.tm_vcid, "fecf": chosen.tm_fecf, "marker": chosen.tm_marker,
                 "frames": self.frames}

@@ -18,10 +18,10 @@ MOST_FITTING = 4096
 
 
 class Block(Protocol):  # pylint: disable=too-few-public-methods  # it is what others have
-    """What a block of answers belongs to."""
+    """The object that a block of answers belongs to."""
 
     first: int
-    """Which answer of it is the first that may be the last."""
+    """The number of the first answer that may be the last one of the block."""
 
 
 Given = TypeVar("Given", bound=Block)
@@ -33,7 +33,7 @@ class Speech(NamedTuple):
     """How a program answers."""
 
     name: str
-    """What it is called where it ends, or doesn't answer."""
+    """The name of the program in messages that it ended or doesn't answer."""
     forms: Dict[str, Pattern[str]]
     """The form of each answer, by its first word."""
     opens: Tuple[str, ...]

@@ -56,7 +56,7 @@ class Faults:  # pylint: disable=too-few-public-methods  # it is called by the p
             self.craft.bring(octets, source)
 
     def sender(self, send: Callable[[bytes], None], ports: List[Port]) -> Callable[[bytes], None]:
-        """What sends CLCWs or telemetry frames to these ports, but for those that are lost."""
+        """Returns a function that sends CLCWs or telemetry frames to these ports, apart from those that are lost."""
         def send_some(octets: bytes) -> None:
             if self.dice_of_clcws.random() >= self.options.drop_clcw:
                 send(octets)

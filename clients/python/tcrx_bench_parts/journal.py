@@ -150,7 +150,8 @@ class Journal:
             self.write(line, f"#= {answer}")
 
     def handed_on(self, vcid: int, answers: List[str], asked: bool) -> None:
-        """What a receiver has handed on, as the lines of a script that do the same; that nothing waited if that was asked."""
+        """Writes the items that a receiver has handed on, as the lines of a script that do the same. If `asked` is set, also writes that no
+        field waited for a release."""
         if self.file is None:
             return
         for answer in answers:

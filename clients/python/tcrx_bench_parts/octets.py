@@ -96,7 +96,7 @@ class Cutter:
         return frames, fault
 
     def find_next(self, begin: int) -> int:
-        """Where the next header of this spacecraft may begin; what is before it is skipped."""
+        """Returns the place at which the next header of this spacecraft may begin. Counts the octets before it as skipped."""
         found = self.pattern.search(self.kept, begin)
         # A last octet may be the first of a header.
         at = found.start() if found else max(begin, len(self.kept) - 1)

@@ -235,7 +235,7 @@ def read_words(words: Sequence[str]) -> argparse.Namespace:
 
 
 def fault_of_edges(options: argparse.Namespace) -> str:
-    """What is wrong with the options of CLTUs and telemetry frames, if anything is: the first in the order of the options."""
+    """Returns the first fault of the options of CLTUs and telemetry frames, in the order of the options, or an empty text."""
     kinds = {place.kind for place in options.places}
     has_telemetry = bool(kinds & {"tm-tcp", "tm-udp"})
     rows = [(options.cltu and options.demo, "--cltu: not with --demo"),
@@ -252,7 +252,7 @@ def fault_of_edges(options: argparse.Namespace) -> str:
 
 
 def fault_of_senders(senders: Sequence[Sequence[int]]) -> str:
-    """What is wrong with the senders that are to be watched, if anything is."""
+    """Returns the first fault of the senders that are to be watched, or an empty text."""
     channels = [channel for channel, _ in senders]
     rows = [(channel > 63, f"{channel} isn't a channel from 0 to 63") for channel in channels]
     rows += [(not window, "a window has 1 to 127 frames") for _, window in senders] + [(len(set(channels)) < len(channels), "a channel has one sender")]
@@ -290,13 +290,13 @@ def read_setup(path: Path) -> List[Tuple[int, str]]:
 
 
 def warning_of(place: Place) -> str:
-    """What is to be known of a port that others can reach."""
+    """Returns a warning about a port that others can reach."""
     who = "whoever is at " + ", ".join(map(str, place.allowed)) if place.allowed else "whoever connects"
     what = "commands the receiver" if place.kind in ("tc-tcp", "tc-udp", "lines") else "sees what it received"
     return f"warning: --{place.kind} listens on {place.host}: {who} {what}, without any login"
 
 
 def warning_of_files(room: int) -> str:
-    """What is to be known where fewer files may be open than the connections could need."""
+    """Returns a warning that fewer files may be open than the connections could need."""
     limit = resource.getrlimit(resource.RLIMIT_NOFILE)[0]
     return f"warning: {limit} files may be open (ulimit -n), so each port takes {room} connections at a time"

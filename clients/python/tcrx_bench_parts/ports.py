@@ -138,7 +138,7 @@ class Relay(logging.Handler):
 
 
 def complaint_of(context: Mapping[str, Any]) -> str:
-    """What the event loop complains of, in a line: its message, the exception, and where that was raised."""
+    """Returns a complaint of the event loop as a line: its message, the exception, and the place at which it was raised."""
     fault = context.get("exception")
     if isinstance(fault, OSError) and fault.errno in (errno.EMFILE, errno.ENFILE):
         return f"connections have to wait: {fault.strerror}"
@@ -177,7 +177,7 @@ class Port:
         self.hub.craft.note_text(f"{self.place.kind} {peer}", text)
 
     def state(self) -> Dict[str, object]:
-        """What is known of it, as values of JSON."""
+        """Returns the state of the port as values of JSON."""
         self.look()
         return {"port": self.place.kind, "address": self.address, "open": len(self.open), **self.counts}
 
@@ -265,7 +265,7 @@ class Hub:  # pylint: disable=too-many-instance-attributes  # what ports share
 
 
 def address_of(given: socket.socket) -> str:
-    """Where a socket is bound."""
+    """Returns the address to which a socket is bound."""
     host, port = given.getsockname()[:2]
     return shown(host, port)
 
@@ -333,16 +333,16 @@ class Connection(asyncio.BufferedProtocol):
         """The connection was taken."""
 
     def get_buffer(self, sizehint: int) -> bytearray:
-        """Where octets are read to."""
+        """Returns the buffer into which octets are read."""
         return self.room
 
     def buffer_updated(self, nbytes: int) -> None:
-        """So many octets were read."""
+        """Called when this number of octets was read."""
         self.turn = self.hub.next_turn()
         self.data_received(bytes(self.room[:nbytes]))
 
     def data_received(self, data: bytes) -> None:
-        """What came; nothing is done with it where nothing is to come."""
+        """Takes in the octets that came. By default they are ignored, since some ports expect none."""
 
     def turn_away(self, why: str) -> None:
         """Says why the connection is closed, and closes it once the other end had time to read that."""
@@ -364,7 +364,7 @@ class Connection(asyncio.BufferedProtocol):
         self.hub.linger(self)
 
     def last_words(self, why: str) -> bytes:
-        """What is written before the connection is closed."""
+        """Returns the text that is written before the connection is closed."""
         return f"tcrx-bench: {why}\n".encode("ascii", errors="replace")
 
     def finish(self) -> None:
@@ -389,11 +389,11 @@ class Connection(asyncio.BufferedProtocol):
         """Looks whether it is time for something."""
 
     def pause_writing(self) -> None:
-        """The other end doesn't read what is written."""
+        """Called when the other end doesn't read the written octets."""
         self.paused = True
 
     def resume_writing(self) -> None:
-        """It does again."""
+        """Called when the other end reads again."""
         self.paused = False
 
 
@@ -601,19 +601,19 @@ class Reader(Connection):
         self._write()
 
     def finish(self) -> None:
-        """What is kept is written first, so that a slow reader has the newest at last, if it reads on."""
+        """Writes the kept octets before the connection is closed. So a slow reader that reads on gets the newest ones in the end."""
         self._hand_over()
         super().finish()
 
     def connection_lost(self, exc: Optional[Exception]) -> None:
-        """What it didn't read is lost."""
+        """Counts the octets that the reader didn't read as lost."""
         if self.kept:
             self.port.count("lost", len(self.kept))
         super().connection_lost(exc)
 
 
 def readers_sender(ports: List[Port]) -> Callable[[bytes], None]:
-    """What sends octets to all readers of these ports."""
+    """Returns a function that sends octets to all readers of these ports."""
     def send(octets: bytes) -> None:
         for port in ports:
             for connection in port.open:
@@ -717,7 +717,7 @@ class Target:
 
 
 def all_senders(senders: List[Callable[[bytes], None]]) -> Callable[[bytes], None]:
-    """What calls each of these."""
+    """Returns a function that calls each of these."""
     def send(octets: bytes) -> None:
         for each in senders:
             each(octets)

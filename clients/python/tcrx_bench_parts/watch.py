@@ -25,7 +25,7 @@ Ask = Callable[[List[str], Answered], Optional[str]]
 
 
 class Seen(NamedTuple):
-    """What the receiving end sees of a sender: a frame with its N(S), a CLCW with its N(R), or that V(R) was set. And when that was."""
+    """An event of a sender that the receiving end sees, with its time: a frame with its N(S), a CLCW with its N(R), or a setting of V(R)."""
 
     what: str
     number: int
@@ -107,12 +107,12 @@ class Watch:  # pylint: disable=too-many-instance-attributes  # what is known of
             self.breaks(self, seen)
 
     def state(self) -> Dict[str, object]:
-        """What is reported, as values of JSON."""
+        """Returns the report as values of JSON."""
         return {"channel": self.channel, "window": self.window, "frames": self.frames, "breaches": self.breaches, "in_order": self.broken is None,
                 "broken_by": self.broken and {"number": self.broken.number, "time": round(self.broken.time, 6)}}
 
     def text(self) -> str:
-        """The same as a line."""
+        """Returns the report as a line."""
         order = f"no promise since frame {self.broken.number} at {self.broken.time:.6f} s" if self.broken else "every packet once and in order"
         return f"sender of channel {self.channel}, window {self.window}: {self.frames} frames, {self.breaches} breaches; {order}"
 
@@ -178,9 +178,9 @@ class Watches:
         return ask(lines, came)
 
     def state(self) -> List[Dict[str, object]]:
-        """What is reported of all, as values of JSON."""
+        """Returns the reports on all senders as values of JSON."""
         return [watch.state() for watch in self.all.values()]
 
     def texts(self) -> List[str]:
-        """The same as lines."""
+        """Returns the reports on all senders as lines."""
         return [watch.text() for watch in self.all.values()]

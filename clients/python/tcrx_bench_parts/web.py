@@ -26,19 +26,19 @@ HEADERS = "X-Content-Type-Options: nosniff\r\nReferrer-Policy: no-referrer\r\nCa
 
 
 def hash_of(text: str) -> str:
-    """What the content security policy says of a script or a style sheet."""
+    """Returns the hash of a script or a style sheet for the content security policy."""
     return f"'sha256-{base64.b64encode(hashlib.sha256(text.encode()).digest()).decode()}'"
 
 
 def policy_of(page: str) -> str:
-    """The content security policy: the page's own script and style sheet, and this server."""
+    """Returns the content security policy. It allows the page's own script and style sheet, and this server."""
     scripts, styles = (" ".join(hash_of(text) for text in re.findall(rf"<{name}>(.*?)</{name}>", page, re.S)) for name in ("script", "style"))
     return (f"default-src 'none'; script-src {scripts}; style-src {styles}; connect-src 'self'; img-src data:; base-uri 'none'; form-action 'none'; "
             "frame-ancestors 'none'")
 
 
 class Web:
-    """What the connections of the page share."""
+    """The state that the connections of the page share."""
 
     def __init__(self, hub: Hub, hosts: Collection[str]) -> None:
         self.hub, self.craft = hub, hub.craft
