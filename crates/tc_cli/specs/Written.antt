@@ -92,7 +92,8 @@ IsWrittenBefore scid script number IsSo old new =
     × AreAnswers (IsStaffedOperated scid) script answers session rest × IsFirstLine rest line after × IsSo session line
     × (number ≡ length answers + 1) × Appends old new (answers_text answers)
 
--- the answers of all `count` lines are appended to the octets written so far, if these are known, and no report is
+-- no report is written, and the answers of all `count` lines are appended to the octets written so far, if these are
+-- known
 abbrev pub IsScriptUnreported : ℕ → List ℕ → ℕ → Option (List ℕ) → Option (List ℕ) → Type 0
 IsScriptUnreported scid script count old new =
     (answers : List (Option Answer)) × (session : Session) × AreAnswers (IsStaffedOperated scid) script answers session [] × (count ≡ length answers)
@@ -104,8 +105,8 @@ abbrev pub IsOutOfMemory : ℕ → List ℕ → ℕ → Option (List ℕ) → Op
 IsOutOfMemory scid script number old new =
     ((number ≡ 0) × Keeps old new) ⊎ IsWrittenBefore scid script number (λ _ _. ⊤) old new ⊎ IsScriptUnreported scid script number old new
 
--- the answers of all lines are appended to the octets written so far, if these are known, and no report is, since the
--- station is out of balance
+-- no report is written, since the station is out of balance, and the answers of all lines are appended to the octets
+-- written so far, if these are known
 abbrev pub IsScriptUnbalanced : ℕ → List ℕ → Option (List ℕ) → Option (List ℕ) → Type 0
 IsScriptUnbalanced scid script old new =
     (answers : List (Option Answer)) × (session : Session) × AreAnswers (IsStaffedOperated scid) script answers session [] × IsSessionUnbalanced scid session

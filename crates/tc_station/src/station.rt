@@ -167,9 +167,9 @@ impl<J: Journal> StationOf<J> {
         Ok(operators)
     }
 
-    /// Brings the frame at the front of the octets to its channel, under the channel's lock. This call and the next
-    /// three allocate only what the channel's own call allocates. So a counting station runs out of memory here only
-    /// for a frame of Type-BD, and never for a take.
+    /// Brings the frame at the front of the octets to its channel, under the channel's lock. This call, `release`, `take`
+    /// and `take_unit` allocate only the memory that the channel's own call allocates. So on a counting station this call
+    /// runs out of memory only for a frame of Type-BD, and a take never does.
     pub fn bring(
         &self,
         rt: &impl Wait,

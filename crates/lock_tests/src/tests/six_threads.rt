@@ -156,7 +156,7 @@ fn close<R: Wait>(rt: &R, alloc: Global, lock: &BookLock, mut first: BookSeat, s
     lock.replace(&mut first, blank)
 }
 
-// Checks that all numbers include those of the writer whose numbers begin with this one, all of them and in order.
+// Checks that the numbers include each number of the writer that begins with `first`, once and in order.
 fn check_in_order(rt: &impl Abort, numbers: &[u32], first: u32) {
     let end = first.saturating_add(TURNS);
     let mut wanted = first..end;
