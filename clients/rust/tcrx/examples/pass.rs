@@ -15,7 +15,7 @@ struct Spacecraft {
 }
 
 impl Spacecraft {
-    /// Takes in what arrives, if it is for this channel, and prints what it switches.
+    /// Brings an arriving frame to the channel, if it is for this channel, and prints the value that each packet sets.
     fn receive(&mut self, octets: &[u8]) -> Result<(), Box<dyn std::error::Error>> {
         let header = Frame::read(octets)?.header();
         if (header.scid, header.vcid) != (SPACECRAFT, CHANNEL) {
