@@ -5,6 +5,7 @@ work=$(mktemp -d)
 trap 'rm -rf "$work"' EXIT
 passed=0
 failed=0
+skipped=
 # No check builds.
 export TCRX_BUILD=no
 need() { tools/launch --build "$@" >&2 || { echo "$0: nothing was compared"; exit 70; }; }
@@ -22,6 +23,17 @@ expect() {
 }
 show() { :; }
 refuses() { ! "$@"; }
+
+# Names a part that is left out, with the number of its comparisons, by which .ci/run lowers the check's minimum: a number and a name. If
+# a command is missing, the name is that of the command, and .ci/run sees whether it is really missing.
+skip() { skipped+="${skipped:+, }$2 ($1)"; }
+# Whether these commands are there. If one isn't, a part of so many comparisons is skipped: a number and the commands.
+has() {
+  local command
+  for command in "${@:2}"; do
+    command -v "$command" >/dev/null || { skip "$1" "$command" && return 1; }
+  done
+}
 
 # Each conformance case of a folder without a bad line, by a program that has the spacecraft as its last word: every answer, and the final
 # report.
@@ -41,7 +53,7 @@ answers_cases() {
 
 # The last line: how many of what passed, and what was skipped. The status.
 close() {
-  echo "$passed $1 passed, $failed failed${2:+; skipped: $2}"
+  echo "$passed $1 passed, $failed failed${skipped:+; skipped: $skipped}"
   [ "$failed" = 0 ] && [ "$passed" -gt 0 ]
 }
 

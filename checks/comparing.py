@@ -23,7 +23,7 @@ os.environ["TCRX_BUILD"] = "no"
 # Seconds after which something that doesn't end counts as failed: one wait, and one check as a whole.
 PATIENCE, LONGEST = 60, 900
 counted: Counter[bool] = Counter()
-# What was left out, since a program isn't installed.
+# The parts that were left out, since a program isn't installed, each with the number of its comparisons.
 skipped: List[str] = []
 # What a second is in, as other work may hold it up, with the tries that it took; 0 where it failed.
 timed: Dict[str, int] = {}
@@ -83,6 +83,12 @@ def expect(good: object, what: str, why: str = "") -> None:
 def same(found: object, wanted: object, what: str) -> None:
     """Compares a value with what is wanted, and shows both where they differ."""
     expect(found == wanted, f"{what}: {found!r}, and not {wanted!r}")
+
+
+def skip(name: str, count: int) -> None:
+    """Names a part that is left out, with the number of its comparisons, by which .ci/run lowers the check's minimum. If a command is
+    missing, the name is that of the command, and .ci/run sees whether it is really missing."""
+    skipped.append(f"{name} ({count})")
 
 
 def in_time(what: str, holds: Callable[[], object]) -> None:
@@ -146,6 +152,6 @@ def attempt(check: Callable[..., None], *given: object, keep: bool = False) -> N
 def close(of: str = "") -> int:
     """Prints the last line: how many comparisons passed, how many failed, what hung on a clock, and what was left out. The status."""
     again = f"; by the clock: {', '.join(f'{what} (tries: {tries})' for what, tries in timed.items())}" if timed else ""
-    left = f"; skipped, as it isn't installed: {', '.join(skipped)}" if skipped else ""
+    left = f"; skipped: {', '.join(skipped)}" if skipped else ""
     print(f"{of or NAME}: {counted[True]} passed, {counted[False]} failed{again}{left}")
     return 1 if counted[False] or not (counted[True] or skipped) else 0
