@@ -10,8 +10,21 @@ ONLY = re.compile(r"^only=(\d+) proved=(\d+)", re.M)
 NAMES_ALONE = re.compile(
     r"has no field|is not in scope|has no `|was not admitted|is no name|operand is missing|cannot continue"
 )
-# What the check says of a goal that it found false, and not merely unproved.
+# What the check says of a goal that it found false, and not merely unproved; and of one at which a tactic stopped before it had tried all.
 IS_FALSE = "the facts known there allow values at which this goal is false"
+MET_LIMIT = "gave up at one of its limits"
+# How an edit can be refused, the strongest first: values are named for which a goal is false, no proof is found, or a limit is met first.
+WAYS = ("values", "no_proof", "limit")
+
+
+def way_of(why: str) -> str:
+    """The way of `WAYS` in which an edit is refused, by what the check says."""
+    return "values" if IS_FALSE in why else "limit" if MET_LIMIT in why else "no_proof"
+
+
+def strongest(found: list[str]) -> str | None:
+    """The first of what the check says that is refused in the strongest way, or None if it says nothing."""
+    return min(found, key=lambda it: WAYS.index(way_of(it))) if found else None
 
 
 def is_judged(printed: str) -> bool:
@@ -48,16 +61,17 @@ def reason(printed: str, edit: Edit, function: Function) -> str | None:
     owner = rf"{function.owner}\w*::" if function.owner else r"(?:[^:\s]+::)?"
     if not lacks(printed, rf"{edit.crate}::(?:{inside}){owner}{function.name}"):
         return None
+    found = []
     for line in messages(printed):
         goal = re.match(r"note: (src/\S+?):(\d+):\d+: (?:it is not proved that|`search` found no proof)", line)
         if goal and goal[1] == function.file and function.first < int(goal[2]) <= function.last + 1:
             if IS_FALSE in line or not edit.needs_false_goal:
-                return line.removeprefix("note: ")
+                found.append(line.removeprefix("note: "))
         answer = re.match(r"(?:\./)?proofs/(\S+)/\w+\.antt:\d+:\d+: error: (.*)", line)
         if answer and not NAMES_ALONE.search(answer[2]) and f"`{NO_GOAL}`" not in answer[2]:
             if function.is_answered_in(answer[1]):
-                return line
-    return None
+                found.append(line)
+    return strongest(found)
 
 
 def reason_alone(printed: str, edit: Edit) -> str | None:
@@ -69,10 +83,11 @@ def reason_alone(printed: str, edit: Edit) -> str | None:
     found += [it for it in lines if re.match(r"(\./)?\S+:\d+:\d+: error: ", it) and not NAMES_ALONE.search(it)]
     if edit.needs_false_goal:
         found = [it for it in found if IS_FALSE in it or re.match(r"(\./)?proofs/", it)]
-        return found[0].removeprefix("note: ") if found else None
-    found += [it for it in lines if re.match(r"(note: )?src/\S+:\d+:\d+:", it)]
-    found += [it for it in lacks(printed, r"\S+") if it != "not proved"]
-    return found[0].removeprefix("note: ") if found else None
+    elif not found:
+        found = [it for it in lines if re.match(r"(note: )?src/\S+:\d+:\d+:", it)]
+        found += [it for it in lacks(printed, r"\S+") if it != "not proved"]
+    why = strongest(found)
+    return why.removeprefix("note: ") if why else None
 
 
 def unread(printed: str, functions: list[tuple[Edit, Function | None]]) -> list[tuple[Edit, str]]:

@@ -2,8 +2,8 @@
 sums of all that was read, so that it tries again just what something has changed for.
 
 A file is for one state of a crate: the kit's version, the sources of the check, the lines of crates.txt and the sources, definitions and
-proofs of the crate and of those below it. Its lines are the sums of what was seen, one an edit or control, and the last is the sum of
-the others; a file that ends otherwise counts for nothing. It is written under another name first.
+proofs of the crate and of those below it. Its lines are the sums of what was seen, one an edit or control, each with how it came out, and
+the last is the sum of the others; a file that ends otherwise counts for nothing. It is written under another name first.
 """
 from __future__ import annotations
 
@@ -11,7 +11,7 @@ import hashlib
 import os
 import tempfile
 from pathlib import Path
-from typing import Sequence
+from typing import Sequence, Tuple
 
 from wrong_bodies import Crate, Edit, crates_below, sources_in
 
@@ -44,7 +44,7 @@ class Kept:
         self.kit = kit
         self.crates = crates
         self.states: dict[str, str] = {}
-        self.seen: dict[str, set[str]] = {}
+        self.seen: dict[str, dict[str, str]] = {}
 
     def state_of(self, crate: Crate) -> str:
         """The sum of all that a check of the crate's edits reads besides them, as it is now."""
@@ -63,27 +63,34 @@ class Kept:
             self.states[crate.name] = self.state_of(crate)
         return self.folder / f"{crate.name}-{self.states[crate.name]}"
 
-    def read(self, crate: Crate) -> set[str]:
-        """The sums of what was seen of a crate in this state; none of a file that isn't whole."""
+    def read(self, crate: Crate) -> dict[str, str]:
+        """How what was seen of a crate in this state came out, by its sums; nothing of a file that isn't whole."""
         try:
             lines = self.file_of(crate).read_text(encoding="ascii").splitlines()
         except (OSError, UnicodeDecodeError):
-            return set()
-        *sums, last = lines or [""]
-        return set(sums) if last == hashlib.sha256("".join(sums).encode()).hexdigest() else set()
+            return {}
+        *seen, last = lines or [""]
+        is_whole = last == hashlib.sha256("".join(seen).encode()).hexdigest()
+        return dict((each[:64], each[65:]) for each in seen) if is_whole else {}
 
-    def has(self, crate: Crate, edit: Edit) -> bool:
-        """Whether the edit was seen refused, or the control not refused, with all that is read as it is."""
+    def way(self, crate: Crate, edit: Edit) -> str | None:
+        """How the edit was seen refused, or the control not refused, with all that is read as it is; None if it wasn't seen."""
         if crate.name not in self.seen:
             self.seen[crate.name] = self.read(crate)
-        return sum_of(edit) in self.seen[crate.name]
+        return self.seen[crate.name].get(sum_of(edit))
 
-    def keep(self, crate: Crate, edits: Sequence[Edit]) -> None:
-        """Keeps that these came out as they should, unless what was read has changed meanwhile."""
+    def has(self, crate: Crate, edit: Edit) -> bool:
+        """Whether that was seen."""
+        return self.way(crate, edit) is not None
+
+    def keep(self, crate: Crate, edits: Sequence[Tuple[Edit, str]]) -> None:
+        """Keeps how these came out, which is as they should, unless what was read has changed meanwhile."""
         file = self.file_of(crate)
         if not edits or self.state_of(crate) != self.states[crate.name]:
             return
-        sums = sorted(self.read(crate) | {sum_of(it) for it in edits})
+        seen = self.read(crate)
+        seen.update((sum_of(it), way) for it, way in edits)
+        sums = sorted(f"{sum_of_it} {way}" for sum_of_it, way in seen.items())
         try:
             self.folder.mkdir(parents=True, exist_ok=True)
             with tempfile.NamedTemporaryFile("w", encoding="ascii", dir=self.folder, prefix=".", delete=False) as part:
@@ -117,11 +124,11 @@ def misplaced() -> list[str]:
         changed = looks()
         changed.has(high, edit)
         proof.write_text("changed while it was tried", encoding="ascii")
-        changed.keep(high, [edit])
+        changed.keep(high, [(edit, "values")])
         proof.write_text("low", encoding="ascii")
         found["an edit of sources that changed while it was tried"] = looks().has(high, edit)
-        looks().keep(high, [edit])
-        found["no edit"] = not looks().has(high, edit)
+        looks().keep(high, [(edit, "values")])
+        found["no edit"] = looks().way(high, edit) != "values"
         found["another edit"] = looks().has(high, other)
         found["the right body"] = looks().has(high, edit.right())
         found["an edit by another kit"] = looks("other").has(high, edit)
@@ -133,9 +140,9 @@ def misplaced() -> list[str]:
         found["an edit whose line of crates.txt has changed"] = looks().has(high, edit)
         crates["low"].line = "low:"
         found["no edit, where all is as it was"] = not looks().has(high, edit)
-        looks().keep(high, [other])
+        looks().keep(high, [(other, "limit")])
         kept = looks().file_of(high)
-        found["not both edits"] = not (looks().has(high, edit) and looks().has(high, other))
+        found["not both edits"] = [looks().way(high, it) for it in (edit, other)] != ["values", "limit"]
         kept.write_text("".join(kept.read_text(encoding="ascii").splitlines(True)[:-1]), encoding="ascii")
         found["an edit of a file that was cut short"] = looks().has(high, edit) or looks().has(high, other)
         return [it for it, is_wrong in found.items() if is_wrong]
