@@ -87,9 +87,9 @@ impl<J: Journal> Form for ChannelWith<J> {
     }
 }
 
-// The calls here go through the functions of `seen`, as the one call that `worst` measures does. So another program finds
-// each call in the machine code. Frames and releases don't go through these functions, because `worst` also brings and
-// releases frames before the call that it measures.
+// The calls here go through the functions of `seen`, as the one call that `worst` measures does. So another program
+// finds each call in the machine code. Frames and releases don't go through these functions, because `worst` also
+// brings and releases frames before the call that it measures.
 impl Form for FixedChannel {
     fn memory(settings: &Settings) -> (&'static str, u64) {
         ("storage", storage(settings))

@@ -54,8 +54,8 @@ IsScriptReport scid progress text =
     ((phase_of progress ≡ Setup []) × (text ≡ []))
     ⊎ ((channels : List History) × IsPermutation (histories (rack_for scid progress)) channels × IsReportOf channels text)
 
--- The text is the report on a station that was found at the end of a session, and closed together with its operator
--- once each watcher had met its desk. There is no report if no channel was set up.
+-- The text is the report at the end of a session. Each watcher met its desk, and then the station was closed together
+-- with its operator. There is no report if no channel was set up.
 abbrev pub IsSessionReport : ℕ → Session → List ℕ → Type 0
 IsSessionReport scid session text =
     ((phase_of session ≡ Setup []) × (text ≡ []))
@@ -75,7 +75,7 @@ IsReportFault scid session lines fault = (fault ≡ Write) ⊎ ((fault ≡ Unbal
 abbrev pub IsSessionReportWritten : ℕ → Session → Option (List ℕ) → Option (List ℕ) → Type 0
 IsSessionReportWritten scid session old new = (text : List ℕ) × IsSessionReport scid session text × Appends old new text
 
--- If the octets written so far are known, the answers of all lines of the script, in order, and then the report are
+-- If the octets written so far are known, the answers to all lines of the script, in order, and then the report are
 -- appended to them. Each answer and the report follow from the lines before them, by definitions in which there is no
 -- station.
 abbrev pub IsScriptWritten : ℕ → List ℕ → Option (List ℕ) → Option (List ℕ) → Type 0
@@ -83,16 +83,16 @@ IsScriptWritten scid script old new =
     (answers : List (Option Answer)) × (progress : Progress) × (report : List ℕ) × AreAnswers (IsPerformed scid) script answers progress []
     × IsScriptReport scid progress report × Appends old new (answers_text answers ++ report)
 
--- The script has a line with this number for which `IsSo` holds. If the octets written so far are known, only the answers
--- of the lines before it are appended to them. Each answer is that of some moment of its channel's desk, since the
--- station isn't closed.
+-- The script has a line with this number for which `IsSo` holds. If the octets written so far are known, only the
+-- answers to the lines before it are appended to them. Since the station isn't closed, each answer is only known to be
+-- the one at some moment of its channel's desk.
 abbrev pub IsWrittenBefore : ℕ → List ℕ → ℕ → (Session → List ℕ → Type 0) → Option (List ℕ) → Option (List ℕ) → Type 0
 IsWrittenBefore scid script number IsSo old new =
     (answers : List (Option Answer)) × (session : Session) × (rest : List ℕ) × (line : List ℕ) × (after : List ℕ)
     × AreAnswers (IsStaffedOperated scid) script answers session rest × IsFirstLine rest line after × IsSo session line
     × (number ≡ length answers + 1) × Appends old new (answers_text answers)
 
--- no report is written, and the answers of all `count` lines are appended to the octets written so far, if these are
+-- no report is written, and the answers to all `count` lines are appended to the octets written so far, if these are
 -- known
 abbrev pub IsScriptUnreported : ℕ → List ℕ → ℕ → Option (List ℕ) → Option (List ℕ) → Type 0
 IsScriptUnreported scid script count old new =
@@ -105,16 +105,16 @@ abbrev pub IsOutOfMemory : ℕ → List ℕ → ℕ → Option (List ℕ) → Op
 IsOutOfMemory scid script number old new =
     ((number ≡ 0) × Keeps old new) ⊎ IsWrittenBefore scid script number (λ _ _. ⊤) old new ⊎ IsScriptUnreported scid script number old new
 
--- no report is written, since the station is out of balance, and the answers of all lines are appended to the octets
+-- no report is written, since the station is out of balance, and the answers to all lines are appended to the octets
 -- written so far, if these are known
 abbrev pub IsScriptUnbalanced : ℕ → List ℕ → Option (List ℕ) → Option (List ℕ) → Type 0
 IsScriptUnbalanced scid script old new =
     (answers : List (Option Answer)) × (session : Session) × AreAnswers (IsStaffedOperated scid) script answers session [] × IsSessionUnbalanced scid session
     × Appends old new (answers_text answers)
 
--- The text that was written if a script ends early. It is empty if the script wasn't read. It is the answers of the
--- lines before the one that ends the script, or those of all lines if counts are out of balance. If writing failed,
--- nothing is known about it.
+-- The text that was written if a script ends early. There is none if the script wasn't read. Otherwise it is the
+-- answers to the lines before the one that ended the script, or to all lines if the counts are out of balance. If
+-- writing failed, nothing is known about the text.
 abbrev pub IsScriptCutShort : ℕ → List ℕ → Option (List ℕ) → Option (List ℕ) → ScriptFault → Type 0
 IsScriptCutShort scid script old new (Line number reason) =
     ((reason ≡ NoMemory) × IsOutOfMemory scid script number old new)

@@ -59,8 +59,8 @@ pub fn carries_more(octets: &[u8]) -> bool
     }
 }
 
-// Returns a line with the frame at the front of the octets, without its frame error control field. Returns `None` if that
-// field is wrong, or if no such frame is there.
+// Returns a line with the frame at the front of the octets, without its frame error control field. Returns `None` if
+// that field is wrong, or if no such frame is there.
 fn take_frame_off(alloc: Global, octets: &[u8]) -> Result<Option<Line>, Reason>
     ensures passed { IfOk result (λ passed. MatchOption passed (FailsCandidate FrameCheck.ErrorControl octets.now) (IsCandidatePassed FrameCheck.ErrorControl octets.now)) }
     ensures reason { IfErr result (λ reason. reason ≡ Reason.NoMemory) }

@@ -167,9 +167,9 @@ impl<J: Journal> StationOf<J> {
         Ok(operators)
     }
 
-    /// Brings the frame at the front of the octets to its channel, under the channel's lock. This call, `release`, `take`
-    /// and `take_unit` allocate only the memory that the channel's own call allocates. So on a counting station this call
-    /// runs out of memory only for a frame of Type-BD, and a take never does.
+    /// Brings the frame at the front of the octets to its channel, under the channel's lock. This call, `release`,
+    /// `take` and `take_unit` allocate only the memory that the channel's own call allocates. So on a counting station
+    /// this call runs out of memory only for a frame of Type-BD, and a take never does.
     pub fn bring(
         &self,
         rt: &impl Wait,
@@ -366,8 +366,7 @@ impl<J: Journal> StationOf<J> {
         operator.desks[place].meet(owned_desk.desk(), rt, watcher);
     }
 
-    // Runs the operation on the desk at this place, by the operator's part for that desk. The desk's channel has the id
-    // `vcid`.
+    // Runs the operation at the desk at this place, whose channel has this id, on behalf of the operator.
     fn operate<O: Operation<J>, R: Wait>(
         &self,
         rt: &R,
