@@ -1,4 +1,4 @@
--- The jobs of a script, sorted by the channels that they are for, and their results after the workers.
+-- The jobs of a script, sorted by channel, and the channels after workers have done these jobs.
 use Rattle.std.specs.Prelude.{◌≡◌, ℕ, List, [], ◌∷◌, ◌++◌, ◌⊎◌, All, Any, length, map, slice_get, slice_set, Some, None}
 use Rattle.tc_channel.specs.Journal.{History}
 use Rattle.tc_channel.specs.declared.settings.Settings.{Settings}

@@ -103,8 +103,8 @@ fn reported_of<J: Journal>(channel: &ChannelWith<J>) -> Reported {
     }
 }
 
-// Returns the answer that a station with one channel would give, from the result of octets that were brought to a desk,
-// or to a channel without a station.
+// Returns the answer that a station with one channel would give. `read` is the result of bringing octets to a desk, or to
+// a channel without a station.
 fn of_alone(vcid: u8, read: Result<Result<FrameReply, NoMemory>, FrameFault>) -> Asked {
     match read {
         Ok(reply) => Ok(Answer::Frame {
