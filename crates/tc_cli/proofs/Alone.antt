@@ -55,7 +55,8 @@ pub record IsSound (m : Staffed) : Type 0 where
   pub seen : AreSeen m.operator.desks
   pub ahead : AreEach IsAhead m.operator.desks m.watchers
 
--- the operator has made all events that it has seen, and each watcher has seen exactly these
+-- the operator has made all events that it has seen, and each watcher has seen exactly the events that the operator has
+-- seen
 abbrev pub IsAlone : Staffed → Type 0
 IsAlone m = AreAlone m.operator.desks × AreEach IsLevel m.operator.desks m.watchers
 
@@ -93,9 +94,9 @@ module _ (laws : AloneLaws) (Answers : Linked → Answer → Linked → Type 0) 
             (λ made. subst (board.IsEarlier (history_of a.next.own.seen)) (sym a.met.1) (beginning-self (history_of a.next.own.seen)));
       }
 
-  -- If the operator is alone after this answer, it was alone before, and the answer is that of the channel as the
-  -- operator had seen it. `IsAlone` states that the operator has made all events, and that each watcher has seen
-  -- exactly the events that the operator has seen.
+  -- If the operator is alone after this answer, it was alone before it, and the channel, as the operator had seen it,
+  -- gives this answer. `IsAlone` states that the operator has made all events, and that each watcher has seen exactly
+  -- the events that the operator has seen.
   changed : IsAlone new → IsAlone m × Changes (rack_of m) vcid (λ before after. Answers before answer after) (rack_of new)
   changed alone =
       let desks = m.operator.desks in
@@ -308,7 +309,8 @@ module _ (laws : AloneLaws) where
       let whole = laws.whole d.own c.journal own (refl, behind.1) closed.merge in
       (whole.0, λ i. record { settings = (closed.settings ∙ ap (λ (h : Identity). h.settings) behind.0) i; journal = sym whole.1 i })
 
-  -- the operator has made all events, and the channels are those that it has seen
+  -- if a station is closed together with its one operator, the operator has made all events, and the closed channels
+  -- are those that it has seen
   pub closed-alone : (m : Staffed) (closed : List History) → AreSeen m.operator.desks → locks_of m.operator.desks ≡ m.station.locks → AreClosedTogether m.station (m.operator ∷ []) closed
       → AreAlone m.operator.desks × (closed ≡ histories (rack_of m))
   closed-alone m closed seen locks (owned_desks, owned, all) =

@@ -1,4 +1,4 @@
--- An operator's call at a desk, as the answer of a script's line.
+-- The results of an operator's calls at a desk, as answers to the lines of a script.
 use Rattle.std.proofs.Common.{◌≡◌, ◌⊎◌, ℕ, Bool, List, Result, Ok, Err, inl, inr, refl, sym, ap, ◌∙◌}
 use Rattle.tc_cli.proofs.Names.{Answer, AtLock, Empty, Event, HasSeenNoMore, Identity, IsAnsweredAt, IsBringAnswer, IsCall, IsDeskAnswer, IsFrameAnswered, IsLocated, IsStaffedCall, IsPlace, IsReleaseAnswered, IsTakeAnswered, IsUnitAnswered, Linked, Staffed, Moment, NoMap, NoQueue, Watching, linked, looked, made}
 use Rattle.logged_lock.specs.Log.{with_entry}
@@ -11,7 +11,7 @@ use Rattle.tc_channel.specs.declared.reply.TakeUnitFault.TheVariants as unit_fau
 use Rattle.tc_desk.specs.Call as at_desk
 use Rattle.tc_rack.specs.declared.answer.Answer.TheVariants.{Frame, Release, Take, Unit as TakeUnit, Refused}
 
--- for this result of a call, the channel gives this answer at the moment of the call
+-- if a call has this result, the channel gives this answer at the moment of the call
 abbrev IsReported : {R F : Type 0} → ℕ → Event → (Moment → R → Type 0) → (Moment → F → Type 0) → (Linked → Answer → Linked → Type 0) → Answer → Result R F → Type 0
 IsReported vcid e ok err Answers answer (Ok a) = (m : Moment) → m.head.settings.vcid ≡ vcid → ok m a → Answers (linked m) answer (linked (with_entry m e))
 IsReported vcid e ok err Answers answer (Err f) = (m : Moment) → m.head.settings.vcid ≡ vcid → err m f → Answers (linked m) answer (linked m)
@@ -81,7 +81,8 @@ release-empty m after vcid call =
 
 -- ---- takes
 
--- the packet is the oldest one that waits (its type may be any whose octets are known)
+-- The packet is the oldest one that waits in the queue with this APID. A packet may have any type, and `octets_of`
+-- returns its octets.
 abbrev pub IsPacket : {P : Type 0} → (P → List ℕ) → ℕ → Moment → P → Type 0
 IsPacket octets_of apid now p = at_desk.IsOldestPacket apid now (octets_of p)
 

@@ -1,5 +1,5 @@
--- Histories each of which is a beginning of the other, and lists of desks with the histories that their watchers have
--- seen.
+-- Lemmas about histories that are beginnings of each other, and about lists of desks with the histories that their
+-- watchers have seen.
 use Rattle.std.proofs.Common.{◌≡◌, ℕ, List, [], ◌∷◌, ◌++◌, Some, length, inl, inr, refl, sym, ap, ◌∙◌, subst, arith, slice_get, slice_set}
 use Rattle.tc_cli.proofs.Names.{AtLock, Event, HasMadeAll, History, IsEarlier, Own, Watching, eqb_tells, history_of, length-append, nil_from_length, same_Some}
 use Rattle.std.proofs.lemmas.List.{append-nil}
@@ -54,7 +54,7 @@ module _ (P : AtLock → History → Type 0) (desks more : List AtLock) (watcher
   each-there all =
       all place next late (ap (λ (l : List AtLock). slice_get l place) desk ∙ set-there desks place there next was) (ap (λ (l : List Watching). slice_get l place) watched ∙ set-there watchers place early late seat)
 
--- an operator that has made all that it has seen, and has made nothing, has seen no event
+-- if an operator has made all events that it has seen, and has made none, it has seen none
 pub no-event : (own : Own) → HasMadeAll own → own.made ≡ [] → own.seen.entries ≡ []
 no-event own all none = none-placed own.seen.entries (sym all ∙ none) where
   none-placed : (es : List Event) → with_places 0 es ≡ [] → es ≡ []

@@ -20,7 +20,7 @@ use Rattle.tc_rack.specs.declared.operation.Operation.TheVariants as operations
 
 -- ---- the line that comes first
 
--- no octet is a line feed
+-- no octet of the line is a line feed
 abbrev HasNoFeed : List ℕ → Type 0
 HasNoFeed line = All (λ octet. octet ≢ 10) line
 
@@ -84,11 +84,11 @@ rack-ids scid (Operating rack) = refl
 
 -- ---- the answer and the effect of an operation on a channel
 
--- a channel has only one answer, and only one state after it
+-- for each state of a channel, the relation allows only one answer and only one new state
 abbrev pub IsDetermined : (Linked → Answer → Linked → Type 0) → Type 0
 IsDetermined Answers = (old new other : Linked) (answer another : Answer) → Answers old answer new → Answers old another other → (answer ≡ another) × (new ≡ other)
 
--- the channel keeps its id
+-- the relation leaves the id of a channel unchanged
 abbrev pub IsIdKept : (Linked → Answer → Linked → Type 0) → Type 0
 IsIdKept Answers = (old new : Linked) (answer : Answer) → Answers old answer new → vcid_of new ≡ vcid_of old
 
@@ -98,11 +98,11 @@ frame-determined frame old new other answer another (is, next) (too, then) = (is
 pub release-determined : IsDetermined IsReleaseAnswered
 release-determined old new other answer another one two = grind arith
 
--- nothing waits, since there is no queue, or since the queue is empty
+-- either there is no queue and the answer is `without`, or the queue is empty and the operation is refused as empty
 abbrev IsNoneThere : Option (List (List ℕ)) → Answer → Answer → Type 0
 IsNoneThere waiting without answer = ((waiting ≡ None) × (answer ≡ without)) ⊎ ((waiting ≡ Some []) × (answer ≡ answers.Refused Empty))
 
--- the oldest item that waits is taken, if there is any
+-- either the oldest item that waits is taken, or no item waits and the channel stays as it is
 abbrev IsOldestTaken : Option (List (List ℕ)) → (List ℕ → Answer) → Answer → Linked → Linked → Answer → Linked → Type 0
 IsOldestTaken waiting reported without next old answer new =
     ((item : List ℕ) × (option_and_then (λ items. slice_get items 0) waiting ≡ Some item) × (answer ≡ reported item) × (new ≡ next))
@@ -188,7 +188,7 @@ word-determined vcid rack answer another apart (inr (none, is)) (inr (nothing, t
 -- ---- octets that begin with a frame, and octets that don't
 
 module _ (only : IsOneAtMost) where
-  -- octets that are brought to a channel aren't refused
+  -- if octets begin with a frame for one of the channels, there is no reason why they are for none of the channels
   not-located : (octets frame : List ℕ) (rack : Racked) (fault : LocateFault) → BeginsWith octets frame → (header_of frame).scid ≡ rack.scid
       → ((¬ HasChannel rack.channels (header_of frame).vcid) → ⊥) → IsRackLocateFault rack octets fault → ⊥
   not-located octets frame rack (faults.Frame f) begins ours here why = none-some f (sym (no-fault octets frame begins) ∙ why)

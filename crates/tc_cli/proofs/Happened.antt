@@ -25,15 +25,15 @@ no-locate-fault only station octets frame UnknownChannel begins ours there (othe
 
 -- ---- the journal that jobs make
 
--- a desk of a channel with these settings and this journal
+-- the moment of a desk whose channel has these settings and this journal
 abbrev pub moment : Settings → List Event → Moment
 moment s journal = record { head = record { settings = s; board = nowhere.board }; entries = journal }
 
--- if the event can be made, it is the next one of the journal, and otherwise the journal stays
+-- If the event can be made, it is appended to the journal. Otherwise the journal stays the same.
 abbrev pub IsTriedNext : Settings → Event → List Event → List Event → Type 0
 IsTriedNext s e old new = (CanBeMade e (moment s old) × (new ≡ old ++ e ∷ [])) ⊎ (CannotBeMade e (moment s old) × (new ≡ old))
 
--- the channel's journal before and after a job
+-- a job of the channel leads from the first of these journals to the second
 abbrev pub Happens : ℕ → ℕ → Settings → Order → List Event → List Event → Type 0
 Happens scid vcid s (orders.Bring octets) old new =
     (frame : List ℕ) × BeginsWith octets frame × ((header_of frame).scid ≡ scid) × ((header_of frame).vcid ≡ vcid) × IsTriedNext s (events.Frame frame) old new
@@ -41,7 +41,7 @@ Happens scid vcid s orders.Release old new = IsTriedNext s events.Release old ne
 Happens scid vcid s (orders.Take apid) old new = IsTriedNext s (events.Take apid) old new
 Happens scid vcid s (orders.TakeUnit map_id) old new = IsTriedNext s (events.TakeUnit map_id) old new
 
--- the channel's journal before and after a list of jobs
+-- the jobs of the channel, carried out one after the other, lead from the first of these journals to the second
 abbrev pub AllHappen : ℕ → ℕ → Settings → List Job → List Event → List Event → Type 0
 AllHappen scid vcid s [] old new = new ≡ old
 AllHappen scid vcid s (job ∷ jobs) old new = (mid : List Event) × Happens scid vcid s job.order old mid × AllHappen scid vcid s jobs mid new
@@ -91,8 +91,9 @@ desk_at place o = slice_index_or o.desks place nobody
 abbrev pub HasSeen : Settings → List Event → AtLock → Type 0
 HasSeen s journal d = (d.own.seen.head.settings ≡ s) × (d.own.seen.entries ≡ journal)
 
--- At one desk: if, after the jobs, the worker has made all events that it has seen, this was also true before the jobs.
--- In that case, if the worker had seen the old journal before the jobs, it has seen the new one after them.
+-- These are a worker's accounts of a desk before and after jobs. Suppose that the worker has made all events that it
+-- has seen after the jobs. Then it had also made all events that it had seen before them. And if it had seen the old
+-- journal before the jobs, it has seen the new journal after them.
 abbrev IsMadeOf : Settings → List Event → List Event → AtLock → AtLock → Type 0
 IsMadeOf s old new before after =
     HasSeenItsOwn before.own → HasSeenItsOwn after.own × (HasMadeAll after.own → HasMadeAll before.own × (HasSeen s old before → HasSeen s new after))
@@ -122,7 +123,7 @@ worked-more s place old mid new before between after first second = record {
       );
 }
 
--- `IsMadeOf` holds for a desk if these facts hold for the events that the operator has seen and made afterwards
+-- if the premises hold for the events that the operator has seen and made after a call, `IsMadeOf` holds for the desk
 desk-grown : (there next : AtLock) (now : Moment) (o : Own) (s : Settings) (old new : List Event) → next.own ≡ o → o.seen.head ≡ now.head → (HasSeenItsOwn there.own → HasSeenItsOwn o)
     → (HasSeenItsOwn there.own → HasMadeAll o → HasMadeAll there.own × (now ≡ there.own.seen)) → (now.head.settings ≡ s → now.entries ≡ old → o.seen.entries ≡ new) → IsMadeOf s old new there next
 desk-grown there next now o s old new is head its law journal = λ own. (
@@ -138,7 +139,7 @@ desk-grown there next now o s old new is head its law journal = λ own. (
 )
 
 module _ (laws : WorkLaws) where
-  -- one attempt to make an event at a desk
+  -- if an event is tried once at a desk, `IsMadeOf` holds for the desk
   tried-desk : (e : Event) (there next : AtLock) (r : Result (Unit {0}) (Unit {0})) (s : Settings) (old new : List Event)
       → IsCall e (λ m _. CanBeMade e m) (λ m _. CannotBeMade e m) there r next → IsTriedNext s e old new → IsMadeOf s old new there next
   tried-desk e there next (Ok u) s old new call tried =
@@ -191,7 +192,7 @@ module _ (laws : WorkLaws) where
   job-worked station place vcid (orders.TakeUnit map_id) s old new before after here happens made =
       tried-on station place vcid (events.TakeUnit map_id) s old new before after here made happens
 
-  -- the jobs of a list, carried out one after the other
+  -- if the jobs of a list are carried out one after the other, `IsWorkedAt` holds at the place of the list's channel
   pub list-worked : (station : Roster) (place vcid : ℕ) (jobs : List Job) (s : Settings) (old new : List Event) (before after : AtStation)
       → IsPlace station vcid place → AllHappen station.scid vcid s jobs old new → AreMade station vcid jobs before after → IsWorkedAt s place old new before after
   list-worked station place vcid [] s old new before after here happen made = worked-none s place old new before after happen made

@@ -51,7 +51,7 @@ all-made station (s ∷ shifts) each none zero x at =
     subst (λ (y : Shift). AreMade station y.list.vcid y.list.jobs y.before y.after) (same_Some s x at) made
 all-made station (s ∷ shifts) each none (suc k) x at = all-made station shifts each.1 (first-none s.refused (lowest shifts) none).1 k x at
 
--- the events that the k-th of the operators has made at one desk
+-- the events that the k-th account at a desk has made are those that the k-th operator has made at this desk
 maker-at : (ops : List AtStation) (place k : ℕ) (o : AtStation) → slice_get ops k ≡ Some o → made_by (accounts_of (column place (operator_lists_of ops))) k ≡ (desk_at place o).own.made
 maker-at [] place k o at = absurd (none-some o at)
 maker-at (p ∷ ops) place zero o at = ap (λ (x : AtStation). (desk_at place x).own.made) (same_Some p o at)
@@ -67,7 +67,8 @@ account-at [] place k o at = absurd (none-some o at)
 account-at (p ∷ ops) place zero o at = ap (λ (x : AtStation). some (desk_at place x).own) (same_Some p o at)
 account-at (p ∷ ops) place (suc k) o at = account-at ops place k o at
 
--- the settings that an operator has seen at the desk at a place
+-- if the heads of an operator's desks have these settings at a place, the operator has seen them at the desk at this
+-- place
 desk-settings : (desks : List AtLock) (k : ℕ) (s : Settings) → slice_get (map (λ (h : Identity). h.settings) (heads_of desks)) k ≡ Some s
     → (slice_index_or desks k nobody).own.seen.head.settings ≡ s
 desk-settings [] k s at = absurd (none-some s at)
@@ -96,11 +97,11 @@ module _ (laws : WorkLaws) (station : Roster) (lists : List WorkList) (rack : Ra
       sym (length-map shifts (λ (s : Shift). s.list)) ∙ (ap (length {A = WorkList}) same
       ∙ (sym (length-map lists (λ (l : WorkList). l.vcid)) ∙ (ap (length {A = ℕ}) (planned.lists ∙ sym planned.ids) ∙ length-map rack.channels vcid_of)))
 
-  -- the settings that the station knows at a place
+  -- the settings that the station has at a place are those of the channel at this place
   settings-at : (k : ℕ) (c : Linked) → slice_get rack.channels k ≡ Some c → slice_get (settings_in station) k ≡ Some c.history.settings
   settings-at k c at = ap (λ (l : List Settings). slice_get l k) (sym planned.settings) ∙ mapped-at (λ (y : Linked). y.history.settings) rack.channels k c at
 
-  -- a worker has made the journal of its list's channel
+  -- at the desk of its list, each worker has made the events of the journal of the list's channel
   shift-worked : (shifts : List Shift) → map (λ (s : Shift). s.list) shifts ≡ lists → AllByRecursion (IsShift station) shifts → lowest shifts ≡ None → (k : ℕ) (x : Shift) (c : Linked)
       → slice_get shifts k ≡ Some x → slice_get rack.channels k ≡ Some c → IsWorkedAt c.history.settings k [] c.history.journal x.before x.after
   shift-worked shifts same each none k x c at here =
@@ -109,7 +110,8 @@ module _ (laws : WorkLaws) (station : Roster) (lists : List WorkList) (rack : Ra
       list-worked laws station k x.list.vcid x.list.jobs c.history.settings [] c.history.journal x.before x.after
       (place-of station k x.list.vcid planned.distinct id) (planned.jobs k x.list c list here) (all-made station shifts each none k x at)
 
-  -- the channel of a list, once the station is closed
+  -- once the station is closed, the channel of a list has the settings and the journal of the channel at the list's
+  -- place
   one-closed : (shifts : List Shift) (befores ops : List AtStation) → map (λ (s : Shift). s.list) shifts ≡ lists → map (λ (s : Shift). s.before) shifts ≡ befores → map (λ (s : Shift). s.after) shifts ≡ ops
       → AllByRecursion (IsShift station) shifts → lowest shifts ≡ None → All HasMadeNothing befores → All (KnowsDesks station) befores
       → (k : ℕ) (c : Linked) (x : Shift) (owned_desk : AtLock) (h : History) → slice_get rack.channels k ≡ Some c → slice_get shifts k ≡ Some x
@@ -150,7 +152,7 @@ module _ (laws : WorkLaws) (station : Roster) (lists : List WorkList) (rack : Ra
       let same : h.settings ≡ c.history.settings = closed.settings ∙ settings in
       λ i. record { settings = same i; journal = journal i }
 
-  -- all channels, once the station is closed
+  -- once the station is closed, its channels are those that result when the lines are carried out in order
   all-closed : (befores ops : List AtStation) (closed : List History) → All HasMadeNothing befores → All (KnowsDesks station) befores → AreWorked station lists None befores ops
       → AreClosedTogether station ops closed → closed ≡ histories rack
   all-closed befores ops closed nothing knows (shifts, of-lists, of-befores, of-ops, each, none) (owned_desks, owned, all) =
@@ -169,14 +171,15 @@ module _ (laws : WorkLaws) (station : Roster) (lists : List WorkList) (rack : Ra
       ap (λ (d : AtLock). d.own.seen.head.settings) (sym (get_or_from_slice_get owned_desks k owned_desk.0 nobody owned_desk.1)) ∙ desk-settings owned_desks k c.history.settings known in
       one-closed shifts befores ops of-lists of-befores of-ops each none nothing knows k c shift.0 owned_desk.0 h here shift.1 own (all.each k owned_desk.0 h owned_desk.1 at))
 
--- the channels that workers have made are those of the lines in order
+-- the channels that result from the workers are those that result when the lines are carried out in order
 worked-channels : WorkLaws → (parted : Parted) (rack : Racked) (channels : List History) → IsPlanned parted rack → IsWorkedOut parted channels → IsPermutation (histories rack) channels
 worked-channels laws parted rack channels planned out =
     let issued = issued-planned parted out.station (length parted.lists) rack out.issued planned in
     let same = all-closed laws out.station parted.lists rack issued out.befores out.operators out.closed.there out.nothing out.knows out.worked out.closed.closed in
     subst (λ (l : List History). IsPermutation l channels) same out.closed.all
 
--- the report on the channels that workers have made is that of the script
+-- the report on the channels that result from the workers is the report of the script when its lines are carried out in
+-- order
 pub worked-report : WorkLaws → (scid : ℕ) (script : List ℕ) (channels : List History) (text : List ℕ) → AreWorkedChannels scid script channels → IsReportOf channels text
     → (answers : List (Option Answer)) × (progress : Progress) × AreAnswers (IsPerformed scid) script answers progress [] × IsScriptReport scid progress text
 worked-report laws scid script channels text (count, plan, parted, inl (none, empty)) of =

@@ -53,7 +53,7 @@ set-elsewhere (z ∷ xs) zero zero y apart = absurd (apart refl)
 set-elsewhere (z ∷ xs) (suc k) (suc j) y apart = set-elsewhere xs k j y (λ e. apart (ap suc e))
 set-elsewhere _ _ _ y apart = refl
 
--- the element at the place after the replacement, and the element at another place
+-- After a replacement, the new element is at its place, and at any other place the element is the same as before.
 pub set-at : {X : Type 0} (xs more : List X) (place k : ℕ) (x y z : X) → more ≡ slice_set xs place y → slice_get xs place ≡ Some x → k ≡ place → slice_get more k ≡ Some z → y ≡ z
 set-at {X} xs more place k x y z is was here at = same_Some y z (sym (set-there xs place x y was) ∙ ((λ i. slice_get (sym is i) (sym here i)) ∙ at))
 
@@ -88,6 +88,7 @@ any-mapped {X} f xs k v at = let there = unmapped f xs k v at in any-here (λ (x
 pub was-there : {X : Type 0} (P : X → Type 0) (xs : List X) (k : ℕ) (x : X) → slice_get xs k ≡ Some x → All P xs → P x
 was-there P xs k x at all = subst P (get_or_from_slice_get xs k x x at) (all k x (slice_get_within xs k x at))
 
--- if all elements have a property after one is replaced, and the replaced one had it, all elements had it before
+-- if all elements have a property after one is replaced, and the replaced element had the property, all elements had it
+-- before
 pub all-back : {X : Type 0} (P : X → Type 0) (xs : List X) (k : ℕ) (x y : X) → slice_get xs k ≡ Some x → P x → All P (slice_set xs k y) → All P xs
 all-back P xs k x y at here all = subst (All P) (set-set xs k y x ∙ set-same xs k x at) (All-set P (slice_set xs k y) k x here all)

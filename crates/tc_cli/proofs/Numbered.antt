@@ -29,7 +29,7 @@ shift-line station (s ∷ ss) n all is = elim (lower-either s.refused (lowest ss
   | inr there ↦ let later = shift-line station ss n all.1 there in (suc later.0, later.1, omega (arith, later.2), later.3, later.4)
 ]
 
--- the line that workers report is that of one of their jobs
+-- the line that workers report is the line of one of their jobs
 pub refused-line : (station : Roster) (lists : List WorkList) (line : Option ℕ) (n : ℕ) (befores afters : List AtStation)
     → AreWorked station lists line befores afters → line ≡ Some n → IsJobLine lists n
 refused-line station lists line n befores afters (shifts, are, before, after, all, least) is =

@@ -66,7 +66,8 @@ new-planned scid list found new =
           subst (λ (x : List Job × List Event). AllHappen found.station.scid l.vcid c.history.settings x.0 [] x.1) (λ i. (sym no-jobs i, sym no-events i)) refl;
     }
 
--- a job is added to a list, and the channel of this list is the one after the job
+-- if a job is added to a list, and the channel of this list is replaced by the channel after the job, the plan and the
+-- channels still fit
 moved-planned : (found : Parted) (rack : Racked) (place : ℕ) (l : WorkList) (c new : Linked) (job : Job) → IsPlanned found rack
     → slice_get found.lists place ≡ Some l → slice_get rack.channels place ≡ Some c → new.history.settings ≡ c.history.settings
     → Happens found.station.scid l.vcid c.history.settings job.order c.history.journal new.history.journal
@@ -97,7 +98,7 @@ CanAnswer Answers scid order c =
     (answer : Answer) × (new : Linked) × Answers c answer new × (new.history.settings ≡ c.history.settings)
     × Happens scid (vcid_of c) c.history.settings order c.history.journal new.history.journal
 
--- if no list is for the id, no channel has it
+-- if the station has no channel with this id, none of the channels has it
 no-channel : (parted : Parted) (rack : Racked) (vcid : ℕ) → IsPlanned parted rack → ¬ Contains parted.station.vcids vcid → ¬ HasChannel rack.channels vcid
 no-channel parted rack vcid planned none there = none (subst (λ (l : List ℕ). Contains l vcid) planned.ids (any-contains vcid_of rack.channels vcid there))
 
@@ -151,8 +152,8 @@ unit-can scid map_id c = elim (waits-or-not (waiting_units c.history.settings c.
   ]
 ]
 
--- these channels give the operation an answer that `Answers` allows, and afterwards they are those of the plan with the
--- operation's job
+-- these channels give the operation an answer that `Answers` allows, and afterwards they fit the plan that has the
+-- operation's job, too
 abbrev IsAnsweredSo : (Racked → Answer → Racked → Type 0) → Parted → Racked → Type 0
 IsAnsweredSo Answers parted rack = (answer : Answer) × (new : Racked) × Answers rack answer new × IsPlanned parted new
 

@@ -17,7 +17,7 @@ count vcid channels = sum_by (one_of vcid) channels
 count-own : (c : History) (cs : List History) → count (vcid_of c) (c ∷ cs) ≡ 1 + count (vcid_of c) cs
 count-own c cs = sum_by-cons (one_of (vcid_of c)) c cs ∙ ap (λ (b : Bool). cond b 1 0 + count (vcid_of c) cs) (eq-eqb (vcid_of c) (vcid_of c) refl)
 
--- if some channels have this id, there is one at a place
+-- if at least one channel has this id, a channel with this id is at some place
 placed : (vcid : ℕ) (cs : List History) → 0 < count vcid cs → (place : ℕ) × (c : History) × (slice_get cs place ≡ Some c) × (vcid_of c ≡ vcid)
 placed vcid [] some = absurd (omega (arith, some))
 placed vcid (c ∷ cs) some = elim (eqb_tells (vcid_of c) vcid) [

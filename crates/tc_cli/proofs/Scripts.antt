@@ -5,7 +5,8 @@ use Rattle.tc_rack.specs.declared.stage.Stage.{Stage}
 use Rattle.tc_cli.specs.Parallel.{HasCause}
 use Rattle.tc_cli.specs.Script.{AreFirstGood, IsReached, IsFirstBad, IsGood}
 
--- while channels are set up, no operation is carried out
+-- if the phase of a script is the set-up with these settings, the script is at that stage, and no operation was carried
+-- out
 pub set-up : {O : Type 0} (stage : Stage O) (list : List Settings) → phase_of stage ≡ Setup list → stage ≡ SettingUp list
 set-up (SettingUp settings) list is = cc
 set-up (Operating there) list is = absurd cc
@@ -18,7 +19,7 @@ first-bad script rest line after before phase reason (inl memory) leads next wit
 first-bad script rest line after before phase reason (inr bad) leads next within =
     inr (within, record { before = before; phase = phase; rest = rest; line = line; after = after; leads = leads; next = next; number_is = refl; bad = bad })
 
--- if no octets are left, each line is good, whatever becomes of the report
+-- if no octets are left, each line is good, whether or not the report was written
 pub good-end : (reported : Result (Unit {0}) ScriptFault) (script rest : List ℕ) (count : ℕ) (phase : Phase) → Leads script count phase rest → rest ≡ []
     → OnOk reported (IsGood script)
 good-end (Ok done) script rest count phase leads end = (count, phase, rw end at leads)
@@ -34,7 +35,7 @@ end-fault (Err fault) scid session script rest count phase leads end within (inr
 end-fault (Err fault) scid session script rest count phase leads end within (inr (inr memory)) =
     subst (IsScriptFault script) (sym memory) (inl (refl, inl (phase, rest, leads)))
 
--- lines whose jobs are given are good
+-- if the jobs of some lines were given to their channels, these lines are good
 pub parted-leads : (scid : ℕ) (script : List ℕ) (count : ℕ) (plan : Plan) (rest : List ℕ) → AreParted scid script count plan rest → Leads script count (phase_of plan) rest
 parted-leads scid script count plan rest none_parted = starts
 parted-leads scid script count plan rest (one_parted {count = before} {plan = old} leads next parted) =
@@ -52,7 +53,7 @@ read-fault (Some script) (Line number reason) why = inl (why.1, inl (Setup [], s
 read-fault (Some script) Write why = absurd why
 read-fault (Some script) Unbalanced why = absurd why
 
--- a script that isn't read isn't out of balance
+-- a fault of reading isn't an imbalance, so it needs no cause
 pub read-cause : (scid : ℕ) (known : Option (List ℕ)) (fault : ScriptFault) → IsReadFault known fault → IfSome known (λ script. HasCause scid script fault)
 read-cause scid None fault why = tt
 read-cause scid (Some script) Unbalanced why = absurd why

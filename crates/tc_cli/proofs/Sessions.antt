@@ -28,7 +28,8 @@ phase-of (Operating m) = refl
 abbrev GoesOn : Session → Session → Type 0 → Type 0
 GoesOn s new Holds = IsSoundSession new × (IsAloneSession new → IsAloneSession s × Holds)
 
--- the station that an operation finds
+-- If a session is sound, the station that an operation finds is sound. If its operator is alone, it was alone in the
+-- session, and the channels are those that the operation finds when the lines are carried out in order.
 found-alone : (scid : ℕ) (s : Session) (m : Staffed) → IsStaffedFound scid s m → IsSoundSession s → IsSound m × (IsAlone m → IsAloneSession s × (rack_of m ≡ rack_for scid (progress_of s)))
 found-alone scid (SettingUp list) m found sound = (new-sound scid list m found, λ alone. (tt, new-rack scid list m found alone.0))
 found-alone scid (Operating staffed) m found sound = (subst IsSound (sym found) sound, λ alone. (subst IsAlone found alone, ap rack_of found))

@@ -18,7 +18,7 @@ as-many station ordered =
     sym (length-map station.heads settings)
     ∙ (sym (length-map (map settings station.heads) (λ (s : Settings). s.vcid)) ∙ ap (length {A = ℕ}) ordered.named)
 
--- a watcher is replaced by another watcher of the same desk
+-- if a watcher is replaced by another watcher of the same desk, the watchers are still those of the station's channels
 pub watcher-set : (station : Roster) (watchers : List Watching) (place : ℕ) (early late : Watching) → AreWatchersOf station watchers → slice_get watchers place ≡ Some early → IsWatcherAt station place late
     → AreWatchersOf station (slice_set watchers place late)
 watcher-set station watchers place early late all was one = (
@@ -31,7 +31,7 @@ watcher-set station watchers place early late all was one = (
   ],
 )
 
--- one more watcher is appended
+-- if a watcher of the next channel is appended, each watcher still belongs to the desk at its own place
 pub one-watcher-more : (station : Roster) (vcids : List ℕ) (items next : List Watching) (w : Watching) (i vcid : ℕ) → IsOrdered station → vcids ≡ station.vcids → next ≡ items ++ w ∷ [] → length items ≡ i → i < length vcids
     → vcid ≡ get_or vcids i vcid → AreWatching station items → IsWatcherOf station vcid w → AreWatching station next
 one-watcher-more station vcids items next w i vcid ordered whole is many inside at all of = λ k x here.
@@ -84,7 +84,7 @@ has-met station operator next items place vcid early late here seat (p, there, m
 pub read-of : (station : Roster) (place : ℕ) (early late : Watching) → IsWatcherAt station place early → late.board ≡ early.board → IsEarlier early.seen late.seen → IsWatcherAt station place late
 read-of station place early late (head, at, board, settings) same later = (head, at, same ∙ board, later.0 ∙ settings)
 
--- the answer to a line that requests a CLCW
+-- if a watcher reads the CLCW of its channel, this CLCW answers a line that requests it
 pub word-answered : (station : Roster) (operator : AtStation) (items : List Watching) (place vcid word : ℕ) (early late : Watching) → IsPlace station vcid place → slice_get items place ≡ Some early
     → IsWatcherAt station place early → IsEarlier early.seen late.seen → IsLawful late.seen.settings late.seen.journal → word ≡ clcw late.seen.settings late.seen.journal no_flag
     → IsWordAnswer vcid (record { station = station; operator = operator; watchers = items }) (Clcw vcid word) (record { station = station; operator = operator; watchers = slice_set items place late })
@@ -95,6 +95,7 @@ word-answered station operator items place vcid word early late here seat (head,
       record { head = head; early = early; late = late; desk = (place, here, at); watched = seat; later = later; settings = later.0 ∙ settings; lawful = lawful; word = ap (λ (w : ℕ). Clcw vcid w) of; change = refl },
     )
 
--- one more watcher met its desk
+-- if the first `n` watchers have met their desks, and then the next one meets its desk, the first `n + 1` have met
+-- theirs
 pub one-more-met : (n : ℕ) (m mid met : Staffed) → HaveMet n m mid → HasMetAt n mid met → HaveMet (n + 1) m met
 one-more-met n m mid met have at = rw add-one (mid, have, at)

@@ -47,7 +47,7 @@ pub so-far-good : (scid : ℕ) (script : List ℕ) (count : ℕ) (session : Sess
 so-far-good scid script count session rest a b (answers, leads, is, text) =
     subst (λ n. Leads script n (phase_of session) rest) (sym is) (answered-leads scid script answers session rest leads)
 
--- one more line is answered
+-- if one more line is answered and its answer is written, the answers to the first `count + 1` lines are written
 pub one-more-so-far : (scid : ℕ) (script : List ℕ) (count : ℕ) (session new : Session) (rest line after : List ℕ) (answer : Option Answer) (a b c : Option (List ℕ))
     → IsSoFar scid script count session rest a b → IsFirstLine rest line after → IsLineAnswered (IsStaffedOperated scid) session line new answer → Appends b c (answer_line answer)
     → IsSoFar scid script (count + 1) new after a c
@@ -58,7 +58,7 @@ one-more-so-far scid script count session new rest line after answer a b c (answ
   subst (Appends a c) (flat_map_more answer_line [] answers answer) (Appends-trans a b c _ _ text more),
 )
 
--- a bad line ends the script
+-- if memory runs out at the next line or this line is bad, the script is cut short at it
 pub cut-short : (scid : ℕ) (script : List ℕ) (count : ℕ) (session : Session) (rest line after : List ℕ) (reason : Reason) (a b : Option (List ℕ))
     → (reason ≡ NoMemory) ⊎ IsBadLine (phase_of session) line reason → IsSoFar scid script count session rest a b → IsFirstLine rest line after
     → IsScriptCutShort scid script a b (Line (count + 1) reason)
@@ -67,7 +67,7 @@ cut-short scid script count session rest line after reason a b (inl memory) (ans
 cut-short scid script count session rest line after reason a b (inr bad) (answers, leads, is, text) next =
     inr (answers, session, rest, line, after, leads, next, bad, ap (λ n. n + 1) is, text)
 
--- the end of the script, with or without its report
+-- if no octets are left and the report is written, the whole script is written
 pub end-written : (laws : AloneLaws) (reported : Result (Unit {0}) ScriptFault) (scid : ℕ) (script : List ℕ) (count : ℕ) (session : Session) (rest : List ℕ) (a b c : Option (List ℕ))
     → IsSoFar scid script count session rest a b → rest ≡ [] → OnOk reported (IsSessionReportWritten scid session b c) → OnOk reported (IsScriptWritten scid script a c)
 end-written laws (Err fault) scid script count session rest a b c so-far end written = tt
@@ -91,7 +91,7 @@ end-cut-short (Err fault) scid script count session rest a b c (answers, leads, 
 end-cut-short (Err fault) scid script count session rest a b c so-far end (inr (inr memory)) (inr kept) =
     subst (IsScriptCutShort scid script a c) (sym memory) (inl (refl, inr (inr (unreported scid script count session rest a b c so-far end kept))))
 
--- a fault in closing the station is a fault of the session's report
+-- a fault in closing the station of a session is a fault of the session's report
 pub not-closed : (scid : ℕ) (session : Session) (staffed met : Staffed) (station : Roster) (operator : AtStation) (operators : List AtStation) (lines : ℕ) (fault : ScriptFault)
     → IsStaffedFound scid session staffed → AllHaveMet staffed met → station ≡ met.station → operator ≡ met.operator → operators ≡ operator ∷ []
     → IsScriptCloseFault station operators lines fault → IsReportFault scid session lines fault
@@ -100,7 +100,7 @@ not-closed scid session staffed met station operator operators lines fault found
     inr (inl (unbalanced, (staffed, met, found, have, one)))
 not-closed scid session staffed met station operator operators lines fault found have place hand all (inr memory) = inr (inr memory)
 
--- the report on the station of a session
+-- if the station of a session is closed and the report on its channels is written, this is the report of the session
 pub reported : (scid : ℕ) (session : Session) (staffed met : Staffed) (station : Roster) (operator : AtStation) (operators : List AtStation) (channels shown : List History) (a b : Option (List ℕ))
     → shown ≡ channels → IsStaffedFound scid session staffed → AllHaveMet staffed met → station ≡ met.station → operator ≡ met.operator → IsOurs station operator → operators ≡ operator ∷ []
     → IsClosedReport station operators channels → All IsNumberReported channels → All IsLawfulHistory shown → Appends a b (report_text shown)
@@ -127,7 +127,7 @@ parallel-written in-order (Some octets) scid script read channels shown a b c wh
     let one = in-order scid octets channels (report_text shown) of-script of in
     (one.0, one.1, report_text shown, one.2, one.3, Appends-kept a b c _ text kept)
 
--- the text that was written stays
+-- if the text of a script was written, and all that was written is kept, the text of the script is still there
 written-kept : (scid : ℕ) (script : List ℕ) (a b c : Option (List ℕ)) → IsScriptWritten scid script a b → Keeps b c → IsScriptWritten scid script a c
 written-kept scid script a b c (answers, progress, report, leads, of, text) kept = (answers, progress, report, leads, of, Appends-kept a b c _ text kept)
 

@@ -20,7 +20,7 @@ use Rattle.tc_rack.specs.declared.stage.Stage.TheVariants.{SettingUp, Operating}
 abbrev pub Plan : Type 0
 Plan = Stage Parted
 
--- the jobs that an operation finds, which are none, at a new station, if no operation came before
+-- An operation finds these jobs. If no operation came before, the station is new, and there are no jobs yet.
 abbrev pub ArePartedFor : ℕ → Plan → Parted → Type 0
 ArePartedFor scid (SettingUp list) found = IsNewlyParted scid list found
 ArePartedFor scid (Operating parted) found = found ≡ parted
@@ -51,15 +51,15 @@ IsLineParted scid number plan line new =
     (said : Said) × (line_of (words line) ≡ Ok said) × Does (phase_of plan) (instruction_of said) (phase_of new)
     × IsParted scid number plan (instruction_of said) new
 
--- The first lines of a script, of which there are this number, are good. Each job of these lines was given to its
--- channel with the number of its line. This leads to this plan, and these octets of the script remain.
+-- The script begins with this number of good lines. Each job of these lines was given to its channel, with the number
+-- of its line. The lines lead to this plan, and leave these octets of the script.
 pub data AreParted (scid : ℕ) (script : List ℕ) : ℕ → Plan → List ℕ → Type 0 where
   none_parted : AreParted scid script 0 (SettingUp []) script
   one_parted : {count : ℕ} {plan new : Plan} {rest line after : List ℕ}
       → AreParted scid script count plan rest → IsFirstLine rest line after → IsLineParted scid (count + 1) plan line new
       → AreParted scid script (count + 1) new after
 
--- the channels after the workers of the whole script are done (if no channel was set up, there is none)
+-- These are the channels once the workers of the whole script are done. There are none if no channel was set up.
 abbrev pub AreWorkedChannels : ℕ → List ℕ → List History → Type 0
 AreWorkedChannels scid script channels =
     (count : ℕ) × (plan : Plan) × AreParted scid script count plan []

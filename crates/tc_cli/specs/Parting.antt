@@ -44,7 +44,7 @@ with_job l job = record l { jobs = l.jobs ++ job ∷ [] }
 abbrev pub HasWorkList : List WorkList → ℕ → Type 0
 HasWorkList lists vcid = Any (λ (l : WorkList). l.vcid ≡ vcid) lists
 
--- the list for this channel, at its place
+-- this list is at this place, and is the list for the channel with this id
 abbrev pub IsListAt : List WorkList → ℕ → ℕ → WorkList → Type 0
 IsListAt lists vcid place l = (slice_get lists place ≡ Some l) × (l.vcid ≡ vcid)
 
@@ -55,7 +55,7 @@ IsGiven vcid job old new =
     ((place : ℕ) × (l : WorkList) × IsListAt old.lists vcid place l × (new ≡ record old { lists = slice_set old.lists place (with_job l job) }))
     ⊎ (¬ HasWorkList old.lists vcid × (new ≡ old))
 
--- octets go to the channel that they are for, if there is one
+-- the octets are given to the channel that they are for, if there is one
 abbrev pub IsFrameGiven : ℕ → List ℕ → Parted → Parted → Type 0
 IsFrameGiven line octets old new =
     ((vcid : ℕ) × (frame : List ℕ) × IsLocated old.station octets vcid frame × IsGiven vcid (record { line = line; order = Bring octets }) old new)
@@ -73,18 +73,19 @@ pub record IsWorkedOut (parted : Parted) (channels : List History) : Type 0 wher
   pub worked : AreWorked station parted.lists None befores operators
   pub closed : IsClosedReport station operators channels
 
--- one of these jobs is that of the line with this number
+-- one of these jobs is the job of the line with this number
 abbrev pub IsJobLine : List WorkList → ℕ → Type 0
 IsJobLine lists line = Any (λ (l : WorkList). Any (λ (job : Job). job.line ≡ line) l.jobs) lists
 
 -- The station has issued an operator for each list. Before the first job the operators had made no event. They did all
--- jobs, and the station is out of balance for this cause.
+-- jobs, and there is a cause for which the station is out of balance.
 abbrev pub IsWorkedUnbalanced : Parted → Type 0
 IsWorkedUnbalanced parted =
     (station : Roster) × (befores operators : List AtStation) × (station ≡ record parted.station { issued = length parted.lists })
     × All HasMadeNothing befores × AreWorked station parted.lists None befores operators × IsCauseAtStation station operators
 
--- the fault if not all jobs of a script with `lines` lines are done, or if their station isn't closed in balance
+-- this is the fault of a script with `lines` lines if not all its jobs are done, or if its station isn't closed in
+-- balance
 abbrev pub IsWorkFault : ℕ → Parted → ScriptFault → Type 0
 IsWorkFault lines parted fault =
     ((fault ≡ Unbalanced) × IsWorkedUnbalanced parted) ⊎ (fault ≡ Line lines NoMemory) ⊎ ((line : ℕ) × IsJobLine parted.lists line × (fault ≡ Line line NoMemory))

@@ -6,7 +6,7 @@ use Rattle.tc_station.specs.Roster.{Roster}
 use Rattle.tc_station.specs.Tally.{AtStation}
 use Rattle.tc_station.specs.Together.{AreClosedTogether}
 
--- all channels of a station that was closed together with these operators, in rising order of their ids
+-- these are all channels of a station that was closed together with these operators, in rising order of their ids
 pub record IsClosedReport (station : Roster) (operators : List AtStation) (channels : List History) : Type 0 where
   pub there : List History
   pub closed : AreClosedTogether station operators there

@@ -20,13 +20,13 @@ use Rattle.tc_desk.specs.declared.together.Refusal.TheVariants as refusals
 abbrev pub IsGoodLine : Phase → List ℕ → Phase → Type 0
 IsGoodLine phase line new = (said : Said) × (line_of (words line) ≡ Ok said) × Does phase (instruction_of said) new
 
--- the first lines of a script are good: this number of lines leads to this phase, and leaves these octets
+-- the script begins with this number of good lines, which lead to this phase and leave these octets
 pub data Leads (script : List ℕ) : ℕ → Phase → List ℕ → Type 0 where
   starts : Leads script 0 (Setup []) script
   goes_on : {count : ℕ} {phase new : Phase} {rest line after : List ℕ}
       → Leads script count phase rest → IsFirstLine rest line after → IsGoodLine phase line new → Leads script (count + 1) new after
 
--- a reason, other than lack of memory, why a line that comes in this phase is bad
+-- this is a reason, other than lack of memory, why the line is bad in this phase
 abbrev pub IsBadLine : Phase → List ℕ → Reason → Type 0
 IsBadLine phase line reason =
     (line_of (words line) ≡ Err reason) ⊎ ((said : Said) × (line_of (words line) ≡ Ok said) × IsBad phase (instruction_of said) reason)
@@ -58,8 +58,8 @@ IsReached script number =
     AreFirstGood script number
     ⊎ ((before : ℕ) × (phase : Phase) × (rest line after : List ℕ) × Leads script before phase rest × IsFirstLine rest line after × (number ≡ before + 1))
 
--- The fault if the station of a script with `lines` lines isn't closed together with these operators. If the station is
--- out of balance, there is a cause.
+-- This is the fault of a script with `lines` lines if its station isn't closed together with these operators. If the
+-- station is out of balance, there is a cause.
 abbrev pub IsScriptCloseFault : Roster → List AtStation → ℕ → ScriptFault → Type 0
 IsScriptCloseFault station operators lines fault = ((fault ≡ Unbalanced) × IsCauseAtStation station operators) ⊎ (fault ≡ Line lines NoMemory)
 
@@ -70,7 +70,7 @@ close_fault lines refusals.NoMemory = Line lines NoMemory
 close_fault lines refusals.InUse = Line lines NoMemory
 close_fault lines refusals.Unbalanced = Unbalanced
 
--- a fault that ends a script with these octets early
+-- this fault ends a script with these octets early
 abbrev pub IsScriptFault : List ℕ → ScriptFault → Type 0
 IsScriptFault script Read = Unit {0}
 IsScriptFault script TooLong = script_limit < length script

@@ -11,12 +11,12 @@ use Rattle.tc_text.specs.declared.fault.Reason.{Reason}
 abbrev pub Session : Type 0
 Session = Stage Staffed
 
--- the station that an operation finds, which is new if no operation came before
+-- an operation finds this station, which is new if no operation came before
 abbrev pub IsStaffedFound : ℕ → Session → Staffed → Type 0
 IsStaffedFound scid session found = IsFound (IsNewlyStaffed scid) session found
 
--- The session after a refused line. It is as it was or, if memory ran out, it has the station that the operation found,
--- and the operator's counts are as before.
+-- A refused line leaves the session as it was, unless memory ran out. In that case the session may have the station
+-- that the operation found, with the operator's counts as before.
 abbrev pub IsSessionLeft : ℕ → Reason → Session → Session → Type 0
 IsSessionLeft scid reason old new = IsLeft (IsNewlyStaffed scid) AreAsCounted reason old new
 

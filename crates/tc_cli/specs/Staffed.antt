@@ -118,7 +118,7 @@ IsWordAnswer vcid m answer after =
     ((place : ℕ) × IsPlace m.station vcid place × IsReadAt place vcid m answer after)
     ⊎ (¬ Contains m.station.vcids vcid × (answer ≡ Refused UnknownChannel) × (after ≡ m))
 
--- the answer and the effect of an operation
+-- an operation has this answer, and this effect on the station and its watchers
 abbrev pub IsStaffedAnswer : Operation → Staffed → Answer → Staffed → Type 0
 IsStaffedAnswer (operations.Frame octets) old answer new = IsBringAnswer octets old answer new
 IsStaffedAnswer (operations.Release vcid) old answer new = IsDeskAnswer vcid IsReleaseAnswered old answer new
@@ -126,7 +126,7 @@ IsStaffedAnswer (operations.Take vcid apid) old answer new = IsDeskAnswer vcid (
 IsStaffedAnswer (operations.Unit vcid map_id) old answer new = IsDeskAnswer vcid (IsUnitAnswered map_id) old answer new
 IsStaffedAnswer (operations.Clcw vcid) old answer new = IsWordAnswer vcid old answer new
 
--- The watcher of this place met the desk there, through the operator. The other watchers stay the same.
+-- Through the operator, the watcher at this place met the desk at the same place. The other watchers stay the same.
 pub record HasMetAt (place : ℕ) (before : Staffed) (after : Staffed) : Type 0 where
   pub vcid : ℕ
   pub early : Watching

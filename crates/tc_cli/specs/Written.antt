@@ -35,7 +35,7 @@ IsLineAnswered Operates old line new answer =
     (said : Said) × (line_of (words line) ≡ Ok said) × Does (phase_of old) (instruction_of said) (phase_of new)
     × IsInstructionAnswered Operates old (instruction_of said) new answer
 
--- The first lines of a script are good, and have these answers, one entry for each line. They lead to this stage, and
+-- The first lines of the script are good, and have these answers, one for each line. The lines lead to this stage, and
 -- leave these octets.
 pub data AreAnswers {O : Type 0} (Operates : Operation → Stage O → Answer → Stage O → Type 0) (script : List ℕ) : List (Option Answer) → Stage O → List ℕ → Type 0 where
   at_first : AreAnswers Operates script [] (SettingUp []) script
@@ -67,11 +67,11 @@ abbrev pub IsSessionUnbalanced : ℕ → Session → Type 0
 IsSessionUnbalanced scid session =
     (found met : Staffed) × IsStaffedFound scid session found × AllHaveMet found met × IsCauseAtStation met.station (met.operator ∷ [])
 
--- a fault that leaves a session of `lines` good lines without a report, or with only a part of it
+-- this fault leaves a session of `lines` good lines without a report, or with only a part of it
 abbrev pub IsReportFault : ℕ → Session → ℕ → ScriptFault → Type 0
 IsReportFault scid session lines fault = (fault ≡ Write) ⊎ ((fault ≡ Unbalanced) × IsSessionUnbalanced scid session) ⊎ (fault ≡ Line lines NoMemory)
 
--- the report is appended to the octets written before it, if these are known
+-- if the octets written so far are known, the report of the session is appended to them
 abbrev pub IsSessionReportWritten : ℕ → Session → Option (List ℕ) → Option (List ℕ) → Type 0
 IsSessionReportWritten scid session old new = (text : List ℕ) × IsSessionReport scid session text × Appends old new text
 
@@ -92,29 +92,29 @@ IsWrittenBefore scid script number IsSo old new =
     × AreAnswers (IsStaffedOperated scid) script answers session rest × IsFirstLine rest line after × IsSo session line
     × (number ≡ length answers + 1) × Appends old new (answers_text answers)
 
--- no report is written, and the answers to all `count` lines are appended to the octets written so far, if these are
--- known
+-- no report is written, and if the octets written so far are known, the answers to all `count` lines are appended to
+-- them
 abbrev pub IsScriptUnreported : ℕ → List ℕ → ℕ → Option (List ℕ) → Option (List ℕ) → Type 0
 IsScriptUnreported scid script count old new =
     (answers : List (Option Answer)) × (session : Session) × AreAnswers (IsStaffedOperated scid) script answers session [] × (count ≡ length answers)
     × Appends old new (answers_text answers)
 
--- memory ran out at the line with this number, which is 0 before the first line, and that of the last line at the
--- report
+-- Memory ran out at the line with this number. The number is 0 if memory ran out before the first line, and the number
+-- of the last line if it ran out at the report.
 abbrev pub IsOutOfMemory : ℕ → List ℕ → ℕ → Option (List ℕ) → Option (List ℕ) → Type 0
 IsOutOfMemory scid script number old new =
     ((number ≡ 0) × Keeps old new) ⊎ IsWrittenBefore scid script number (λ _ _. ⊤) old new ⊎ IsScriptUnreported scid script number old new
 
--- no report is written, since the station is out of balance, and the answers to all lines are appended to the octets
--- written so far, if these are known
+-- No report is written, since the station is out of balance. If the octets written so far are known, the answers to all
+-- lines are appended to them.
 abbrev pub IsScriptUnbalanced : ℕ → List ℕ → Option (List ℕ) → Option (List ℕ) → Type 0
 IsScriptUnbalanced scid script old new =
     (answers : List (Option Answer)) × (session : Session) × AreAnswers (IsStaffedOperated scid) script answers session [] × IsSessionUnbalanced scid session
     × Appends old new (answers_text answers)
 
--- The text that was written if a script ends early. There is none if the script wasn't read. Otherwise it is the
--- answers to the lines before the one that ended the script, or to all lines if the counts are out of balance. If
--- writing failed, nothing is known about the text.
+-- This text was written for a script that ended early. Nothing was written if the script wasn't read. Otherwise the
+-- answers were written to the lines before the one that ended the script, or to all lines if the counts are out of
+-- balance. If writing failed, nothing is known about the text.
 abbrev pub IsScriptCutShort : ℕ → List ℕ → Option (List ℕ) → Option (List ℕ) → ScriptFault → Type 0
 IsScriptCutShort scid script old new (Line number reason) =
     ((reason ≡ NoMemory) × IsOutOfMemory scid script number old new)
@@ -124,8 +124,8 @@ IsScriptCutShort scid script old new TooLong = Keeps old new
 IsScriptCutShort scid script old new Write = Unit {0}
 IsScriptCutShort scid script old new Unbalanced = IsScriptUnbalanced scid script old new
 
--- the report that the script has when its lines are carried out in order is appended to the octets written so far, if
--- these are known
+-- if the octets written so far are known, the report of the script when its lines are carried out in order is appended
+-- to them
 abbrev pub IsWrittenInParallel : ℕ → List ℕ → Option (List ℕ) → Option (List ℕ) → Type 0
 IsWrittenInParallel scid script old new =
     (answers : List (Option Answer)) × (progress : Progress) × (text : List ℕ) × AreAnswers (IsPerformed scid) script answers progress []

@@ -23,7 +23,7 @@ pub(crate) fn each_frame_has_its_field(alloc: Global, script: &[u8]) -> bool {
     has_frame
 }
 
-// Returns the lines from the next one on that may be a frame line. A line without an `f` isn't one.
+// Returns the lines from the next one on that has an `f`. The lines before it can't be frame lines.
 fn from_next_frame(lines: &[u8]) -> &[u8]
     ensures { length result.now ≤ length lines.now }
 {

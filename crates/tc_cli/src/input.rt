@@ -1,4 +1,4 @@
-//! The script of standard input.
+//! Scripts that are read from standard input.
 
 ghost use Rattle.std.specs.Prelude.{◌≤◌};
 
@@ -17,8 +17,8 @@ const NO_WRITER: ScriptFault = ScriptFault::Line {
     reason: Reason::NoMemory,
 };
 
-/// Runs the script of standard input as [`run_script`](crate::run_script) does, and writes to standard output. If all
-/// of the script was carried out, returns whether each of its frames ended with its frame error control field.
+/// Runs the script on standard input as [`run_script`](crate::run_script) does, and writes to standard output. If the
+/// whole script was carried out, returns whether each of its frames ended with its frame error control field.
 pub fn run_input<R: AllocGlobal + Input + Print + Wait>(
     rt: &R,
     scid: u16,
@@ -33,7 +33,7 @@ pub fn run_input<R: AllocGlobal + Input + Print + Wait>(
     Ok(each_frame_has_its_field(rt.alloc(), script.as_slice()))
 }
 
-/// Runs the script of standard input as [`parallel_script`](crate::parallel_script) does, and writes to standard
+/// Runs the script on standard input as [`parallel_script`](crate::parallel_script) does, and writes to standard
 /// output. The result is that of [`run_input`].
 pub fn parallel_input<R: AllocGlobal + Input + Print + Threads + Wait + Sync>(
     rt: &R,

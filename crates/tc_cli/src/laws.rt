@@ -19,8 +19,9 @@ pub fn the_lines_before_memory_ran_out_are_good()
     ensures { (script : List ℕ) (number count : ℕ) → IsScriptFault script (Line number NoMemory) → count < number → AreFirstGood script count }
 {}
 
-/// States that the effect of a script follows from its lines. Two ways through all of them lead to the same channels
-/// with the same journals, and give the same answers, and there is only one report of these channels.
+/// States that the effect of a script follows from its lines. If all lines can be carried out in two ways, both ways
+/// lead to the same channels with the same journals, and give the same answers. There is only one report of these
+/// channels.
 pub fn what_a_script_does_follows_from_its_lines()
     ensures answers { (scid : ℕ) (script : List ℕ) (answers others : List (Option Answer)) (progress other : Progress)
         → AreAnswers (IsPerformed scid) script answers progress [] → AreAnswers (IsPerformed scid) script others other []

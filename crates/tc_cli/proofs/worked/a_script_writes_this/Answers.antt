@@ -25,7 +25,7 @@ use Rattle.tc_rack.specs.declared.answer.Answer.TheVariants as answers
 use Rattle.tc_cli.specs.Examples as example
 use Rattle.tc_cli.proofs.worked.a_script_writes_this.Goals as goal
 
--- the channel as it is set up, and after events
+-- ---- the channel as it is set up, and after events
 
 abbrev settings : List QueueSetting → List MapSetting → Settings
 settings queues maps = record { vcid = 1; width = 10; buffer = 2; first = 0; segmented = true; queues = queues; maps = maps }
@@ -48,7 +48,7 @@ rack journal = record { scid = 42; channels = channel journal ∷ [] }
 abbrev at : List Event → Progress
 at journal = Operating (rack journal)
 
--- facts on short lists
+-- ---- facts about short lists
 
 one-of : {A : Type 0} (P : A → Type 0) (one : A) → P one → All P (one ∷ [])
 one-of P one p = All-cons P one [] p (All-nil P)
@@ -107,7 +107,7 @@ allowed-queue = allowed-with (queue ∷ []) [] (one-of has_apid queue (lit≤ tt
 allowed-all : IsAllowed all
 allowed-all = allowed-with (queue ∷ []) (chosen ∷ []) (one-of has_apid queue (lit≤ tt)) (one-apart are_apart queue) (one-of has_room queue (lit≤ tt, lit≤ tt)) (one-of has_map chosen (lit≤ tt)) (one-apart are_maps_apart chosen) (one-of has_units chosen (lit≤ tt, lit≤ tt))
 
--- the frames
+-- ---- the frames
 
 both-true : (a b : Bool) → (a && b) ≡ true → (a ≡ true) × (b ≡ true)
 both-true true b h = (refl, h)
@@ -140,7 +140,7 @@ whole-second = record { each = octets (expected 1) refl; least = lit≤ tt; most
 whole-bypassing : IsWhole bypassing
 whole-bypassing = record { each = octets bypassing refl; least = lit≤ tt; most = lit≤ tt; version = refl; spare = refl; named = refl }
 
--- the journals
+-- ---- the journals
 
 abbrev first : List Event
 first = events.Frame (expected 0) ∷ []
@@ -157,7 +157,7 @@ bypassed = events.Frame (expected 0) ∷ events.Release ∷ events.Take 5 ∷ ev
 abbrev last : List Event
 last = events.Frame (expected 0) ∷ events.Release ∷ events.Take 5 ∷ events.Frame bypassing ∷ events.Frame (expected 1) ∷ []
 
--- lines
+-- ---- the lines
 
 abbrev no_feed : List ℕ → Bool
 no_feed [] = true
@@ -224,9 +224,9 @@ second-line : IsDone (at bypassed) (codes "frame 002a040c01c01005c0000000aa") (a
 unfolding line_of words hex_on_literals run_within no_limits passed_on frame_reply_within
 second-line = (said.Frame (expected 1), refl, ((λ e. cc), refl), (framed 1 0, (rack bypassed, rack last, refl, inl (expected 1, (whole-second, refl), refl, (0, channel bypassed, channel last, (refl, refl), (refl, refl), refl)), refl), refl))
 
--- the report
+-- ---- the report
 
--- the queue before the take
+-- the queue of packets before the take
 abbrev waiting : Queue
 waiting = record { key = 5; capacity = 1; admitted = packet ∷ []; taken = 0 }
 
@@ -249,7 +249,7 @@ reported =
       },
     )
 
--- the lines, and the octets of the script that are left after each number of them
+-- ---- the lines, and the octets of the script that are left after each number of them
 
 abbrev lines : List (List ℕ)
 lines =
