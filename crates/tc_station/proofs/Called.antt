@@ -49,7 +49,7 @@ id-of vcids desks place vcid there ids is at =
 abbrev pub at_owned_desks : ℕ → List ℕ → ℕ → List AtLock → Roster
 at_owned_desks scid vcids issued owned_desks = record { scid = scid; vcids = vcids; issued = issued; locks = locks_of owned_desks; heads = heads_of owned_desks }
 
--- a call at the operator's desk at a place
+-- ---- a call at the operator's desk at a place
 module _ {R F : Type 0} (e : Event) (ok : Moment → R → Type 0) (err : Moment → F → Type 0) (station : Roster) (o : AtStation) (vcids : List ℕ) (desks : List AtLock) (place : ℕ) (there next : AtLock) (r : Result R F)
     (view : at_station vcids desks ≡ o) (ids : vcids_of (settings_of_desks desks) ≡ vcids) (ours : IsOurs station o) (is : there ≡ get_or desks place there) (c : IsCall e ok err there r next) where
   abbrev changed : AtStation
@@ -71,7 +71,7 @@ module _ {R F : Type 0} (e : Event) (ok : Moment → R → Type 0) (err : Moment
   pub heads-kept : KnowsTheSame o changed
   heads-kept = same-set (λ (d : AtLock). d.own.seen.head) desks place there next is (head-kept e ok err there next r c) ∙ ap (λ (x : AtStation). heads_of x.desks) view
 
--- a call at the operator's desk at the place of a channel
+-- ---- a call at the operator's desk at the place of a channel
 module _ {R F : Type 0} (e : Event) (ok : Moment → R → Type 0) (err : Moment → F → Type 0) (station : Roster) (o : AtStation) (vcids : List ℕ) (desks : List AtLock) (place vcid : ℕ) (there next : AtLock) (r : Result R F)
     (view : at_station vcids desks ≡ o) (ids : vcids_of (settings_of_desks desks) ≡ vcids) (ours : IsOurs station o) (place_is : IsPlace station vcid place)
     (is : there ≡ get_or desks place there) (c : IsCall e ok err there r next) where
@@ -139,7 +139,7 @@ answered-so place vcid e ok err ok2 err2 before after r r2 c answer = record {
   vcids = c.vcids;
 }
 
--- a call whose answer or refusal is stated in another way
+-- if the answer of a call implies another statement about the answer, the call can be stated with the other statement
 pub ok-call : {R F S G : Type 0} (place vcid : ℕ) (e : Event) (ok : Moment → R → Type 0) (err : Moment → F → Type 0) (ok2 : Moment → S → Type 0) (err2 : Moment → G → Type 0) (before after : AtStation) (r : Result R F) (a : R) (b : S)
     → IsCallAt place vcid e ok err before r after → r ≡ Ok a → ((m : Moment) → ok m a → ok2 m b) → IsCallAt place vcid e ok2 err2 before (Ok b) after
 ok-call place vcid e ok err ok2 err2 before after r a b c is weaker =
@@ -152,7 +152,8 @@ err-call place vcid e ok err ok2 err2 before after r f h c is weaker =
     let was : IsCallAt place vcid e ok err before (Err f) after = subst (λ x. IsCallAt place vcid e ok err before x after) is c in
     answered-so place vcid e ok err ok2 err2 before after (Err f) (Err h) was (weaker was.call.now was.call.answer.0, was.call.answer.1)
 
--- a refused call, whose fault `?` converts to a fault of the station
+-- if a call at a desk is refused, and `?` converts its fault to a fault of the station, the call can be stated with the
+-- converted fault
 pub refused-call : {R F S G : Type 0} (place vcid : ℕ) (e : Event) (ok : Moment → R → Type 0) (err : Moment → F → Type 0) (ok2 : Moment → S → Type 0) (err2 : Moment → G → Type 0) (before after : AtStation) (r : Result R F) (f : F) (words : F → G)
     (r2 : Result S G) → IsCallAt place vcid e ok err before r after → r ≡ Err f → IsErrAnd r2 (λ h. h ≡ words f) → ((m : Moment) (h : G) → h ≡ words f → err m f → err2 m h) → IsCallAt place vcid e ok2 err2 before r2 after
 refused-call place vcid e ok err ok2 err2 before after r f words (Ok b) c is said weaker = absurd said

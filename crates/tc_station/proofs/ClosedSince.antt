@@ -1,4 +1,4 @@
--- A call at a desk is at its place in the journal that the station's close returns.
+-- The event of a call at a desk is at its place in the journal that the station's close returns.
 use Rattle.tc_station.proofs.Names.{◌≡◌, ◌<◌, ℕ, zero, suc, List, [], ◌∷◌, length, get_or, take, Ok, Some, refl, sym, ap, subst, ◌∙◌, arith, slice_get, get_or-set_same, length-append, length-set, take_at, get_or_from_slice_get, none-some, same_Some, slice_get-get_or, slice_get_within, Event, History, made, AtLock, Identity, Moment, Own, accounts_of, column, nobody, IsCallAt, IsMetAt, Roster, AtStation, operator_lists_of, Watching, slice_index_or, slice_set, IsBeginning, clcw, Link, IsClosedSince, IsItsLast, IsWordRead, IsShownIn}
 use mathlib.Core.Option.{some}
 use lib.ListN.{get_elem?}
@@ -13,7 +13,7 @@ set-there desks place d next at =
 pub owned_desk-there : (owned_desks : List AtLock) (n : ℕ) → n < length owned_desks → (owned_desk : AtLock) × (slice_get owned_desks n ≡ Some owned_desk)
 owned_desk-there owned_desks n lt = (get_or owned_desks n nobody, slice_get-get_or owned_desks n nobody lt)
 
--- the k-th operator's account at the desk at a place
+-- the k-th account at the desk at a place is the account that the k-th operator has there
 account-there : (ops : List AtStation) (place k : ℕ) (o : AtStation) (d : AtLock) → slice_get ops k ≡ Some o → slice_get o.desks place ≡ Some d
     → get_elem? (accounts_of (column place (operator_lists_of ops))) k ≡ some d.own
 account-there [] place k o d at there = absurd (none-some o at)

@@ -44,7 +44,7 @@ no-fault octets frame b =
 both : (x : Option FrameFault) (a s b u v : ℕ) → x ≡ None → a ≡ s → b ≡ u → (is_none x && (a == s && b == v)) ≡ (u == v)
 both x a s b u v p q r = (λ i. is_none (p i) && ((q i == s) && (r i == v))) ∙ ap (λ t. t && (u == v)) (eq-eqb s s refl)
 
--- octets for one channel are for another only if both are the same channel
+-- if octets are for the channel `u`, they are for the channel `v` if and only if both are the same channel
 pub for-located : (station : Roster) (octets frame : List ℕ) (u v : ℕ) → IsLocated station octets u frame → is_frame_for station v octets ≡ (u == v)
 for-located station octets frame u v l =
     let h = same-header octets frame l.0.0 in

@@ -2,7 +2,7 @@
 use Rattle.tc_station.proofs.Names.{◌≡◌, ◌<◌, ℕ, List, length, get_or, Option, None, Some, Err, sym, ap, ◌∙◌, arith, ◌==◌, position, slice_get, get_or-map, get_or_from_slice_get, length-map, none-some, same_Some, slice_get_within, History, AtLock, Identity, HasMet, HasSeenNoMore, IsCall, IsMeeting, heads_of, Roster, IsPlace, Watching, Release}
 use Rattle.tc_station.specs.Moments.{IsWatcherAt, IsWatcherOf}
 
--- a meeting is like a call that was refused
+-- for an operator's desk, a meeting has the effect of a call that was refused
 pub as-call : (early : Watching) (there : AtLock) (late : Watching) (next : AtLock) → IsMeeting early there late next
     → IsCall {R = Unit {0}} {F = Unit {0}} Release (λ m done. ⊥) (λ m done. HasSeenNoMore early m) there (Err tt) next
 as-call early there late next m =
@@ -14,7 +14,8 @@ desk-there station desks place w heads (head, at, board, settings) =
     let within = slice_get_within station.heads place head at in
     omega (arith, within, ap (length {A = Identity}) heads, length-map desks (λ (d : AtLock). d.own.seen.head))
 
--- the head of the desk at the place of a watcher, and the watcher's board
+-- the desk at the place of a watcher has the head that the station has at this place, and its board is the one that the
+-- watcher reads
 pub head-at : (station : Roster) (desks : List AtLock) (place : ℕ) (there : AtLock) (w : Watching) → heads_of desks ≡ station.heads → there ≡ get_or desks place there → IsWatcherAt station place w
     → (slice_get station.heads place ≡ Some there.own.seen.head) × (w.board ≡ there.own.seen.head.board)
 head-at station desks place there w heads is (head, at, board, settings) =

@@ -1,4 +1,4 @@
--- Channels that have the ids of their places.
+-- If the channels of a station are in order, each has the id that the station lists at its place.
 use Rattle.tc_station.proofs.Names.{◌≡◌, ℕ, zero, suc, List, [], ◌∷◌, length, map, Some, refl, subst, arith, slice_get, slice_index, AtStation, History}
 
 pub in-order : (vcids : List ℕ) (channels : List History) → length channels ≡ length vcids → ((place : ℕ) (h : History) → slice_get channels place ≡ Some h → h.settings.vcid ≡ slice_index vcids place)
@@ -10,6 +10,6 @@ in-order (v ∷ vs) (h ∷ hs) e named =
     cc
 in-order _ _ e named = absurd (omega arith)
 
--- a fact about ids, operators and channels also holds for equal ones under other names
+-- if a fact holds for ids, operators and channels, it also holds for lists that are equal to them
 pub moved : (P : List ℕ → List AtStation → List History → Type 0) (a b : List ℕ) (o p : List AtStation) (d e : List History) → a ≡ b → o ≡ p → d ≡ e → P a o d → P b p e
 moved P a b o p d e s t u h = subst (λ (x : List ℕ × List AtStation × List History). P x.0 x.1 x.2) (λ i. (s i, t i, u i)) h

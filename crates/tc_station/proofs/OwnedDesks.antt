@@ -9,7 +9,7 @@ settings-heads owned_desks = sym (map-map (λ (h : Identity). h.settings) (λ (o
 pub same-settings : (old new : List AtLock) → heads_of new ≡ heads_of old → settings_of_desks new ≡ settings_of_desks old
 same-settings old new same = settings-heads new ∙ (ap (map (λ (h : Identity). h.settings)) same ∙ sym (settings-heads old))
 
--- facts about owned desks that were returned with the same locks, heads and numbers of issued operators
+-- ---- owned desks that were returned with the same locks, heads and numbers of issued operators
 pub length-same : (old new : List AtLock) → AreSame old new → length new ≡ length old
 length-same old new same = sym (length-map new (λ (o : AtLock). o.lock)) ∙ (ap (length {A = TableId}) same.0 ∙ length-map old (λ (o : AtLock). o.lock))
 
@@ -19,7 +19,7 @@ ids-same vcids old new ids same = ap vcids_of (same-settings old new same.1) ∙
 pub issued-same : (n : ℕ) (old new : List AtLock) → HaveIssued n old → AreSame old new → HaveIssued n new
 issued-same n old new have same = subst (All (λ (i : ℕ). i ≡ n)) (sym same.2) have
 
--- owned desks from which operators are issued, one after the other
+-- ---- owned desks from which operators are issued, one after the other
 pub none-issued : (owned_desks : List AtLock) → issued_more 0 owned_desks ≡ owned_desks
 none-issued [] = refl
 none-issued (p ∷ ps) =
@@ -49,7 +49,7 @@ have-more n i [] have k d lt = absurd (omega (arith, lt))
 have-more n i (p ∷ ps) have zero d lt = let here = have 0 d (omega arith) in omega (arith, here)
 have-more n i (p ∷ ps) have (suc k) d lt = have-more n i ps (λ j e inside. have (suc j) e (omega (arith, inside))) k d (omega (arith, lt))
 
--- one more owned desk, which has also issued `n` operators
+-- if one more owned desk has also issued `n` operators, each desk of the longer list has issued `n` operators
 pub have-end : (n : ℕ) (owned_desks next : List AtLock) (p : AtLock) → next ≡ owned_desks ++ p ∷ [] → HaveIssued n owned_desks → p.own.issued ≡ n → HaveIssued n next
 have-end n owned_desks next p is have one =
     All-same (λ (i : ℕ). i ≡ n) (issued_of next) (issued_of owned_desks ++ p.own.issued ∷ []) (ap issued_of is ∙ map_push (λ (o : AtLock). o.own.issued) owned_desks p)
@@ -62,7 +62,8 @@ issued_below n owned_desks = map with_one_issued (take n owned_desks) ++ drop n 
 pub arrives : (d o : AtLock) → o.lock ≡ d.lock → o.own.seen ≡ d.own.seen → o.own.made ≡ [] → o.own.issued ≡ 0 → o ≡ arrival d
 arrives d o lock seen made issued = λ i. record { lock = lock i; own = record { seen = seen i; made = made i; issued = issued i } }
 
--- one more owned desk has issued an operator, which has arrived
+-- if the next owned desk issues an operator, and this operator is appended, there is a new operator for each desk up to
+-- this one
 pub arrival-step : (old now : List AtLock) (before after : List AtLock) (n : ℕ) (d o : AtLock) → now ≡ issued_below n old → n < length old → d ≡ get_or now n d → o ≡ arrival d → before ≡ map arrival (take n old)
     → after ≡ before ++ o ∷ [] → after ≡ map arrival (take (n + 1) old)
 arrival-step old now before after n d o is lt here one so pushed =
@@ -72,7 +73,7 @@ arrival-step old now before after n d o is lt here one so pushed =
     let there : d ≡ get_or old n d = here ∙ (ap (λ l. get_or l n d) is ∙ read) in
     pushed ∙ ((λ i. so i ++ (one ∙ ap arrival there) i ∷ []) ∙ sym (map_more arrival old n d lt))
 
--- operators that are issued, one after the other
+-- ---- operators that are issued, one after the other
 pub issue-first : (vcids : List ℕ) (owned_desks : List AtLock) (operators : List AtStation) (k : ℕ) → k ≡ 0 → operators ≡ [] → (owned_desks ≡ issued_more k owned_desks) × (operators ≡ replicate k (newcomer_at_desks vcids owned_desks))
 issue-first vcids owned_desks operators k none empty =
     subst (λ (j : ℕ). (owned_desks ≡ issued_more j owned_desks) × (operators ≡ replicate j (newcomer_at_desks vcids owned_desks))) (sym none) (sym (none-issued owned_desks), empty)
@@ -86,13 +87,13 @@ issue-step vcids first now after k next before operators o ids is count issued o
       pushed ∙ ((λ i. so i ++ newest i ∷ []) ∙ (replicate_more k (newcomer_at_desks vcids first) ∙ ap (λ (j : ℕ). replicate j (newcomer_at_desks vcids first)) (sym count))),
     )
 
--- the operators of the station are lists of operators of its desks
+-- each operator of the station has an operator at each of the station's desks
 pub are-ours : (station : Roster) (owned_desks : List AtLock) (operators : List AtStation) → station.locks ≡ locks_of owned_desks → All (IsOurs station) operators → AreOurs owned_desks (operator_lists_of operators)
 are-ours station owned_desks operators locks all =
     All-map (λ (operator_list : List AtLock). locks_of operator_list ≡ locks_of owned_desks) (λ (o : AtStation). o.desks) operators
     (All-weaker (IsOurs station) (λ (o : AtStation). locks_of o.desks ≡ locks_of owned_desks) (λ o ours. ours.1 ∙ locks) operators all)
 
--- new operators at the desks
+-- ---- new operators at the desks
 pub arrival-settings : (owned_desks : List AtLock) → settings_of_desks (map arrival owned_desks) ≡ settings_of_desks owned_desks
 arrival-settings owned_desks = map-map _ _ owned_desks
 
@@ -127,7 +128,7 @@ desk-of station owned_desks place vcid owned_desk ids heads is at =
     let here = slice_get_read (heads_of owned_desks) (length (heads_of owned_desks)) place (head owned_desk) refl inside read in
     (id.1, (place, at, ap (λ (l : List Identity). slice_get l place) (sym heads) ∙ here))
 
--- owned desks that were written through a slice over all of them
+-- if operators are issued from a slice over all owned desks, the list has the desks as the slice leaves them
 pub written-owned_desks : (n k : ℕ) (old new : List AtLock) → new ≡ issued_more k old → n ≡ length old → take n (new ++ drop (length new) old) ≡ issued_more k old
 written-owned_desks n k old new is long = take_at new (drop (length new) old) n (ap (length {A = AtLock}) is ∙ (length-map old _ ∙ sym long)) ∙ is
 

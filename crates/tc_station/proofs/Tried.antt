@@ -29,7 +29,8 @@ pub tried-on : {R F : Type 0} (station : Roster) (vcid : ℕ) (e : Event) (ok : 
 tried-on station vcid e ok err unknown before after r can cannot (inl c) = inl (c.0, c.1, tried-at c.0 vcid e ok err before after r can cannot c.2)
 tried-on station vcid e ok err unknown before after r can cannot (inr c) = inr (c.0, c.2)
 
--- octets that were brought, to a channel or to none
+-- unless memory ran out, octets that were brought have the effect of a job that brings them, whether they are for a
+-- channel or for none
 pub brought : {R : Type 0} (station : Roster) (own : ℕ) (octets : List ℕ) (ok : ℕ → List ℕ → Moment → R → Type 0) (err : List ℕ → Moment → BringFault → Type 0) (before after : AtStation) (r : Result R BringFault)
     → ((frame : List ℕ) (m : Moment) (f : BringFault) → r ≡ Err f → err frame m f → ⊥) → IsBringCall station octets ok err before r after → IsJobMade station own (orders.Bring octets) before after
 brought station own octets ok err before after r cannot (inl c) =
@@ -51,7 +52,7 @@ unit-not-taken grows map_id m said other (unit_faults.NoMap, is, p) = inl p
 unit-not-taken grows map_id m said other (unit_faults.Empty, is, p) = inr p
 unit-not-taken grows map_id m said other (unit_faults.NoMemory, is, p) = absurd (other is)
 
--- a call that was refused made nothing
+-- a call that was refused made no event
 refused-at : {R F : Type 0} (place vcid : ℕ) (e : Event) (ok : Moment → R → Type 0) (err : Moment → F → Type 0) (before after : AtStation) (f : F) → IsCallAt place vcid e ok err before (Err f) after → HasMadeTheSame before after
 refused-at place vcid e ok err before after f c =
     ap (map (λ (d : AtLock). d.own.made)) c.others

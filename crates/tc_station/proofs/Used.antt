@@ -1,5 +1,4 @@
--- The calls of a station promise what the statement requires: an answered call is in the journal that the close
--- returns.
+-- An answered call of a station is in the journal that the close returns, with its answer there.
 use Rattle.tc_station.proofs.Names.{◌≡◌, ◌<◌, ℕ, Bool, List, [], length, get_or, take, Result, Ok, Err, Some, refl, sym, ap, subst, ◌∙◌, arith, length-map, slice_get, slice_get-get_or, slice_get_within, Event, History, Settings, Moment, TableId, AtLock, locks_of, Roster, AtStation, IsPlace, IsBringCall, IsReplied, IsNotBrought, IsOurs, inl, inr, IsCallAt, IsCallOn, IsMetAt, Watching, append-nil, slice_set, Frame, frame_reply, Link, no_history, IsLocated, IsClosedSince, HasGoneOn, IsGivenOut, IsAnsweredAmong, IsWordRead, IsShownIn, AreClosedTogether}
 use Rattle.tc_status.specs.Board as board
 use Rattle.tc_station.specs.declared.station.Brought.{Brought}
@@ -29,7 +28,7 @@ given-out station place before after there next operators closed number ours was
     let on : HasGoneOn place after after = record { before = next; after = next; was = at; is = at; longer = (refl, ([], append-nil next.own.seen.entries)) } in
     (channel, out, record { operators = operators; closed = closed; together = together; out = out; number = number; last = after; among = among; on = on })
 
--- a call at a desk that was answered
+-- if a call at a desk was answered, its event is in the returned journal of the desk's channel, with its answer there
 called-among : {R F : Type 0} → Stands → (station : Roster) (place vcid : ℕ) (e : Event) (ok : Moment → R → Type 0) (err : Moment → F → Type 0) (before after : AtStation) (r : R) (operators : List AtStation) (closed : List History) (number : ℕ)
     (Answers : Settings → List Event → Type 0) → ((m : Moment) → ok m r → Answers m.head.settings m.entries) → IsOurs station before → IsPlace station vcid place → IsCallAt place vcid e ok err before (Ok r) after
     → slice_get operators number ≡ Some after → AreClosedTogether station operators closed → IsAnsweredAmong station vcid after closed e Answers
@@ -40,7 +39,8 @@ called-among stands station place vcid e ok err before after r operators closed 
     let there : Moment = record { head = is.0; entries = take is.1 channel.journal } in
     (place, channel, (at, out.1), (is.1, is.3, subst (λ (s : Settings). Answers s (take is.1 channel.journal)) is.2 (says there is.4), is.5))
 
--- an answered call that names the channel
+-- if a call that names a channel was answered, its event is in the returned journal of this channel, with its answer
+-- there
 pub call-among : {R F : Type 0} → Stands → (station : Roster) (vcid : ℕ) (e : Event) (ok : Moment → R → Type 0) (err : Moment → F → Type 0) (unknown : F) (before after : AtStation) (r : R) (operators : List AtStation) (closed : List History) (number : ℕ)
     (Answers : Settings → List Event → Type 0) → ((m : Moment) → ok m r → Answers m.head.settings m.entries) → IsOurs station before → IsCallOn station vcid e ok err unknown before (Ok r) after
     → slice_get operators number ≡ Some after → AreClosedTogether station operators closed → IsAnsweredAmong station vcid after closed e Answers
@@ -48,7 +48,8 @@ call-among stands station vcid e ok err unknown before after r operators closed 
     called-among stands station place vcid e ok err before after r operators closed number Answers says ours at call among together
 call-among {R = R} {F = F} stands station vcid e ok err unknown before after r operators closed number Answers says ours (inr (none, wrong, same)) among together = absurd (subst (is-ok {R = R} {F = F}) wrong tt)
 
--- an answered call whose frame names the channel
+-- if octets were brought, their frame is an event in the returned journal of the channel that it names, with its reply
+-- there
 pub bring-among : Stands → (station : Roster) (octets : List ℕ) (grows : Bool) (before after : AtStation) (brought : Brought) (operators : List AtStation) (closed : List History) (number : ℕ)
     → IsOurs station before → IsBringCall station octets IsReplied (IsNotBrought grows) before (Ok brought) after
     → slice_get operators number ≡ Some after → AreClosedTogether station operators closed
@@ -60,7 +61,7 @@ bring-among stands station octets grows before after brought operators closed nu
     (frame, subst (λ (v : ℕ). IsLocated station octets v frame) named placed.0, subst (λ (v : ℕ). IsAnsweredAmong station v after closed (Frame frame) answers) named is)
 bring-among stands station octets grows before after brought operators closed number ours (inr (fault, is, wrong, same)) among together = absurd (subst is-ok wrong tt)
 
--- a CLCW that was read before a meeting
+-- if a CLCW was read before a meeting, it is the CLCW at a place in the returned journal of the watcher's channel
 pub word-among : (station : Roster) (vcid : ℕ) (link : Link) (early mid late met : Watching) (word : ℕ) (before after : AtStation) (operators : List AtStation) (closed : List History) (number : ℕ)
     → IsOurs station before → IsWordRead link early word mid → board.IsEarlier mid.seen late.seen → ((place : ℕ) × IsPlace station vcid place × IsMetAt place vcid late before met after)
     → slice_get operators number ≡ Some after → AreClosedTogether station operators closed

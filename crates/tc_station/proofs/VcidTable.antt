@@ -25,7 +25,7 @@ none-entered ids table is = record {
 entry-place : (k : ℕ) → k ≢ 64 → entry_place k ≡ Some k
 entry-place k some = grind (arith, some)
 
--- the table when all ids have entries
+-- if all ids have entries, the table is the one of these ids
 pub table-of : (ids table : List ℕ) → length ids ≤ 64 → HaveEntries ids (length ids) table → IsVcidTable ids table
 table-of ids table few t v = by (ltb n (length ids)) refl where
   n : ℕ
@@ -83,7 +83,7 @@ not-there ids v is (k, lt, e) = by (ltb n (length ids)) refl is where
       let ge = ltb-false n (length ids) far in
       true≢false (sym (eq-eqb (get_or ids k v) v e) ∙ fails_before_first (λ x. x == v) ids k v (omega (arith, lt, ge)))
 
--- the result of a search for an id, as the contract of the search states it
+-- the search for an id finds either no place, if the list doesn't have the id, or a place at which the list has the id
 pub found-there : (ids : List ℕ) (v : ℕ) (place : Option ℕ) → place ≡ position (λ x. x == v) ids → MatchOption place (¬ Contains ids v) (λ k. (k < length ids) × (slice_index ids k ≡ v))
 found-there ids v None is = not-there ids v is
 found-there ids v (Some k) is = let at = position-Some (λ x. x == v) ids k 0 (sym is) in (at.0, eqb-true (get_or ids k 0) v at.1)

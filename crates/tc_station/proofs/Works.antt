@@ -1,4 +1,4 @@
--- Lists of jobs, and the counts of their operators.
+-- The effect of jobs, and of lists of jobs, on the counts of the operators that carry them out.
 use Rattle.tc_station.proofs.Names.{◌≡◌, ℕ, zero, suc, ◌+◌, ◌<◌, List, [], ◌∷◌, ◌++◌, length, map, take, get_or, set, min, cond, Option, Some, None, refl, sym, ap, ◌∙◌, subst, inl, inr, arith, ◌==◌, All, position, slice_index, Contains, eqb-true, take_more, length-map, All-map, All-weaker, position-Some, Roster, IsPlace, Tally, AtStation, IsOurs, KnowsTheSame, tally, tallied, raised, IsListMade, IsTried, IsDone, AreDone, IsWorked, Shift, IsShift, IsTallyOf, AreWorked, lowest, brings_to, is_other, IsRaised, NoCountFalls, Job, count_by, AllByRecursion, eqb_tells, map-append, All-from_recursion, sum_by-cons}
 use Rattle.tc_station.specs.Lowest.{lower}
 use Rattle.tc_station.specs.declared.work.Order.{Order}
@@ -17,7 +17,7 @@ one-more station vcid jobs i job a b c lt is done here =
     let more : take (i + 1) jobs ≡ take i jobs ++ job ∷ [] = take_more jobs i job lt ∙ ap (λ x. take i jobs ++ x ∷ []) (sym is) in
     subst (λ js. AreDone station vcid js a c) (sym more) (snoc station vcid (take i jobs) job a b c done here)
 
--- two parts of the lists, taken together
+-- ---- the results of two parts of the lists, taken together
 lower-three : (a b c : Option ℕ) → lower a (lower b c) ≡ lower (lower a b) c
 lower-three (Some x) (Some y) (Some z) = let same : min x (min y z) ≡ min (min x y) z = omega arith in ap Some same
 lower-three _ _ _ = refl
@@ -45,7 +45,7 @@ lower-none : (a : Option ℕ) → lower a None ≡ a
 lower-none None = refl
 lower-none (Some x) = refl
 
--- one list alone
+-- if the only operator works on the only list, all lists are worked on
 pub one-worked : (station : Roster) (lists : List WorkList) (ops : List AtStation) (l : WorkList) (o z : AtStation) (line : Option ℕ) → length lists ≡ 1 → length ops ≡ 1 → l ≡ get_or lists 0 l → o ≡ get_or ops 0 o
     → IsTallyOf station (tally o) → IsOurs station z → KnowsTheSame o z → IsWorked station l line (tally o) (tally z) → IsListMade station l line o z → AreWorked station lists line ops (set ops 0 z)
 one-worked station (x ∷ []) (y ∷ []) l o z line e f p q fits ours knows worked made =
@@ -55,7 +55,7 @@ one-worked station _ _ l o z line e f p q fits ours knows worked made = absurd (
 pub moved-worked : (station : Roster) (fl gl : List WorkList) (a b : Option ℕ) (fo go : List AtStation) (z : List AtStation) → AreWorked station fl a fo z → fl ≡ gl → a ≡ b → fo ≡ go → AreWorked station gl b go z
 moved-worked station fl gl a b fo go z w p q r = (w.0, w.1 ∙ p, w.2 ∙ r, w.3, w.4, w.5 ∙ q)
 
--- the effect of one job on the count of a channel
+-- ---- the effect of one job on the count of a channel
 tally-counted : (station : Roster) (u : ℕ) (a : Tally) → IsTallyOf station a → IsTallyOf station (tallied u a)
 tally-counted station u a f = record { vcids = f.vcids; counts = raised-length (position (λ w. w == u) a.vcids) a.counts ∙ f.counts }
 
@@ -96,7 +96,7 @@ other-step station u v place a f at = elim (eqb_tells u v) [
 is-there : (station : Roster) (v place : ℕ) → IsPlace station v place → Contains station.vcids v
 is-there station v place at = let s = position-Some (λ w. w == v) station.vcids place v at in (place, s.0, eqb-true (get_or station.vcids place v) v s.1)
 
--- the amount by which a job may raise the count of a channel
+-- a job in a list for the channel `own` may raise the count of the channel `v` from the first number to the second
 abbrev JobRaises : Roster → ℕ → ℕ → Order → ℕ → ℕ → Type 0
 JobRaises station own v order c d = Between (cond (brings_to station v order) 1 0) (cond (is_other own v order) 1 0) c d
 
@@ -146,7 +146,7 @@ list-raises : (station : Roster) (list : WorkList) (line : Option ℕ) (a b : Ta
 list-raises station list None a b none f w = λ v place at. let r = steps station list.vcid list.jobs a b w f v place at in (r.low, r.high)
 list-raises station list (Some line) a b none f w = absurd cc
 
--- the operators and their counts after all lists
+-- ---- the operators and their counts after all lists
 none-first : (a b : Option ℕ) → lower a b ≡ None → (a ≡ None) × (b ≡ None)
 none-first None b e = (refl, e)
 none-first (Some x) None e = absurd cc
@@ -185,7 +185,7 @@ work-raises station lists line os ps none w k l o lt =
     let inside : k < length w.0 = omega (arith, ap (length {A = WorkList}) w.1, length-map w.0 (λ (s : Shift). s.list)) in
     rw (← w.1, ← w.2, ← w.3) (shifts-raise station w.0 w.4 (w.5 ∙ none) k l o inside)
 
--- all operators are still the station's
+-- after the work, all operators are still the station's
 pub work-ours : (station : Roster) (lists : List WorkList) (line : Option ℕ) (os ps : List AtStation) → AreWorked station lists line os ps → All (IsOurs station) ps
 work-ours station lists line os ps w =
     let each = All-weaker (IsShift station) (λ (s : Shift). IsOurs station s.after) (λ s x. x.kept) w.0 (All-from_recursion (IsShift station) w.0 w.4) in
@@ -197,7 +197,7 @@ shifts-know station [] all k o lt = absurd (omega arith)
 shifts-know station (s ∷ ss) all zero o lt = all.0.knows
 shifts-know station (s ∷ ss) all (suc k) o lt = shifts-know station ss all.1 k o (omega arith)
 
--- each operator knows its desks as before
+-- after the work, each operator has the same settings and boards at its desks as before
 pub work-knows : (station : Roster) (lists : List WorkList) (line : Option ℕ) (os ps : List AtStation) → AreWorked station lists line os ps → (k : ℕ) (o : AtStation) → k < length lists
     → KnowsTheSame (get_or os k o) (get_or ps k o)
 work-knows station lists line os ps w k o lt =

@@ -19,13 +19,14 @@ IsLocated station octets vcid frame = IsOurs station octets frame × ((header_of
 abbrev pub IsPlaced : Roster → List ℕ → ℕ → ℕ → List ℕ → Type 0
 IsPlaced station octets place vcid frame = IsLocated station octets vcid frame × (position (λ v. v == vcid) station.vcids ≡ Some place)
 
--- the reason why octets are for no channel of the station: the first of these faults that applies
+-- this is the reason why octets are for no channel of the station: the first of these faults that applies
 abbrev pub IsLocateFault : Roster → List ℕ → LocateFault → Type 0
 IsLocateFault station octets (Frame f) = fault_of octets ≡ Some f
 IsLocateFault station octets OtherSpacecraft = (frame : List ℕ) × BeginsWith octets frame × ((header_of frame).scid ≢ station.scid)
 IsLocateFault station octets UnknownChannel = (frame : List ℕ) × IsOurs station octets frame × ¬ Contains station.vcids (header_of frame).vcid
 
--- The reason why octets weren't brought. Memory can run out only if they are for a channel of the station.
+-- This is the reason why octets weren't brought. Memory can run out only if the octets are for a channel of the
+-- station.
 abbrev pub IsBringFault : Roster → List ℕ → BringFault → Type 0
 IsBringFault station octets (Locate f) = IsLocateFault station octets f
 IsBringFault station octets NoMemory = (vcid : ℕ) × (frame : List ℕ) × IsLocated station octets vcid frame

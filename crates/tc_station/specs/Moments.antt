@@ -1,5 +1,5 @@
--- The answers of a station's calls: the reply at some moment of a channel with the requested id. For an operator's
--- call, `Call` states that it is a moment of the very channel behind this lock.
+-- The answers of a station's calls. Each answer is the reply of a channel with the requested id at some moment. For an
+-- operator's call, the definitions in `Call` also state that this is a moment of the very channel behind the lock.
 use Rattle.std.specs.Prelude.{◌≡◌, ◌≢◌, [], ℕ, List, Contains, Some, slice_get}
 use Rattle.tc_channel.specs.declared.settings.Settings.{Settings}
 use Rattle.tc_channel.specs.declared.event.Event.{Event}

@@ -2,6 +2,6 @@
 use Rattle.std.specs.Prelude.{◌≡◌, ◌≤◌, ℕ, List, [], length, vec_capacity}
 use Rattle.tc_station.specs.declared.operator.Room.{Room}
 
--- room for an operator of channels with these ids
+-- this is room for an operator of channels with these ids
 abbrev pub IsRoomFor : List ℕ → Room → Type 0
 IsRoomFor vcids room = (room.vcids.items ≡ vcids) × (room.desks.items ≡ []) × (length vcids ≤ vec_capacity room.desks)

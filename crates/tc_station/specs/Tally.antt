@@ -8,7 +8,8 @@ pub record Tally : Type 0 where
   pub vcids : List ℕ
   pub counts : List ℕ
 
--- an operator: its channels with their counts, and its operators at their desks, in the same order
+-- The view of an operator: the ids of its station's channels, a count for each channel, and its operator at each
+-- channel's desk, in the same order.
 pub record AtStation : Type 0 where
   pub vcids : List ℕ
   pub counts : List ℕ

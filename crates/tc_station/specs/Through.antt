@@ -42,7 +42,7 @@ IsItsLast place operator n e = (desk : AtLock) × (slice_get operator.desks plac
 abbrev pub IsAnsweredIn : ℕ → AtStation → History → Event → (List Event → Type 0) → Type 0
 IsAnsweredIn place operator channel e Answers = (n : ℕ) × (slice_get channel.journal n ≡ Some e) × Answers (take n channel.journal) × IsItsLast place operator n e
 
--- the channel with this id, which has this place, is among those that were returned
+-- the channel with this id has this place, and is among the channels that were returned
 abbrev pub IsGivenOut : Roster → ℕ → List History → ℕ → History → Type 0
 IsGivenOut station vcid closed place channel = IsPlace station vcid place × (slice_get closed place ≡ Some channel)
 

@@ -12,17 +12,17 @@ use Rattle.tc_station.specs.Tally.{AtStation}
 abbrev pub operator_lists_of : List AtStation → List (List AtLock)
 operator_lists_of operators = map (λ (o : AtStation). o.desks) operators
 
--- The journal of each channel is a merge of what these operators made at its desk. The moment that each of them had
--- seen is a beginning of the journal, and the channel's settings are those of the desk.
+-- The journal of each channel is a merge of the events that these operators made at its desk. The moment that each
+-- operator had seen is a beginning of the journal, and the channel's settings are those of the desk.
 abbrev pub AreClosedTogether : Roster → List AtStation → List History → Type 0
 AreClosedTogether station operators closed = (owned_desks : List AtLock) × AreOwnedDesksOf station owned_desks × AreClosed owned_desks (operator_lists_of operators) closed
 
--- The reason why the channels weren't closed together. If it is an imbalance, there was a moment, for all desks at
--- once, at which one of them wasn't balanced.
+-- This is the reason why the channels weren't closed together. If the reason is an imbalance, there was a moment, for
+-- all desks at once, at which one of the desks wasn't balanced.
 abbrev pub IsNotClosedTogether : Roster → List AtStation → Refusal → Type 0
 IsNotClosedTogether station operators refusal = (owned_desks : List AtLock) × AreOwnedDesksOf station owned_desks × IsClosingRefusal owned_desks (operator_lists_of operators) refusal
 
--- the cause of an imbalance: not all operators that the station issued are given, or they have made too many events of
--- a channel for a count
+-- There is a cause of an imbalance. Either not all operators that the station issued are given, or the given operators
+-- have made at least 2^64 - 1 events of one channel.
 abbrev pub IsCauseAtStation : Roster → List AtStation → Type 0
 IsCauseAtStation station operators = (length operators < station.issued) ⊎ ((place : ℕ) × (2 ^ 64 - 1 ≤ total_made (accounts_of (column place (operator_lists_of operators)))))

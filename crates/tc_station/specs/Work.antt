@@ -19,7 +19,7 @@ use Rattle.tc_station.specs.declared.work.WorkList.{WorkList}
 abbrev pub IsTried : ℕ → Tally → Tally → Type 0
 IsTried vcid before after = (after ≡ tallied vcid before) ⊎ (after ≡ before)
 
--- the effect on the counts of a job in this channel's list, unless the job was refused because memory ran out
+-- this is the effect on the counts of a job in this channel's list for which memory didn't run out
 abbrev pub IsDone : Roster → ℕ → Order → Tally → Tally → Type 0
 IsDone station vcid (Bring octets) before after =
     ((v : ℕ) × (frame : List ℕ) × IsLocated station octets v frame × (after ≡ tallied v before))
@@ -33,14 +33,16 @@ abbrev pub AreDone : Roster → ℕ → List Job → Tally → Tally → Type 0
 AreDone station vcid [] before after = after ≡ before
 AreDone station vcid (job ∷ jobs) before after = (mid : Tally) × IsDone station vcid job.order before mid × AreDone station vcid jobs mid after
 
--- memory may run out for this job in this channel's list (octets that are for no channel are passed over)
+-- Memory may run out for this job in this channel's list. It can't run out for octets that are for no channel, since
+-- these octets are passed over.
 abbrev pub MayWantMemory : Roster → ℕ → Order → Type 0
 MayWantMemory station vcid (Bring octets) = (v : ℕ) × (frame : List ℕ) × IsLocated station octets v frame
 MayWantMemory station vcid Release = Contains station.vcids vcid
 MayWantMemory station vcid (Take apid) = Contains station.vcids vcid
 MayWantMemory station vcid (TakeUnit map_id) = Contains station.vcids vcid
 
--- all jobs of the list were done, or those before the job of this line, which was refused because memory ran out
+-- all jobs of the list were done, or the jobs before the one of this line were done, and this job was refused because
+-- memory ran out
 abbrev pub IsWorked : Roster → WorkList → Option ℕ → Tally → Tally → Type 0
 IsWorked station list None before after = AreDone station list.vcid list.jobs before after
 IsWorked station list (Some line) before after =
@@ -105,8 +107,9 @@ is_other own vcid (TakeUnit map_id) = own == vcid
 abbrev pub raised_by : ℕ → ℕ → ℕ
 raised_by n count = max count (min (count + n) 18446744073709551615)
 
--- The count of each channel rose by at least the number of jobs that bring a frame to it. For the list's channel it
--- rose by at most the number of these and the other jobs, and for any other channel by no more than these.
+-- The count of each channel rose by at least the number of jobs that bring a frame to the channel. The count of the
+-- list's channel rose by at most the number of these jobs and of the releases and takes. The count of any other channel
+-- rose by at most the number of jobs that bring a frame to it.
 abbrev pub IsRaised : Roster → WorkList → Tally → Tally → Type 0
 IsRaised station list before after =
     (vcid place : ℕ) → position (λ v. v == vcid) station.vcids ≡ Some place →
