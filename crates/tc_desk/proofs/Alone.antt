@@ -5,7 +5,7 @@ use mathlib.Core.List.{IsPrefix}
 use Rattle.logged_lock.proofs.Owned.{owned-own, owned-other}
 use Rattle.tc_desk.specs.Alone.{with_places, HasMadeAll, HasSeenItsOwn}
 
--- if only the k-th maker owns places, it owns the first place, and so all of them if it owns the others
+-- If only the k-th maker owns places, it owns the first place. So if it also owns all other places, it owns all places.
 own-step : (k at o : ℕ) (os : List ℕ) (e : Event) (es : List Event) → ((j : ℕ) → j ≢ k → owned j at (o ∷ os) (e ∷ es) ≡ [])
     → (((j : ℕ) → j ≢ k → owned j (suc at) os es ≡ []) → owned k (suc at) os es ≡ with_places (suc at) es) → owned k at (o ∷ os) (e ∷ es) ≡ with_places at (e ∷ es)
 own-step k at o os e es none rest = elim (eqb_tells o k) [
@@ -36,7 +36,7 @@ whole-prefix xs ys p le =
     let none : p.0 ≡ [] = nil_from_length p.0 (omega (arith, count)) in
     sym (append-nil xs) ∙ (ap (λ l. xs ++ l) (sym none) ∙ p.1)
 
--- only one of several operators has made anything
+-- if only one of several operators has made any event, it has made, and has seen, all events of the journal
 pub maker-alone : (makers : List Own) (k : ℕ) (own : Own) (journal : List Event) → made_by makers k ≡ own.made → ((j : ℕ) → j ≢ k → made_by makers j ≡ []) → HasSeenItsOwn own
     → IsBeginning own.seen (record { head = own.seen.head; entries = journal }) → IsMergeOf journal makers → HasMadeAll own × (own.seen.entries ≡ journal)
 maker-alone makers k own journal mine none its behind merge =
@@ -53,7 +53,7 @@ pub only-maker : (own : Own) (journal : List Event) → HasSeenItsOwn own → Is
     → HasMadeAll own × (own.seen.entries ≡ journal)
 only-maker own journal its behind merge = maker-alone (own ∷ []) 0 own journal refl (nobody-else own) its behind merge
 
--- the call was answered at the moment that the operator had seen
+-- if the operator has made all events of the journal at the moment of a call, it had seen this moment before the call
 same-moment : (before : Own) (now : Moment) → HasSeenItsOwn before → IsBeginning before.seen now → before.made ≡ with_places 0 now.entries → HasMadeAll before × (now ≡ before.seen)
 same-moment before now its later all =
     let count : length before.made ≡ length now.entries = ap (λ l. length l) all ∙ length-placed 0 now.entries in
@@ -67,7 +67,7 @@ alone-event before now e its later all =
 pub alone-look : (before : Own) (now : Moment) → HasSeenItsOwn before → IsBeginning before.seen now → HasMadeAll (looked now before) → HasMadeAll before × (now ≡ before.seen)
 alone-look before now its later all = same-moment before now its later all
 
--- the operator has seen no less than before
+-- at the moment of a call, the journal has at least as many events as the operator had seen
 longer : (before : Own) (now : Moment) → IsBeginning before.seen now → length before.seen.entries ≤ length now.entries
 longer before now later = omega (arith, sym (length-append before.seen.entries later.1.0) ∙ ap (λ l. length l) later.1.1)
 

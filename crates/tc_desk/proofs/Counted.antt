@@ -1,16 +1,16 @@
--- Whether operators can close a desk, by the number of operators and that of their events.
+-- Whether operators can close a desk depends on the number of operators and the number of their events.
 use Rattle.tc_desk.proofs.Names.{◌≡◌, inl, inr, ℕ, ◌≤◌, ◌-◌, ◌^◌, List, length, arith, Event, total_made, Own, CanClose, IsBalanced, IsCause, ⊎_elim, lt_of_not-le}
 use native.Mathlib.Decide.{dec_le}
 use mathlib.Core.Logic.{dite}
 
--- all operators together have made the whole journal
+-- if operators can close a desk, they have together made the whole journal
 pub as-balanced : (issued : ℕ) (makers : List Own) (journal : List Event) → CanClose issued makers journal → (issued ≤ length makers → total_made makers ≡ length journal) → IsBalanced makers journal
 as-balanced issued makers journal can whole =
     let few = can.0 in
     let all : total_made makers ≡ length journal = ⊎_elim (λ (back : issued ≤ length makers). whole back) (λ (same : total_made makers ≡ length journal). same) can.1 in
     (all, omega (arith, few, all))
 
--- the cause if operators can't close a desk
+-- if operators can't close a desk, there is a cause of the imbalance
 pub cause-of : (issued : ℕ) (makers : List Own) (journal : List Event) → ¬ CanClose issued makers journal → IsCause issued makers
 cause-of issued makers journal cannot = dite (dec_le issued (length makers))
     (λ (back : issued ≤ length makers). dite (dec_le (2 ^ 64 - 1) (total_made makers))

@@ -7,7 +7,7 @@ abbrev most : ℕ
 most = 2 ^ 64 - 1
 
 module _ {X : Type 0} where
-  -- one more operator was counted
+  -- if one more operator is counted, the total is that of the operators up to this one
   pub more_counted : (f : X → ℕ) (xs : List X) (i : ℕ) (x : X) (total count next : ℕ) → x ≡ get_or xs i x → i < length xs → total ≡ min (sum_by f (take i xs)) most
       → count ≡ min (f x) most → next ≡ min (total + count) most → next ≡ min (sum_by f (take (i + 1) xs)) most
   more_counted f xs i x total count next here inside so one is =
@@ -19,11 +19,11 @@ module _ {X : Type 0} where
   total-sum own [] = refl
   total-sum own (x ∷ xs) = ap (λ (m : ℕ). length (own x).made + m) (total-sum own xs) ∙ sym (sum_by-cons (λ (y : X). length (own y).made) x xs)
 
-  -- all operators were counted
+  -- once all operators are counted, the total is the number of events that they have made together
   pub all_counted : (own : X → Own) (xs : List X) (i total : ℕ) → length xs ≤ i → total ≡ min (sum_by (λ (x : X). length (own x).made) (take i xs)) most → total ≡ min (total_made (map own xs)) most
   all_counted own xs i total end so = so ∙ ap (λ (m : ℕ). min m most) (ap (λ (l : List X). sum_by (λ (x : X). length (own x).made) l) (take_all i xs end) ∙ sym (total-sum own xs))
 
-  -- the accounts of the operators at the desk of a place, one from each list
+  -- the accounts at the desk at a place are those of one operator from each list
   pub own-column : (at : X → List AtLock) (place : ℕ) (xs : List X) → accounts_of (column place (map at xs)) ≡ map (λ (x : X). (get_or (at x) place nobody).own) xs
   own-column at place xs = map-map (λ (o : AtLock). o.own) (λ (operator_list : List AtLock). get_or operator_list place nobody) (map at xs) ∙ map-map (λ (operator_list : List AtLock). (get_or operator_list place nobody).own) at xs
 

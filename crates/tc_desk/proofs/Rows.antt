@@ -1,4 +1,5 @@
--- Desks whose locks are taken, whose owners learn of operators, and which are taken out, list by list.
+-- The steps of closing a list of desks: their locks are taken, operators are reported to their owners list by list, and
+-- their channels are taken out.
 use Rattle.tc_desk.proofs.Names.{◌≡◌, ◌<◌, ◌≤◌, ◌-◌, ℕ, zero, suc, List, [], ◌∷◌, ◌++◌, length, get_or, map, reverse, Some, slice_get, refl, sym, ap, subst, ◌∙◌, append_assoc, arith, All, length-map, slice_get_within, get_or_from_slice_get, total_made, IsBeginning, IsMergeOf, Event, Own, Moment, AtLock, AtHand, accounts_of, reported_at, CanClose, IsBalanced, IsClosed, AreOurs, AreSame, CanCloseEach, CannotCloseOne, IsFresh, IsOut, column, owners_of, nobody, settings_of_desks, reported_row, reported_rows, drop, set, Vec, AllZip, map-append, reverse-append, reverse-reverse, length-reverse, get_or-reverse, with_items_is, All-tail, All-head, none-some, same_Some, slice_get-map, AreBehind, IsClosingRefusal, AreClosed, AreMoments, HasCause, heads_of, issued_of, locks_of, reported_one}
 use Rattle.std.proofs.Common.{append-nil}
 use Rattle.std.specs.Vec.{with_items}
@@ -27,7 +28,7 @@ pub guard_step : (all owned_desks ps : List AtLock) (hs next : List AtHand) (p :
 guard_step all owned_desks ps hs next p h popped grown is before =
     ap (λ (l : List AtHand). ps ++ reverse (owners_of l)) grown ∙ one_guard ps hs p h is ∙ sym (ap (λ (l : List AtLock). l ++ reverse (owners_of hs)) popped) ∙ before
 
--- one desk is unlocked
+-- if one desk is unlocked, the list of desks still has the same locks, heads and numbers of issued operators
 pub roll_back_step : (old ps next : List AtLock) (guard hs : List AtHand) (p : AtLock) (h : AtHand) → guard ≡ hs ++ h ∷ [] → next ≡ ps ++ p ∷ [] → p.lock ≡ h.owner.lock → p.own.seen.head ≡ h.owner.own.seen.head → p.own.issued ≡ h.owner.own.issued
     → AreSame old (ps ++ reverse (owners_of guard)) → AreSame old (next ++ reverse (owners_of hs))
 roll_back_step old ps next guard hs p h popped grown lock head issued same =
@@ -50,14 +51,14 @@ fresh-reverse hs all = λ k d lt.
     let long = length-reverse hs in let inside : k < length hs = omega (arith, long, lt) in
     subst IsFresh (sym (get_or-reverse hs k d inside)) (all (length hs - 1 - k) d (omega arith))
 
--- all locks were taken, and their desks are in order
+-- once all locks are taken, the guards in reverse are moments of the desks, in the order of the desks
 pub all_guard : (owned_desks left : List AtLock) (guard back : List AtHand) → left ≡ [] → left ++ reverse (owners_of guard) ≡ owned_desks → back ≡ reverse guard → All IsFresh guard → AreMoments owned_desks back
 all_guard owned_desks left guard back none all is fresh = (
   ap owners_of is ∙ owners-reverse guard ∙ sym (ap (λ (l : List AtLock). l ++ reverse (owners_of guard)) none) ∙ all,
   subst (All IsFresh) (sym is) (fresh-reverse guard fresh),
 )
 
--- all desks were unlocked
+-- once all desks are unlocked, the list of desks has the same locks, heads and numbers of issued operators as before
 pub given_back : (owned_desks next : List AtLock) (guard back : List AtHand) → owned_desks ≡ [] → back ≡ reverse guard → AreSame (owned_desks ++ reverse (owners_of back)) next → AreSame (owners_of guard) next
 given_back owned_desks next guard back none is same =
     subst (λ (l : List AtLock). AreSame l next)
@@ -101,7 +102,7 @@ reported_none (h ∷ hs) = refl
 pub all_reported : (hs : List AtHand) (os : List AtLock) → os ≡ [] → reported_row hs os ≡ hs
 all_reported hs os none = ap (λ (l : List AtLock). reported_row hs l) none ∙ reported_none hs
 
--- the last operator is reported first
+-- reporting the last operator first, and then the others, has the same result as reporting all operators
 pub record IsLastReported (hs : List AtHand) (all os : List AtLock) (o : AtLock) (n : ℕ) (d : AtHand) : Type 0 where
   pub inside : n < length hs
   pub lock : o.lock ≡ (get_or hs n d).owner.lock
@@ -192,7 +193,7 @@ owners-rows : (hs : List AtHand) (rows : List (List AtLock)) → owners_of (repo
 owners-rows hs [] = refl
 owners-rows hs (row ∷ rows) = owners-rows (reported_row hs row) rows ∙ owners-reported hs row
 
--- the list of desks after their owners got the reports
+-- if the reports are written through a slice over the desks, the list has the desks after these reports
 pub written_back : {Z : Type 0} (v : Vec AtHand Z) (start next : List AtHand) (rows : List (List AtLock)) → start ≡ v.items → next ≡ reported_rows start rows → (with_items v next).items ≡ reported_rows v.items rows
 written_back v start next rows from is =
     let one = ap (λ (l : List AtHand). length l) is in
@@ -223,7 +224,7 @@ closed_one h operators c none later can out =
       seen = subst (λ (x : List Own × Moment). AreBehind x.0 x.1) (λ i. (reported i, now i)) out.seen;
     }
 
--- all desks are closed
+-- if the operators of each desk can close it, and the channels are taken out after all reports, the desks are closed
 pub closed_all : (owned_desks : List AtLock) (rows : List (List AtLock)) (guard reported : List AtHand) (closed : List History) → AreMoments owned_desks guard → AreOurs owned_desks rows → CanCloseEach guard rows
     → AllZip IsOut reported closed → reported ≡ reported_rows guard rows → AreClosed owned_desks rows closed
 closed_all owned_desks rows guard reported closed moments ours can all is =

@@ -1,4 +1,4 @@
--- The machine value of a `ResidentBadge`, and that it may go to another thread.
+-- A `ResidentBadge` has a fixed machine value, and may go to another thread.
 use Rattle.tc_desk.proofs.Names.{◌≡◌, List, [], ◌∷◌, ◌++◌, ap, ◌∙◌, RattleType, IsSend, token_val, pin_told}
 use mir.Val.{Val, vstruct, vcons, vnil, of_list}
 use denote.Laws.{Is}

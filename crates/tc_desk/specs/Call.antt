@@ -24,12 +24,13 @@ use Rattle.tc_desk.specs.Log.{Moment, Own, AtLock, history_of}
 abbrev pub IsMoment : Moment → Type 0
 IsMoment m = IsAllowed m.head.settings × IsLawful m.head.settings m.entries
 
--- an operation on a desk: an answer makes it an event, and a refusal leaves the desk as it was
+-- An operation was carried out on a desk. If it was answered, it is the next event of the journal. If it was refused,
+-- the desk is as it was.
 pub record IsStep {R F : Type 0} (e : Event) (ok : Moment → R → Type 0) (err : Moment → F → Type 0) (before : Moment) (result : Result R F) (after : Moment) : Type 0 where
   pub moment : IsMoment before
   pub answer : MatchResult result (λ r. ok before r × (after ≡ with_entry before e)) (λ f. err before f × (after ≡ before))
 
--- a question to a desk, which leaves the desk as it is
+-- a desk was asked a question, which left the desk as it was
 pub record IsAsked {R : Type 0} (ok : Moment → R → Type 0) (before : Moment) (result : R) (after : Moment) : Type 0 where
   pub moment : IsMoment before
   pub answer : ok before result
@@ -62,7 +63,7 @@ pub record IsLook {R : Type 0} (ok : Moment → R → Type 0) (before : AtLock) 
   pub answer : ok now result
   pub looked : after.own ≡ looked now before.own
 
--- the reply is that to this frame
+-- this is the reply to the frame
 abbrev pub IsFramed : List ℕ → Moment → FrameReply → Type 0
 IsFramed frame m reply = reply ≡ frame_reply m.head.settings m.entries frame
 
@@ -89,8 +90,8 @@ pub record IsMeeting (early : Watching) (before : AtLock) (late : Watching) (aft
   pub look : IsLook (λ m (done : Unit {0}). HasSeenNoMore early m) before tt after
   pub met : HasMet after.own.seen late
 
--- the answer is the reply to this frame, and a watcher of the desk's board that has seen the journal with the frame at
--- its end
+-- The answer has the reply to this frame, and a watcher of the desk's board. The watcher has seen the journal with the
+-- frame at its end.
 abbrev pub IsFramedWatched : List ℕ → Moment → FrameReply × Watching → Type 0
 IsFramedWatched frame m answer = IsFramed frame m answer.0 × HasSeen m (with_event (history_of m) (Frame frame)) answer.1
 
@@ -110,7 +111,7 @@ IsReleaseFault m release_faults.NoMemory = ⊤
 abbrev pub IsOldestPacket : ℕ → Moment → List ℕ → Type 0
 IsOldestPacket apid m packet = take_reply m.head.settings m.entries apid ≡ Some packet
 
--- a take doesn't run out of memory if the journal takes none
+-- this is a reason why no packet was taken, which can be lack of memory only if the journal takes memory
 abbrev pub IsTakeFault : Bool → ℕ → Moment → TakeFault → Type 0
 IsTakeFault grows apid m take_faults.NoQueue = waiting_packets m.head.settings m.entries apid ≡ None
 IsTakeFault grows apid m take_faults.Empty = waiting_packets m.head.settings m.entries apid ≡ Some []
@@ -125,6 +126,6 @@ IsTakeUnitFault grows map_id m unit_faults.NoMap = waiting_units m.head.settings
 IsTakeUnitFault grows map_id m unit_faults.Empty = waiting_units m.head.settings m.entries map_id ≡ Some []
 IsTakeUnitFault grows map_id m unit_faults.NoMemory = grows ≡ false → ⊥
 
--- the number of events in the journal, or 2^64 - 1 if there are more
+-- this is the number of events in the journal, or 2^64 - 1 if there are more
 abbrev pub IsCount : Moment → ℕ → Type 0
 IsCount m count = count ≡ min (length m.entries) (2 ^ 64 - 1)

@@ -15,8 +15,8 @@ IsBalanced makers journal = (total_made makers ≡ length journal) × (length jo
 abbrev pub CanClose : ℕ → List Own → List Event → Type 0
 CanClose issued makers journal = (total_made makers < 2 ^ 64 - 1) × ((issued ≤ length makers) ⊎ (total_made makers ≡ length journal))
 
--- the cause of an imbalance: not all issued operators are among these, or these have made too many events for a count
--- of 64 bits
+-- There is a cause of an imbalance. Either not all issued operators are among these, or these operators have made at
+-- least 2^64 - 1 events.
 abbrev pub IsCause : ℕ → List Own → Type 0
 IsCause issued makers = (length makers < issued) ⊎ (2 ^ 64 - 1 ≤ total_made makers)
 

@@ -3,5 +3,5 @@ pub mod Call
 pub mod Closing
 pub mod Alone
 pub mod Together
--- a lock's identity, for the crates above
+-- the identity of a lock, for the crates that depend on this one
 pub use Rattle.atomic_table.specs.Seated.{TableId}

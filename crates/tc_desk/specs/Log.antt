@@ -68,7 +68,7 @@ view_in (v ∷ vs) = v
 abbrev pub at_lock : TableId → List Sight → AtLock
 at_lock lock views = record { lock = lock; own = (view_in views).own }
 
--- one view, of a seat that doesn't have the lock
+-- the seat has only one view, which is live, and it doesn't have the lock
 pub record IsResting (views : List Sight) : Type 0 where
   pub one : views ≡ view_in views ∷ []
   pub live : (view_in views).live ≡ true

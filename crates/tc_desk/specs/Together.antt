@@ -70,8 +70,8 @@ CannotCloseOne guard operator_lists = (place : ℕ) × (h : AtHand) × (slice_ge
 abbrev pub HasCause : List AtLock → List (List AtLock) → Type 0
 HasCause owned_desks operator_lists = (place : ℕ) × (owned_desk : AtLock) × (slice_get owned_desks place ≡ Some owned_desk) × IsCause owned_desk.own.issued (accounts_of (column place operator_lists))
 
--- The reason why the desks weren't closed. If the counts are the reason, there are moments of the desks, one of each,
--- at which one of the desks wasn't balanced.
+-- This is the reason why the desks weren't closed. If the counts are the reason, there are moments of the desks, one of
+-- each, at which one of the desks wasn't balanced.
 abbrev pub IsClosingRefusal : List AtLock → List (List AtLock) → Refusal → Type 0
 IsClosingRefusal owned_desks operator_lists NoMemory = Unit {0}
 IsClosingRefusal owned_desks operator_lists InUse = Unit {0}
