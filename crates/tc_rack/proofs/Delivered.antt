@@ -96,7 +96,7 @@ one-more-emptied queues queue first now new a b c place so_far less is (two, (ta
       settings = settings ∙ so_far.settings;
     }
 
--- the next packet queue is emptied, or the next unit queue
+-- ---- the next packet queue is emptied, or the next unit queue
 
 pub packets-emptied : (settings : Settings) (list : List QueueSetting) (place : ℕ) (d : QueueSetting) (first now new : Linked) (a b c : Option (List ℕ)) → AreSoFar (packet_queues settings) first now a b place
     → list ≡ settings.queues → place < length settings.queues → AreAnswersWritten b c (λ answers. AreTakenFrom (Packets (get_or list place d).apid) now answers new × (waiting_in (Packets (get_or list place d).apid) new ≡ []))

@@ -48,7 +48,7 @@ still-empty key (Some q) e = by (eqb q.key key && nat_lt q.taken (length q.admit
   by true = sym (drop-drop 1 q.taken q.admitted) ∙ ap (λ (items : List (List ℕ)). drop 1 items) e
   by false = e
 
--- the packets and the units that wait, computed from the channel's state, before and after a take
+-- ---- the packets and the units that wait, computed from the channel's state, before and after a take
 
 packets-now : (s : Settings) (journal : List Event) (apid : ℕ) → waiting_packets s journal apid ≡ option_map waiting (queue_of apid (run s journal).queues)
 unfolding waiting_packets_within
@@ -118,7 +118,7 @@ stays-empty (Units taken) (Units map_id) old answer new (unit, is, reported, bec
     subst (λ (x : Linked). waiting_in (Units map_id) x ≡ []) (sym becomes)
     (ap none_or (units-taken s journal taken map_id) ∙ still-empty taken (queue_of map_id (run s journal).units) (sym (ap none_or (units-now s journal map_id)) ∙ empty))
 
--- a take from a queue with a waiting item isn't refused
+-- ---- a take from a queue with a waiting item isn't refused
 
 pub packet-given : (apid : ℕ) (old : Linked) (answer : Answer) (new : Linked) → waiting_in (Packets apid) old ≢ [] → IsTakeAnswered apid old answer new → IsPacketTaken apid old answer new
 packet-given apid old answer new some (inl taken) = taken

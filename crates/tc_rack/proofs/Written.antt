@@ -11,7 +11,7 @@ one-more-written f xs i d a b c lt before more =
     flat_map_more f [] (take i xs) (get_or xs i d) ∙ ap (flat_map f) (sym (take_more xs i d lt)) in
     subst (Appends a c) joined (Appends-trans a b c _ _ before more)
 
--- as `one-more-written`, for an element `x` that is known to be at place `i`
+-- `one-more-written` also holds for an element `x` that is known to be at place `i`
 pub item-written : {X : Type 0} (f : X → List ℕ) (xs : List X) (i : ℕ) (x : X) (a b c : Option (List ℕ)) → i < length xs → x ≡ get_or xs i x
     → Appends a b (flat_map f (take i xs)) → Appends b c (f x) → Appends a c (flat_map f (take (i + 1) xs))
 item-written f xs i x a b c lt is before more = one-more-written f xs i x a b c lt before (subst (λ y. Appends b c (f y)) is more)

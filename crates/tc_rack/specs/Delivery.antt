@@ -14,13 +14,15 @@ use Rattle.tc_rack.specs.Linked.{Linked, IsPacketTaken, IsUnitTaken, reported_wo
 use Rattle.tc_rack.specs.Printed.{answer_text}
 use Rattle.tc_rack.specs.Rack.{Racked, HasChannel, Changes}
 
--- the queues of a channel: those of packets, and then those of the units of the chosen MAPs, in the order of the settings
+-- the packet queues of a channel, in the order of the settings
 abbrev pub packet_queues : Settings → List QueueId
 packet_queues s = map (λ (queue : QueueSetting). Packets queue.apid) s.queues
 
+-- the unit queues of the chosen MAPs of a channel, in the order of the settings
 abbrev pub unit_queues : Settings → List QueueId
 unit_queues s = map (λ (chosen : MapSetting). Units chosen.map) s.maps
 
+-- all queues of a channel: the packet queues, and then the unit queues
 abbrev pub queues_of : Settings → List QueueId
 queues_of s = packet_queues s ++ unit_queues s
 
@@ -28,12 +30,12 @@ abbrev pub none_or : Option (List (List ℕ)) → List (List ℕ)
 none_or None = []
 none_or (Some items) = items
 
--- the items that wait in a queue, the oldest first (none if there is no such queue)
+-- The items that wait in a queue, the oldest first. The list is empty if there is no such queue.
 abbrev pub waiting_in : QueueId → Linked → List (List ℕ)
 waiting_in (Packets apid) channel = none_or (waiting_packets channel.history.settings channel.history.journal apid)
 waiting_in (Units map_id) channel = none_or (waiting_units channel.history.settings channel.history.journal map_id)
 
--- the oldest item of a queue is taken, with the answer to a take of a packet or of a unit
+-- the oldest item of the queue is taken, and this is the answer to the take
 abbrev pub IsTakenFrom : QueueId → Linked → Answer → Linked → Type 0
 IsTakenFrom (Packets apid) old answer new = IsPacketTaken apid old answer new
 IsTakenFrom (Units map_id) old answer new = IsUnitTaken map_id old answer new
@@ -55,7 +57,7 @@ AreEmptied (queue ∷ queues) old answers new =
 abbrev pub AreEmpty : List QueueId → Linked → Type 0
 AreEmpty queues channel = AllByRecursion (λ queue. waiting_in queue channel ≡ []) queues
 
--- each queue of a channel is emptied, then no queue has an item, and at last the CLCW is reported
+-- each queue of a channel is emptied in turn, then no queue has an item, and at last the CLCW is reported
 abbrev pub IsHandedOn : Linked → List Answer → Linked → Type 0
 IsHandedOn old answers new =
     (taken : List Answer) × AreEmptied (queues_of old.history.settings) old taken new × AreEmpty (queues_of old.history.settings) new

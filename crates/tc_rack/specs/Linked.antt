@@ -32,7 +32,7 @@ new_linked s = record {
 abbrev pub later : Event → Linked → Linked
 later event channel = record channel { history = with_event channel.history event }
 
--- a frame is answered, in any state of its channel
+-- the frame is answered, and is the next event of the channel
 abbrev pub IsFrameAnswered : List ℕ → Linked → Answer → Linked → Type 0
 IsFrameAnswered frame old answer new =
     (answer ≡ answers.Frame (vcid_of old) (frame_reply old.history.settings old.history.journal frame)) × (new ≡ later (events.Frame frame) old)

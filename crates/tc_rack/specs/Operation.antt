@@ -36,7 +36,7 @@ IsFrameAnswer octets old answer new =
 abbrev pub IsClcwAnswer : ℕ → Racked → Answer → Type 0
 IsClcwAnswer vcid rack answer = IsOf rack vcid (λ channel. answer ≡ reported_word channel) ⊎ IsUnknown rack vcid answer
 
--- the answer to an operation, and the channels after it
+-- the operation has this answer, and these are the channels after it
 abbrev pub IsAnswerOf : Operation → Racked → Answer → Racked → Type 0
 IsAnswerOf (operations.Frame octets) old answer new = IsFrameAnswer octets old answer new
 IsAnswerOf (operations.Release vcid) old answer new = IsChannelAnswer vcid IsReleaseAnswered old answer new

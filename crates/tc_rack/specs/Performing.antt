@@ -13,7 +13,7 @@ use Rattle.tc_rack.specs.declared.operation.Operation.TheVariants as operations
 use Rattle.tc_rack.specs.declared.stage.Stage.{Stage}
 use Rattle.tc_rack.specs.declared.stage.Stage.TheVariants.{SettingUp, Operating}
 
--- the channels that an operation finds: those in operation, or new ones if no operation came before
+-- an operation finds these channels: those in operation, or new ones if no operation came before
 abbrev pub IsFound : {O : Type 0} → (List Settings → O → Type 0) → Stage O → O → Type 0
 IsFound IsNew (SettingUp list) found = IsNew list found
 IsFound IsNew (Operating there) found = found ≡ there

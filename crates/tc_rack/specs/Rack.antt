@@ -27,7 +27,7 @@ histories rack = map (λ (channel : Linked). channel.history) rack.channels
 abbrev pub HasChannel : List Linked → ℕ → Type 0
 HasChannel channels vcid = Any (λ (channel : Linked). vcid_of channel ≡ vcid) channels
 
--- the channel with this id, at its place
+-- this channel is at this place, and has this id
 abbrev pub IsChannelAt : List Linked → ℕ → ℕ → Linked → Type 0
 IsChannelAt channels vcid place channel = (slice_get channels place ≡ Some channel) × (vcid_of channel ≡ vcid)
 
@@ -41,7 +41,7 @@ Changes old vcid Becomes new =
     (place : ℕ) × (before : Linked) × (after : Linked) × IsChannelAt old.channels vcid place before × Becomes before after
     × (new ≡ record old { channels = slice_set old.channels place after })
 
--- the reason why octets are for none of the channels: the first in this list that applies
+-- this is the reason why octets are for none of the channels: the first of the faults below that applies
 abbrev pub IsRackLocateFault : Racked → List ℕ → LocateFault → Type 0
 IsRackLocateFault rack octets (Frame f) = fault_of octets ≡ Some f
 IsRackLocateFault rack octets OtherSpacecraft = (frame : List ℕ) × BeginsWith octets frame × ((header_of frame).scid ≢ rack.scid)
@@ -62,7 +62,7 @@ abbrev pub IsLinkSet : Racked → ℕ → Link → Bool → Racked → Type 0
 IsLinkSet old vcid link true new = Changes old vcid (λ before after. after ≡ record before { link = link }) new
 IsLinkSet old vcid link false new = ¬ HasChannel old.channels vcid × (new ≡ old)
 
--- this is the state of the channel with this id, if there is one
+-- this is the state of the channel with this id, or `None` if there is no such channel
 abbrev pub IsReported : Racked → ℕ → Option Holding → Type 0
 IsReported rack vcid None = ¬ HasChannel rack.channels vcid
 IsReported rack vcid (Some holding) =

@@ -21,7 +21,7 @@ AreRising channels = IsNonDecreasingBy vcid_of channels
 abbrev pub IsLawfulHistory : History → Type 0
 IsLawfulHistory channel = IsAllowed channel.settings × IsLawful channel.settings channel.journal
 
--- the line that reports the number of items in a queue, `WORD VC ID N` (empty if there is no such queue)
+-- The line that reports the number of items in a queue, `WORD VC ID N`. The text is empty if there is no such queue.
 abbrev pub waiting_line : List ℕ → ℕ → ℕ → Option (List (List ℕ)) → List ℕ
 waiting_line word vcid id None = codes ""
 waiting_line word vcid id (Some waiting) =
