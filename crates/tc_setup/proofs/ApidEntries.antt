@@ -1,5 +1,5 @@
--- Tables of the APIDs of channels' queues: the table without queues, the meaning of an entry, and the tables of all
--- channels of a configuration.
+-- Tables of the APIDs of channels' queues. An entry is set if and only if a queue has the APID, and each channel of a
+-- configuration has a table.
 use Rattle.tc_setup.proofs.Names.{◌≡◌, ℕ, zero, suc, ◌<◌, ◌≤◌, Bool, true, false, true≢false, ◌||◌, eqb, List, [], ◌∷◌, ◌++◌, length, get_or, set, replicate, refl, sym, ◌∙◌, ap, subst, arith, eqb-true, eq-eqb, length-replicate, length-set, Any-from_list_any, list_any-from_Any, AllZip, list_any, Any, QueueSetting, Settings, AreApidsOf, AreApidsOfEach}
 
 all-alike : (n k : ℕ) → get_or (replicate n false) k false ≡ false
@@ -24,8 +24,7 @@ pub not-there : (queues : List QueueSetting) (apids : List Bool) (apid : ℕ) �
 not-there queues apids apid small a is (i, d, lt, e, same) =
     true≢false (sym (list_any-from_Any (λ (q : QueueSetting). eqb q.apid apid) queues (i, d, lt, e, eq-eqb d.apid apid same)) ∙ (sym (a.reported apid small) ∙ is))
 
--- Facts about two lists whose items are related in pairs: a pair is appended, a pair is replaced, and a pair is read at
--- its place.
+-- ---- two lists whose items are related in pairs: a pair is appended or replaced, or read at its place
 module _ {X Y : Type 0} (R : X → Y → Type 0) where
   pub push-pair : (xs : List X) (ys : List Y) (x : X) (y : Y) → AllZip R xs ys → R x y → AllZip R (xs ++ x ∷ []) (ys ++ y ∷ [])
   push-pair [] [] x y all one = (one, all)
@@ -52,7 +51,7 @@ module _ {X Y : Type 0} (R : X → Y → Type 0) where
   as-many (a ∷ xs) [] all = absurd all
   as-many (a ∷ xs) (b ∷ ys) all = ap suc (as-many xs ys all.1)
 
--- the tables of the APIDs of each channel of a configuration
+-- ---- the tables of the APIDs of each channel of a configuration
 module _ (list : List Settings) (tables : List (List Bool)) (each : AreApidsOfEach list tables) where
   abbrev of-one : Settings → List Bool → Type 0
   of-one s apids = AreApidsOf s.queues apids

@@ -5,7 +5,7 @@ use Rattle.std.proofs.lemmas.Map.Made.{IsDistinct-from_AllPairs}
 use Rattle.std.proofs.lemmas.Map.Steps.{length-le_from_distinct_below}
 use Rattle.std.proofs.lemmas.Option.{get_or_from_slice_get, slice_get_within}
 
--- ids have 6 bits, and no two are the same, so that there are at most 64 channels
+-- since ids have 6 bits, and no two channels have the same id, there are at most 64 channels
 pub few : (list : List Settings) → IsConfiguration list → length list ≤ 64
 few [] c = omega arith
 few (none ∷ rest) c =
@@ -32,7 +32,8 @@ few (none ∷ rest) c =
 pub found : (list : List Settings) (vcid place : ℕ) (x : Settings) → (s : Settings) × IsAt list vcid place s → x ≡ get_or list place x → IsAt list vcid place x
 found list vcid place x (s, (at, v)) is = subst (IsAt list vcid place) (sym (is ∙ get_or_from_slice_get list place s x at)) (at, v)
 
--- the outcome of a search by id: either no channel has the id, or one has it at the place found
+-- this is the result of a search for an id: either no channel has the id, or a channel has it at the place that was
+-- found
 abbrev pub IsSearched : List Settings → ℕ → Option ℕ → Type 0
 IsSearched list vcid place = MatchOption place (¬ HasSettings list vcid) (λ place. (s : Settings) × IsAt list vcid place s)
 

@@ -20,7 +20,7 @@ vcids_of list = map (λ (s : Settings). s.vcid) list
 abbrev pub HasSettings : List Settings → ℕ → Type 0
 HasSettings list vcid = Any (λ (s : Settings). s.vcid ≡ vcid) list
 
--- the settings with this id, at their place
+-- these settings are at this place, and have this id
 abbrev pub IsAt : List Settings → ℕ → ℕ → Settings → Type 0
 IsAt list vcid place s = (slice_get list place ≡ Some s) × (s.vcid ≡ vcid)
 

@@ -6,8 +6,8 @@ use Rattle.tc_setup.specs.declared.instruction.Addition.TheVariants as additions
 use Rattle.tc_setup.specs.declared.instruction.Instruction.{Instruction}
 use Rattle.tc_setup.specs.declared.instruction.Instruction.TheVariants as instructions
 
--- the instruction of a line: a channel line sets up a channel with its settings, no queues and no chosen MAPs, and a
--- blank line does nothing
+-- The instruction of a line. A channel line sets up a channel with the settings of the line, without queues and without
+-- chosen MAPs. A blank line does nothing.
 abbrev pub instruction_of : Line → Instruction
 instruction_of Blank = instructions.Nothing
 instruction_of (Channel vcid width buffer first segmented) =

@@ -21,7 +21,7 @@ pub data Phase : Type 0 where
 abbrev pub Operates : Phase → Phase → Type 0
 Operates phase new = (phase ≢ Setup []) × (new ≡ Operation)
 
--- the effect of the instruction of a good line
+-- if a line is good, its instruction leads from the first phase to the second
 abbrev pub Does : Phase → Instruction → Phase → Type 0
 Does phase Nothing new = new ≡ phase
 Does phase (Channel settings) new =
@@ -38,12 +38,12 @@ Does phase (Clcw vcid) new = Operates phase new
 abbrev pub IsSettingsReason : Settings → Reason → Type 0
 IsSettingsReason s reason = (fault : SettingsFault) × (reason ≡ reason_of fault) × IsFault s fault
 
--- the reason why a channel can't be set up in addition to these channels
+-- this is the reason why a channel can't be set up in addition to these channels
 abbrev pub IsChannelRefused : List Settings → Settings → Reason → Type 0
 IsChannelRefused list s reason =
     (HasSettings list s.vcid × (reason ≡ DoubleChannel)) ⊎ (¬ HasSettings list s.vcid × IsSettingsReason s reason)
 
--- the reason why the queue or chosen MAP can't be added to the channel with this id
+-- this is the reason why the queue or chosen MAP can't be added to the channel with this id
 abbrev pub IsAdditionRefused : List Settings → ℕ → Addition → Reason → Type 0
 IsAdditionRefused list vcid addition reason =
     (¬ HasSettings list vcid × (reason ≡ UnknownChannel))
@@ -60,7 +60,7 @@ IsBadAddition (Setup list) vcid addition reason = IsAdditionRefused list vcid ad
 abbrev pub IsBadOperation : Phase → Reason → Type 0
 IsBadOperation phase reason = (phase ≡ Setup []) × (reason ≡ NoChannel)
 
--- the reason, other than lack of memory, why the line of an instruction is bad
+-- this is the reason, other than lack of memory, why the line of an instruction is bad
 abbrev pub IsBad : Phase → Instruction → Reason → Type 0
 IsBad phase Nothing reason = ⊥
 IsBad phase (Channel settings) reason = IsBadChannel phase settings reason
