@@ -7,7 +7,7 @@ use Rattle.tc_channel.specs.Journal.{History, IsNumberReported}
 use Rattle.tc_live.specs.declared.serving.ServingFault.{ServingFault}
 use Rattle.tc_live.specs.declared.serving.ServingFault.TheVariants.{Write}
 
--- the report follows the answers
+-- if the answers to all lines are written, and then the report, the reception is written
 pub all-written : (closed : Result FrameEnds ServingFault) (receiver last : Receiving) (known a b c : Option (List ℕ))
     → IfSome known (λ octets. lines.AreAllWritten line_limit IsLineSaid receiver octets last a b) → OnOk closed (IsReportWritten last b c)
     → IfOk closed (λ ends. ends ≡ last.ends) → IfOk closed (λ ends. IfSome known (λ octets. IsReceptionWritten receiver octets a c ends))
@@ -30,7 +30,7 @@ not-reported (Err fault) receiver last (Some octets) a b c (answers, is, before)
 not-reported (Err fault) receiver last (Some octets) a b c (answers, is, before) (inr (inr (unbalanced, unreported))) (inr kept) =
     subst (IsReceptionCutShort receiver octets a c) (sym unbalanced) (last, (answers, is, Appends-kept a b c answers before kept), unreported)
 
--- if no more lines are answered, the reception was cut short
+-- if answering stops at a fault, the reception was cut short
 pub lines-cut : (fault : AnsweringFault) (receiver last : Receiving) (known a b : Option (List ℕ))
     → IfSome known (λ octets. lines.IsCutShort line_limit IsLineSaid receiver octets last a b fault)
     → IfSome known (λ octets. IsReceptionCutShort receiver octets a b (fault_at_lines fault))
@@ -39,7 +39,8 @@ lines-cut answering.Read receiver last (Some octets) a b cut = (last, cut)
 lines-cut answering.Write receiver last (Some octets) a b cut = tt
 lines-cut answering.NoMemory receiver last (Some octets) a b cut = inl cut.1
 
--- if a channel in the sorted list doesn't report its number of events, a channel of the receiver doesn't
+-- if a channel in the sorted list doesn't report its number of events, a channel of the receiver doesn't report it
+-- either
 pub is-number-unreported : (receiver : Receiving) (reported : Bool) (shown before after : List History) → IsTrue reported ↔ All IsNumberReported shown → reported ≡ false
     → shown ≡ after → IsPermutation before after → before ≡ histories (rack_at receiver) → IsNumberUnreported receiver
 is-number-unreported receiver reported shown before after just not same shuffled is all =

@@ -4,7 +4,7 @@ use Rattle.tc_lines.specs.Answering.{Writes}
 use Rattle.tc_text.specs.declared.live.LiveLine.{LiveLine}
 use Rattle.tc_rack.specs.declared.answer.Answer.TheVariants.{Frame, Release, Take, Unit as UnitOf, Clcw, Refused}
 
--- a delivery that was begun can be ended, and no other answer needs anything
+-- If a delivery or a collection was begun, it can be ended. Any other answer is ready, too.
 line-ready : (old new : Receiving) (said : LiveLine) (answer : LiveAnswer) → IsLineDone old said new answer → IsReady answer new
 line-ready old new (Script line) answer (inl (passed, passes, (between, ((None, answered, is, same), done), noted))) = rw is tt
 line-ready old new (Script line) answer (inl (passed, passes, (between, ((Some a, answered, is, same), done), noted))) = rw is tt
@@ -28,11 +28,11 @@ line-ready old new (Candidate octets) answer (inr (less, inr (fails, is, same)))
 pub ready : (old new : Receiving) (octets : List ℕ) (answer : LiveAnswer) → IsLiveLineAnswered old octets new answer → IsReady answer new
 ready old new octets answer (said, is, done) = line-ready old new said answer done
 
--- the answers that follow are written after the first one
+-- if an answer is written, and then the answers that follow it, the whole answer is reported
 pub followed : (answer : LiveAnswer) (old new : Receiving) (a b c : Option (List ℕ)) → Appends a b (live_text answer) → AreAnswersWritten b c (IsFollowedBy answer old new) → Writes a c (IsReported answer old new)
 followed answer old new a b c first (answers, follow, rest) = (live_text answer ++ reported_lines answers, (answers, follow, refl), Appends-trans a b c _ _ first rest)
 
--- an answer and the answers that follow it are those of the line
+-- if a line has this answer, and this answer is reported with the answers that follow it, the line is answered
 pub said : (old between new : Receiving) (octets : List ℕ) (answer : LiveAnswer) (a b : Option (List ℕ)) → IsLiveLineAnswered old octets between answer
     → Writes a b (IsReported answer between new) → Writes a b (IsLineSaid old octets new)
 said old between new octets answer a b answered (text, is, written) = (text, inl (answer, between, answered, is), written)

@@ -8,7 +8,7 @@ use Rattle.tc_text.specs.declared.line.Line.TheVariants.{Frame}
 use Rattle.tc_live.specs.declared.check.FrameCheck.{FrameCheck}
 use Rattle.tc_live.specs.declared.check.FrameCheck.TheVariants.{Nothing, ErrorControl}
 
--- the line of the frame that becomes these octets when its field is appended
+-- this is the line of the frame that becomes these octets when its field is appended
 abbrev pub IsFieldOff : List ℕ → Line → Type 0
 IsFieldOff octets passed = (plain : List ℕ) × IsWhole plain × (octets ≡ frame_with_field plain) × (passed ≡ Frame plain)
 
@@ -16,8 +16,8 @@ IsFieldOff octets passed = (plain : List ℕ) × IsWhole plain × (octets ≡ fr
 abbrev pub HasWrongField : List ℕ → Type 0
 HasWrongField octets = taking_fault_of octets ≢ None
 
--- the line that is carried out for one that passes: a frame without its field, if frames have one, and any other line
--- as it is
+-- This is the line that is carried out if a line passes the check. If frames have a field, the line of a frame is
+-- carried out without the field. Any other line is carried out as it is.
 abbrev pub IsPassed : FrameCheck → Line → Line → Type 0
 IsPassed Nothing line passed = passed ≡ line
 IsPassed ErrorControl (Frame octets) passed = IsFieldOff octets passed
@@ -31,9 +31,9 @@ FailsCheck _ line = ⊥
 abbrev pub CarriesMore : List ℕ → Type 0
 CarriesMore octets = (frame : List ℕ) × (rest : List ℕ) × IsDelimited octets frame rest × (is_fill rest ≡ false)
 
--- The line that is carried out for a candidate that passes. If frames have a field, it is the frame at the front, which
--- is as long as its length field says, without its field. Otherwise it is all octets, since a channel ignores the
--- octets after a frame.
+-- This is the line that is carried out if a candidate passes the check. If frames have a field, it has the frame at the
+-- front, which is as long as its length field says, without its field. Otherwise it has all octets, since a channel
+-- ignores the octets after a frame.
 abbrev pub IsCandidatePassed : FrameCheck → List ℕ → Line → Type 0
 IsCandidatePassed Nothing octets passed = passed ≡ Frame octets
 IsCandidatePassed ErrorControl octets passed = (frame : List ℕ) × (rest : List ℕ) × IsDelimited octets frame rest × IsFieldOff frame passed

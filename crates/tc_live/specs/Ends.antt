@@ -12,12 +12,12 @@ use Rattle.tc_live.specs.declared.ends.FrameEnds.TheVariants.{EachWithField, One
 abbrev pub has_field : List ℕ → Bool
 has_field octets = elim (taking_fault_of octets) [ None ↦ true | Some fault ↦ false ]
 
--- the record after one more frame: once a frame had no field, it stays `OneWithout`
+-- The record after one more frame. Once a frame had no field, the record stays `OneWithout`.
 abbrev pub ends_after : FrameEnds → List ℕ → FrameEnds
 ends_after OneWithout octets = OneWithout
 ends_after _ octets = if has_field octets then EachWithField else OneWithout
 
--- the record after a line that was carried out: a frame is looked at if frames aren't checked
+-- The record after a line that was carried out. Only a frame changes it, and only if frames aren't checked.
 abbrev pub ends_behind : FrameCheck → FrameEnds → Line → FrameEnds
 ends_behind Nothing ends (Frame octets) = ends_after ends octets
 ends_behind check ends line = ends

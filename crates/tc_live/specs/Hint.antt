@@ -7,7 +7,7 @@ use Rattle.tc_live.specs.declared.hint.Number.TheVariants.{Vcid, Width, Buffer, 
 use Rattle.tc_text.specs.declared.fault.Reason.{Reason}
 use Rattle.tc_text.specs.declared.fault.Reason.TheVariants.{UnknownCommand, WordCount, BadNumber, BadHex, BadVcid, BadWindow, BadBuffer, BadApid, BadCapacity, BadOption, BadMap, BadUnits}
 
--- the word before a reason: `bad`, unless the reason begins with it
+-- the word before a reason, which is `bad` unless the reason begins with it
 abbrev pub bad_word_text : Reason → List ℕ
 bad_word_text BadNumber = []
 bad_word_text BadHex = []

@@ -60,7 +60,8 @@ abbrev pub script_answer : Option Answer → LiveAnswer
 script_answer None = reported.Nothing
 script_answer (Some answer) = reported.Operation answer
 
--- the effect and the answer of an instruction of a script: its answer is reported, and nothing but the channels changes
+-- The receiver carries out an instruction of a script. If the instruction is an operation, its answer is reported.
+-- Nothing but the channels changes.
 abbrev pub IsInstructed : Receiving → Instruction → Receiving → LiveAnswer → Type 0
 IsInstructed old instruction new answer =
     (a : Option Answer) × IsInstructionAnswered (IsPerformed old.scid) old.stage instruction new.stage a
@@ -89,7 +90,8 @@ IsCandidateDone old octets new answer =
     ⊎ ((¬ CarriesMore octets) × (((passed : Line) × IsCandidatePassed old.check octets passed × IsPassedDone old passed new answer)
     ⊎ (FailsCandidate old.check octets × (answer ≡ reported.Unchecked) × (new ≡ old))))
 
--- the receiver after a refused line: as it was or, if memory ran out, with the channels that were created for the line
+-- A refused line leaves the receiver as it was. If memory ran out, the receiver may also have the channels that were
+-- created for the line.
 abbrev pub IsReceiverLeft : Reason → Receiving → Receiving → Type 0
 IsReceiverLeft reason old new = (new ≡ old) ⊎ ((reason ≡ NoMemory) × (new ≡ begun old))
 
@@ -118,7 +120,8 @@ IsDeliveryBegun old vcid new answer =
     (a : Answer) × (rack : Racked) × IsAnswerOf (operations.Release vcid) (rack_at old) a rack
     × (answer ≡ reported.Delivery vcid a) × (new ≡ with_rack rack old)
 
--- a collection begins if there is such a channel, since the channel then has a CLCW
+-- The answer that begins a collection. The channel's CLCW was requested, and a refusal shows that there is no such
+-- channel.
 abbrev pub collection_answer : ℕ → Answer → LiveAnswer
 collection_answer vcid (Refused refusal) = reported.UnknownChannel
 collection_answer vcid _ = reported.Collection vcid
@@ -131,7 +134,7 @@ IsCollectionBegun old vcid new answer =
 abbrev pub IsDeliveryDone : Receiving → ℕ → Receiving → List Answer → Type 0
 IsDeliveryDone old vcid new answers = (rack : Racked) × IsDeliveryEnded vcid (rack_at old) answers rack × (new ≡ with_rack rack old)
 
--- the effect and the answer of a good line
+-- a good line has this effect and this answer
 abbrev pub IsLineDone : Receiving → LiveLine → Receiving → LiveAnswer → Type 0
 IsLineDone old (Script line) new answer = IsScriptDone old line new answer
 IsLineDone old (LinkOf vcid link) new answer = IsLinked old vcid link new answer × Operates (phase_of old.stage) (phase_of new.stage)
@@ -140,19 +143,19 @@ IsLineDone old (Deliver vcid) new answer = IsDeliveryBegun old vcid new answer �
 IsLineDone old (Collect vcid) new answer = IsCollectionBegun old vcid new answer × Operates (phase_of old.stage) (phase_of new.stage)
 IsLineDone old (Candidate octets) new answer = IsCandidateDone old octets new answer
 
--- the effect and the answer of a line that can be parsed
+-- a line that can be parsed has this effect and this answer
 abbrev pub IsLiveLineAnswered : Receiving → List ℕ → Receiving → LiveAnswer → Type 0
 IsLiveLineAnswered old octets new answer = (said : LiveLine) × (live_line_of (words octets) ≡ Ok said) × IsLineDone old said new answer
 
--- a reason why a line of a script that passed the check is bad
+-- this is a reason why a line of a script that passed the check is bad
 abbrev pub IsBadScript : Receiving → Line → Reason → Type 0
 IsBadScript old line reason = (passed : Line) × IsPassed old.check line passed × IsBad (phase_of old.stage) (instruction_of passed) reason
 
--- a reason why a candidate that passed the check is bad
+-- this is a reason why a candidate that passed the check is bad
 abbrev pub IsBadCandidate : Receiving → List ℕ → Reason → Type 0
 IsBadCandidate old octets reason = (passed : Line) × IsCandidatePassed old.check octets passed × IsBad (phase_of old.stage) (instruction_of passed) reason
 
--- a reason, other than lack of memory, why a parsed line is bad
+-- this is a reason, other than lack of memory, why a parsed line is bad
 abbrev pub IsBadSaying : Receiving → LiveLine → Reason → Type 0
 IsBadSaying old (Script line) reason = IsBadScript old line reason
 IsBadSaying old (Candidate octets) reason = IsBadCandidate old octets reason

@@ -24,12 +24,12 @@ use Rattle.tc_live.specs.declared.serving.ServingFault.TheVariants.{Read, Write,
 abbrev pub IsNumberUnreported : Receiving → Type 0
 IsNumberUnreported receiver = ¬ All IsNumberReported (histories (rack_at receiver))
 
--- a fault that leaves no final report, or only a part of it
+-- this fault leaves no final report, or only a part of it
 abbrev pub IsClosingFault : Receiving → ServingFault → Type 0
 IsClosingFault receiver fault = (fault ≡ Write) ⊎ (fault ≡ NoMemory) ⊎ ((fault ≡ Unbalanced) × IsNumberUnreported receiver)
 
--- the answers that follow the answer of a line: for a delivery or a collection, those for the items that are handed on,
--- and for any other line none
+-- These answers follow the answer to a line. For a delivery or a collection, they are the answers for the items that
+-- are handed on. For any other line, there are none.
 abbrev pub IsFollowedBy : LiveAnswer → Receiving → Receiving → List Answer → Type 0
 IsFollowedBy (reported.Delivery vcid a) old new answers = IsDeliveryDone old vcid new answers
 IsFollowedBy (reported.Collection vcid) old new answers = IsDeliveryDone old vcid new answers
@@ -51,7 +51,7 @@ IsReasonSaid old octets new text =
     (reason : Reason) × ((reason ≡ reasons.NoMemory) ⊎ IsBadLiveLine old octets reason) × IsReceiverLeft reason old new
     × (text ≡ bad_line_text (words octets) reason)
 
--- the effect of a line on the receiver, and the text of its answer
+-- a line has this effect on the receiver, and is answered with this text
 abbrev pub IsLineSaid : Receiving → List ℕ → Receiving → List ℕ → Type 0
 IsLineSaid old octets new text = IsAnswerSaid old octets new text ⊎ IsReasonSaid old octets new text
 
@@ -76,7 +76,7 @@ IsReceptionWritten receiver octets before after ends =
 abbrev pub IsReportMissing : Receiving → List ℕ → Option (List ℕ) → Option (List ℕ) → Type 0
 IsReportMissing receiver octets before after = (last : Receiving) × lines.AreAllWritten line_limit IsLineSaid receiver octets last before after
 
--- the text that was written before an early end (if writing failed, nothing is known about the text)
+-- This text was written before an early end. If writing failed, nothing is known about the text.
 abbrev pub IsReceptionCutShort : Receiving → List ℕ → Option (List ℕ) → Option (List ℕ) → ServingFault → Type 0
 IsReceptionCutShort receiver octets before after Read = (last : Receiving) × lines.AreFirstWritten line_limit IsLineSaid receiver octets last before after
 IsReceptionCutShort receiver octets before after Write = Unit {0}
