@@ -34,7 +34,8 @@ three_of (first ∷ second ∷ third ∷ more ∷ rest) = Err WordCount
 abbrev pub with_number : ℕ → List ℕ → (ℕ → Result Line Reason) → Result Line Reason
 with_number most word next = elim (word_number most word) [ None ↦ Err BadNumber | Some number ↦ next number ]
 
--- whether data fields begin with a segment header: they do if the line has no option, and don't if it is `plain`
+-- Whether data fields begin with a segment header. They do if the line has no option, and don't if the option is
+-- `plain`.
 abbrev pub segmented_of : Option (List ℕ) → Result Bool Reason
 segmented_of None = Ok true
 segmented_of (Some option) = if is option (codes "plain") then Ok false else Err BadOption

@@ -44,7 +44,7 @@ reason_text DoubleMap = codes "double map"
 reason_text BadUnits = codes "bad units"
 reason_text PlainMap = codes "map on plain channel"
 
--- the text of a fault that ended a script early: `line N: ` and the reason, with the number 0 for the whole script
+-- The text of a fault that ended a script early: `line N: ` and the reason. The number 0 stands for the whole script.
 abbrev pub fault_text : ScriptFault → List ℕ
 fault_text (faults.Line number reason) = codes "line " ++ decimal number ++ codes ": " ++ reason_text reason
 fault_text faults.Read = codes "line 0: cannot read"
