@@ -1,4 +1,4 @@
--- Octets that a decoder is given, one after the other.
+-- The octets that a decoder is given, one after the other, and its answers.
 use Rattle.std.proofs.Common.{◌≡◌, ℕ, List, [], ◌++◌, append_assoc, Option, refl, ap, sym, subst, ◌∙◌, Some, None, slice_index_or, slice_set}
 use Rattle.tc_make.proofs.Names.{Appends, Appends-nil, Writes, flat_map-append, named_text}
 use Rattle.std.proofs.lemmas.List.{append-nil}
@@ -9,7 +9,7 @@ use Rattle.tc_cltu.specs.declared.block.Mode.{Mode}
 use Rattle.tc_make.specs.Decoders.{IsFed, IsPieceSaid, candidates_text, blocks_text}
 use Rattle.tc_make.proofs.Written.{joined}
 
--- the candidate frames that were written, followed by those that are to come, are all candidate frames
+-- all candidate frames are those that were written so far, followed by those that end in the remaining octets
 abbrev pub IsSoFar : Mode → List ℕ → List ℕ → Reception → Reception → Option (List ℕ) → Option (List ℕ) → Type 0
 IsSoFar mode rest os first state a b =
     (given : List (List ℕ)) × Appends a b (candidates_text given) × (given ++ frames_of mode 1029 state rest ≡ frames_of mode 1029 first os)

@@ -27,7 +27,7 @@ use Rattle.std.specs.Prelude.{true, false}
 pub joined : (a b c : Option (List ℕ)) (xs ys : List ℕ) → Appends a b xs → Appends b c ys → Appends a c (xs ++ ys)
 joined a b c xs ys p q = Appends-trans a b c xs ys p q
 
--- if something is made, and there is no reason against it, its text is the answer
+-- if something can be made, and the text that follows from it is written, this text is the answer
 pub made-on : (a b : Option (List ℕ)) (o : Option Reason) (Is : List ℕ → Type 0) (Then : List ℕ → List ℕ → Type 0) (made : List ℕ)
     → o ≡ None → Is made → Writes a b (OrNoMemory (Then made)) → Writes a b (OrNoMemory (Unless o (λ text. (x : List ℕ) × Is x × Then x text)))
 made-on a b o Is Then made none is (text, inl p, w) =
@@ -60,7 +60,8 @@ unit-end : (unit : List ℕ) → packets_of unit ≡ [] → rest_of unit ≡ uni
 unit-end unit e f =
     ap (λ ps. flat_map packet_text ps ++ some_text (codes "rest") (rest_of unit)) e ∙ ap (λ r. some_text (codes "rest") r) f
 
--- once one more packet is written, the text so far and the text of the octets that are left are the text of the unit
+-- once one more packet is written, the text so far, followed by the text of the octets that are left, is the text of
+-- the unit
 pub packet-on : (a b c : Option (List ℕ)) (p : Packet) (unit rest after done : List ℕ) → HasFields p
     → packets_of rest ≡ p.octets.now ∷ packets_of after → rest_of rest ≡ rest_of after
     → Appends a b done → done ++ unit_packets_text rest ≡ unit_packets_text unit → Appends b c (printed_text p)
@@ -73,7 +74,7 @@ packet-on a b c p unit rest after done has e f was so_far now = (
       ∙ so_far,
 )
 
--- if no packet is left, the text of the whole unit is written with the octets that are left
+-- if no packet is left, and the octets that are left are written, the text of the whole unit is written
 pub packets-end : (a b c : Option (List ℕ)) (unit rest done : List ℕ) → packets_of rest ≡ [] → rest_of rest ≡ rest
     → Appends a b done → done ++ unit_packets_text rest ≡ unit_packets_text unit → Appends b c (some_text (codes "rest") rest) → Appends a c (unit_packets_text unit)
 packets-end a b c unit rest done e f was so_far now =
@@ -125,7 +126,7 @@ pub frames-stop : (made : Bool) (ending : Ending) (p : Parting) (place : ℕ) (a
 frames-stop made ending p place a b c e below before now =
     frames-stopped ending p place a b c below before (subst (λ m. Writes b c (IsPartSaid m ending p place)) e now)
 
--- the answer for a unit that is divided into segments, and for a unit that isn't
+-- if a unit is divided into segments, its frames are the answer, and otherwise the reason is the answer
 pub unit-parted : (ending : Ending) (stream : Stream) (sizing : Sizing) (unit : List ℕ) (p : Parting) (a b : Option (List ℕ)) → IsPartingOf stream sizing unit p
     → parting_reason_of p ≡ None → Writes a b (IsFramesSaid ending p) → Writes a b (OrNoMemory (IsUnitSaid ending stream sizing unit))
 unit-parted ending stream sizing unit p a b is none (text, said, w) =
@@ -166,7 +167,7 @@ unexplained ending octets shown fault a b is e w =
 pub is-fault : (rest : List ℕ) (fault : FrameFault) → fault_of rest ≡ Some fault → IsSome (fault_of rest)
 is-fault rest fault e = subst IsSome (sym e) refl
 
--- the frames that were found and written, and the octets that follow them
+-- these frames were found and written, and these octets follow them
 abbrev pub Found : List ℕ → ℕ → List ℕ → Option (List ℕ) → Option (List ℕ) → Type 0
 Found octets count rest a b =
     (frames : List (List ℕ)) × AllByRecursion IsWhole frames × (octets ≡ concat frames ++ rest) × (length frames ≡ count) × Appends a b (frames_text frames)

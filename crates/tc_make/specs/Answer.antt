@@ -38,7 +38,7 @@ abbrev pub IsMadePacketSaid : ℕ → ℕ → List ℕ → List ℕ → Type 0
 IsMadePacketSaid apid count octets =
     Unless (packet_reason_of apid count octets) (λ text. (packet : List ℕ) × IsMadePacket packet apid count octets × (text ≡ named_text (codes "packet") packet))
 
--- the line of a frame with this ending, or the reason why it can't be made
+-- the text is the line of the frame with this ending, or gives the reason why the frame can't have it
 abbrev pub IsEnded : Ending → List ℕ → List ℕ → Type 0
 IsEnded ending frame = Unless (ending_reason_of ending frame) (λ text. text ≡ named_text (codes "frame") (ended ending frame))
 
@@ -50,20 +50,20 @@ abbrev pub IsCommandSaid : Ending → ℕ → ℕ → Command → List ℕ → T
 IsCommandSaid ending scid vcid command =
     Unless (command_reason_of scid vcid) (λ text. (frame : List ℕ) × IsCommandFrame frame scid vcid command × IsEnded ending frame text)
 
--- the frame at a place of a unit, with this ending
+-- this is the frame at a place of a unit, with this ending
 abbrev pub IsSentAt : Ending → Parting → ℕ → List ℕ → Type 0
 IsSentAt ending p place sent = (frame : List ℕ) × IsFrameAt p place frame × (ending_reason_of ending frame ≡ None) × (sent ≡ ended ending frame)
 
--- a reason why the frame at a place isn't made
+-- this is a reason why the frame at a place isn't made
 abbrev pub IsStopAt : Ending → Parting → ℕ → Reason → Type 0
 IsStopAt ending p place reason = (reason ≡ NoMemory) ⊎ ((frame : List ℕ) × IsFrameAt p place frame × (ending_reason_of ending frame ≡ Some reason))
 
--- the frames from a place on, each at the next place
+-- these are frames of a unit from a place on, in order, with this ending
 abbrev pub AreSent : Ending → Parting → ℕ → List (List ℕ) → Type 0
 AreSent ending p place [] = Unit {0}
 AreSent ending p place (sent ∷ later) = IsSentAt ending p place sent × AreSent ending p (suc place) later
 
--- the line of one frame, or the reason why there is none
+-- the text is the line of one frame, or gives the reason why the frame isn't made
 abbrev pub IsPartSaid : Bool → Ending → Parting → ℕ → List ℕ → Type 0
 IsPartSaid true ending p place text = (sent : List ℕ) × IsSentAt ending p place sent × (text ≡ named_text (codes "frame") sent)
 IsPartSaid false ending p place text = (reason : Reason) × IsStopAt ending p place reason × (text ≡ bad_text reason)
@@ -71,15 +71,15 @@ IsPartSaid false ending p place text = (reason : Reason) × IsStopAt ending p pl
 abbrev pub parts_of : Parting → ℕ
 parts_of p = segments_needed p.size (length p.unit.now)
 
--- The lines of all frames of a unit. If a frame isn't made, they are the lines of the frames before it, and then the
--- reason why it isn't made.
+-- The text has the lines of all frames of a unit. If a frame isn't made, the text has the lines of the frames before
+-- it, and then the reason why it isn't made.
 abbrev pub IsFramesSaid : Ending → Parting → List ℕ → Type 0
 IsFramesSaid ending p text =
     (frames : List (List ℕ)) × AreSent ending p 0 frames
     × (((length frames ≡ parts_of p) × (text ≡ frames_text frames))
     ⊎ ((length frames < parts_of p) × ((reason : Reason) × IsStopAt ending p (length frames) reason × (text ≡ frames_text frames ++ bad_text reason))))
 
--- the fields of the parting, which are those of the line's stream, sizing and unit
+-- the fields of the parting are those of the line's stream, sizing and unit
 pub record IsPartingOf (stream : Stream) (sizing : Sizing) (unit : List ℕ) (p : Parting) : Type 0 where
   pub scid : p.scid ≡ stream.scid
   pub vcid : p.vcid ≡ stream.vcid
@@ -91,7 +91,7 @@ pub record IsPartingOf (stream : Stream) (sizing : Sizing) (unit : List ℕ) (p 
 abbrev pub IsUnitSaid : Ending → Stream → Sizing → List ℕ → List ℕ → Type 0
 IsUnitSaid ending stream sizing unit text = (p : Parting) × IsPartingOf stream sizing unit p × Unless (parting_reason_of p) (IsFramesSaid ending p) text
 
--- the explanation of a whole frame, and of the octets that follow it
+-- the text explains a whole frame, and the octets that follow it
 abbrev pub IsWholeSaid : List ℕ → List ℕ → List ℕ → Type 0
 IsWholeSaid frame rest text = (e : Explanation) × Explains frame rest e × (text ≡ explanation_text e)
 
@@ -104,33 +104,34 @@ field_fault_text fields.TooShort = refused_text (codes "check")
 field_fault_text fields.WrongSum = refused_text (codes "check")
 field_fault_text fields.NoMemory = bad_text NoMemory
 
--- the explanation of a frame with this ending: as it is, or without its frame error control field
+-- The text explains a frame with this ending, without its frame error control field if it has one. If this field is
+-- wrong, the text gives the reason.
 abbrev pub IsEndedSaid : Ending → List ℕ → List ℕ → List ℕ → Type 0
 IsEndedSaid DataField frame rest text = IsWholeSaid frame rest text
 IsEndedSaid ErrorControl frame rest text =
     ((plain : List ℕ) × (frame ≡ frame_with_field plain) × (taking_fault_of frame ≡ None) × IsWholeSaid plain rest text)
     ⊎ ((fault : FieldFault) × (taking_fault_of frame ≡ Some fault) × (text ≡ field_fault_text fault))
 
--- the explanation of the frame that octets begin with, or the reason why they don't begin with a frame
+-- the text explains the frame that octets begin with, or gives the reason why they don't begin with a frame
 abbrev pub IsExplained : Ending → List ℕ → List ℕ → Type 0
 IsExplained ending octets text =
     ((frame : List ℕ) × (rest : List ℕ) × IsDelimited octets frame rest × IsEndedSaid ending frame rest text)
     ⊎ ((fault : FrameFault) × (fault_of octets ≡ Some fault) × (text ≡ refused_text (frame_fault_text fault)))
 
--- the lines of the frames that a CLTU carried, at most `most`, and of the octets that follow them
+-- the text has the lines of the frames that a CLTU carried, at most `most`, and the line of the octets that follow them
 abbrev pub AreFramesSaid : ℕ → List ℕ → List ℕ → Type 0
 AreFramesSaid most octets text =
     (frames : List (List ℕ)) × (rest : List ℕ) × AreDelimited most octets frames rest × (text ≡ frames_text frames ++ rest_text rest)
 
--- the explanation of a word as a CLCW, or a refusal if it isn't a CLCW
+-- the text explains a word as a CLCW, or refuses it if it isn't a CLCW
 abbrev pub IsWordSaid : ℕ → List ℕ → Type 0
 IsWordSaid word text = (IsClcw word × (text ≡ clcw_text (fields_of word))) ⊎ ((IsClcw word → ⊥) × (text ≡ refused_text (codes "clcw")))
 
--- the explanation of octets as a CLCW: four octets are a word, the most significant first
+-- The text explains octets as a CLCW. There must be four octets, which are a word, the most significant first.
 abbrev pub IsClcwSaid : List ℕ → List ℕ → Type 0
 IsClcwSaid octets = Unless (if length octets == 4 then None else Some BadClcw) (IsWordSaid (from_be_bytes w32 octets))
 
--- the answer to this parsed line, and its effect on the counts and the decoders
+-- this parsed line has this answer, and this effect on the counts and the decoders
 abbrev pub IsSaid : Maker → Line → Maker → List ℕ → Type 0
 IsSaid old Blank new = OrNoMemory (λ text. text ≡ [])
 IsSaid old (Packet apid count octets) new = OrNoMemory (IsMadePacketSaid apid count octets)
@@ -148,8 +149,8 @@ IsSaid old (Piece id octets) new = IsPieceSaid old.decoders id octets new.decode
 IsSaid old (Search id) new = IsSearchSaid old.decoders id new.decoders
 IsSaid old (Frames most octets) new = OrNoMemory (AreFramesSaid most octets)
 
--- The part of the state that a line doesn't change. Only a line for a telemetry frame changes the counts, and only a
--- line for the decoder of a stream changes the decoders. No line changes anything else.
+-- Only a line for a telemetry frame changes the counts, and only a line for the decoder of a stream changes the
+-- decoders. No line changes any other part of the state.
 abbrev pub IsKept : Maker → Line → Maker → Type 0
 IsKept old (Tm order) new = new ≡ record old { counts = new.counts }
 IsKept old (Decoder id mode) new = new ≡ record old { decoders = new.decoders }
@@ -157,7 +158,7 @@ IsKept old (Piece id octets) new = new ≡ record old { decoders = new.decoders 
 IsKept old (Search id) new = new ≡ record old { decoders = new.decoders }
 IsKept old line new = new ≡ old
 
--- the answer to a line that can be parsed, or to one that can't
+-- this is the answer to a line, whether it can be parsed or not
 abbrev pub IsReadingSaid : Maker → Result Line Reason → Maker → List ℕ → Type 0
 IsReadingSaid old (Ok line) new text = IsSaid old line new text × IsKept old line new
 IsReadingSaid old (Err reason) new text = (text ≡ bad_text reason) × (new ≡ old)

@@ -32,7 +32,7 @@ fed_text d octets =
     candidates_text (frames_of d.mode most_octets d.state octets) ++ blocks_text (corrected_in d.mode most_octets d.state octets) (rejected_in d.mode most_octets d.state octets)
     (overlong_in d.mode most_octets d.state octets)
 
--- a decoder was given octets, and this is the answer, or there is no decoder
+-- either a decoder was given octets and this is the answer, or there is no decoder and the answer reports that
 abbrev pub IsFed : Option Receiver → List ℕ → Option Receiver → List ℕ → Type 0
 IsFed None octets new text = (new ≡ None) × (text ≡ bad_text NoDecoder)
 IsFed (Some old) octets new text =
@@ -50,7 +50,7 @@ IsDecoderSaid old id mode new text = ((text ≡ []) × (new ≡ with_new_decoder
 abbrev pub search_text : Bool → List ℕ
 search_text cut = codes "search cut " ++ flag_text cut ++ codes "\n"
 
--- a decoder looks for a start sequence again, or there is no decoder
+-- either a decoder looks for a start sequence again, or there is no decoder and the answer reports that
 abbrev pub IsSearching : Option Receiver → Option Receiver → List ℕ → Type 0
 IsSearching None new text = (new ≡ None) × (text ≡ bad_text NoDecoder)
 IsSearching (Some old) new text =

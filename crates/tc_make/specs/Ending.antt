@@ -11,7 +11,8 @@ abbrev pub ended : Ending → List ℕ → List ℕ
 ended DataField frame = frame
 ended ErrorControl frame = frame_with_field frame
 
--- the reason why a frame can't have this ending: the field takes two of the 1,024 octets
+-- The reason why a frame can't have this ending, if there is one. The frame error control field takes two of the 1,024
+-- octets that a frame may have.
 abbrev pub ending_reason_of : Ending → List ℕ → Option Reason
 ending_reason_of DataField frame = None
 ending_reason_of ErrorControl frame = if nat_lt 1022 (length frame) then Some TooMuchData else None

@@ -31,7 +31,8 @@ abbrev pub alone_of : Form → Words → Result (List ℕ) Reason
 alone_of form (word ∷ []) = elim (decode_of word) [ Ok octets ↦ Ok octets | Err fault ↦ Err BadHex ]
 alone_of form _ = Err (WordCount form)
 
--- the result of `says` for one word, or an error if there are more or fewer words (likewise for two to six words)
+-- The result of `says` for one word, or an error if there are more or fewer words. The definitions that follow do this
+-- for two to six words.
 abbrev pub with_one : Form → Words → (List ℕ → Said) → Said
 with_one form (a ∷ []) says = says a
 with_one form _ says = Err (WordCount form)
@@ -64,7 +65,8 @@ if_number name most word next = elim (word_number most word) [ None ↦ Err (Bad
 abbrev pub with_octets : List ℕ → (List ℕ → Said) → Said
 with_octets word next = elim (decode_of word) [ Ok octets ↦ next octets | Err fault ↦ Err BadHex ]
 
--- the segment header that a word names: none for `plain`, and for a number an unsegmented one with this MAP id
+-- The segment header that a word names. The word `plain` stands for no segment header, and a number for an unsegmented
+-- one with this MAP id.
 abbrev pub segment_word : List ℕ → Result (Option Segment) Reason
 segment_word word =
     if is word (codes "plain") then Ok None
@@ -98,7 +100,7 @@ sizing_of m z =
 abbrev pub ad_header : Stream → Header
 ad_header stream = record { bypass = false; control = false; scid = stream.scid; vcid = stream.vcid; ns = stream.ns }
 
--- N(S) is 0 in a Type-BD frame (CCSDS 232.0-B, 4.1.2.8)
+-- the header of a Type-BD frame, in which N(S) is 0 (CCSDS 232.0-B, 4.1.2.8)
 abbrev pub bd_header : ℕ → ℕ → Header
 bd_header scid vcid = record { bypass = true; control = false; scid = scid; vcid = vcid; ns = 0 }
 
@@ -106,7 +108,7 @@ abbrev pub packet_of : Words → Said
 packet_of words = with_three forms.Packet words (λ a c o. if_number numbers.Apid 65535 a (λ apid. if_number numbers.Count 65535 c (λ count. with_octets o (λ octets.
     Ok (Packet apid count octets)))))
 
--- a frame that carries the octets that a word spells
+-- the line for a frame that carries the octets that a word spells
 abbrev pub framed_of : Header → Option Segment → List ℕ → Said
 framed_of header segment word = with_octets word (λ octets. Ok (Frame header segment octets))
 
@@ -124,7 +126,7 @@ abbrev pub setvr_of : Words → Said
 setvr_of words = with_three forms.SetVr words (λ s v x. if_number numbers.Scid 65535 s (λ scid. if_number numbers.Vcid 255 v (λ vcid. if_number numbers.Vr 255 x (λ vr.
     Ok (Command scid vcid (SetVr vr))))))
 
--- the segments of the unit that a word spells
+-- the line for the unit that a word spells, which is sent in segments
 abbrev pub parted_of : Stream → Sizing → List ℕ → Said
 parted_of stream sizing word = with_octets word (λ unit. Ok (Segments stream sizing unit))
 

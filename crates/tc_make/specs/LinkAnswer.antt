@@ -14,7 +14,7 @@ use Rattle.tc_make.specs.declared.fault.Reason.{Reason}
 use Rattle.tc_make.specs.declared.fault.Reason.TheVariants.{BadScid, BadVcid, BadSize, NoData, TooMuchData, NoMemory}
 use Rattle.tc_make.specs.declared.line.TmOrder.{TmOrder}
 
--- the first reason, in this order, why there is no CLTU for the octets
+-- the first of the reasons below why there is no CLTU for the octets, or `None` if there is one
 abbrev pub cltu_reason_of : List ℕ → Option Reason
 cltu_reason_of octets =
     if length octets == 0 then Some NoData
@@ -32,13 +32,13 @@ abbrev pub telemetry_ending : Ending → ErrorControl
 telemetry_ending endings.DataField = Absent
 telemetry_ending endings.ErrorControl = Present
 
--- the explanation of octets as a telemetry frame, or the reason why they aren't one
+-- the text explains octets as a telemetry frame, or gives the reason why they aren't one
 abbrev pub IsTelemetrySaid : Ending → List ℕ → List ℕ → Type 0
 IsTelemetrySaid ending octets text =
     ((read_fault_of (telemetry_ending ending) octets ≡ None) × (text ≡ tm_text (tm_fields_of (telemetry_ending ending) octets)))
     ⊎ ((fault : TmReadFault) × (read_fault_of (telemetry_ending ending) octets ≡ Some fault) × (text ≡ refused_text (tm_fault_text fault)))
 
--- the first reason, in this order, why a telemetry frame isn't made
+-- the first of the reasons below why a telemetry frame isn't made, or `None` if none applies
 abbrev pub tm_reason_of : Ending → TmOrder → Option Reason
 tm_reason_of ending order =
     if nat_lt 1023 order.scid then Some BadScid
@@ -46,8 +46,8 @@ tm_reason_of ending order =
     else if nat_lt order.size (least_length (telemetry_ending ending)) || nat_lt most_length order.size then Some BadSize
     else None
 
--- the line of the next frame of a virtual channel, with its counts, or the reason why it isn't made, with unchanged
--- counts
+-- Either the next frame of a virtual channel is counted, and the text is its line, or the text gives the reason why the
+-- frame isn't made, and the counts stay.
 abbrev pub IsTmSaid : Ending → Counted → TmOrder → Counted → List ℕ → Type 0
 IsTmSaid ending old order new text =
     ((tm_reason_of ending order ≡ None) × (new ≡ frame_counted old order.scid order.vcid)

@@ -67,7 +67,7 @@ form_text forms.Octets = codes "octets ID HEX"
 form_text forms.Search = codes "search ID"
 form_text forms.Frames = codes "frames MOST HEX"
 
--- the note on the octets that a form ends with (four forms don't end with octets)
+-- The note on the octets that a form ends with. It is empty for the four forms that don't end with octets.
 abbrev pub note_text : Form → List ℕ
 note_text forms.Unlock = []
 note_text forms.SetVr = []
@@ -222,13 +222,14 @@ more_text rest = if is_fill rest then [] else named_text (codes "more") rest
 abbrev pub explanation_text : Explanation → List ℕ
 explanation_text e = frame_text e ++ more_text e.rest.now
 
--- the lines of the frames that a CLTU carried, and then the line of the octets that follow them: fill, or anything else
+-- the lines of the frames that a CLTU carried
 abbrev pub frames_text : List (List ℕ) → List ℕ
 frames_text frames = flat_map (named_text (codes "frame")) frames
 
 abbrev pub fill_text : ℕ → List ℕ
 fill_text n = codes "fill " ++ decimal n ++ codes "\n"
 
+-- the line of the octets that follow the frames of a CLTU, which are fill or anything else
 unfoldable pub rest_text : List ℕ → List ℕ
 rest_text rest = if is_fill rest then fill_text (length rest) else named_text (codes "more") rest
 
@@ -274,11 +275,11 @@ tm_end_text f = codes " pointer " ++ decimal f.pointer ++ codes " " ++ control_t
 abbrev pub tm_text : TmFields → List ℕ
 tm_text f = tm_front_text f ++ tm_end_text f
 
--- a text of this kind, or the answer that memory ran out
+-- the text is of this kind, or is the answer that memory ran out
 abbrev pub OrNoMemory : (List ℕ → Type 0) → List ℕ → Type 0
 OrNoMemory Is text = Is text ⊎ (text ≡ bad_text NoMemory)
 
--- the reason why nothing is made, if there is one, or else a text of this kind
+-- the text gives the reason why nothing is made, if there is one, and otherwise is of this kind
 abbrev pub Unless : Option Reason → (List ℕ → Type 0) → List ℕ → Type 0
 Unless (Some reason) Is text = text ≡ bad_text reason
 Unless None Is text = Is text

@@ -86,7 +86,7 @@ fn read_whole(octets: &[u8]) -> Frame<'_>
     requires { IsWhole octets.now }
     ensures { result ≡ octets.now }
 {
-    // Octets begin with at most one frame, so `read_frame` returns all of these.
+    // Octets begin with at most one frame, so `read_frame` returns all of these octets.
     each_input_begins_with_one_frame_at_most();
     match read_frame(octets) {
         Ok(frame) => frame,

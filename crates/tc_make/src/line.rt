@@ -17,7 +17,7 @@ use tc_lines::{is_separator, large_number, small_number};
 use tc_link::{Command, Header};
 use tc_packet::{Part, Segment};
 
-/// The virtual channel of Type-AD frames, and the N(S) of the first.
+/// The virtual channel of Type-AD frames, and the N(S) of the first frame.
 #[derive(Clone, Copy, Debug, PartialEq, Eq)]
 pub struct Stream {
     pub scid: u16,
@@ -25,7 +25,7 @@ pub struct Stream {
     pub ns: u8,
 }
 
-/// The MAP of segments, and the number of octets that each carries.
+/// The MAP of segments, and the number of octets that each segment carries.
 #[derive(Clone, Copy, Debug, PartialEq, Eq)]
 pub struct Sizing {
     pub map: u8,
