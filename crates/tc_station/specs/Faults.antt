@@ -60,7 +60,7 @@ abbrev pub IsWatcherFault : Roster → ℕ → WatcherFault → Type 0
 IsWatcherFault station vcid watcher_faults.UnknownChannel = ¬ Contains station.vcids vcid
 IsWatcherFault station vcid watcher_faults.NoMemory = Contains station.vcids vcid
 
--- This is the reason why a station wasn't closed: the first of these faults that applies. The channels are returned
+-- This is the reason why a station wasn't closed: the first of the faults below that applies. The channels are returned
 -- only if the counts don't fit their journals.
 abbrev pub IsCloseFault : Roster → List AtStation → CloseFault → Type 0
 IsCloseFault station operators (Missing s os) = (length operators < station.issued) × (s ≡ station) × (os.items ≡ operators)
@@ -69,7 +69,7 @@ IsCloseFault station operators (Unbalanced channels os) =
     (station.issued ≤ length operators) × (os.items ≡ operators) × (length channels.items ≡ length station.vcids) × ¬ AreInBalance station.vcids operators channels.items
 
 -- this is the reason why a counting station, whose channels report the numbers of their events, wasn't closed: the
--- first of these faults that applies
+-- first of the faults below that applies
 abbrev pub IsCountingCloseFault : Roster → List AtStation → CountingCloseFault → Type 0
 IsCountingCloseFault station operators (counting.Missing s os) = (length operators < station.issued) × (s ≡ station) × (os.items ≡ operators)
 IsCountingCloseFault station operators (counting.NoMemory s os) = (station.issued ≤ length operators) × (s ≡ station) × (os.items ≡ operators)

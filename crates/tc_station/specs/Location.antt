@@ -19,7 +19,7 @@ IsLocated station octets vcid frame = IsOurs station octets frame × ((header_of
 abbrev pub IsPlaced : Roster → List ℕ → ℕ → ℕ → List ℕ → Type 0
 IsPlaced station octets place vcid frame = IsLocated station octets vcid frame × (position (λ v. v == vcid) station.vcids ≡ Some place)
 
--- this is the reason why octets are for no channel of the station: the first of these faults that applies
+-- this is the reason why octets are for no channel of the station: the first of the faults below that applies
 abbrev pub IsLocateFault : Roster → List ℕ → LocateFault → Type 0
 IsLocateFault station octets (Frame f) = fault_of octets ≡ Some f
 IsLocateFault station octets OtherSpacecraft = (frame : List ℕ) × BeginsWith octets frame × ((header_of frame).scid ≢ station.scid)

@@ -33,7 +33,7 @@ pub record AreStationSettings (scid : ℕ) (list : List Settings) : Type 0 where
   pub distinct : HaveDistinctVcids list
   pub allowed : All IsAllowed list
 
--- this is the reason why no station was created: the first of these faults that applies
+-- this is the reason why no station was created: the first of the faults below that applies
 abbrev pub IsStationFault : ℕ → List Settings → StationFault → Type 0
 IsStationFault scid list fault.BadScid = ¬ IsScid scid
 IsStationFault scid list fault.NoChannel = IsScid scid × (list ≡ [])
