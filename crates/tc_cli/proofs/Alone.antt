@@ -125,7 +125,7 @@ module _ (laws : AloneLaws) (Answers : Linked → Answer → Linked → Type 0) 
 
 -- ---- the answer of each operation
 
--- the ids of the channels
+-- the channels that the operator has seen have the ids of the station's channels, in the same order
 ids : (m : Staffed) → IsSound m → map vcid_of (map channel_at m.operator.desks) ≡ m.station.vcids
 ids m sound =
     map-map vcid_of channel_at m.operator.desks
@@ -141,7 +141,8 @@ located m octets UnknownChannel sound (frame, ours, none) = (frame, ours.0, ours
 located m octets (Frame f) sound why = why
 located m octets OtherSpacecraft sound why = why
 
--- the desk of the channel whose watcher read the CLCW
+-- if the watcher of a channel read a CLCW, the operator has a desk at the channel's place, and the desk's channel has
+-- this id
 read-desk : (place vcid : ℕ) (m new : Staffed) (answer : Answer) → IsSound m → IsPlace m.station vcid place → IsReadAt place vcid m answer new
     → (d : AtLock) × (slice_get m.operator.desks place ≡ Some d) × (d.own.seen.head.settings.vcid ≡ vcid)
 read-desk place vcid m new answer sound here a =
@@ -209,7 +210,7 @@ module _ (laws : AloneLaws) where
 
   -- ---- the watchers meet their desks
 
-  -- a meeting is an answer that changes nothing
+  -- a meeting at a desk satisfies `IsAnsweredAt` with an answer that leaves the channel unchanged
   as-answer : (place : ℕ) (m new : Staffed) → (a : HasMetAt place m new) → IsAnsweredAt place a.vcid (λ old answer after. after ≡ old) m (Refused UnknownChannel) new
   as-answer place m new a =
       let met = a.meeting in

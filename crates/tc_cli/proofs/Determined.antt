@@ -60,7 +60,7 @@ same-line octets line after other rest one two = same-parts octets line after ot
 abbrev pub AreApart : List ℕ → Type 0
 AreApart ids = (one other vcid : ℕ) → slice_get ids one ≡ Some vcid → slice_get ids other ≡ Some vcid → one ≡ other
 
--- two elements with the same id are at the same place, and equal
+-- if no two places have the same id, two elements with the same id are at the same place, and are equal
 pub same-at : {X : Type 0} (id : X → ℕ) (xs : List X) → AreApart (map id xs) → (vcid one other : ℕ) (x y : X) → slice_get xs one ≡ Some x → id x ≡ vcid → slice_get xs other ≡ Some y → id y ≡ vcid → (one ≡ other) × (x ≡ y)
 same-at id xs apart vcid one other x y at is to too =
     let place = apart one other vcid (mapped-at id xs one x at ∙ ap (λ (z : ℕ). Some z) is) (mapped-at id xs other y to ∙ ap (λ (z : ℕ). Some z) too) in
@@ -317,7 +317,7 @@ module _ (only : IsOneAtMost) (scid : ℕ) where
 
   -- ---- all lines
 
-  -- from one progress, a line has only one answer and one effect
+  -- for each line, the progress before it allows only one answer and only one effect
   next-determined : (line : List ℕ) (old new other : Progress) (answer another : Option Answer) → AreApart (ids_of old) → IsLineAnswered (IsPerformed scid) old line new answer
       → IsLineAnswered (IsPerformed scid) old line other another → (new ≡ other) × (answer ≡ another)
   next-determined line old new other answer another apart (said, is, does, a) (again, too, did, b) =
@@ -325,7 +325,8 @@ module _ (only : IsOneAtMost) (scid : ℕ) where
       let moved = subst (λ (s : Said). Does (phase_of old) (instruction_of s) (phase_of other) × IsInstructionAnswered (IsPerformed scid) old (instruction_of s) other another) same (did, b) in
       line-determined (instruction_of said) old new other answer another apart does a moved.0 moved.1
 
-  -- two ways through the same number of lines lead to the same progress, with the same answers
+  -- if the same number of lines can be carried out in two ways, both ways lead to the same progress, with the same
+  -- answers
   same-way : (script : List ℕ) (answers others : List (Option Answer)) (progress other : Progress) (rest left : List ℕ) → AreAnswers (IsPerformed scid) script answers progress rest
       → AreAnswers (IsPerformed scid) script others other left → length answers ≡ length others → (rest ≡ left) × (progress ≡ other) × (answers ≡ others)
   same-way script answers others progress other rest left at_first at_first long = (refl, refl, refl)
@@ -344,7 +345,7 @@ module _ (only : IsOneAtMost) (scid : ℕ) where
       let both = next-determined line old progress other answer another (all-apart script before old from leads) answered reported_here in
       (parts.1, both.0, λ i. one.2 i ++ both.1 i ∷ [])
 
-  -- a way through some lines begins with a way through any smaller number of lines, after which another line follows
+  -- if some lines can be carried out, any smaller number of them can be carried out first, and another line follows
   shorter-way : (script : List ℕ) (answers : List (Option Answer)) (progress : Progress) (rest : List ℕ) (count : ℕ) → AreAnswers (IsPerformed scid) script answers progress rest → count < length answers
       → (first : List (Option Answer)) × (old : Progress) × (from : List ℕ) × (line : List ℕ) × (after : List ℕ)
       × AreAnswers (IsPerformed scid) script first old from × IsFirstLine from line after × (length first ≡ count)

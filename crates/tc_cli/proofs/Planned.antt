@@ -205,7 +205,7 @@ not-first : (c : Linked) (xs : List Linked) (vcid : ℕ) → vcid_of c ≢ vcid 
 not-first c xs vcid apart none (zero, x, lt, is, id) = apart (ap vcid_of is ∙ id)
 not-first c xs vcid apart none (suc k, x, lt, is, id) = none (k, x, omega (arith, lt), is, id)
 
--- either a channel has the id, or none has
+-- either a channel has this id, or no channel has it
 there-or-not : (channels : List Linked) (vcid : ℕ) → ((place : ℕ) × (c : Linked) × IsChannelAt channels vcid place c) ⊎ ¬ HasChannel channels vcid
 there-or-not [] vcid = inr (λ there. absurd (omega (arith, there.2)))
 there-or-not (c ∷ xs) vcid = elim (eqb_tells (vcid_of c) vcid) [

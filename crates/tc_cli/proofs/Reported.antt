@@ -29,7 +29,7 @@ placed vcid (c ∷ cs) some = elim (eqb_tells (vcid_of c) vcid) [
       (suc one.0, one.1, one.2, one.3)
 ]
 
--- the first channel has the least id
+-- in a list in rising order, the first channel has the least id
 least : (c : History) (cs : List History) (place : ℕ) (d : History) → AreRising (c ∷ cs) → slice_get (c ∷ cs) place ≡ Some d → vcid_of c ≤ vcid_of d
 least c cs zero d rising at = omega (arith, ap (λ (x : History). vcid_of x) (same_Some c d at))
 least c cs (suc place) d rising at =
@@ -76,7 +76,7 @@ same-channels (c ∷ cs) (d ∷ ds) keyed is =
     let rest = same-channels cs ds (λ x y i j at here. keyed x y (suc i) (suc j) at here) (ap (λ (l : List ℕ). drop 1 l) is) in
     λ i. first i ∷ rest i
 
--- channels have only one rising order
+-- if no two channels have the same id, they have only one order in which the ids rise
 pub one-order : (all cs ds : List History) → ((c d : History) → Contains all c → Contains all d → vcid_of c ≡ vcid_of d → c ≡ d) → IsPermutation all cs → IsPermutation all ds → AreRising cs → AreRising ds → cs ≡ ds
 one-order all cs ds keyed one other rising rises =
     let counts : (vcid : ℕ) → count vcid cs ≡ count vcid ds = λ vcid.

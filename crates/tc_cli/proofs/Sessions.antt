@@ -72,7 +72,7 @@ module _ (laws : AloneLaws) (scid : ℕ) where
             one_more (so_far.1 one.0) next (answered.0, answered.1, does, one.1),
       )
 
-  -- the report at the end of a session is that of the script
+  -- the report at the end of a session is the report of the script when its lines are carried out in order
   pub reported-alone : (script : List ℕ) (answers : List (Option Answer)) (s : Session) (text : List ℕ) → AreAnswers (IsStaffedOperated scid) script answers s [] → IsSessionReport scid s text
       → AreAnswers (IsPerformed scid) script answers (progress_of s) [] × IsScriptReport scid (progress_of s) text
   reported-alone script answers s text leads (inl (none, empty)) =

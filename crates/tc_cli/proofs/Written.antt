@@ -111,7 +111,8 @@ reported scid session staffed met station operator operators channels shown a b 
     let of : IsReportOf channels (report_text shown) = record { rising = closed.rising; reported = numbers; lawful = subst (All IsLawfulHistory) lent lawful; written = ap report_text lent } in
     (report_text shown, inr (staffed, met, channels, found, have, mine, one, of), text)
 
--- the report on channels is that of the script when its lines are carried out in order
+-- if workers have carried out the whole script, the report on their channels is the report of the script when its lines
+-- are carried out in order
 abbrev pub IsReportInOrder : Type 0
 IsReportInOrder = (scid : ℕ) (script : List ℕ) (channels : List History) (text : List ℕ) → AreWorkedChannels scid script channels → IsReportOf channels text
     → (answers : List (Option Answer)) × (progress : Progress) × AreAnswers (IsPerformed scid) script answers progress [] × IsScriptReport scid progress text

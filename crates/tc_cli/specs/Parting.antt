@@ -17,7 +17,7 @@ use Rattle.tc_text.specs.declared.fault.ScriptFault.{ScriptFault}
 use Rattle.tc_text.specs.declared.fault.ScriptFault.TheVariants.{Line, Unbalanced}
 use Rattle.tc_cli.specs.Report.{IsClosedReport}
 
--- a station with these channels that has issued no operator
+-- the station has these channels, and has issued no operator
 pub record IsNewStation (scid : ℕ) (list : List Settings) (station : Roster) : Type 0 where
   pub spacecraft : station.scid ≡ scid
   pub vcids : station.vcids ≡ vcids_of list
@@ -25,7 +25,7 @@ pub record IsNewStation (scid : ℕ) (list : List Settings) (station : Roster) :
   pub issued : station.issued ≡ 0
   pub distinct : HaveDistinctVcids list
 
--- a station that has issued no operator, and a list for each of its channels
+-- a station that has issued no operator, and a list of jobs for each of its channels
 pub record Parted : Type 0 where
   pub station : Roster
   pub lists : List WorkList
@@ -33,7 +33,7 @@ pub record Parted : Type 0 where
 abbrev pub empty_list : Settings → WorkList
 empty_list s = record { vcid = s.vcid; jobs = [] }
 
--- a new station, and an empty list for each of its channels
+-- the station is new, and there is an empty list of jobs for each of its channels
 abbrev pub IsNewlyParted : ℕ → List Settings → Parted → Type 0
 IsNewlyParted scid list parted = IsNewStation scid list parted.station × (parted.lists ≡ map empty_list list)
 

@@ -30,7 +30,7 @@ pub record Staffed : Type 0 where
   pub operator : AtStation
   pub watchers : List Watching
 
--- a new staffed station for the channels with these settings
+-- the staffed station is new, and has channels with these settings
 pub record IsNewlyStaffed (scid : ℕ) (list : List Settings) (m : Staffed) : Type 0 where
   pub spacecraft : m.station.scid ≡ scid
   pub vcids : m.station.vcids ≡ vcids_of list

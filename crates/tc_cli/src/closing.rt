@@ -1,4 +1,4 @@
-//! The close of a script's station.
+//! Closing the station of a script.
 
 ghost use Rattle.std.specs.Prelude.{◌≡◌, All, IfOk, IfErr};
 ghost use Rattle.tc_channel.specs.Journal.{IsNumberReported};

@@ -1,4 +1,5 @@
-//! A script from its octets to its answers.
+//! Running a script in order: it is read, its lines are carried out, and their answers and the final report are
+//! written.
 
 ghost use Rattle.std.specs.Prelude.{◌≡◌, ◌⊎◌, ◌≤◌, length, IfOk, IfErr, OnOk, IfSome};
 ghost use Rattle.tc_cli.specs.Script.{IsScriptFault, IsGood, IsGoodLine, IsBadLine};
