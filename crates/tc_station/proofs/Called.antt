@@ -34,7 +34,7 @@ pub as-many : (vcids : List ℕ) (desks : List AtLock) → vcids_of (settings_of
 as-many vcids desks ids =
     sym (length-map desks (λ (o : AtLock). o.own.seen.head.settings)) ∙ (sym (length-map (settings_of_desks desks) (λ (s : Settings). s.vcid)) ∙ ap (length {A = ℕ}) ids)
 
--- the channel of the desk at this place has this id
+-- if a channel has this place, the channel of the desk at the place has the channel's id
 pub id-of : (vcids : List ℕ) (desks : List AtLock) (place vcid : ℕ) (there : AtLock) → vcids_of (settings_of_desks desks) ≡ vcids → there ≡ get_or desks place there → position (λ v. v == vcid) vcids ≡ Some place
     → (place < length desks) × (there.own.seen.head.settings.vcid ≡ vcid)
 id-of vcids desks place vcid there ids is at =

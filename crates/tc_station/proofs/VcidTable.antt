@@ -5,7 +5,7 @@ use Rattle.std.proofs.lemmas.Map.Made.{IsDistinct-from_AllPairs}
 use Rattle.std.proofs.lemmas.Map.Steps.{length-le_from_distinct_below}
 use Rattle.tc_station.specs.VcidTable.{IsVcidTable, entry_place}
 
--- the entries of the first `n` ids have their places, and no other entry has one
+-- the entries of the first `n` ids have the places of these ids, and no other entry has a place
 pub record HaveEntries (ids : List ℕ) (n : ℕ) (table : List ℕ) : Type 0 where
   pub size : length table ≡ 64
   pub here : (k : ℕ) → k < n → get_or table (get_or ids k 0) 64 ≡ k
