@@ -24,8 +24,8 @@ use Rattle.tc_desk.specs.Log.{Moment, Own, AtLock, history_of}
 abbrev pub IsMoment : Moment → Type 0
 IsMoment m = IsAllowed m.head.settings × IsLawful m.head.settings m.entries
 
--- An operation was carried out on a desk. If it was answered, it is the next event of the journal. If it was refused,
--- the desk is as it was.
+-- An operation was carried out on a desk. If it was answered, its event is the next event of the journal. If it was
+-- refused, the desk is as it was.
 pub record IsStep {R F : Type 0} (e : Event) (ok : Moment → R → Type 0) (err : Moment → F → Type 0) (before : Moment) (result : Result R F) (after : Moment) : Type 0 where
   pub moment : IsMoment before
   pub answer : MatchResult result (λ r. ok before r × (after ≡ with_entry before e)) (λ f. err before f × (after ≡ before))
@@ -79,8 +79,8 @@ HasSeenNoMore watcher m = board.IsEarlier watcher.seen (history_of m)
 abbrev pub HasMet : Moment → Watching → Type 0
 HasMet m watcher = HasSeen m (history_of m) watcher
 
--- A call that also lets a watcher of the desk's board see the channel. Before the call, the watcher had seen no more
--- than the journal at the call's moment. After it, the watcher has seen all that the operator has seen.
+-- The call also let a watcher of the desk's board see the channel. Before the call, the watcher had seen no more than
+-- the journal at the call's moment. After the call, the watcher has seen all that the operator has seen.
 pub record IsMetCall {R F : Type 0} (e : Event) (ok : Moment → R → Type 0) (err : Moment → F → Type 0) (early : Watching) (before : AtLock) (result : Result R F) (late : Watching) (after : AtLock) : Type 0 where
   pub call : IsCall e (λ m r. ok m r × HasSeenNoMore early m) (λ m f. err m f × HasSeenNoMore early m) before result after
   pub met : HasMet after.own.seen late

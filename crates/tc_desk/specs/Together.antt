@@ -26,7 +26,7 @@ issued_of list = map (λ (o : AtLock). o.own.issued) list
 abbrev pub AreSame : List AtLock → List AtLock → Type 0
 AreSame old new = (locks_of new ≡ locks_of old) × (heads_of new ≡ heads_of old) × (issued_of new ≡ issued_of old)
 
--- each list of operators has one at each of these desks, in their order
+-- each list of operators has an operator at each of these desks, in the order of the desks
 abbrev pub AreOurs : List AtLock → List (List AtLock) → Type 0
 AreOurs owned_desks operator_lists = All (λ (operator_list : List AtLock). locks_of operator_list ≡ locks_of owned_desks) operator_lists
 

@@ -23,7 +23,7 @@ pub trait OperatorList: Drop {
     fn operators(&self) -> &[DeskOperator]
         ensures { result.now ≡ at_desks self.now };
 
-    /// Returns the operators by value. They make no more events.
+    /// Returns the operators by value, which make no more events.
     fn into_operators(self) -> Vec<DeskOperator>
         ensures { result.items ≡ at_desks self };
 }
