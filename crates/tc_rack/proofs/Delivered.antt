@@ -18,7 +18,7 @@ taken-more : (queue : QueueId) (old between new : Linked) (answers : List Answer
 taken-more queue old between new [] answer none one = (new, subst (λ x. IsTakenFrom queue x answer new) none one, refl)
 taken-more queue old between new (first ∷ answers) answer (next, here, rest) one = (next, here, taken-more queue next between new answers answer rest one)
 
--- the answers to the takes from a queue so far, and the number of items that are left
+-- `count` items of the queue were taken, and the answers to the takes were written
 pub record IsSoFar (queue : QueueId) (first now : Linked) (a b : Option (List ℕ)) (count : ℕ) : Type 0 where
   pub reported : AreAnswersWritten a b (λ answers. AreTakenFrom queue first answers now)
   pub left : length (waiting_in queue now) + count ≡ length (waiting_in queue first)
@@ -72,7 +72,7 @@ emptied-more (queue ∷ queues) more old between new one two (next, first, later
   ap (λ (xs : List Answer). xs ++ two) is ∙ append_assoc first later two,
 )
 
--- the answers to the takes from the first queues of a list
+-- the queues before this place were emptied, and the answers to the takes were written
 pub record AreSoFar (queues : List QueueId) (first now : Linked) (a b : Option (List ℕ)) (place : ℕ) : Type 0 where
   pub reported : AreAnswersWritten a b (λ answers. AreEmptied (take place queues) first answers now)
   pub settings : now.history.settings ≡ first.history.settings

@@ -12,7 +12,7 @@ use Rattle.tc_channel.proofs.Given.{found-key}
 use Rattle.tc_channel.proofs.Runs.{run-push}
 use Rattle.tc_channel.proofs.StateQueues.{taken-key}
 
--- taking from all queues and then looking one up has the same result as looking it up and then taking from it
+-- looking a queue up after a take has the same result as looking it up first and then taking from it
 queue-taken : (key other : ℕ) (qs : List Queue) → queue_of key (map (taken_from other) qs) ≡ option_map (taken_from other) (queue_of key qs)
 queue-taken key other [] = refl
 queue-taken key other (p ∷ qs) =

@@ -28,7 +28,7 @@ new_linked s = record {
   link = no_flag;
 }
 
--- the channel one event later
+-- the channel after one more event
 abbrev pub later : Event → Linked → Linked
 later event channel = record channel { history = with_event channel.history event }
 

@@ -18,7 +18,7 @@ abbrev pub rack_for : ℕ → Progress → Racked
 rack_for scid (SettingUp list) = new_rack scid list
 rack_for scid (Operating rack) = rack
 
--- new channels with these settings
+-- these are new channels with these settings
 abbrev pub IsNewRack : ℕ → List Settings → Racked → Type 0
 IsNewRack scid list rack = rack ≡ new_rack scid list
 

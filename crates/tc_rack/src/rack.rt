@@ -40,8 +40,8 @@ impl Model for Rack {
 }
 
 impl Rack {
-    /// Creates the channels that were set up, with no flag of their links set. A list is allocated, and the memory of
-    /// each channel.
+    /// Creates the channels that were set up, with no flag of their links set. The call allocates a list, and the
+    /// memory of each channel.
     pub fn new(alloc: Global, scid: u16, configuration: Configuration) -> Result<Rack, NoMemory>
         ensures { IfOk result (λ rack. rack ≡ new_rack scid configuration) }
     {
@@ -173,7 +173,7 @@ impl Rack {
         }
     }
 
-    /// Returns the channels, moved, in the order in which they were set up. A list is allocated.
+    /// Returns the channels by value, in the order in which they were set up. A list is allocated.
     pub fn into_channels(self, alloc: Global) -> Result<Vec<CountingChannel>, NoMemory>
         ensures { IfOk result (λ channels. channels.items ≡ map (λ (channel : Linked). channel.history) self.channels) }
     {
