@@ -123,7 +123,7 @@ impl Configuration {
         self.channels.as_slice()
     }
 
-    /// Returns the settings of the channels, moved.
+    /// Returns the settings of the channels by value.
     pub fn into_channels(self) -> Vec<Settings>
         ensures channels { result.items ≡ self }
         ensures configuration { IsConfiguration result.items }
