@@ -31,9 +31,9 @@ FailsCheck _ line = ⊥
 abbrev pub CarriesMore : List ℕ → Type 0
 CarriesMore octets = (frame : List ℕ) × (rest : List ℕ) × IsDelimited octets frame rest × (is_fill rest ≡ false)
 
--- This is the line that is carried out if a candidate passes the check. If frames have a field, it has the frame at the
--- front, which is as long as its length field says, without its field. Otherwise it has all octets, since a channel
--- ignores the octets after a frame.
+-- This is the line that is carried out if a candidate passes the check. If frames have a field, the line has the frame
+-- at the front of the octets, which is as long as its length field says, without its frame error control field.
+-- Otherwise the line has all octets, since a channel ignores the octets after a frame.
 abbrev pub IsCandidatePassed : FrameCheck → List ℕ → Line → Type 0
 IsCandidatePassed Nothing octets passed = passed ≡ Frame octets
 IsCandidatePassed ErrorControl octets passed = (frame : List ℕ) × (rest : List ℕ) × IsDelimited octets frame rest × IsFieldOff frame passed

@@ -19,18 +19,19 @@ state_text S1 = codes "open"
 state_text S2 = codes "wait"
 state_text S3 = codes "lockout"
 
--- the flags of the link of a channel
+-- the text of the flags of a channel's link
 abbrev pub link_text : ℕ → Link → List ℕ
 link_text vcid link =
     codes "link " ++ decimal vcid ++ codes " " ++ flag_text link.no_rf ++ codes " " ++ flag_text link.no_bit_lock ++ codes "\n"
 
--- the beginning of a report, which is about FARM-1: state, V(R), Lockout and Wait
+-- the beginning of the text of a report, on FARM-1: its state, V(R), Lockout and Wait
 unfoldable pub farm_text : ℕ → Holding → List ℕ
 farm_text vcid holding =
     codes "report " ++ decimal vcid ++ codes " state " ++ state_text holding.report.state ++ codes " vr " ++ decimal holding.report.vr
     ++ codes " lockout " ++ flag_text holding.report.lockout ++ codes " wait " ++ flag_text holding.report.wait
 
--- the next part of a report: Retransmit, the FARM-B counter, and the number of data fields that wait in the buffer
+-- the next part of the text of a report: Retransmit, the FARM-B counter, and the number of data fields that wait in the
+-- buffer
 unfoldable pub rest_text : Holding → List ℕ
 rest_text holding =
     codes " retransmit " ++ flag_text holding.report.retransmit ++ codes " farm-b " ++ decimal holding.report.farm_b
@@ -39,18 +40,18 @@ rest_text holding =
 abbrev pub queue_text : QueueHolding → List ℕ
 queue_text queue = codes " queue " ++ decimal queue.apid ++ codes " " ++ decimal queue.packets
 
--- the packet queues, one after the other
+-- the text of the packet queues in a report, one after the other
 abbrev pub queues_text : List QueueHolding → List ℕ
 queues_text queues = flat_map queue_text queues
 
 abbrev pub map_text : MapHolding → List ℕ
 map_text chosen = codes " map " ++ decimal chosen.map ++ codes " " ++ decimal chosen.units
 
--- the unit queues of the chosen MAPs, one after the other
+-- the text of the unit queues of the chosen MAPs in a report, one after the other
 abbrev pub maps_text : List MapHolding → List ℕ
 maps_text maps = flat_map map_text maps
 
--- the report on a channel
+-- the text of the report on a channel
 unfoldable pub holding_text : ℕ → Holding → List ℕ
 holding_text vcid holding =
     farm_text vcid holding ++ rest_text holding ++ queues_text holding.queues ++ maps_text holding.maps ++ codes "\n"

@@ -31,8 +31,8 @@ use Rattle.tc_live.specs.declared.ends.FrameEnds.{FrameEnds}
 use Rattle.tc_live.specs.declared.ends.FrameEnds.TheVariants.{NoFrame}
 use Rattle.tc_live.specs.Ends.{ends_behind}
 
--- The state of a receiver. `check` is the check that octets must pass, `ends` the record of the ends of unchecked
--- frames, and `stage` the channels, set up so far or in operation.
+-- The state of a receiver. `check` is the check that octets must pass. `ends` is the record of the ends of unchecked
+-- frames. `stage` has the channels, which are set up so far or in operation.
 pub record Receiving : Type 0 where
   pub check : FrameCheck
   pub ends : FrameEnds
