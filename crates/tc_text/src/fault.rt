@@ -45,7 +45,7 @@ pub enum Reason {
     NoMemory,
     /// The word after a channel's numbers isn't an option.
     BadOption,
-    /// A chosen MAP is over 63.
+    /// The id of a chosen MAP is over 63.
     BadMap,
     /// The channel has already chosen this MAP.
     DoubleMap,
