@@ -95,7 +95,7 @@ IsUnitSaid ending stream sizing unit text = (p : Parting) × IsPartingOf stream 
 abbrev pub IsWholeSaid : List ℕ → List ℕ → List ℕ → Type 0
 IsWholeSaid frame rest text = (e : Explanation) × Explains frame rest e × (text ≡ explanation_text e)
 
--- the text that is written if no frame error control field is taken off
+-- the text that is written if no frame error control field can be taken off
 abbrev pub field_fault_text : FieldFault → List ℕ
 field_fault_text (fields.NoFrame fault) = refused_text (frame_fault_text fault)
 field_fault_text fields.Fill = refused_text (codes "fill")

@@ -21,7 +21,8 @@ with_new_decoder decoders id mode = slice_set decoders id (Some (new_decoder mod
 abbrev pub candidates_text : List (List ℕ) → List ℕ
 candidates_text frames = flat_map (named_text (codes "frame")) frames
 
--- the line `blocks ..`
+-- the line `blocks ..`, with the numbers of code blocks that were corrected and rejected, and of CLTUs that were too
+-- long
 abbrev pub blocks_text : ℕ → ℕ → ℕ → List ℕ
 blocks_text corrected rejected overlong =
     codes "blocks corrected " ++ decimal corrected ++ codes " rejected " ++ decimal rejected ++ codes " overlong " ++ decimal overlong ++ codes "\n"

@@ -72,7 +72,7 @@ segment_word word =
     if is word (codes "plain") then Ok None
     else elim (word_number 255 word) [ None ↦ Err (BadNumber numbers.Map) | Some map ↦ Ok (Some (record { part = Unsegmented; map = map })) ]
 
--- a spacecraft, one of its virtual channels, and an N(S)
+-- the stream that three words name: a spacecraft, one of its virtual channels, and an N(S)
 abbrev pub stream_of : List ℕ → List ℕ → List ℕ → Result Stream Reason
 stream_of s v n =
     elim (word_number 65535 s) [
@@ -86,7 +86,7 @@ stream_of s v n =
       ]
     ]
 
--- a MAP, and the number of octets that its segments carry
+-- the sizing that two words name: a MAP, and the number of octets that each of its segments carries
 abbrev pub sizing_of : List ℕ → List ℕ → Result Sizing Reason
 sizing_of m z =
     elim (word_number 255 m) [
@@ -148,7 +148,7 @@ cltu_of words = after_ok (alone_of forms.Cltu words) (λ octets. Ok (Cltu octets
 abbrev pub random_of : Words → Said
 random_of words = after_ok (alone_of forms.Random words) (λ octets. Ok (Random octets))
 
--- the four octets of a CLCW
+-- the four octets of the CLCW that a word spells
 abbrev pub four_of : List ℕ → Result (List ℕ) Reason
 four_of word = elim (decode_of word) [ Ok octets ↦ (if length octets == 4 then Ok octets else Err BadClcw) | Err fault ↦ Err BadHex ]
 

@@ -109,7 +109,7 @@ hint_text BadCount = within_text numbers.Count
 hint_text BadSize = within_text numbers.Size
 hint_text reason = codes "\n"
 
--- the line `bad ..`
+-- the line `bad ..`, with the reason and a hint
 abbrev pub bad_text : Reason → List ℕ
 bad_text reason = unmade_text reason ++ hint_text reason
 
@@ -121,7 +121,7 @@ named_text word octets = word ++ codes " " ++ octets_text octets ++ codes "\n"
 abbrev pub some_text : List ℕ → List ℕ → List ℕ
 some_text word octets = if length octets == 0 then [] else named_text word octets
 
--- the line `refused ..`
+-- the line `refused ..`, with the reason why octets can't be explained
 abbrev pub refused_text : List ℕ → List ℕ
 refused_text why = codes "refused " ++ why ++ codes "\n"
 

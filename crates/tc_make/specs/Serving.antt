@@ -1,4 +1,4 @@
--- The answers to lines in order.
+-- The answers to all lines, in order, and the text that was written before an early end.
 use Rattle.std.specs.Prelude.{ℕ, List, Option}
 use Rattle.tc_lines.specs.Answering as lines
 use Rattle.tc_lines.specs.declared.answering.ServingFault.{ServingFault}

@@ -58,7 +58,7 @@ fn write_ended<W: Write>(
     }
 }
 
-// Writes the reason why no frame error control field is taken off.
+// Writes the reason why no frame error control field can be taken off.
 fn write_field_fault<W: Write>(fault: FieldFault, writer: &mut W) -> io::Result<()>
     ensures { OnOk result (Appends (W.contents writer.old) (W.contents writer.new) (field_fault_text fault)) }
 {
