@@ -64,7 +64,8 @@ pub(crate) fn print<R: AllocGlobal + Print + Eprint>(
 // The largest number of slips with which a word is still taken for a misspelt command.
 const SLIPS: usize = 2;
 
-// The largest likeness of the two words for which the command is suggested. If they are more alike, `clap` suggests it.
+// The largest likeness of the word and a command for which this code suggests the command. If they are more alike,
+// `clap` suggests it.
 const UNALIKE: f64 = 0.7;
 
 // Names the command that the first word was perhaps meant to be, if `clap` hasn't suggested it.
