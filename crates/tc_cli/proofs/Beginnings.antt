@@ -32,6 +32,7 @@ same-each : (P : AtLock → History → Type 0) (there d : AtLock) (early w : Wa
 same-each P there d early w desk watcher one = subst (λ (x : AtLock × Watching). P x.0 x.1.seen) (λ i. (desk i, watcher i)) one
 
 -- ---- lists in which one desk and its watcher are replaced
+
 module _ (P : AtLock → History → Type 0) (desks more : List AtLock) (watchers read : List Watching) (place : ℕ) (there next : AtLock) (early late : Watching)
     (desk : more ≡ slice_set desks place next) (watched : read ≡ slice_set watchers place late) (was : slice_get desks place ≡ Some there) (seat : slice_get watchers place ≡ Some early) where
   pub each-set : AreEach P desks watchers → P next late.seen → AreEach P more read

@@ -6,7 +6,7 @@ use Rattle.tc_rack.specs.declared.operation.Operation.TheVariants as operations
 use Rattle.tc_cli.proofs.Scripts.{set-up}
 use Rattle.tc_cli.proofs.Alone.{AloneLaws, IsAlone, IsSound, all-level, all-met-alone, answered-alone, closed-alone, new-rack, new-sound, rack_of}
 
--- the progress of the session, as a function of the lines alone
+-- the progress of a session, with the channels as its operator has seen them
 abbrev pub progress_of : Session → Progress
 progress_of (SettingUp list) = SettingUp list
 progress_of (Operating m) = Operating (rack_of m)

@@ -18,7 +18,7 @@ use tc_cltu::{Blocks, Decoder, Mode};
 // The number of streams that there may be at a time, since a stream's id is an octet.
 const STREAMS: usize = 256;
 
-/// The decoders of streams, by the streams' ids, 0 to 255.
+/// A table of the decoders of streams, in which a stream's id, 0 to 255, is the place of its decoder.
 #[derive(Drop)]
 pub struct Decoders {
     slots: Vec<Option<Decoder>>,

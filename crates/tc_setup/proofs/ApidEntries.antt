@@ -25,6 +25,7 @@ not-there queues apids apid small a is (i, d, lt, e, same) =
     true≢false (sym (list_any-from_Any (λ (q : QueueSetting). eqb q.apid apid) queues (i, d, lt, e, eq-eqb d.apid apid same)) ∙ (sym (a.reported apid small) ∙ is))
 
 -- ---- two lists whose items are related in pairs: a pair is appended or replaced, or read at its place
+
 module _ {X Y : Type 0} (R : X → Y → Type 0) where
   pub push-pair : (xs : List X) (ys : List Y) (x : X) (y : Y) → AllZip R xs ys → R x y → AllZip R (xs ++ x ∷ []) (ys ++ y ∷ [])
   push-pair [] [] x y all one = (one, all)
@@ -52,6 +53,7 @@ module _ {X Y : Type 0} (R : X → Y → Type 0) where
   as-many (a ∷ xs) (b ∷ ys) all = ap suc (as-many xs ys all.1)
 
 -- ---- the tables of the APIDs of each channel of a configuration
+
 module _ (list : List Settings) (tables : List (List Bool)) (each : AreApidsOfEach list tables) where
   abbrev of-one : Settings → List Bool → Type 0
   of-one s apids = AreApidsOf s.queues apids

@@ -50,6 +50,7 @@ abbrev pub at_owned_desks : ℕ → List ℕ → ℕ → List AtLock → Roster
 at_owned_desks scid vcids issued owned_desks = record { scid = scid; vcids = vcids; issued = issued; locks = locks_of owned_desks; heads = heads_of owned_desks }
 
 -- ---- a call at the operator's desk at a place
+
 module _ {R F : Type 0} (e : Event) (ok : Moment → R → Type 0) (err : Moment → F → Type 0) (station : Roster) (o : AtStation) (vcids : List ℕ) (desks : List AtLock) (place : ℕ) (there next : AtLock) (r : Result R F)
     (view : at_station vcids desks ≡ o) (ids : vcids_of (settings_of_desks desks) ≡ vcids) (ours : IsOurs station o) (is : there ≡ get_or desks place there) (c : IsCall e ok err there r next) where
   abbrev changed : AtStation
@@ -72,6 +73,7 @@ module _ {R F : Type 0} (e : Event) (ok : Moment → R → Type 0) (err : Moment
   heads-kept = same-set (λ (d : AtLock). d.own.seen.head) desks place there next is (head-kept e ok err there next r c) ∙ ap (λ (x : AtStation). heads_of x.desks) view
 
 -- ---- a call at the operator's desk at the place of a channel
+
 module _ {R F : Type 0} (e : Event) (ok : Moment → R → Type 0) (err : Moment → F → Type 0) (station : Roster) (o : AtStation) (vcids : List ℕ) (desks : List AtLock) (place vcid : ℕ) (there next : AtLock) (r : Result R F)
     (view : at_station vcids desks ≡ o) (ids : vcids_of (settings_of_desks desks) ≡ vcids) (ours : IsOurs station o) (place_is : IsPlace station vcid place)
     (is : there ≡ get_or desks place there) (c : IsCall e ok err there r next) where

@@ -37,7 +37,7 @@ pub watcher-kept : (station : Roster) (place : ℕ) (there next : AtLock) (late 
 watcher-kept station place there next late known head met =
     (there.own.seen.head, known, met.0 ∙ ap (λ (h : Identity). h.board) head, ap (λ (h : History). h.settings) met.1 ∙ ap (λ (h : Identity). h.settings) head)
 
--- the channel of a watcher is one of the station's
+-- the channel of a watcher is one of the station's channels
 pub channel-there : (station : Roster) (vcids : List ℕ) (vcid : ℕ) (w : Watching) (place : Option ℕ) → vcids ≡ station.vcids → IsWatcherOf station vcid w → place ≡ position (λ v. v == vcid) vcids → place ≡ None → ⊥
 channel-there station vcids vcid w place whole (head, (p, here, of), board, settings) is none =
     none-some p (sym none ∙ (is ∙ (ap (λ (l : List ℕ). position (λ v. v == vcid) l) whole ∙ here)))

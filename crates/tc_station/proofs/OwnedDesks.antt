@@ -10,6 +10,7 @@ pub same-settings : (old new : List AtLock) → heads_of new ≡ heads_of old �
 same-settings old new same = settings-heads new ∙ (ap (map (λ (h : Identity). h.settings)) same ∙ sym (settings-heads old))
 
 -- ---- owned desks that were returned with the same locks, heads and numbers of issued operators
+
 pub length-same : (old new : List AtLock) → AreSame old new → length new ≡ length old
 length-same old new same = sym (length-map new (λ (o : AtLock). o.lock)) ∙ (ap (length {A = TableId}) same.0 ∙ length-map old (λ (o : AtLock). o.lock))
 
@@ -20,6 +21,7 @@ pub issued-same : (n : ℕ) (old new : List AtLock) → HaveIssued n old → Are
 issued-same n old new have same = subst (All (λ (i : ℕ). i ≡ n)) (sym same.2) have
 
 -- ---- owned desks from which operators are issued, one after the other
+
 pub none-issued : (owned_desks : List AtLock) → issued_more 0 owned_desks ≡ owned_desks
 none-issued [] = refl
 none-issued (p ∷ ps) =
@@ -74,6 +76,7 @@ arrival-step old now before after n d o is lt here one so pushed =
     pushed ∙ ((λ i. so i ++ (one ∙ ap arrival there) i ∷ []) ∙ sym (map_more arrival old n d lt))
 
 -- ---- operators that are issued, one after the other
+
 pub issue-first : (vcids : List ℕ) (owned_desks : List AtLock) (operators : List AtStation) (k : ℕ) → k ≡ 0 → operators ≡ [] → (owned_desks ≡ issued_more k owned_desks) × (operators ≡ replicate k (newcomer_at_desks vcids owned_desks))
 issue-first vcids owned_desks operators k none empty =
     subst (λ (j : ℕ). (owned_desks ≡ issued_more j owned_desks) × (operators ≡ replicate j (newcomer_at_desks vcids owned_desks))) (sym none) (sym (none-issued owned_desks), empty)
@@ -94,6 +97,7 @@ are-ours station owned_desks operators locks all =
     (All-weaker (IsOurs station) (λ (o : AtStation). locks_of o.desks ≡ locks_of owned_desks) (λ o ours. ours.1 ∙ locks) operators all)
 
 -- ---- new operators at the desks
+
 pub arrival-settings : (owned_desks : List AtLock) → settings_of_desks (map arrival owned_desks) ≡ settings_of_desks owned_desks
 arrival-settings owned_desks = map-map _ _ owned_desks
 

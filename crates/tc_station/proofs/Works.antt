@@ -18,6 +18,7 @@ one-more station vcid jobs i job a b c lt is done here =
     subst (λ js. AreDone station vcid js a c) (sym more) (snoc station vcid (take i jobs) job a b c done here)
 
 -- ---- the results of two parts of the lists, taken together
+
 lower-three : (a b c : Option ℕ) → lower a (lower b c) ≡ lower (lower a b) c
 lower-three (Some x) (Some y) (Some z) = let same : min x (min y z) ≡ min (min x y) z = omega arith in ap Some same
 lower-three _ _ _ = refl
@@ -56,6 +57,7 @@ pub moved-worked : (station : Roster) (fl gl : List WorkList) (a b : Option ℕ)
 moved-worked station fl gl a b fo go z w p q r = (w.0, w.1 ∙ p, w.2 ∙ r, w.3, w.4, w.5 ∙ q)
 
 -- ---- the effect of one job on the count of a channel
+
 tally-counted : (station : Roster) (u : ℕ) (a : Tally) → IsTallyOf station a → IsTallyOf station (tallied u a)
 tally-counted station u a f = record { vcids = f.vcids; counts = raised-length (position (λ w. w == u) a.vcids) a.counts ∙ f.counts }
 
@@ -147,6 +149,7 @@ list-raises station list None a b none f w = λ v place at. let r = steps statio
 list-raises station list (Some line) a b none f w = absurd cc
 
 -- ---- the operators and their counts after all lists
+
 none-first : (a b : Option ℕ) → lower a b ≡ None → (a ≡ None) × (b ≡ None)
 none-first None b e = (refl, e)
 none-first (Some x) None e = absurd cc
@@ -185,7 +188,7 @@ work-raises station lists line os ps none w k l o lt =
     let inside : k < length w.0 = omega (arith, ap (length {A = WorkList}) w.1, length-map w.0 (λ (s : Shift). s.list)) in
     rw (← w.1, ← w.2, ← w.3) (shifts-raise station w.0 w.4 (w.5 ∙ none) k l o inside)
 
--- after the work, all operators are still the station's
+-- after the work, all operators still belong to the station
 pub work-ours : (station : Roster) (lists : List WorkList) (line : Option ℕ) (os ps : List AtStation) → AreWorked station lists line os ps → All (IsOurs station) ps
 work-ours station lists line os ps w =
     let each = All-weaker (IsShift station) (λ (s : Shift). IsOurs station s.after) (λ s x. x.kept) w.0 (All-from_recursion (IsShift station) w.0 w.4) in

@@ -123,7 +123,8 @@ impl<J: Journal> StationOf<J> {
         Ok(located)
     }
 
-    /// Returns the result of [`locate`](StationOf::locate), with the place of the channel among the station's.
+    /// Returns the result of [`locate`](StationOf::locate), with the place of the channel in the list of the station's
+    /// channels.
     pub fn place_frame<'a>(&self, octets: &'a [u8]) -> Result<(usize, Located<'a>), LocateFault>
         ensures { MatchResult result (λ placed. IsPlaced self.now octets.now placed.0 placed.1.vcid placed.1.frame) (IsLocateFault self.now octets.now) }
     {
@@ -139,7 +140,7 @@ impl<J: Journal> StationOf<J> {
         Ok((place, Located { vcid, frame }))
     }
 
-    /// Returns the place of the channel with this id among the station's.
+    /// Returns the place of the channel with this id in the list of the station's channels.
     pub fn place_of(&self, vcid: u8) -> Option<usize>
         ensures { MatchOption result (¬ Contains self.now.vcids vcid) (IsPlace self.now vcid) }
     {
