@@ -1,4 +1,5 @@
--- The element at a place of a list, after one element is replaced, one more is appended, or each is mapped.
+-- Lemmas about the element at a place of a list, after one element is replaced, one more is appended, or each element
+-- is mapped.
 use Rattle.std.proofs.Common.{◌≡◌, ℕ, zero, suc, ◌<◌, List, [], ◌∷◌, ◌++◌, ◌⊎◌, Some, All, map, length, inl, inr, refl, sym, ap, ◌∙◌, subst, arith, ◌≢◌, Any, Contains, slice_get, slice_set}
 use Rattle.std.specs.Option.{option_map}
 use Rattle.std.proofs.lemmas.List.{get_or-map, length-map, map-set, set-get_or, set-set}

@@ -1,4 +1,4 @@
--- The watchers of a script's channels. Each belongs to the desk at its own place.
+-- The watchers of a script's channels. Each watcher belongs to the desk at its own place.
 use Rattle.std.proofs.Common.{◌≡◌, ◌<◌, ◌+◌, ℕ, List, [], ◌∷◌, ◌++◌, Some, length, map, get_or, inl, inr, refl, sym, ap, ◌∙◌, subst, arith, ◌==◌, slice_get, slice_set, add-one}
 use Rattle.tc_cli.proofs.Names.{AtStation, HasMetAt, HaveMet, Identity, IsEarlier, IsPlace, IsWordAnswer, Staffed, Roster, Settings, Watching, clcw, eqb_tells, length-map, length-set, no_flag, position-Some, same_Some, slice_get-get_or}
 use Rattle.std.proofs.lemmas.Option.{slice_get_read}

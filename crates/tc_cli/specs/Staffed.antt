@@ -24,7 +24,8 @@ use Rattle.tc_rack.specs.declared.answer.Refusal.TheVariants.{Unlocated, Unknown
 use Rattle.tc_rack.specs.declared.operation.Operation.{Operation}
 use Rattle.tc_rack.specs.declared.operation.Operation.TheVariants as operations
 
--- the views of the station, of its operator with the operator's events, and of the watcher of each channel
+-- the views of a station, of its operator with the events that the operator has made, and of the watcher of each
+-- channel
 pub record Staffed : Type 0 where
   pub station : Roster
   pub operator : AtStation
@@ -59,9 +60,9 @@ pub record IsStaffedCall {R F : Type 0} (place vcid : ℕ) (e : Event) (ok : Mom
   pub watchers : after.watchers ≡ slice_set before.watchers place late
   pub station : after.station ≡ before.station
 
--- The channel with this id, at the desk at this place, gave this answer. It did so at a moment whose journal continues
--- all that the operator and the channel's watcher had seen of the channel. If the operation is an event, it is the next
--- event of the journal, and one of the operator's own. Afterwards the watcher has seen all that the operator has. The
+-- The channel with this id, at the desk at this place, gave this answer. The moment of the answer continues all that
+-- the operator and the channel's watcher had seen of the channel. If the operation is an event, this event is the next
+-- one of the journal, and the operator has made it. Afterwards the watcher has seen all that the operator has seen. The
 -- other desks and their watchers are as they were.
 pub record IsAnsweredAt (place vcid : ℕ) (Answers : Linked → Answer → Linked → Type 0) (before : Staffed) (answer : Answer) (after : Staffed) : Type 0 where
   pub there : AtLock

@@ -7,7 +7,7 @@ abbrev most : ℕ
 most = 2 ^ 64 - 1
 
 module _ {X : Type 0} where
-  -- if one more operator is counted, the total is that of the operators up to this one
+  -- if one more operator is counted, the total is the number of events that all operators up to this one have made
   pub more_counted : (f : X → ℕ) (xs : List X) (i : ℕ) (x : X) (total count next : ℕ) → x ≡ get_or xs i x → i < length xs → total ≡ min (sum_by f (take i xs)) most
       → count ≡ min (f x) most → next ≡ min (total + count) most → next ≡ min (sum_by f (take (i + 1) xs)) most
   more_counted f xs i x total count next here inside so one is =

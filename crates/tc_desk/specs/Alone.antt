@@ -1,4 +1,4 @@
--- An operator that is the only one to have made anything at a desk.
+-- An operator that alone has made events at a desk.
 use Rattle.std.specs.Prelude.{◌≡◌, ◌≤◌, ℕ, suc, List, [], ◌∷◌, length}
 use Rattle.tc_channel.specs.declared.event.Event.{Event}
 use Rattle.tc_desk.specs.Log.{Own}

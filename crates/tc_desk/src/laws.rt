@@ -1,4 +1,4 @@
-//! Laws over the definitions.
+//! Laws about the definitions.
 
 ghost use Rattle.std.specs.Prelude.{ℕ, List, ◌≡◌, ◌≢◌, [], ◌∷◌, length, take, slice_get, Some};
 ghost use Rattle.tc_channel.specs.declared.event.Event.{Event};

@@ -91,7 +91,7 @@ frames-more : (frames : List (List ℕ)) (sent : List ℕ) → frames_text (fram
 frames-more frames sent =
     flat_map-append (named_text (codes "frame")) frames (sent ∷ []) ∙ ap (λ t. frames_text frames ++ t) (append-nil (named_text (codes "frame") sent))
 
--- the lines that were written before the frame at a place are those of the frames before it
+-- exactly the lines of the frames before this place were written
 abbrev pub Before : Ending → Parting → ℕ → Option (List ℕ) → Option (List ℕ) → Type 0
 Before ending p place a b = (frames : List (List ℕ)) × AreSent ending p 0 frames × (length frames ≡ place) × Appends a b (frames_text frames)
 

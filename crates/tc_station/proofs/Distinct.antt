@@ -1,4 +1,4 @@
--- Settings that are checked one after the other.
+-- Lemmas about settings that are checked one after the other.
 use Rattle.tc_station.proofs.Names.{◌≡◌, ◌≢◌, ℕ, ◌+◌, ◌<◌, List, length, take, get_or, sym, ap, ◌∙◌, inl, inr, arith, get_or-take, get_or_default, length-take, Settings, IsAllowed, Any, cases_eq}
 
 -- the first i entries have distinct ids

@@ -52,7 +52,7 @@ few-ids ids distinct small = length-le_from_distinct_below ids 64 (IsDistinct-fr
       let at = a.3 in
       let same = eqb-true q a.1 a.4 in omega arith
 
--- the id at a place is that of the settings at this place
+-- the id at a place is the id in the settings at this place
 id-at : (s : Settings) (ss : List Settings) (k d : ℕ) → k < length (s ∷ ss) → get_or (vcids_of (s ∷ ss)) k d ≡ (get_or (s ∷ ss) k s).vcid
 id-at s ss k d lt = get_or-map (λ (x : Settings). x.vcid) (s ∷ ss) k s d lt
 

@@ -1,4 +1,4 @@
-//! The station: a lock for each channel.
+//! The station of a spacecraft, with a lock for each virtual channel.
 
 ghost use Rattle.std.specs.Prelude.{◌≡◌, ◌≤◌, ◌<◌, ◌+◌, ◌↔◌, ℕ, [], false, All, Any, Contains, IsTrue, length, map, replicate, vec_len, vec_capacity, IfOk, IfErr, IsErrOf, OnOk, OnErr, MatchOption, MatchResult};
 ghost use Rattle.tc_channel.specs.Settings.{IsAllowed};
@@ -147,8 +147,8 @@ impl<J: Journal> StationOf<J> {
         self.vcids.place_of(vcid)
     }
 
-    /// Issues operators, at most 65,535 over the station's life. Each needs a list of ids and a list of operators at
-    /// the desks. All memory is allocated before the first operator is issued.
+    /// Issues operators, at most 65,535 over the station's life. For each operator, a list of ids and a list of
+    /// operators at the desks are allocated. All memory is allocated before the first operator is issued.
     pub fn operators(&mut self, n: u16) -> Result<Vec<Operator>, OperatorsFault>
         ensures fresh { IfOk result (λ operators. map tally operators.items ≡ replicate n (fresh self.old.vcids)) }
         ensures new { IfOk result (λ operators. All HasMadeNothing operators.items) }

@@ -1,4 +1,4 @@
-//! From a sender to packets, over any threads.
+//! Laws about the way from a sender to the packets that are taken, for any number of threads.
 
 ghost use Rattle.std.specs.Global.{Vec};
 ghost use Rattle.std.specs.Prelude.{◌≡◌, ◌≢◌, ◌≤◌, ℕ, Bool, List, [], Some, Ok, length, slice_get};

@@ -1,4 +1,4 @@
-//! Workers: lists of jobs, each carried out by a thread of its own.
+//! Workers, each of which carries out a list of jobs in a thread of its own.
 
 ghost use Rattle.std.specs.Prelude.{◌≡◌, ◌<◌, ℕ, All, Option, None, Some, length, map, slice_index_or, OnOk, OnErr, MatchResult};
 ghost use Rattle.std.specs.Thread.{IsSend, IsSync};

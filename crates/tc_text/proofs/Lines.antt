@@ -1,4 +1,4 @@
--- The number of words that a line takes.
+-- The number of words that a command takes.
 use Rattle.std.proofs.Common.{◌≡◌, ◌≢◌, ℕ, List, [], ◌∷◌, Err, refl}
 use Rattle.tc_text.specs.Line.{three_of}
 use Rattle.tc_text.specs.declared.fault.Reason.TheVariants.{WordCount}
