@@ -92,7 +92,8 @@ moved-planned found rack place l c new job planned at here same happens = record
   ];
 }
 
--- the channel has an answer that `Answers` allows, after which its journal is the one that the job makes
+-- the channel has an answer that `Answers` allows, and the job leads from the journal before this answer to the journal
+-- after it
 abbrev CanAnswer : (Linked → Answer → Linked → Type 0) → ℕ → Order → Linked → Type 0
 CanAnswer Answers scid order c =
     (answer : Answer) × (new : Linked) × Answers c answer new × (new.history.settings ≡ c.history.settings)

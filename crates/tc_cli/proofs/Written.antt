@@ -67,7 +67,7 @@ cut-short scid script count session rest line after reason a b (inl memory) (ans
 cut-short scid script count session rest line after reason a b (inr bad) (answers, leads, is, text) next =
     inr (answers, session, rest, line, after, leads, next, bad, ap (λ n. n + 1) is, text)
 
--- if no octets are left and the report is written, the whole script is written
+-- if no octets are left and the report is written, the whole text of the script is written
 pub end-written : (laws : AloneLaws) (reported : Result (Unit {0}) ScriptFault) (scid : ℕ) (script : List ℕ) (count : ℕ) (session : Session) (rest : List ℕ) (a b c : Option (List ℕ))
     → IsSoFar scid script count session rest a b → rest ≡ [] → OnOk reported (IsSessionReportWritten scid session b c) → OnOk reported (IsScriptWritten scid script a c)
 end-written laws (Err fault) scid script count session rest a b c so-far end written = tt

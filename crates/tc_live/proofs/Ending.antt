@@ -7,7 +7,7 @@ use Rattle.tc_channel.specs.Journal.{History, IsNumberReported}
 use Rattle.tc_live.specs.declared.serving.ServingFault.{ServingFault}
 use Rattle.tc_live.specs.declared.serving.ServingFault.TheVariants.{Write}
 
--- if the answers to all lines are written, and then the report, the reception is written
+-- if the answers to all lines are written, and then the report, the whole text of the reception is written
 pub all-written : (closed : Result FrameEnds ServingFault) (receiver last : Receiving) (known a b c : Option (List ℕ))
     → IfSome known (λ octets. lines.AreAllWritten line_limit IsLineSaid receiver octets last a b) → OnOk closed (IsReportWritten last b c)
     → IfOk closed (λ ends. ends ≡ last.ends) → IfOk closed (λ ends. IfSome known (λ octets. IsReceptionWritten receiver octets a c ends))
