@@ -34,7 +34,7 @@ pub fn compare<'a>(
     None
 }
 
-// Returns the number of lines that are the same at the front of both texts.
+// Returns the number of lines at the front that both texts share.
 fn common_lines(found: &[u8], expected: &[u8]) -> usize {
     found
         .iter()

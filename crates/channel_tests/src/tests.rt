@@ -37,7 +37,7 @@ const PASSED: FrameReply = FrameReply {
     ..DELIVERED
 };
 
-// Creates settings. One growth may be refused.
+// Creates settings, even if memory is refused once.
 fn settings(rt: &impl Abort, alloc: Global, wanted: &Wanted<'_>) -> Settings {
     test_parts::settings(alloc, wanted).expect(rt, "settings")
 }

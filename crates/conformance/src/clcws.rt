@@ -4,9 +4,9 @@ use anyhow::{Result, anyhow};
 use std::alloc::Global;
 use tc_link::{ClcwFields, Report, State, clcw_word, read_clcw};
 
-/// Returns whether a line of the list agrees. The line has a word in hexadecimal digits and then, if that is a CLCW of
-/// COP-1, its fields: status, virtual channel, No RF Available, No Bit Lock, Lockout, Wait, Retransmit, FARM-B and
-/// V(R).
+/// Returns whether the library agrees with a line of the list. The line has a word in hexadecimal digits and then, if
+/// the word is a CLCW of COP-1, its fields: status, virtual channel, No RF Available, No Bit Lock, Lockout, Wait,
+/// Retransmit, FARM-B and V(R).
 pub(crate) fn agrees(alloc: Global, line: &str) -> Result<bool> {
     let (digits, expected) = match line.split_once(' ') {
         Some(parts) => parts,

@@ -133,9 +133,9 @@ fn check_clcws<R: Files + AllocGlobal + Print>(rt: &R, tally: &mut Tally) -> Res
     Ok(())
 }
 
-// Returns whether a script leads to the expected answers in each way in which it is run. Line by line, on a station and
-// on channels of each form, these are `answers`. With a worker for each channel, they are only the report at the end of
-// `answers`.
+// Returns whether a script leads to the expected answers in each way in which it is run. If it is run line by line, on
+// a station or on channels of some form, it must give `answers`. If it is run with a worker for each channel, it must
+// give only the report at the end of `answers`.
 fn agrees_each_way<R: AllocGlobal + Print + Threads + Wait + Sync>(
     rt: &R,
     case: &Case,

@@ -1,4 +1,4 @@
--- A seat that has the lock of a book has the book in its hands.
+-- A seat that has taken the lock of a book holds that lock, and still holds it after the book is replaced or written.
 use Rattle.std.proofs.Common.{◌≡◌, ℕ, List, [], ◌∷◌, ◌++◌, sym, ap, ◌∙◌, get_or}
 use Rattle.atomic_table.specs.Table.{Me, rest}
 use Rattle.logged_lock.specs.declared.views.Log.{Log}
@@ -9,7 +9,7 @@ use Rattle.lock_tests.specs.declared.book.Title.{Title}
 use Rattle.lock_tests.specs.declared.book.Book.{Book}
 use Rattle.lock_tests.specs.Book.{log_of, IsAny}
 
--- a seat that has taken the lock has it
+-- a seat that has taken the lock holds it
 pub has_it : (before after : Me Book (View Title ℕ)) → IsTaken log_of IsAny before after → HasLock log_of IsAny after after.0.own.seen
 has_it before after t = record {
   kept = t.kept;
@@ -29,7 +29,7 @@ in_hands l b h = h ∙ ap (λ (r : List (ℕ × Book)). (0, b) ∷ r) (sym (ap r
 same_book : (l : List (ℕ × Book)) (a b : Book) → l ≡ (0, a) ∷ [] → l ≡ (0, b) ∷ rest l → a ≡ b
 same_book l a b p q = ap (λ (k : List (ℕ × Book)). (get_or k 0 (0, a)).1) (sym p ∙ q)
 
--- a seat still has the lock if the book is replaced by another one with the same log
+-- a seat still holds the lock if the book is replaced by another one with the same log
 pub keeps : (v : View Title ℕ) (l : List (ℕ × Book)) (old new : Book) → HasLock log_of IsAny (v, l) v.own.seen → l ≡ (0, old) ∷ rest l → new.title ≡ old.title
     → new.numbers.items ≡ old.numbers.items → HasLock log_of IsAny (v, (0, new) ∷ rest l) v.own.seen
 keeps v l old new h here title items = record {
@@ -41,7 +41,7 @@ keeps v l old new h here title items = record {
   same = (λ i. record { head = record { number = title i }; entries = items i }) ∙ (ap log_of (sym (same_book l h.kept old h.hands here)) ∙ h.same);
 }
 
--- a seat still has the lock if the book is replaced by another one, whose log is longer by this number
+-- a seat still holds the lock if the book is replaced by another one, whose log is longer by this number
 pub writes : (v : View Title ℕ) (l : List (ℕ × Book)) (old new : Book) (n p : ℕ) → HasLock log_of IsAny (v, l) v.own.seen → l ≡ (0, old) ∷ rest l → new.title ≡ old.title
     → new.numbers.items ≡ old.numbers.items ++ n ∷ [] → p ≡ n → HasLock log_of IsAny (v, (0, new) ∷ rest l) (with_entry v.own.seen p)
 writes v l old new n p h here title items is = record {

@@ -20,7 +20,7 @@ use test_parts::{
     settings,
 };
 
-// Creates settings for this virtual channel, with room for 64 data fields. One growth may be refused.
+// Creates settings for this virtual channel, with room for 64 data fields, even if memory is refused once.
 fn settings_for(rt: &impl Abort, alloc: Global, vcid: u8) -> Settings
     ensures { result.vcid ≡ vcid }
 {
@@ -32,7 +32,7 @@ fn settings_for(rt: &impl Abort, alloc: Global, vcid: u8) -> Settings
     settings(alloc, &wanted).expect(rt, "settings")
 }
 
-// Creates a station for spacecraft 42 with virtual channel 1. One growth may be refused.
+// Creates a station for spacecraft 42 with virtual channel 1, even if memory is refused once.
 fn station_of_one<J: Journal>(rt: &impl Abort, alloc: Global) -> StationOf<J>
     ensures { result.vcids ≡ 1 ∷ [] }
 {
@@ -56,7 +56,7 @@ fn station_of_two<J: Journal>(rt: &impl Abort, alloc: Global) -> StationOf<J>
     StationOf::new(alloc, 42, list).expect(rt, "a station")
 }
 
-// Issues `n` operators of a station that has issued none. One growth may be refused.
+// Issues `n` operators of a station that has issued none, even if memory is refused once.
 fn new_operators<J: Journal>(
     rt: &(impl Abort + Print),
     station: &mut StationOf<J>,

@@ -23,7 +23,7 @@ IsAnsweredOn (Take vcid apid) old answer new = IsTakeAnswered apid old answer ne
 IsAnsweredOn (TakeUnit vcid map_id) old answer new = IsUnitAnswered map_id old answer new
 IsAnsweredOn (Clcw vcid) old answer new = (answer ≡ reported_word old) × (new ≡ old)
 
--- the channel after an operation: as the operation leaves it if it was on this channel, otherwise unchanged
+-- after an operation, the channel is as the operation leaves it if it was on this channel, and otherwise unchanged
 abbrev IsLeft : Bool → Operation → Linked → Answer → Linked → Type 0
 IsLeft true operation old answer new = IsAnsweredOn operation old answer new
 IsLeft false operation old answer new = new ≡ old
@@ -33,7 +33,7 @@ abbrev IsStep : Operation → Answer → Racked → ℕ → ℕ → Linked → T
 IsStep operation answer new vcid p c = (later : Linked) × IsChannelAt new.channels vcid p later × IsLeft (is_on vcid operation answer) operation c answer later
 
 module _ (operation : Operation) (answer : Answer) (old new : Racked) (vcid p : ℕ) (c : Linked) (apart : AreApart (map vcid_of old.channels)) (here : IsChannelAt old.channels vcid p c) where
-  -- the step if no channel has changed
+  -- if no channel has changed, a step leaves this channel as it was
   stays : new ≡ old → (is_on vcid operation answer ≡ true → IsAnsweredOn operation c answer c) → IsStep operation answer new vcid p c
   stays same own = (c, subst (λ (r : Racked). IsChannelAt r.channels vcid p c) (sym same) here, by (is_on vcid operation answer) own) where
     by : (b : Bool) → (b ≡ true → IsAnsweredOn operation c answer c) → IsLeft b operation c answer c

@@ -21,13 +21,13 @@ pub record Answered : Type 0 where
 abbrev pub operation_of : Answered → Operation
 operation_of d = d.operation
 
--- this is an answer of this channel to a frame
+-- whether this is an answer of the channel with this id to a frame
 abbrev pub answers_frame : ℕ → Answer → Bool
 answers_frame vcid (answers.Frame own reply) = own == vcid
 answers_frame vcid _ = false
 
--- the operation was brought to the channel with this id: the channel that it names, or for a frame the one that
--- answered
+-- whether the operation was brought to the channel with this id: the operation names that channel or, if it is a frame,
+-- that channel answered it
 abbrev pub is_on : ℕ → Operation → Answer → Bool
 is_on vcid (Frame octets) answer = answers_frame vcid answer
 is_on vcid (Release own) answer = own == vcid

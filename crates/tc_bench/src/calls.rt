@@ -69,7 +69,7 @@ enum Call {
 
 // The calls on the first channel.
 static FIRST_CALLS: [Call; 30] = [
-    // These calls end no unit.
+    // Calls that end no unit.
     Unlock,
     Again(ONE_PACKET),
     Clcw,

@@ -11,16 +11,16 @@ pub(crate) enum Kind {
     Rooms,
 }
 
-/// The load that comes to a bare channel in each round, and is taken.
+/// The load that is brought to a bare channel in each round, and the items that are then taken.
 #[derive(Clone, Copy)]
 pub(crate) enum Load {
-    /// A Type-AD frame of 13 octets, which is released, and its packet.
+    /// A Type-AD frame of 13 octets. It is released, and its packet is taken.
     Sequenced,
-    /// A Type-BD frame of 13 octets, and its packet.
+    /// A Type-BD frame of 13 octets. Its packet is taken.
     Bypassing,
-    /// A Type-BD frame with a hundred packets of seven octets, and each of them.
+    /// A Type-BD frame with a hundred packets of seven octets. Each of them is taken.
     Packets,
-    /// Type-BD frames with the 65 segments of a packet of 65,542 octets, and that packet.
+    /// Type-BD frames with the 65 segments of a packet of 65,542 octets. That packet is taken.
     Segments,
 }
 
@@ -29,9 +29,9 @@ pub(crate) enum Load {
 pub(crate) enum Action<'a> {
     /// A run of the load that prints its scores.
     Scores,
-    /// This number of rounds of a load on a channel of this form, whose sum is printed.
+    /// A run of this number of rounds of a load on a channel of this form, which prints their score.
     Rounds(Kind, Load, u32),
-    /// The filling of a channel, or calls of each kind on it. This word says which of them, and on which channel.
+    /// The filling of a channel, or calls of each kind on it. The word selects one of the two, and the channel.
     Fill(&'a str),
     /// A single call with this name, on a channel with this number of queues.
     Worst(&'a str, u16),

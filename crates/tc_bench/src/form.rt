@@ -40,8 +40,8 @@ pub(crate) trait Form: Drop {
     fn word_and_events(&self) -> (u32, u64);
 }
 
-// Adds the octets of an item to the score. For a packet that isn't small, its first octets and its last one stand for
-// all.
+// Adds the octets of an item to the score. If the item has more than 16 octets, only its first 16 octets, its length
+// and its last octet are added.
 #[inline(always)]
 fn add(octets: &[u8], score: &mut Score) {
     match octets {

@@ -6,7 +6,7 @@ use std::alloc::Global;
 use tc_channel::Octets;
 use tc_link::{Header, WriteFault, write_frame};
 
-/// The spacecraft for which all frames are.
+/// The spacecraft id in all frames.
 pub(crate) const SCID: u16 = 42;
 
 /// A frame of the load.

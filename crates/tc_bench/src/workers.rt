@@ -56,7 +56,7 @@ fn work_lists(alloc: Global, senders: &[Sender], rounds: u32) -> Result<Vec<Work
     Ok(lists)
 }
 
-// Adds the jobs of a round, whose number stands for the line.
+// Adds the jobs of a round. The number of the round serves as the line number of its jobs.
 fn add_round(
     alloc: Global,
     jobs: &mut Vec<Job>,

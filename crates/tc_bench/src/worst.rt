@@ -87,9 +87,9 @@ impl Caller {
         Ok(())
     }
 
-    // Brings the segments before this field, and then the frame itself by the call that is seen, or buffers its field
-    // and releases it by that call. Returns the number of items for queues, including those for which there was no
-    // room.
+    // Brings the segments before this field, and then makes the measured call, which brings the frame with this field.
+    // If the kind is `Released`, the frame is brought first, and the measured call releases its field. Returns the
+    // number of items for queues, including those for which there was no room.
     fn items(&mut self, kind: Kind, field: Field) -> Result<u64> {
         self.open(kind, field)?;
         let delivery = if let Kind::Released = kind {

@@ -12,7 +12,8 @@ pub left-so : {A : Type 0} (lent : Option A) (held : A) (left : Option LimitedHi
 left-so (Some x) held left new is holds = holds
 left-so None held left new is holds = absurd cc
 
--- the seat's channel after a frame, and after a take
+-- if the seat holds the channel that a call left, the clause about that channel after a frame, or after a take, holds
+-- for the seat
 pub frame-left : {A : Type 0} (fault : Option A) (octets : List ℕ) (result : ReplyRecord) (held new : LimitedHistory) (left : Option LimitedHistory) → left ≡ Some new
     → IfNone fault ((frame : List ℕ) × BeginsWith octets frame × (result ≡ reply_record (frame_reply_within (limit_of held.limits) held.settings held.journal frame))
     × (new ≡ with_limited_event held (Event.Frame frame)))

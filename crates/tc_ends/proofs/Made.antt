@@ -111,10 +111,11 @@ made-merged limits s apid before ps on free is = record {
   each = λ service map_id. came-each limits s apid service map_id (is_chosen_map s map_id) free refl before ps ∙ is service map_id;
 }
 
--- if no packet came on another stream, all packets came on one
+-- the packets of a list, with the one of `t` in front if the test is true
 abbrev of_test : (t : OnStream) (kept : List OnStream) → Bool → List (List ℕ)
 of_test t kept b = map packet_on (cond b (t ∷ kept) kept)
 
+-- if no packet came on another stream, all packets came on one
 all-kept : (service : Service) (map_id : ℕ) (came : List OnStream) → ((other : Service) (id : ℕ) → is_same_stream service map_id other id ≡ false → map packet_on (filter (is_from other id) came) ≡ [])
     → filter (is_from service map_id) came ≡ came
 all-kept service map_id [] none = refl

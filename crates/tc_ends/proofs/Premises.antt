@@ -1,4 +1,4 @@
--- The session that meets all premises at once: that of `learnt_by_9`, with its frames in CLTUs.
+-- The session that meets all premises at once, which is the session of `learnt_by_9` with its frames in CLTUs.
 use Rattle.tc_ends.proofs.Names.{Action, AllByRecursion, AreCarried, AreFrom, AreNearBlocks, AreNumbered, CanBeSent, Correct, IsInformation, IsMadeFrame, IsNearCltu, IsPacket, List, Queue, Send, SendsOnly, Some, [], arith, block_times_x, decoded, enclosing, era, era_session, errors, events, false, filled, first-far, first_frame, first_header, first_state_within, get_or, header_later, in_cltus, learnt_by_9, no_limits, octet_bits, octets-by, of_before, of_first_frame, of_set_v_r, one_unit, packet, packets_given, passed_on, piece_at, queue_of, receiver, refl, run_within, segment_at, so-at, some_of_first, start-far, start-same, subst, suc, sym, true, whole-0, whole-1, whole-2, zero, ℕ, ◌++◌, ◌<◌, ◌∷◌, ◌≡◌, ◌≤◌}
 use Rattle.tc_channel.specs.Lossless.{DropsNone}
 

@@ -6,7 +6,7 @@ use Rattle.tc_ends.proofs.Streams.{headed-carried, stream_unit_by, units-carried
 use Rattle.tc_ends.proofs.Chosen.{units-on}
 use Rattle.tc_ends.proofs.Made.{cut-all, made-append, made-merged}
 
--- the stream of Type-AD of a MAP
+-- the data fields on the Type-AD stream of a MAP are those of the MAP among all fields that Type-AD passed on
 stream-of-ad : (b : Bool) (m : ℕ) (ps : List Passed) → stream_in b Ad m ps ≡ on_map b m (fields_passed Ad ps)
 stream-of-ad b m [] = refl
 stream-of-ad b m (p ∷ ps) = by p.service refl (eqb (map_in b p.field) m) refl (stream-of-ad b m ps) where

@@ -12,8 +12,8 @@ use Rattle.tc_channel.specs.declared.event.Event.{Event}
 use Rattle.tc_channel.specs.declared.event.Event.TheVariants.{Frame}
 use Rattle.tc_loop.specs.Loop.{Action, events_at}
 
--- the code blocks that come when these octets were sent, seven in each, and no block has more wrong bits than the mode
--- tolerates
+-- the code blocks that come when these octets were sent, seven octets to a block, if no block has more wrong bits than
+-- the mode tolerates
 abbrev pub AreNearBlocks : Mode → List ℕ → List ℕ → Type 0
 AreNearBlocks mode [] blocks = blocks ≡ []
 AreNearBlocks mode (a ∷ b ∷ c ∷ d ∷ e ∷ f ∷ g ∷ rest) blocks =

@@ -1,5 +1,5 @@
--- A session that was worked out by hand, to be read with the definitions: that of `learnt_by_9` of tc_loop, with its
--- frames in CLTUs.
+-- A session that was worked out by hand, to be read with the definitions. It is the session of `learnt_by_9` of
+-- tc_loop, with its frames in CLTUs.
 use Rattle.std.specs.Prelude.{ℕ, false, List, [], ◌∷◌, ◌++◌}
 use Rattle.tc_link.specs.declared.frame.Header.{Header}
 use Rattle.tc_cltu.specs.Cltu.{start_sequence, tail_sequence}

@@ -178,8 +178,8 @@ pub fn cltus_with_few_wrong_bits_bring_a_session()
 {}
 
 /// One session that was worked out by hand meets each premise of [`packets_in_cltus_are_given`], and so of
-/// [`packets_from_a_start_are_given`]. It is that of `learnt_by_9` of tc_loop, in CLTUs with wrong bits in three code
-/// blocks. The take gave the packet that was sent.
+/// [`packets_from_a_start_are_given`]. It is the session of `learnt_by_9` of tc_loop, in CLTUs with wrong bits in three
+/// code blocks. The take gave the packet that was sent.
 pub fn all_premises_are_met_at_once()
     ensures begins { IsStart start.learnt_by_9 }
     ensures can_be_sent { AllByRecursion (CanBeSent start.learnt_by_9.loop.limits true) example.one_unit }

@@ -4,7 +4,7 @@ use Rattle.tc_channel.specs.Examples as example
 use Rattle.tc_loop.proofs.Begun.{smallest-whole}
 use Rattle.tc_loop.proofs.Actions.{so-at}
 
--- numbers that are octets
+-- whether all numbers are octets
 abbrev pub small : List ℕ → Bool
 small [] = true
 small (x ∷ xs) = nat_lt x 256 && small xs

@@ -99,7 +99,7 @@ pub fn ad_frame(vcid: u8, ns: u8) -> [u8; 13] {
     ]
 }
 
-/// Returns the event of a frame with these octets. One growth may be refused.
+/// Returns the event of a frame with these octets, even if memory is refused once.
 pub fn frame_event(alloc: Global, octets: &[u8]) -> Result<Event, AllocError> {
     Ok(Event::Frame(octets_of(alloc, octets)?))
 }

@@ -6,7 +6,7 @@ use std::alloc::{AllocError, Global};
 use std::fmt::Display;
 use tc_channel::{Event, Octets};
 
-/// Returns an empty list with room for `count` items. One growth may be refused.
+/// Returns an empty list with room for `count` items, even if memory is refused once.
 pub fn room<T>(alloc: Global, count: usize) -> Result<Vec<T>, AllocError>
     ensures { IfOk result (λ list. list.items ≡ []) }
 {
@@ -16,7 +16,7 @@ pub fn room<T>(alloc: Global, count: usize) -> Result<Vec<T>, AllocError>
     }
 }
 
-/// Returns a list of this item alone. One growth may be refused.
+/// Returns a list of this item alone, even if memory is refused once.
 pub fn list_of<T: Drop>(alloc: Global, item: T) -> Result<Vec<T>, AllocError>
     ensures { IfOk result (λ list. list.items ≡ item ∷ []) }
 {
@@ -25,7 +25,7 @@ pub fn list_of<T: Drop>(alloc: Global, item: T) -> Result<Vec<T>, AllocError>
     Ok(list)
 }
 
-/// Returns a copy of these items. One growth may be refused.
+/// Returns a copy of these items, even if memory is refused once.
 pub fn copied<T: Copy>(alloc: Global, items: &[T]) -> Result<Vec<T>, AllocError> {
     match Vec::from_slice(alloc, items) {
         Ok(copy) => Ok(copy),
@@ -33,12 +33,12 @@ pub fn copied<T: Copy>(alloc: Global, items: &[T]) -> Result<Vec<T>, AllocError>
     }
 }
 
-/// Returns a copy of these octets on the heap. One growth may be refused.
+/// Returns a copy of these octets on the heap, even if memory is refused once.
 pub fn octets_of(alloc: Global, octets: &[u8]) -> Result<Octets, AllocError> {
     Ok(Octets::from(copied(alloc, octets)?))
 }
 
-/// Appends an event to a journal. One growth may be refused.
+/// Appends an event to a journal, even if memory is refused once.
 pub fn note(journal: &mut Vec<Event>, event: Event) -> Result<(), AllocError> {
     if journal.reserve(1).is_err() {
         journal.reserve(1)?;
@@ -65,8 +65,8 @@ pub fn made_again<T, E: Drop + PartialEq, F: Fn() -> Result<T, E>>(
     }
 }
 
-/// Returns whether a call gave the expected result. This is false if the call failed with `no_memory`, and `None` if it
-/// did neither.
+/// Returns `Some(true)` if a call gave the expected result, `Some(false)` if it failed with `no_memory`, and otherwise
+/// `None`.
 pub fn is_answered<T: Drop + PartialEq, E: Drop + PartialEq>(
     answer: Result<T, E>,
     expected: &T,
@@ -79,8 +79,8 @@ pub fn is_answered<T: Drop + PartialEq, E: Drop + PartialEq>(
     }
 }
 
-/// Returns whether a take gave the expected packet or unit. This is false if the take failed with `no_memory`, and
-/// `None` if it did neither.
+/// Returns `Some(true)` if a take gave the expected packet or unit, `Some(false)` if it failed with `no_memory`, and
+/// otherwise `None`.
 pub fn is_taken<E: Drop + PartialEq>(
     answer: Result<Vec<u8>, E>,
     item: &[u8],

@@ -66,7 +66,8 @@ static ON_AN_UNLISTED_MAP: [Step<'static>; 4] = [
     Holds(0, 1, Some(0)),
 ];
 
-// A plain data field of 7 octets is a unit within the limit of the others, and one of 8 isn't.
+// A plain data field of 7 octets is a unit within the limit for MAPs that aren't listed. One of 8 octets is over the
+// limit.
 static PLAIN_FIELDS: [Step<'static>; 4] = [
     Field(&EIGHT, PASSED),
     Field(&PACKET, DELIVERED),
@@ -81,7 +82,7 @@ const PLAIN: Wanted<'static> = Wanted {
     ..BOTH
 };
 
-// Creates limits. One growth may be refused.
+// Creates limits, even if memory is refused once.
 pub(super) fn limits_of(rt: &impl Abort, alloc: Global, others: u32, maps: &[MapLimit]) -> Limits {
     let maps = copied(alloc, maps).expect(rt, "limits");
     Limits {
@@ -129,8 +130,8 @@ const OVER_ON_3: MapLimit = MapLimit {
 
 const BAD_VCID: LimitsFault = LimitsFault::Settings(SettingsFault::BadVcid);
 
-// Settings, the limit of the other MAPs, those of listed ones, and the fault, which is the first one if there are
-// several.
+// Rows of settings, the limit of the MAPs that aren't listed, the limits of listed MAPs, and the first fault of these
+// limits with these settings, if there is one.
 static FAULTS: [(Wanted<'static>, u32, &[MapLimit], Option<LimitsFault>); 12] = [
     (NO_CHANNEL, 65_543, &[HIGH], Some(BAD_VCID)),
     (BOTH, 65_543, &[HIGH], Some(BadOthers)),

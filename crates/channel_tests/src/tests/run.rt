@@ -21,7 +21,7 @@ pub enum Step<'a> {
     NoRelease,
     NoTake(u16, TakeFault),
     NoTakeUnit(u8, TakeUnitFault),
-    // The word with both link flags 0.
+    // The CLCW with both link flags 0.
     Clcw(u32),
     // The numbers of fields in the buffer, of packets that wait for APID 5, and of units that wait for MAP 3.
     Holds(usize, usize, Option<usize>),
@@ -61,7 +61,7 @@ pub struct Run<C: Form> {
 }
 
 impl Run<Channel> {
-    // Checks that the channel's journal is as it must be.
+    // Checks that the channel has the expected journal.
     pub fn check_journal(&self, rt: &impl Abort) {
         assert_eq!(rt; self.channel.journal(), self.journal.as_slice());
     }

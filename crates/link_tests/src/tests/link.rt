@@ -12,7 +12,7 @@ fn window(rt: &impl Abort, width: u8) -> Window {
     Window::new(width).expect(rt, "a width")
 }
 
-// Brings a frame, for which there is no room in S2.
+// Brings a frame to FARM-1, with or without room for it. In S2 there is never room.
 fn arrive(farm: &mut Farm, kind: Kind, room: bool) -> Act {
     match farm.report().state {
         State::S2 => farm.step(Arrival::Frame { kind, room: false }),

@@ -57,7 +57,7 @@ fn packets_and(rt: &impl Abort, alloc: Global, count: usize, rest: &[u8]) -> Vec
     unit
 }
 
-// The numbers of packets and the rests of units, the last of which is the largest unit.
+// Units, each given as its number of packets and the rest after them. The last one is the largest unit.
 static CUT: [(usize, &[u8]); 3] = [(0, b""), (1, b"\xff"), (9_363, b"\xff")];
 
 #[test]

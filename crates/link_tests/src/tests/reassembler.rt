@@ -8,7 +8,7 @@ use std::process::Abort;
 use tc_packet::{NoMemory, Reassembler, Service, read_segment};
 use test_parts::made_again;
 
-// Returns the unit that a field, which isn't empty, would end.
+// Returns the unit that a field would end. The field isn't empty.
 fn ask(
     rt: &impl Abort,
     reassembler: &Reassembler,
@@ -19,7 +19,7 @@ fn ask(
     reassembler.unit_after(service, field)
 }
 
-// Brings a field, which isn't empty, and returns the unit that it ends.
+// Brings a field, and returns the unit that it ends. The field isn't empty.
 fn push(
     rt: &impl Abort,
     reassembler: &mut Reassembler,

@@ -59,7 +59,7 @@ fn length_of(rt: &(impl Abort + Print), alloc: Global, stream: &[u8]) -> Option<
     None
 }
 
-// Each of these has eight octets: zeros before a start sequence, a code block of zeros, and the tail sequence.
+// Parts of CLTUs, of eight octets each: zeros before a start sequence, a code block of zeros, and the tail sequence.
 const BEGIN: [u8; 8] = [0, 0, 0, 0, 0, 0, 0xeb, 0x90];
 
 const ZEROS: [u8; 8] = [0, 0, 0, 0, 0, 0, 0, 0xfe];

@@ -235,7 +235,7 @@ fn act_both<R: Threads + Wait + Clock + Sync>(
 }
 
 // Lets two threads take the lock when they find it free, at most `times` times each, while the third writes after a
-// while. Returns whether the third has written before the others were done.
+// while. Returns whether the third wrote before the others were done.
 pub(super) fn against_two<R: Threads + Wait + Clock + Sync>(
     rt: &R,
     lock: &BookLock,

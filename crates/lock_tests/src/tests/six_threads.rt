@@ -122,7 +122,7 @@ fn work_by_four<R: Threads + Wait + Clock + Sync>(
     a && b
 }
 
-// Reports to the first seat the entries that both have seen and made.
+// Reports to the first seat the entries that the two seats of a pair have seen and made.
 fn report_both(lock: &BookLock, first: &mut BookSeat, pair: Pair)
     requires first { (first.old.table_id ≡ lock.now.id) × (first.old.id ≡ 0) × (first.old.me.0.live ≡ true) }
     requires one { IsWriter lock.now pair.one.seat }
@@ -135,8 +135,8 @@ fn report_both(lock: &BookLock, first: &mut BookSeat, pair: Pair)
     lock.report(first, two.seat);
 }
 
-// Returns the book of a lock that no other seat has. The first seat takes it out, once it knows the entries that the
-// six have seen and made.
+// Takes the book out from under the lock, and returns it. The first seat takes it out, once it knows the entries that
+// the six other seats have seen and made.
 fn close<R: Wait>(rt: &R, alloc: Global, lock: &BookLock, mut first: BookSeat, six: Six) -> Book
     requires first { IsWriter lock.now first × (first.id ≡ 0) }
     requires one { IsWriter lock.now six.one.one.seat × IsWriter lock.now six.one.two.seat }

@@ -47,7 +47,7 @@ fn who_has_it_all_the_time_keeps_nobody_away(rt: HostRuntime) {
 
 // Two threads that only try the lock take it each time before a thread that is woken can take it. So a thread that
 // sleeps gets the lock only if the lock is reserved for it, and it requests that once it has slept twice. Each of its
-// three turns then waits for about four of theirs.
+// three turns then waits for about four turns of the other threads.
 #[test]
 fn who_has_slept_twice_comes_before_who_only_tries(rt: HostRuntime) {
     let (lock, mut first) = new_lock(&rt, rt.alloc());

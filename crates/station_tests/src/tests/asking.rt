@@ -189,7 +189,7 @@ pub(super) struct OperatorList<J: Journal> {
     ghost ours: { IsOurs station operator },
 }
 
-// Issues the only operator of a station. One growth may be refused.
+// Issues the only operator of a station, even if memory is refused once.
 fn only_operator<J: Journal>(rt: &(impl Abort + Print), station: &mut StationOf<J>) -> Operator
     ensures ours { IsOurs station.new result }
     ensures same { station.new.vcids ≡ station.old.vcids }

@@ -164,7 +164,7 @@ fn growth_of_a_board_whose_watchers_read_what_was_published_last(rt: HostRuntime
     published.check(&rt, 0x01041801);
 }
 
-// Creates a list of two Unlocks, on lines 5 and 6. One growth may be refused.
+// Creates a list of two Unlocks, on lines 5 and 6, even if memory is refused once.
 fn two_unlocks(rt: &impl Abort, alloc: Global) -> WorkList {
     let mut jobs = room(alloc, 2).expect(rt, "room");
     for line in 5..7 {

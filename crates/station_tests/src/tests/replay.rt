@@ -16,7 +16,7 @@ pub(super) struct Row<'a> {
     pub(super) answers: &'a str,
 }
 
-// Creates the settings of channel 1, or of channel 2, which differ in their first V(R) only.
+// Creates the settings of channel 1 or of channel 2. The two differ only in their first V(R).
 pub(super) fn row_settings(rt: &impl Abort, alloc: Global, row: &Row, vcid: u8) -> Settings {
     let first = if vcid == 1 { 0 } else { 100 };
     let wanted = Wanted {
@@ -27,7 +27,7 @@ pub(super) fn row_settings(rt: &impl Abort, alloc: Global, row: &Row, vcid: u8) 
     settings(alloc, &wanted).expect(rt, "settings")
 }
 
-// Creates a channel with such settings. One growth may be refused.
+// Creates a channel with such settings, even if memory is refused once.
 pub(super) fn new_channel(rt: &impl Abort, alloc: Global, row: &Row, vcid: u8) -> Channel {
     match Channel::new(alloc, row_settings(rt, alloc, row, vcid)) {
         Ok(channel) => channel,
@@ -71,7 +71,7 @@ pub(super) fn ask<A: Asking, R: Wait + Abort + Print>(
     text_of(rt, alloc, &answer.expect(rt, "an answer"))
 }
 
-// Returns the text of an answer. One growth may be refused.
+// Returns the text of an answer, even if memory is refused once.
 fn text_of(rt: &impl Abort, alloc: Global, answer: &Answer) -> String {
     match answer.to_string(alloc) {
         Ok(text) => text,
@@ -79,8 +79,8 @@ fn text_of(rt: &impl Abort, alloc: Global, answer: &Answer) -> String {
     }
 }
 
-// Returns the octets of the frame without its fill. Their number is one more than the number in the ten bits of length
-// of the header.
+// Returns the octets of the frame without its fill. Their number is one more than the value of the length field, which
+// is ten bits of the header.
 fn without_fill(octets: &[u8]) -> Option<&[u8]> {
     let high = *octets.get(2)? & 3;
     let low = *octets.get(3)?;
@@ -251,7 +251,7 @@ fn read_line(rt: &(impl Abort + Print), alloc: Global, line: &str) -> Line {
     made_again(rt, "parse_line", Reason::NoMemory, &parse).expect(rt, "a line")
 }
 
-// Creates a station for spacecraft 42 with virtual channels 2 and 1, in this order. One growth may be refused.
+// Creates a station for spacecraft 42 with virtual channels 2 and 1, in this order, even if memory is refused once.
 fn new_station<J: Journal>(rt: &(impl Abort + Print), alloc: Global, row: &Row) -> StationOf<J> {
     for _ in 0..2 {
         let mut list = room(alloc, 2).expect(rt, "room");

@@ -254,8 +254,8 @@ fn check_alike(rt: &impl Abort, channel: &Channel, closed: &Channel) {
     assert!(rt; channel.queued(5) == closed.queued(5));
 }
 
-// Returns the answers of a new channel to the events of the closed one's journal, and checks that both channels are
-// alike then.
+// Returns the answers of a new channel to the events of the closed one's journal, and checks that both channels then
+// report the same.
 fn answers_again(rt: &impl Abort, alloc: Global, closed: &Channel) -> Vec<Answer> {
     let mut channel = Channel::new(alloc, settings(alloc, &CHANNEL).expect(rt, "settings")).expect(
         rt,

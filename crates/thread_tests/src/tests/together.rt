@@ -15,7 +15,7 @@ const TO_CHANNEL_2: u8 = 0x08;
 // The number of frames that each worker brings to each channel.
 const FRAMES: u8 = 200;
 
-// Returns a Type-BD frame for the channel of the third octet. Its data field names the worker and the frame.
+// Returns a Type-BD frame for the channel that this third octet names. Its data field names the worker and the frame.
 fn frame(third: u8, worker: u8, number: u8) -> [u8; 8] {
     [0x20, 0x2a, third, 0x07, 0x00, 0xc0, worker, number]
 }

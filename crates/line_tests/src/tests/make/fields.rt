@@ -5,7 +5,7 @@ use std::alloc::Global;
 use tc_fecf::{FieldFault, with_field, without_field};
 use tc_link::FrameFault;
 
-// Frames without and with their field.
+// Pairs of a frame without and with its frame error control field.
 const FRAMES: [(&str, &str); 3] = [
     (
         "002a040c00c01005c0000000aa",
@@ -52,7 +52,7 @@ fn the_longest_and_the_shortest_frame(rt: HostRuntime) {
     }
 }
 
-// Octets, and the fault for which no field is taken off.
+// Octets from which no frame error control field is removed, each with the fault that is returned.
 const REFUSED: [(&str, FieldFault); 8] = [
     ("002a04", FieldFault::NoFrame(FrameFault::Short)),
     (

@@ -26,8 +26,8 @@ impl Read for Endless {
     }
 }
 
-// Checks that all is answered, or that the failed read is reported and nothing is answered. Returns whether the script
-// is read before this read fails.
+// Checks that the whole script is answered, or that the failed read is reported and nothing is answered. Returns
+// whether the script is read before this read fails.
 fn is_read<T: Abort + Threads + Wait + Sync + AllocGlobal>(
     rt: &T,
     way: Way,

@@ -10,7 +10,7 @@ use std::sync::Wait;
 use std::thread::{Threads, join_mut};
 use tc_desk::DeskOperator;
 
-// The number of frames that each of them brings.
+// The number of frames that each of the two threads brings.
 const TURNS: u8 = 250;
 
 // Returns the BD frame of this thread's turn. Its unit has two octets: the number of the thread, and that of the turn.

@@ -1,4 +1,4 @@
-//! The close of two desks at once, with all workers that have an operator at each.
+//! Closing two desks at once, with all workers that have an operator at each of them.
 
 ghost use Rattle.std.specs.Prelude.{◌≡◌, ◌∷◌, [], map};
 ghost use Rattle.tc_desk.specs.Together.{AreOurs};
