@@ -422,19 +422,19 @@ typedef struct {
 /** The outcome for the unit that a released data field ended. If it ended none, each number is 0. */
 typedef struct {
     tcrx_status status; /**< #TCRX_DONE, or the reason why the call failed. */
-    uint32_t queued;    /**< As in #tcrx_reply. */
-    uint32_t dropped;   /**< As in #tcrx_reply. */
-    uint8_t rest;       /**< As in #tcrx_reply. */
+    uint32_t queued;    /**< The number of packets that were queued, or 1 for a unit that was queued whole. */
+    uint32_t dropped;   /**< The number of packets that were dropped, or 1 for a whole unit that was dropped. */
+    uint8_t rest;       /**< 1 if octets were left that don't begin with a packet, otherwise 0. */
 } tcrx_delivery;
 
 /** The outcome for a frame, and the channel that took it in. */
 typedef struct {
     tcrx_status status; /**< #TCRX_DONE, or the reason why the call failed. */
-    uint32_t queued;    /**< As in #tcrx_reply. */
-    uint32_t dropped;   /**< As in #tcrx_reply. */
-    uint8_t event;      /**< As in #tcrx_reply. */
-    uint8_t accepted;   /**< As in #tcrx_reply. */
-    uint8_t rest;       /**< As in #tcrx_reply. */
+    uint32_t queued;    /**< The number of packets that were queued, or 1 for a unit that was queued whole. */
+    uint32_t dropped;   /**< The number of packets that were dropped, or 1 for a whole unit that was dropped. */
+    uint8_t event;      /**< The row E1 to E9 of the state table of FARM-1, as a number from 1 to 9. */
+    uint8_t accepted;   /**< 1 if the frame's data was accepted, otherwise 0. It is also 0 for a control command. */
+    uint8_t rest;       /**< 1 if octets were left that don't begin with a packet, otherwise 0. */
     uint8_t vcid;       /**< The virtual channel id of that channel, 0 to 63. */
 } tcrx_rack_reply;
 
@@ -444,11 +444,11 @@ typedef struct {
  */
 typedef struct {
     tcrx_status status; /**< #TCRX_DONE, or the reason why the call failed. */
-    uint32_t queued;    /**< As in #tcrx_reply. */
-    uint32_t dropped;   /**< As in #tcrx_reply. */
-    uint8_t event;      /**< As in #tcrx_reply. */
-    uint8_t accepted;   /**< As in #tcrx_reply. */
-    uint8_t rest;       /**< As in #tcrx_reply. */
+    uint32_t queued;    /**< The number of packets that were queued, or 1 for a unit that was queued whole. */
+    uint32_t dropped;   /**< The number of packets that were dropped, or 1 for a whole unit that was dropped. */
+    uint8_t event;      /**< The row E1 to E9 of the state table of FARM-1, as a number from 1 to 9. */
+    uint8_t accepted;   /**< 1 if the frame's data was accepted, otherwise 0. It is also 0 for a control command. */
+    uint8_t rest;       /**< 1 if octets were left that don't begin with a packet, otherwise 0. */
     uint8_t vcid;       /**< The virtual channel id of that channel, 0 to 63. */
     uint8_t more;       /**< 1 if more follows the frame than can be fill: over six octets, or another frame. */
     uint16_t length;    /**< The number of octets in the frame, 6 to 1,024, with its frame error control field. */
@@ -1247,7 +1247,7 @@ static inline tcrx_place tcrx_rack_find(tcrx_channel *channels, size_t channel_c
 /**
  * @defgroup tcrx_static Memory in a static array
  *
- * These are for a program that is linked with tcrx_static.c, on a machine of 64 bits.
+ * These macros and functions are for a program that is linked with tcrx_static.c, on a machine of 64 bits.
  * @{
  */
 

@@ -446,26 +446,26 @@ records! {
     Delivery as "tcrx_delivery" {
         /// `TCRX_DONE`, or the reason why the call failed.
         status: Status,
-        /// As in `tcrx_reply`.
+        /// The number of packets that were queued, or 1 for a unit that was queued whole.
         queued: u32,
-        /// As in `tcrx_reply`.
+        /// The number of packets that were dropped, or 1 for a whole unit that was dropped.
         dropped: u32,
-        /// As in `tcrx_reply`.
+        /// 1 if octets were left that don't begin with a packet, otherwise 0.
         rest: u8,
     }
     /// The outcome for a frame, and the channel that took it in.
     RackReply as "tcrx_rack_reply" {
         /// `TCRX_DONE`, or the reason why the call failed.
         status: Status,
-        /// As in `tcrx_reply`.
+        /// The number of packets that were queued, or 1 for a unit that was queued whole.
         queued: u32,
-        /// As in `tcrx_reply`.
+        /// The number of packets that were dropped, or 1 for a whole unit that was dropped.
         dropped: u32,
-        /// As in `tcrx_reply`.
+        /// The row E1 to E9 of the state table of FARM-1, as a number from 1 to 9.
         event: u8,
-        /// As in `tcrx_reply`.
+        /// 1 if the frame's data was accepted, otherwise 0. It is also 0 for a control command.
         accepted: u8,
-        /// As in `tcrx_reply`.
+        /// 1 if octets were left that don't begin with a packet, otherwise 0.
         rest: u8,
         /// The virtual channel id of that channel, 0 to 63.
         vcid: u8,
@@ -475,15 +475,15 @@ records! {
     CandidateReply as "tcrx_candidate_reply" {
         /// `TCRX_DONE`, or the reason why the call failed.
         status: Status,
-        /// As in `tcrx_reply`.
+        /// The number of packets that were queued, or 1 for a unit that was queued whole.
         queued: u32,
-        /// As in `tcrx_reply`.
+        /// The number of packets that were dropped, or 1 for a whole unit that was dropped.
         dropped: u32,
-        /// As in `tcrx_reply`.
+        /// The row E1 to E9 of the state table of FARM-1, as a number from 1 to 9.
         event: u8,
-        /// As in `tcrx_reply`.
+        /// 1 if the frame's data was accepted, otherwise 0. It is also 0 for a control command.
         accepted: u8,
-        /// As in `tcrx_reply`.
+        /// 1 if octets were left that don't begin with a packet, otherwise 0.
         rest: u8,
         /// The virtual channel id of that channel, 0 to 63.
         vcid: u8,
