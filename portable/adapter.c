@@ -77,7 +77,8 @@ uint8_t *EXPORT(module_frames)(void) {
     return frames;
 }
 
-/* Returns room in the module for this many octets or entries, until it is returned. Returns null if there is none. */
+/* Reserves room in the module for this many octets or entries, which the next call frees. Returns null if there is
+ * none. */
 void *EXPORT(module_room)(u32 count) {
     return heap_take(count);
 }

@@ -19,7 +19,7 @@ static const uint8_t states[6][4] = {
     {TCRX_OPEN, 0, 0, 0}, {TCRX_OPEN, 0, 0, 1}, {TCRX_WAIT, 0, 1, 1},
     {TCRX_LOCKOUT, 1, 0, 0}, {TCRX_LOCKOUT, 1, 0, 1}, {TCRX_LOCKOUT, 1, 1, 1},
 };
-static uint8_t places[255][256]; /* by width and N(S) - V(R) */
+static uint8_t places[255][256]; /* the place of N(S), by width and N(S) - V(R) */
 static uint64_t checked, failed;
 
 static inline void expect(bool good, const char *what, tcrx_farm farm, unsigned arrival, unsigned number, unsigned room) {

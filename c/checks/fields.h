@@ -13,8 +13,8 @@
 
 enum { MOST_OCTETS = 308, OF_FRAME = 8, OF_CLCW = 9, OF_PACKET = 6, OF_FARM = 7 };
 
-/* Spacecraft id, virtual channel id, N(S), bypass flag, control command flag and length. Then the kind and its
- * number. */
+/* Each row has the spacecraft id, virtual channel id, N(S), bypass flag, control command flag and length, and then the
+ * kind and its number. */
 typedef struct {
     uint8_t octets[MOST_OCTETS];
     size_t count;
@@ -31,28 +31,29 @@ static const frame_row frame_rows[] = {
     {{0x12, 0xa3, 0x00, 0x05, 0x80, 0x00, 0x55}, 7, {675, 0, 128, 0, 1, 6, TCRX_INVALID, 0}},
 };
 
-/* Status field, virtual channel id, No RF Available, No Bit Lock, Lockout, Wait, Retransmit, FARM-B counter, report value. */
+/* Each row has the status field, virtual channel id, No RF Available, No Bit Lock, Lockout, Wait, Retransmit, FARM-B
+ * counter and report value. */
 typedef struct {
     uint32_t word;
     uint32_t fields[OF_CLCW];
 } clcw_row;
 
-/* Each flag alone, and the largest status field. */
+/* The rows have each flag alone, and the largest status field. */
 static const clcw_row clcw_rows[] = {
     {0x019484b5, {0, 37, 1, 0, 0, 0, 0, 2, 181}}, {0x019444b5, {0, 37, 0, 1, 0, 0, 0, 2, 181}},
     {0x019424b5, {0, 37, 0, 0, 1, 0, 0, 2, 181}}, {0x019414b5, {0, 37, 0, 0, 0, 1, 0, 2, 181}},
     {0x01940cb5, {0, 37, 0, 0, 0, 0, 1, 2, 181}}, {0x1d9404b5, {7, 37, 0, 0, 0, 0, 0, 2, 181}},
 };
 
-/* Length, APID, sequence count, packet type, secondary header flag, sequence flags. */
+/* Each row has the length, APID, sequence count, packet type, secondary header flag and sequence flags. */
 typedef struct {
     uint8_t octets[MOST_OCTETS];
     size_t count;
     uint32_t fields[OF_PACKET];
 } packet_row;
 
-/* Each value of the sequence flags, and the packet type and the secondary header flag each with and without the
- * other. */
+/* The rows have each value of the sequence flags, and the packet type and the secondary header flag each with and
+ * without the other. */
 static const packet_row packet_rows[] = {
     {{0x1d, 0xa5, 0x12, 0x34, 0x00, 0x02, 0xaa, 0xbb, 0xcc, 0x55}, 10, {9, 1445, 4660, 1, 1, 0}},
     {{0x00, 0x05, 0x40, 0x01, 0x00, 0x00, 0xaa, 0x55}, 8, {7, 5, 1, 0, 0, 1}},
@@ -67,10 +68,10 @@ typedef struct {
 } made_row;
 
 /*
- * For spacecraft 675. A unit is sent in segments of three octets for MAP 37, over Type-AD frames of channel 37 from
- * N(S) 255 on, and whole over one Type-BD frame with N(S) 200. Unlock and Set V(R) to 9 are sent for channel 12. Then
- * comes the first frame of frame_rows with its frame error control field, by the CRC of another implementation
- * (Python's binascii.crc_hqx, preset to ones).
+ * These frames are for spacecraft 675. A unit is sent in segments of three octets for MAP 37, over Type-AD frames of
+ * channel 37 from N(S) 255 on, and whole over one Type-BD frame with N(S) 200. Unlock and Set V(R) to 9 are sent for
+ * channel 12. Then comes the first frame of frame_rows with its frame error control field, by the CRC of another
+ * implementation (Python's binascii.crc_hqx, preset to ones).
  */
 static const uint8_t made_unit[] = {1, 2, 3, 4, 5, 6, 7};
 static const made_row segment_rows[] = {
@@ -98,7 +99,7 @@ enum { TM_CLCW = 0x1d9484b5 };
 static const made_row tm_row = {{0x2a, 0x3b, 0xc8, 0x4d, 0x1f, 0xfe, 0x55, 0x55, 0x55, 0x1d, 0x94, 0x84, 0xb5}, 13};
 static const made_row tm_fecf_row = {{0x2a, 0x3b, 0xc8, 0x4d, 0x1f, 0xfe, 0x55, 0x55, 0x55, 0x1d, 0x94, 0x84, 0xb5, 0x7e, 0xe3}, 15};
 
-/* Width, state, V(R), FARM-B counter, Lockout, Wait and Retransmit of FARM-1 after the frame. */
+/* The width, state, V(R), FARM-B counter, Lockout, Wait and Retransmit of FARM-1 after the frame. */
 typedef struct {
     uint8_t octets[6];
     uint32_t fields[OF_FARM];

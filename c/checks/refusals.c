@@ -28,7 +28,7 @@ static bool is_filled(const uint8_t *octets, size_t count) {
 }
 
 /* Checks records that are rejected, each with its status, in a step and in a CLCW. Then checks steps of a record that
- * isn't. */
+ * is accepted. */
 static void check_records(void) {
     static const struct { tcrx_farm farm; tcrx_status status; } rows[] = {
         {{0, 0, 7, 4, 2, 0, 0}, TCRX_BAD_WIDTH}, {{3, 1, 7, 0, 0, 0, 0}, TCRX_BAD_WIDTH}, {{255, 1, 7, 0, 0, 0, 0}, TCRX_BAD_WIDTH},
@@ -436,8 +436,8 @@ static void check_rack_refusals(uint8_t fecf) {
     expect_unracked(tcrx_rack_frame(NULL, 1, CRAFT, fecf, octets, count), TCRX_NULL, 33);
     expect_unracked(tcrx_rack_frame(NULL, 0, CRAFT, fecf, octets, count), TCRX_UNKNOWN_CHANNEL, 34);
     expect_unracked(tcrx_rack_frame(rack, FIRST, CRAFT, fecf, octets, count), TCRX_UNKNOWN_CHANNEL, 35);
-    /* Another spacecraft is rejected before an unknown channel, and both after the check. Up to six octets behind a
-     * frame are fill. */
+    /* A frame for another spacecraft is rejected before one for an unknown channel, and both after a wrong frame error
+     * control field. Up to six octets behind a frame are fill. */
     rack_octets(CRAFT, 9, 0, fecf, octets);
     for (size_t behind = 0; behind < 20; behind++) {
         expect_no_candidate(CRAFT, fecf, octets, count + behind, TCRX_UNKNOWN_CHANNEL, count, behind > 6);

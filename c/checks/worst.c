@@ -54,7 +54,7 @@ static int begin(uint8_t flags, uint8_t map, int is_one) {
     return 1;
 }
 
-/* Makes the last segment of such a unit. */
+/* Makes the last segment of a largest unit. */
 static size_t make_last(uint8_t flags, uint8_t map, int is_one) {
     return make(flags, (uint8_t)(LAST | map), is_one, (size_t)PARTS * BODY, LARGEST - (size_t)PARTS * BODY);
 }

@@ -46,7 +46,7 @@ static int next_octet(void) {
     return script_read == script_length ? EOF : (unsigned char)script[script_read++];
 }
 
-/* Reads a line into `line`, without its line feed, and sets its length. No more of it is kept than a line may have.
+/* Reads a line into `line`, without its line feed, and sets its length. Keeps no more octets than a line may have.
  * Returns false at the end. */
 static bool next_line(size_t *length) {
     const size_t most = is_script ? LONGEST_SCRIPT : LONGEST;

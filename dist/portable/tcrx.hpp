@@ -236,8 +236,8 @@ constexpr std::uint8_t flag(bool given) noexcept {
     return given ? 1 : 0;
 }
 
-/** Returns a pointer for a call. An empty view has no pointer, but the library must be given one. A count without a
- * pointer stays a fault. */
+/** Returns a pointer for a call. An empty view has no pointer, but the library must be given one. If a view has a count
+ * but no pointer, the call still fails. */
 inline const std::uint8_t *pointer(Octets octets) noexcept {
     static constexpr std::uint8_t nothing = 0;
     return octets.data() == nullptr && octets.empty() ? &nothing : octets.data();

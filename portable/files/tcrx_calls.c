@@ -381,7 +381,8 @@ static void set_numbers(tcrx_instance *at, const uint32_t *numbers) {
     }
 }
 
-/* Copies octets into the memory of an instance, until they are returned. Returns 0 if it has no room for them. */
+/* Copies octets into the memory of an instance, in room that the caller frees later. Returns 0 if there is no room for
+ * them. */
 static uint32_t copied(tcrx_instance *at, const uint8_t *octets, uint32_t count) {
     const uint32_t place = (uint32_t)Z_tcrxZ_module_room(&at->module, count);
     if (place != 0) {

@@ -31,8 +31,8 @@
 #define TCRX_MODULE_UNLOCK() ((void)0)
 #endif
 
-/* One more than the most octets of a frame, so that a call sees that octets follow it, and the most octets of a
- * packet. */
+/* The largest number of octets in a frame and one more, by which a call sees that octets follow the frame, and the
+ * largest number of octets in a packet. */
 enum { TCRX_MODULE_FRAME = 2049, TCRX_MODULE_PACKET = 65542 };
 
 /* An instance, and the places in its memory for numbers, for a frame that is read, for one that is written, and for a

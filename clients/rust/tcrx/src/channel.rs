@@ -221,33 +221,33 @@ impl Channel {
 
     /// Returns the record of the channel's FARM-1.
     pub fn report(&self) -> Farm {
-        // SAFETY: as for `clcw`.
+        // SAFETY: this call is safe for the reasons given in `clcw`.
         Farm::of(unsafe { sys::tcrx_channel_report_at(self.0.get()) }.farm)
     }
 
     /// Returns the number of data fields that wait in the buffer.
     pub fn buffered(&self) -> u64 {
-        // SAFETY: as for `clcw`.
+        // SAFETY: this call is safe for the reasons given in `clcw`.
         unsafe { sys::tcrx_channel_buffered_at(self.0.get()) }.count
     }
 
     /// Returns the number of packets that wait in the queue of an application, or `None` if it has no queue.
     pub fn queued(&self, apid: u16) -> Option<u64> {
-        // SAFETY: as for `clcw`.
+        // SAFETY: this call is safe for the reasons given in `clcw`.
         let answer = unsafe { sys::tcrx_channel_queued_at(self.0.get(), apid) };
         (answer.status == sys::DONE).then_some(answer.count)
     }
 
     /// Returns the number of units that wait in the queue of a MAP, or `None` if the MAP isn't chosen.
     pub fn units(&self, map: u8) -> Option<u64> {
-        // SAFETY: as for `clcw`.
+        // SAFETY: this call is safe for the reasons given in `clcw`.
         let answer = unsafe { sys::tcrx_channel_units_at(self.0.get(), map) };
         (answer.status == sys::DONE).then_some(answer.count)
     }
 
     /// Returns the number of frames, releases and takes that were done.
     pub fn events(&self) -> u64 {
-        // SAFETY: as for `clcw`.
+        // SAFETY: this call is safe for the reasons given in `clcw`.
         unsafe { sys::tcrx_channel_events_at(self.0.get()) }.count
     }
 
@@ -304,7 +304,7 @@ impl Rack<'_> {
     /// is as long as its length field says, which is read before its frame error control field is checked.
     pub fn candidate<'octets>(&mut self, octets: &'octets [u8]) -> Carried<'octets> {
         let (at, count) = (self.channels.as_mut_ptr().cast(), self.channels.len());
-        // SAFETY: as for `frame`.
+        // SAFETY: this call is safe for the reasons given in `frame`.
         let reply = unsafe { sys::tcrx_rack_candidate_at(at, count, self.scid, self.fecf.into(), octets.as_ptr(), octets.len()) };
         let frame = if reply.status == sys::DONE {
             let delivery = Delivery { queued: reply.queued, dropped: reply.dropped, rest: reply.rest == 1 };
@@ -318,7 +318,7 @@ impl Rack<'_> {
     /// Returns the channel with this virtual channel id.
     pub fn channel(&mut self, vcid: u8) -> Option<&mut Channel> {
         let (at, count) = (self.channels.as_mut_ptr().cast(), self.channels.len());
-        // SAFETY: as for `frame`.
+        // SAFETY: this call is safe for the reasons given in `frame`.
         let found = unsafe { sys::tcrx_rack_find_at(at, count, vcid) };
         if found.status == sys::DONE {
             self.channels.get_mut(found.place)
