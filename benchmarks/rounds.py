@@ -22,7 +22,7 @@ FRAMES: List[bytes] = [bytes.fromhex(f"002a040c{number:02x}c01005c0000000aa") fo
 
 def packets_of(rounds: int, bring: Callable[[bytes], Brought | Refused], release: Callable[[], Released | Refused],
                take: Callable[[], Packet | Refused]) -> int:
-    """Makes rounds, and returns how many packets were taken by those that went as they must."""
+    """Makes rounds, and returns in how many of them the frame was accepted and released, and its packet taken."""
     taken = 0
     for number in range(rounds):
         brought, released, packet = bring(FRAMES[number & 255]), release(), take()

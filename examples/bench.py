@@ -40,10 +40,10 @@ def run(seed: int, fecf: bool, count: int = 300, tclive: Optional[Path] = None, 
     with begin(fecf, tclive) as receiver:
         while len(came) < count:
             clcw = receiver.clcw(1)
-            assert clcw  # channel 1 is there
+            assert clcw  # the receiver has channel 1
             moved = (clcw.vr - acknowledged) % 256
-            acknowledged += moved  # as N(R): each frame before it was accepted
-            first = acknowledged if clcw.retransmit or not moved else sent  # if nothing moved, as after a timer
+            acknowledged += moved  # each frame before V(R) was accepted
+            first = acknowledged if clcw.retransmit or not moved else sent  # as after a timer if V(R) stayed
             sent = first if clcw.lockout or clcw.wait else min(acknowledged + 10, count)
             for frame in [unlock] * clcw.lockout + frames[first:sent]:
                 past.append(frame)

@@ -183,7 +183,7 @@ fn lines(text: &[u8]) -> impl Iterator<Item = (u32, &[u8])> {
     (1..).zip(some.into_iter().flatten())
 }
 
-/// The lines that set up, until the first operation.
+/// The lines before the first operation, which set channels up.
 struct Setup {
     settings: Vec<Settings>,
     is_open: bool,
