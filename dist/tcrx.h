@@ -1271,7 +1271,7 @@ static inline tcrx_place tcrx_rack_find(tcrx_channel *channels, size_t channel_c
  */
 #define TCRX_STORAGE_QUEUES(count, capacity, largest) ((size_t)(count) * ((size_t)(capacity) * (32u + (size_t)(largest)) + 68u))
 
-/** The part for `count` chosen MAPs whose queues hold `capacity` units each. `largest` is that of the packet queues. */
+/** The part for `count` chosen MAPs whose queues hold `capacity` units each. `largest` is as for the packet queues. */
 #define TCRX_STORAGE_MAPS(count, capacity, largest) TCRX_STORAGE_QUEUES(count, capacity, largest)
 
 /**

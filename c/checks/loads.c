@@ -20,7 +20,7 @@
 
 enum { FIRST = 1, CONTINUING = 0, LAST = 2, UNSEGMENTED = 3, MOST_FRAME = 1024, MOST_PACKET = 65542, MAPS = 64, PAYLOADS = 63, SMALL = 1500 };
 
-#ifdef UNSEALED /* over the portable C, which has its own memory */
+#ifdef UNSEALED /* The portable C has its own memory. */
 #define tcrx_storage_used() ((size_t)0)
 #define tcrx_storage_seal() ((void)0)
 #else

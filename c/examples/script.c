@@ -64,7 +64,7 @@ static bool next_line(size_t *length) {
     return true;
 }
 
-/* Splits a line into words. Words beyond the last that any line has are counted as one more. */
+/* Splits a line into words. If there are more words than any line has, those beyond that number are counted as one. */
 static void split(size_t length) {
     word_count = 0;
     for (size_t at = 0; at < length && word_count < MOST_WORDS;) {

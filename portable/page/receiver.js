@@ -119,7 +119,7 @@ class Channel {
     for (const at of [queues, maps]) calls.module_room_back(BigInt(at));
     return status;
   }
-  /* Brings octets to the rack that has only this channel, for a spacecraft. */
+  /* Brings octets for a spacecraft to the rack that has only this channel. */
   bring(scid, octets) {
     const status = this.instance.calls.module_rack_frame(scid, 0, BigInt(this.instance.read), this.instance.putFrame(octets));
     const [queued, dropped, event, accepted, rest, vcid] = this.instance.numbers();

@@ -1,7 +1,7 @@
 //! A station, an operator and a watcher at work on one frame: the example of the page on the library, docs/howto/library.md.
 //!
-//! It prints whether the frame was accepted and how many packets were queued, the length of the packet that it brought,
-//! the CLCW after it, and the number of events in the channel's journal at the end.
+//! The program prints whether the frame was accepted, how many packets were queued, the length of the packet that the
+//! frame brought, the CLCW after the frame, and the number of events in the channel's journal at the end.
 #![tactic(auto)]
 
 #[cfg(test)]

@@ -77,7 +77,7 @@ fn new_operators<J: Journal>(
     }
 }
 
-// Closes a station that is in balance with these operators. If one growth is refused, the call returns the station and
+// Closes a station that is in balance with these operators. If memory is refused once, the call returns the station and
 // the operators, and a second call closes the station.
 fn closed(rt: &(impl Abort + Print), station: Station, operators: Vec<Operator>) -> Vec<Channel>
     requires { All (λ o. o.vcids ≡ station.vcids) operators.items }

@@ -14,7 +14,7 @@ use tc_fixed::{FixedChannel, Limits, MapLimit, storage_with_limits};
 // The piece that a row brings for a key.
 #[derive(Clone, Copy)]
 enum Piece {
-    // The largest packet that a data field without a segment header has, for the application.
+    // The largest packet that fits a data field without a segment header, for the application.
     Plain(Kind),
     // An unsegmented packet of seven octets for the application.
     Packet,
@@ -58,7 +58,7 @@ fn plain_rows(plan: &Plan) -> [Row; 2] {
 // Frames of a hostile sender, for the channel of `MANY` with 70 queues of two packets and three chosen MAPs of three
 // units. Each frame gets the answer that the model gives, whatever came before.
 static HOSTILE_ROWS: [Row; 16] = [
-    // A thousand first segments over 16 MAPs: each begins the run of its MAP anew, and none ends.
+    // A thousand first segments over 16 MAPs. Each begins the run of its MAP anew, and no run ends.
     (BEGUN, (0, 16), 1_000, NOTHING),
     // Packets for queues that are empty and then full, and for no queue, and units for queues that are empty and then
     // full.

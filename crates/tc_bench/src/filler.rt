@@ -43,7 +43,7 @@ pub(crate) enum Kind {
     Next,
     /// The Type-AD frame that is expected, for which there is room, and whose data field is then released.
     Released,
-    /// A Type-AD frame with the N(S) of the one before, which is discarded.
+    /// A Type-AD frame that repeats the N(S) of the frame before it. It is discarded.
     Again,
     /// A Type-BD frame.
     Bypassing,

@@ -71,7 +71,7 @@ abbrev pub IsUnfit : Result Settings Status → Status → Type 0
 IsUnfit (Err flag) fault = fault ≡ flag
 IsUnfit (Ok s) fault = (f : SettingsFault) × IsFault s f × (fault ≡ settings_status f)
 
--- the reason why no channel is created: one of those above, or running out of memory if a channel can be created
+-- the reason why no channel is created: the reason of `IsUnfit` or, if a channel can be created, running out of memory
 abbrev pub IsRefusedBy : Result Settings Status → Status → Type 0
 IsRefusedBy given fault = IsUnfit given fault ⊎ ((fault ≡ NoMemory) × (s : Settings) × (given ≡ Ok s) × IsAllowed s)
 
@@ -85,8 +85,8 @@ abbrev pub IsUnfitWithin : Result Settings Status → Limits → Status → Type
 IsUnfitWithin (Err flag) limits fault = fault ≡ flag
 IsUnfitWithin (Ok s) limits fault = (f : LimitsFault) × IsFaultWithLimits s limits f × (fault ≡ limits_status f)
 
--- the reason why no channel is created within these limits: one of those above, or running out of memory if a channel
--- can be created
+-- the reason why no channel is created within these limits: the reason of `IsUnfitWithin` or, if a channel can be
+-- created, running out of memory
 abbrev pub IsRefusedWithin : Result Settings Status → Limits → Status → Type 0
 IsRefusedWithin given limits fault = IsUnfitWithin given limits fault ⊎ ((fault ≡ NoMemory) × (s : Settings) × (given ≡ Ok s) × IsAllowed s × AreLimits s limits)
 

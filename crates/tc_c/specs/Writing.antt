@@ -54,7 +54,7 @@ IsSegmentFrame frame header map size place unit = IsMadeFrame frame header (Some
 abbrev pub segment_length : ℕ → ℕ → List ℕ → ℕ
 segment_length size place unit = length (piece_at size unit place) + 6
 
--- the command with this number of a kind
+-- the command of the kind with this number, which for a Set V(R) has this new V(R)
 abbrev pub command_by : ℕ → ℕ → Result Command Status
 command_by kind number = if kind == 3 then Ok Unlock else if kind == 4 then Ok (SetVr number) else Err BadCommand
 

@@ -88,7 +88,7 @@ journal-early s t early =
     ∙ ap (λ es. journal s.loop (take n s.session) ++ es) (era-events s xs ∙ ap (events s.loop) none)
     ∙ append-nil (journal s.loop (take n s.session))
 
--- from the first time that Set V(R) is obeyed to the last, V(R) is the number that it names
+-- from the first time that Set V(R) is obeyed to the last, V(R) is the number that the command names
 
 set-vr : (row : Row) (st : State) (r : Report) (x : ℕ) → row ≡ E8 x → (set_at row st ≡ Some x) ⊎ (r.vr ≡ x) → (unwrap_or (entry_at row st r) r).vr ≡ x
 set-vr (E8 y) S3 r x e (inl is) = absurd cc

@@ -1,4 +1,4 @@
-//! Lists that are created even if one growth is refused, and checks of the results of calls.
+//! Lists that are created even if memory is refused once, and checks of the results of calls.
 
 ghost use Rattle.std.specs.Prelude.{◌≡◌, ◌∷◌, [], IfOk};
 

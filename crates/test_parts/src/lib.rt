@@ -1,5 +1,5 @@
 //! Parts that the tests of several crates share: frames and replies, settings made of data, the forms of a channel,
-//! growths that are refused once, and streams that fail.
+//! lists that are created even if memory is refused once, and streams that fail.
 #![tactic(auto)]
 
 mod form;

@@ -32,7 +32,7 @@ impl Settings<'_> {
     }
 
     /// Returns how many bytes the creation of a channel with these settings requests. No other call of the channel
-    /// requests any.
+    /// requests memory.
     pub fn storage(&self) -> Result<u64, SettingsError> {
         let (queues, maps) = (self.queues, self.maps);
         // SAFETY: both pointers point to as many entries as the counts say.
@@ -265,7 +265,7 @@ impl Channel {
 /// The outcome for the frame at the front of a candidate, and what follows it.
 #[derive(Clone, Copy, Debug, PartialEq, Eq)]
 pub struct Carried<'octets> {
-    /// The outcome for the frame, as for a frame of a rack.
+    /// The outcome for the frame, in the form that `Rack::frame` returns.
     pub frame: Result<(u8, Brought), CandidateError>,
     /// The octets behind the frame, or all octets if no frame was found.
     pub rest: &'octets [u8],
@@ -287,7 +287,7 @@ pub struct Rack<'channels> {
 
 impl Rack<'_> {
     /// Brings the frame at the front of octets to the channel that it is for. Returns the virtual channel id of that
-    /// channel, too.
+    /// channel, and the outcome.
     pub fn frame(&mut self, octets: &[u8]) -> Result<(u8, Brought), RackError> {
         let (at, count) = (self.channels.as_mut_ptr().cast(), self.channels.len());
         // SAFETY: the channels are records of the library that nobody else uses, and there are as many of them and of
@@ -300,8 +300,9 @@ impl Rack<'_> {
         Ok((reply.vcid, Brought { event: Event::of(reply.event), accepted: reply.accepted == 1, delivery }))
     }
 
-    /// Brings the frame at the front of a candidate, which a `Decoder` gives, to the channel that it is for. The frame
-    /// is as long as its length field says, which is read before its frame error control field is checked.
+    /// Brings the frame at the front of a candidate, which a `Decoder` gives, to the channel that it is for. The length
+    /// field of the frame is read first, and gives the length of the frame. Then the frame error control field is
+    /// checked.
     pub fn candidate<'octets>(&mut self, octets: &'octets [u8]) -> Carried<'octets> {
         let (at, count) = (self.channels.as_mut_ptr().cast(), self.channels.len());
         // SAFETY: this call is safe for the reasons given in `frame`.

@@ -58,7 +58,7 @@ static OF_ANOTHER_MAP: [Step<'static>; 11] = [
     TakeUnit(3, &[6, 7]),
 ];
 
-// No unit of an octet or more passes on MAP 1, which isn't listed, because the limit of such MAPs is 0.
+// No unit of an octet or more passes on MAP 1. That MAP isn't listed, and MAPs that aren't listed have the limit 0.
 static ON_AN_UNLISTED_MAP: [Step<'static>; 4] = [
     Field(&EIGHT_ON_1, PASSED),
     Field(&[0xc1], PASSED),

@@ -60,7 +60,7 @@ fn queued<C: Form>(channel: &C) -> [Option<usize>; 5] {
     [0, 1, 7, 62, 63].map(|apid| channel.packets(apid))
 }
 
-// Checks the reply to the long unit, and that a refused growth leaves the channel as it was.
+// Checks the reply to the long unit, and that the channel stays as it was if memory for the unit is refused.
 fn check_long_unit<C: Form, T: Abort + Print>(rt: &T, alloc: Global, name: &str) {
     let mut channel: C = channel_of_queues(rt, alloc, name);
     let octets = long_frame(rt, alloc);

@@ -29,7 +29,7 @@ pub enum Step<'a> {
     Lends(Option<&'a [u8]>, Option<&'a [u8]>),
 }
 
-// The report of a channel on itself.
+// The values that a channel reports.
 #[derive(Clone, Copy, Debug, PartialEq, Eq)]
 struct Reported {
     report: Report,

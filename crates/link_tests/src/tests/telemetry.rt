@@ -49,8 +49,8 @@ fn next_counts(
     })
 }
 
-// Frames, one after the other: the spacecraft, the virtual channel and the length, and both counts, or the fault for
-// which the frame isn't written.
+// Rows of frames that are written one after the other. Each has the spacecraft, the virtual channel, the length, and
+// both counts or the fault that is returned.
 static COUNTED: [(u16, u8, usize, Result<[u8; 2], TmFault>); 6] = [
     (42, 1, 11, Ok([0, 0])),
     (42, 2, 11, Ok([1, 0])),

@@ -226,7 +226,7 @@ impl<J: Journal> OperatorList<J> {
         self.station.bring(rt, &mut self.operator, octets)
     }
 
-    // Brings a frame together with a new watcher, and returns the word that this watcher reads, too.
+    // Brings a frame together with a new watcher. Returns the answer, and the CLCW that this watcher reads.
     pub(super) fn bring_watched(
         &mut self,
         rt: &impl Wait,
@@ -269,8 +269,8 @@ impl<J: Journal> OperatorList<J> {
         self.station.take_unit(rt, &mut self.operator, vcid, map)
     }
 
-    // Closes the station, and returns its channels. If one growth is refused, the call returns everything, and a second
-    // call closes the station.
+    // Closes the station, and returns its channels. If memory is refused once, the call returns the station and its
+    // operators, and a second call closes the station.
     pub(super) fn close(self, rt: &(impl Abort + Print), alloc: Global) -> Vec<ChannelWith<J>> {
         let OperatorList {
             is_watched: _,
@@ -282,8 +282,8 @@ impl<J: Journal> OperatorList<J> {
     }
 }
 
-// Closes a station together with these operators, which are its own. If one growth is refused, the call returns
-// everything, and a second call closes the station.
+// Closes a station together with its operators. If memory is refused once, the call returns the station and the
+// operators, and a second call closes the station.
 pub(super) fn closed_together<J: Journal>(
     rt: &(impl Abort + Print),
     station: StationOf<J>,

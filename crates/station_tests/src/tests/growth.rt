@@ -80,7 +80,8 @@ fn growth_of_each_call_of_a_desk(rt: HostRuntime) {
     check_desk(&rt, rt.alloc(), &UNITS)
 }
 
-// The station closes with these operators alone. If a refused call had issued one, it would be missing.
+// The station closes with these operators alone. If a refused call had issued another operator, that operator would be
+// missing.
 #[test]
 fn growth_of_operators_of_a_new_station(rt: HostRuntime) {
     let mut station = station_of_one(&rt, rt.alloc());
@@ -217,7 +218,7 @@ fn growth_of_work(rt: HostRuntime) {
     let mut operators = new_operators(&rt, &mut station, 1);
     let first = try_lists(&rt, &station, &mut operators, &lists);
     assert!(rt; operators[0].count(1) == Some(first));
-    // The next growth isn't refused.
+    // Memory is refused only once, so this call carries out all lists.
     let second = try_lists(&rt, &station, &mut operators, &lists);
     assert!(rt; first == 2 || second == 2);
     check_events(

@@ -27,7 +27,7 @@ pub(super) fn row_settings(rt: &impl Abort, alloc: Global, row: &Row, vcid: u8) 
     settings(alloc, &wanted).expect(rt, "settings")
 }
 
-// Creates a channel with such settings, even if memory is refused once.
+// Creates a channel with the settings of `row_settings`, even if memory is refused once.
 pub(super) fn new_channel(rt: &impl Abort, alloc: Global, row: &Row, vcid: u8) -> Channel {
     match Channel::new(alloc, row_settings(rt, alloc, row, vcid)) {
         Ok(channel) => channel,
@@ -219,7 +219,7 @@ impl Replay {
         assert!(rt; journal == self.journal.as_slice());
     }
 
-    // Checks that the closed channels of a station, in the order of its settings, give the same reports as those
+    // Checks that the closed channels of a station, in the order of its settings, give the same reports as the channels
     // without a station.
     pub(super) fn check_closed<J: Journal>(&self, rt: &impl Abort, channels: &[ChannelWith<J>]) {
         assert_eq!(rt; channels.len(), 2);

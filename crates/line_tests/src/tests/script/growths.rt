@@ -1,5 +1,5 @@
-//! Calls that request memory. With ample memory each succeeds at once. If one growth is refused, each leaves the state
-//! as it was, and then succeeds with the same answers.
+//! Calls that request memory. With ample memory each call succeeds at once. If memory is refused once, the call leaves
+//! the state as it was, and the next call succeeds with the same answers.
 
 use super::{ANSWERS, REPORT, SCRIPT, UNITS, UNITS_ANSWERS, UNITS_REPORT, Way, run};
 use std::alloc::Global;
@@ -9,7 +9,7 @@ use std::thread::Threads;
 use tc_cli::{Line, Reason, ScriptFault, parse_line};
 use test_parts::{UNLOCK, room};
 
-/// Parses a line, at once or after a growth was refused.
+/// Parses a line, at once or after memory was refused.
 fn parsed<T: Abort + Print>(rt: &T, alloc: Global, text: &[u8]) -> Line {
     match parse_line(alloc, text) {
         Ok(line) => line,
@@ -52,7 +52,7 @@ fn check_refused<T: Abort>(
     assert!(rt; expected.as_bytes().starts_with(answers));
 }
 
-/// Checks that a script whose first `setups` lines set up channels runs to its end, at once or after a growth was
+/// Checks that a script whose first `setups` lines set up channels runs to its end, at once or after memory was
 /// refused.
 fn check_script<T: Abort + Print + Threads + Wait + Sync + AllocGlobal>(
     rt: &T,
@@ -92,8 +92,8 @@ fn report_growth(rt: HostRuntime) {
     check_script(&rt, script, report, 4, 4);
 }
 
-// Runs a script in parallel. If a growth is refused, that is reported at line 0, for the reading of the script, or at a
-// line from `first` to `last`, and nothing is written.
+// Runs a script in parallel. If memory is refused, nothing is written, and the fault has line 0 if the script was being
+// read, or else a line from `first` to `last`.
 fn check_parallel<R: Threads + Wait + Sync + Abort + Print + AllocGlobal>(
     rt: &R,
     script: &str,
@@ -126,7 +126,7 @@ fn parallel_script_growth_of_units(rt: HostRuntime) {
     check_parallel(&rt, UNITS, UNITS_REPORT, 1, 8);
 }
 
-/// Comments request no memory, so each growth that is refused is one of the last line.
+/// Comments request no memory, so only the last line can run out of memory.
 #[test]
 fn parallel_growth_after_comments(rt: HostRuntime) {
     let script = "# one\n# two\n# three\nchannel 1 10 1 0\n";
