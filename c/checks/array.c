@@ -28,7 +28,7 @@ TCRX_STATIC_STORAGE(OCTETS);
 
 static struct { uint8_t *at; size_t count; } blocks[BLOCKS];
 
-/* Fills the array with blocks. Returns whether each was as it must be. */
+/* Fills the array with blocks. Returns whether each block met the conditions above. */
 static bool fill(void) {
     bool good = true;
     for (size_t i = 0; i < BLOCKS; i++) {

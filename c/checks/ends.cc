@@ -131,7 +131,7 @@ void check_refused_growths() {
     std::printf("ends: %d growths refused\n", refusals);
 }
 
-// Makes rounds on a channel of its own. Returns how many packets were as they were sent.
+// Makes rounds on a channel of its own. Returns how many packets came out as they were sent.
 int rounds(std::uint8_t octet, int count) {
     tcrx::Channel channel = make();
     std::array<std::uint8_t, 64> room{};

@@ -1,10 +1,10 @@
 /*
  * Refuses each block that the creation of a channel requests in turn: first the first one, then the second, until the
  * creation requests no more. Each time the status must be TCRX_NO_MEMORY, no channel may be held, and no block of it
- * may be left. Then each kind of call is made once with its first block refused, and none may request any. Packets and
- * units that are taken must be those that were sent. Nothing may be left of a channel that was freed, and the address
- * that rattle_alloc returns must not be null even if it gives no block. Settings that create no channel are in
- * storage.c.
+ * may be left. Then each kind of call is made once with its first block refused, and no call may request a block.
+ * Packets and units that are taken must be those that were sent. Nothing may be left of a channel that was freed, and
+ * the address that rattle_alloc returns must not be null even if it gives no block. Settings that create no channel are
+ * in storage.c.
  *
  * The memory is that of tcrx_memory.c, which is linked with this program. Its calls of malloc are refused, which the
  * linker leads here by --wrap=malloc and --wrap=free. The last line of the output is the number of refused blocks.

@@ -1,6 +1,6 @@
 /*
- * A program for a Cortex-M3 without an operating system and without a C library's heap or streams. It does a script on
- * one channel, and prints its answers in the words of the program tcrx by semihosting, to which qemu-system-arm and
+ * A program for a Cortex-M3 without an operating system and without a C library's heap or streams. It runs a script on
+ * one channel, and prints the answers in the words of the program tcrx by semihosting, to which qemu-system-arm and
  * debuggers listen. Then it prints how many bytes of the stack were used. checks/targets gives it the script, and
  * compares its output.
  */

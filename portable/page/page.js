@@ -198,7 +198,7 @@ function insertLine(at, line) {
   by("script").value = lines.join("\n");
 }
 
-/* Adds an operation of the reader's after the last one that was done, and does it. */
+/* Adds an operation of the reader after the last one that was carried out, and carries it out. */
 function addOperation(...lines) {
   if (run.channels.size === 0) {
     by("fault").textContent = "Set up a channel first.";

@@ -45,7 +45,7 @@ class Instance {
   numbers() {
     return new Uint32Array(this.calls.memory.buffer, this.numbersAt, 16);
   }
-  /* Returns room for octets in the memory until it is returned, or null if there is none. */
+  /* Reserves room for octets in the memory. Returns the room, or null if there is none. */
   room(count) {
     const at = Number(this.calls.module_room(count));
     return at === 0 ? null : at;
@@ -229,7 +229,8 @@ function channelFault([vcid, width, buffer]) {
   return buffer < 1 || buffer > 64 ? "bad buffer" : null;
 }
 
-/* A script that is run line by line for a spacecraft. First it is set up. Then each step is an operation. */
+/* A script that is run line by line for a spacecraft. Its first lines set channels up. After them each step is an
+ * operation. */
 class Run {
   constructor(compiled, scid, script) {
     this.compiled = compiled;

@@ -10,7 +10,7 @@ use Rattle.tc_c.specs.declared.clcw.ClcwFieldsRecord.{ClcwFieldsRecord}
 use Rattle.tc_c.specs.Status.{code_of}
 use Rattle.tc_c.specs.Farm.{with_ok, flag_of, farm_of}
 
--- the CLCW, or the first reason in this order why there is none
+-- the CLCW, or the first reason why there is none, in the order below
 abbrev pub clcw_or_status : FarmRecord → ℕ → ℕ → ℕ → Result ℕ Status
 clcw_or_status kept vcid no_rf no_bit_lock =
     with_ok (farm_of kept) (λ farm.

@@ -58,7 +58,7 @@ abbrev pub with_ok : {A : Type 0} {B : Type 0} → Result A Status → (A → Re
 with_ok (Ok x) next = next x
 with_ok (Err fault) next = Err fault
 
--- the components that a record has, or the first reason in this order why it has none
+-- the components that a record has, or the first reason why it has none, in the order below
 abbrev pub report_of : FarmRecord → Result Report Status
 report_of kept =
     with_ok (state_of kept.state) (λ state.

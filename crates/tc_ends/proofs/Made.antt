@@ -101,7 +101,7 @@ came-each limits s apid service map_id chosen free is before (p ∷ ps) =
           ap (λ (x : List OnStream). map packet_on x ++ later) (tag-dropped service map_id p.service id now apart) ∙ rest ∙ ap (λ (x : List (List ℕ)). cond chosen [] (packets_for apid (x ++ units))) (sym unit_is)
     ]
 
--- the packets that data fields make for an application are a merge of those of each stream
+-- the packets that data fields make for an application are a merge of the packets of each stream
 pub made-merged : (limits : ℕ → ℕ) (s : Settings) (apid : ℕ) (before ps : List Passed) (on : Service → ℕ → List (List ℕ)) → HasMapsByHeaders s
     → ((service : Service) (map_id : ℕ) → unless_chosen s map_id (packets_for apid (all_made (stream_unit limits s service map_id) before ps)) ≡ on service map_id)
     → AreMerged (all_made (packets_ended limits s apid) before ps) on

@@ -45,7 +45,7 @@ none-by-bd : (b : Bool) (limits : ℕ → ℕ) (s : Settings) (m : ℕ) (fields 
 none-by-bd b limits s m [] before = refl
 none-by-bd b limits s m (f ∷ fs) before = none-by-bd b limits s m fs (before ++ record { service = Ad; field = f } ∷ [])
 
--- the fields that were passed on are those up to a field and those behind it
+-- the fields that were passed on are those up to the nth of Type-AD, and then those behind it
 until-behind : (n : ℕ) (ps : List Passed) → until_ad n ps ++ behind_ad n ps ≡ ps
 until-behind zero ps = refl
 until-behind (suc n) [] = refl
@@ -68,7 +68,8 @@ pub ad-fields : (limits : ℕ → ℕ) (s : Settings) (journal before later : Li
 ad-fields limits s journal before later x sent lawful era comes =
     behind-fields (length (run_within limits s before).accepted) (run_within limits s journal).passed ∙ passed-as-sent limits s journal before later x sent lawful era comes
 
--- the stream of the fields that were passed on and of those that are still to come is that of the fields that were sent
+-- on each stream, the fields that were passed on and those that are still to come are together the fields that were
+-- sent
 stream-sent : (b : Bool) (sent : ℕ → List ℕ) (r n : ℕ) (passed : List Passed) → fields_passed Ad passed ≡ sent_from sent 0 r → r ≤ n → (id : ℕ)
     → stream_in b Ad id (passed ++ by_ad (sent_from sent r (n - r))) ≡ on_map b id (sent_from sent 0 n)
 stream-sent b sent r n passed fields less id =

@@ -83,7 +83,8 @@ AltersNothing mode field frames state (action ∷ session) (c ∷ coming) =
     ((now : List Event) → AreEventsAt mode field state c now → now ≡ events_at frames action) × AltersNothing mode field frames (state_behind mode state c) session coming
 AltersNothing mode field frames state _ _ = ⊥
 
--- octets that carry these events well: none, or a CLTU with few wrong bits for a frame
+-- octets that carry these events well: no octets if there is no event, or a CLTU with few wrong bits if the event is a
+-- frame
 abbrev pub CarryWell : Mode → Bool → List ℕ → List Event → Type 0
 CarryWell mode field octets [] = octets ≡ []
 CarryWell mode field octets (Frame frame ∷ []) = IsWhole frame × IsWhole (enclosed field frame) × IsNearCltu mode 0 (enclosed field frame) octets

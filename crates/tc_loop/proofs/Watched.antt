@@ -49,7 +49,7 @@ hears-so window first known report room least most fits =
       by (under from to is) = rw is (λ yes. omega arith, λ within. refl)
       by (off from to is) = rw is (λ yes. absurd cc, λ within. absurd (omega arith))
 
--- the sender learns the frames before N(R), or none
+-- from N(R) the sender learns that the frames before it are accepted, or learns nothing
 heard-learnt : (window first known report : ℕ) → report < 256 → above first known report ≤ window → (first + heard first window known report) % 256 ≡ report
 heard-learnt window first known report fits within = grind (arith, nat_tests)
 

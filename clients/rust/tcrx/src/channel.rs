@@ -123,7 +123,7 @@ pub struct Link {
 pub struct Channel(UnsafeCell<sys::Channel>);
 
 // SAFETY: calls of the library on a channel may be made from any thread, and so may the memory functions. The cell
-// keeps two threads from making one at the same time.
+// keeps two threads from making calls at the same time.
 unsafe impl Send for Channel {}
 
 impl Channel {

@@ -1,5 +1,5 @@
 //! Refuses each block of a new channel in turn, by memory functions of this program's own. The call must fail with `NoMemory`, and
-//! no block may be left. No other call may request any.
+//! no block may be left. No other call may request a block.
 
 use std::alloc::{alloc, dealloc, Layout};
 use std::cell::Cell;

@@ -1,5 +1,5 @@
-//! Each call is made on a channel of each form. If a call runs out of memory, the channel is as it was, and the call is
-//! made again.
+//! Calls on a channel of each form, which may run out of memory. A call that does must leave the channel as it was, and
+//! is then made again.
 
 use super::Step::{
     Ad, Clcw, Field, Frame, Holds, Lends, NoRelease, NoTake, NoTakeUnit, Release, ReleaseOf, Take,

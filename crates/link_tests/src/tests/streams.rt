@@ -66,7 +66,7 @@ const ZEROS: [u8; 8] = [0, 0, 0, 0, 0, 0, 0, 0xfe];
 
 const END: [u8; 8] = [0xc5, 0xc5, 0xc5, 0xc5, 0xc5, 0xc5, 0xc5, 0x79];
 
-// A CLTU of 147 code blocks gives its octets, and one with one more gives nothing.
+// A CLTU of 147 code blocks gives the octets that it carries, and a CLTU of 148 code blocks gives none.
 #[test]
 fn a_cltu_that_is_too_long_gives_nothing(rt: HostRuntime) {
     let mut longest = [ZEROS; 149];

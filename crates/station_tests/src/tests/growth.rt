@@ -1,4 +1,4 @@
-//! Each call is made. If it runs out of memory, it must have left everything as it was, and then it is made again.
+//! Calls that may run out of memory. A call that does must leave everything as it was, and is then made again.
 
 ghost use Rattle.std.specs.Prelude.{◌≡◌, ◌≤◌, All, length};
 ghost use Rattle.tc_station.specs.Tally.{IsOurs};

@@ -52,8 +52,8 @@ fn call_of(rt: &impl Print, who: &str, answer: &Asked) {
     };
 }
 
-// Requests the operation of a line, and returns the text of the answer. If memory ran out, all is as it was, and the
-// operation is requested again.
+// Requests the operation of a line, and returns the text of the answer. If memory runs out, nothing may have changed,
+// and the operation is requested again.
 pub(super) fn ask<A: Asking, R: Wait + Abort + Print>(
     rt: &R,
     alloc: Global,

@@ -1,4 +1,4 @@
-//! Each call is made. If it runs out of memory, no run has changed, and the call is made again.
+//! Calls that may run out of memory. A call that does must change no run, and is then made again.
 
 use super::*;
 
