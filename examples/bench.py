@@ -28,7 +28,7 @@ def start(fecf: bool, tclive: Optional[Path]) -> Receiver:
 
 def run(seed: int, fecf: bool, count: int = 300, tclive: Optional[Path] = None, tcmake: Path = TOP / "tcmake",
         begin: Callable[[bool, Optional[Path]], ContextManager[Any]] = start) -> str:
-    """Sends `count` packets to the receiver that `begin` starts, and returns how many frames that took."""
+    """Sends `count` packets to the receiver that `begin` starts, and returns a line that says how many frames were sent."""
     # pylint: disable=too-many-locals  # one loop, from the CLCW to the packets
     dice, acknowledged, sent = random.Random(seed), 0, 0
     past: List[bytes] = []

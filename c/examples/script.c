@@ -435,7 +435,7 @@ static const form forms[COMMANDS] = {
     {"candidate", 2, 2, {0}},
 };
 
-/* Returns the command with which a line begins. A script has those before `link`. */
+/* Returns the command with which a line begins. A script may have only the commands before LINK. */
 static command command_of(void) {
     const int last = is_script ? LINK : COMMANDS;
     for (int i = 0; i < last; i++) {

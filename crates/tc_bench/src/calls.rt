@@ -53,8 +53,9 @@ const BEFORE: u8 = 20;
 // A call on a channel.
 #[derive(Clone, Copy)]
 enum Call {
-    // A Type-AD frame that is accepted, and one that is discarded.
+    // A Type-AD frame that is accepted.
     Next(Field),
+    // A Type-AD frame that is discarded, because it repeats the N(S) of the one before it.
     Again(Field),
     // A Type-BD frame, with the numbers of items of its unit that are queued and dropped, and the end of its line.
     Bypassing(Field, Items, &'static str),

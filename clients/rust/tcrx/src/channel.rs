@@ -290,8 +290,8 @@ impl Rack<'_> {
     /// channel, and the outcome.
     pub fn frame(&mut self, octets: &[u8]) -> Result<(u8, Brought), RackError> {
         let (at, count) = (self.channels.as_mut_ptr().cast(), self.channels.len());
-        // SAFETY: the channels are records of the library that nobody else uses, and there are as many of them and of
-        // octets as the counts say.
+        // SAFETY: the channels are records of the library that nobody else uses, and both pointers point to as many
+        // entries as the counts say.
         let reply = unsafe { sys::tcrx_rack_frame_at(at, count, self.scid, self.fecf.into(), octets.as_ptr(), octets.len()) };
         if reply.status != sys::DONE {
             return Err(RackError::of(reply.status, 0));
