@@ -2,7 +2,7 @@
 
 ghost use Rattle.std.specs.Prelude.{List, ℕ, ◌≡◌, map, filter, slice_get, Option, Some};
 ghost use Rattle.logged_lock.specs.Log.{made_by};
-ghost use Rattle.tc_channel.specs.declared.settings.Settings.{Settings};
+ghost use Rattle.tc_queues.specs.declared.settings.Settings.{Settings};
 ghost use Rattle.tc_channel.specs.Journal.{History};
 ghost use Rattle.tc_desk.specs.Log.{accounts_of};
 ghost use Rattle.tc_desk.specs.Together.{column};

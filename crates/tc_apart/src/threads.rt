@@ -6,7 +6,7 @@ ghost use Rattle.tc_link.specs.declared.frame.Header.{Header};
 ghost use Rattle.tc_cltu.specs.Reception.{Reception};
 ghost use Rattle.tc_cltu.specs.declared.block.Mode.{Mode};
 ghost use Rattle.tc_channel.specs.declared.event.Event.{Event};
-ghost use Rattle.tc_channel.specs.ChannelState.{Queue, no_limits, queue_of};
+ghost use Rattle.tc_queues.specs.ChannelState.{Queue, no_limits, queue_of};
 ghost use Rattle.tc_channel.specs.Journal.{History};
 ghost use Rattle.tc_channel.specs.Run.{run, run_within};
 ghost use Rattle.tc_channel.specs.Through.{passed_since, released_since, sent_from};

@@ -5,11 +5,11 @@ use Rattle.tc_link.specs.declared.farm.Arrival.TheVariants as arrivals
 use Rattle.tc_link.specs.declared.farm.State.{State}
 use Rattle.tc_link.specs.declared.farm.State.TheVariants.{S1}
 use Rattle.tc_link.specs.Command.{kind_of}
-use Rattle.tc_channel.specs.declared.settings.Settings.{Settings}
+use Rattle.tc_queues.specs.declared.settings.Settings.{Settings}
 use Rattle.tc_channel.specs.declared.event.Event.{Event}
 use Rattle.tc_channel.specs.declared.event.Event.TheVariants.{Frame, Release}
-use Rattle.tc_channel.specs.ChannelState.{ChannelState, first_state_within, has_room}
-use Rattle.tc_channel.specs.Settings.{IsAllowed}
+use Rattle.tc_queues.specs.ChannelState.{ChannelState, first_state_within, has_room}
+use Rattle.tc_queues.specs.Settings.{IsAllowed}
 use Rattle.tc_channel.specs.Run.{field_of, HasStep, AreSteps, IsLawfulWithin, step, passed_on, run_from, run_within}
 use Rattle.tc_c.proofs.Records.{wide}
 

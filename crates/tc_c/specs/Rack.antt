@@ -9,7 +9,7 @@ use Rattle.tc_fecf.specs.declared.frames.FieldFault.{FieldFault}
 use Rattle.tc_link.specs.declared.location.LocateFault.{LocateFault}
 use Rattle.tc_link.specs.declared.location.LocateFault.TheVariants.{Frame, OtherSpacecraft, UnknownChannel}
 use Rattle.tc_channel.specs.declared.event.Event.TheVariants as events
-use Rattle.tc_channel.specs.declared.reply.FrameReply.{FrameReply}
+use Rattle.tc_queues.specs.declared.reply.FrameReply.{FrameReply}
 use Rattle.tc_channel.specs.Reply.{frame_reply_within}
 use Rattle.tc_fixed.specs.History.{LimitedHistory, with_limited_event}
 use Rattle.tc_fixed.specs.Limits.{limit_of}

@@ -2,7 +2,7 @@
 
 ghost use Rattle.std.specs.Prelude.{◌≡◌, ◌^◌, ◌-◌, length, min, Some, None, Ok, IfSome, IfNone, IfOk, IfErr};
 ghost use Rattle.tc_channel.specs.Run.{run_within, IsLawfulWithin};
-ghost use Rattle.tc_channel.specs.Settings.{IsAllowed};
+ghost use Rattle.tc_queues.specs.Settings.{IsAllowed};
 ghost use Rattle.tc_channel.specs.Era.{CountsUpInItsEraWithin};
 ghost use Rattle.tc_channel.specs.Reply.{waiting_packets_within, waiting_units_within, buffered_fields_within, clcw_within};
 ghost use Rattle.tc_fixed.specs.Limits.{limit_of};

@@ -1,10 +1,10 @@
 //! The settings and the limits of a channel as records.
 
 ghost use Rattle.std.specs.Prelude.{◌≡◌, ◌<◌, IfOk, IfErr, IfSome, IfNone, MatchResult, Ok, Err, Some, []};
-ghost use Rattle.tc_channel.specs.declared.settings.Settings.{Settings as ChannelSettings};
+ghost use Rattle.tc_queues.specs.declared.settings.Settings.{Settings as ChannelSettings};
 ghost use Rattle.tc_c.specs.declared.status.Status.{Status as StatusName};
 ghost use Rattle.tc_c.specs.Status.{code_of};
-ghost use Rattle.tc_channel.specs.Settings.{settings_of as owned_of, IsAllowed};
+ghost use Rattle.tc_queues.specs.Settings.{settings_of as owned_of, IsAllowed};
 ghost use Rattle.tc_fixed.specs.Limits.{AreLimits, limits_of, none};
 ghost use Rattle.tc_c.specs.Channel.{settings_in_records, limits_given, IsUnfit, IsUnfitWithin, IsRefusedBy, IsRefusedWithin};
 

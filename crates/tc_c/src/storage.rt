@@ -1,8 +1,8 @@
 //! The memory that the creation of a channel requests.
 
 ghost use Rattle.std.specs.Prelude.{◌≡◌, ◌<◌, ◌^◌, ◌-◌, min, IfOk, IfErr, Ok};
-ghost use Rattle.tc_channel.specs.declared.settings.Settings.{Settings as ChannelSettings};
-ghost use Rattle.tc_channel.specs.Settings.{IsAllowed};
+ghost use Rattle.tc_queues.specs.declared.settings.Settings.{Settings as ChannelSettings};
+ghost use Rattle.tc_queues.specs.Settings.{IsAllowed};
 ghost use Rattle.tc_fixed.specs.Limits.{AreLimits, limits_of};
 ghost use Rattle.tc_fixed.specs.Storage.{storage_of, storage_within};
 ghost use Rattle.tc_c.specs.declared.status.Status.{Status as StatusName};

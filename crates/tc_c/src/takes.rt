@@ -3,7 +3,7 @@
 ghost use Rattle.std.specs.Prelude.{◌≡◌, ◌<◌, ◌≤◌, ◌+◌, [], length, Some, None, IfSome, IfNone};
 ghost use Rattle.tc_channel.specs.declared.event.Event.TheVariants as Event;
 ghost use Rattle.tc_channel.specs.Reply.{take_reply_within, unit_reply_within, waiting_packets_within, waiting_units_within};
-ghost use Rattle.tc_channel.specs.Steps.{looks_for};
+ghost use Rattle.tc_queues.specs.Steps.{looks_for};
 ghost use Rattle.tc_fixed.specs.History.{with_limited_event};
 ghost use Rattle.tc_fixed.specs.Limits.{limit_of};
 ghost use Rattle.tc_c.specs.Channel.{no_octets, too_short, taken, IsCopied};

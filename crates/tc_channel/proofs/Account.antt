@@ -10,7 +10,7 @@ use Rattle.tc_packet.specs.Runs.{next_run}
 use Rattle.tc_packet.proofs.OpenRuns.{open_run-push}
 use Rattle.tc_channel.specs.Account.{Share, AccountFor, AreAllSegments, AreShares, BeginUnit, IsRun, fields_in, open_in, unit_on, units_in}
 use Rattle.tc_channel.specs.Account.Share.{Ended, Open, OverLimit, Broken, WithoutRun}
-use Rattle.tc_channel.proofs.Lists.{all-append}
+use Rattle.tc_queues.proofs.Lists.{all-append}
 use Rattle.tc_channel.proofs.Streams.{same_map, stream-same, stream-other}
 
 -- the fields of the run that is open so far, if one is

@@ -4,7 +4,7 @@ use Rattle.std.specs.Prelude.{◌%◌}
 use Rattle.tc_link.specs.declared.Link.{Link}
 use Rattle.tc_link.specs.declared.ClcwFields.{ClcwFields}
 use Rattle.tc_link.specs.Clcw.{word_of, fields_of, reported}
-use Rattle.tc_channel.specs.Settings.{IsAllowed}
+use Rattle.tc_queues.specs.Settings.{IsAllowed}
 use Rattle.tc_channel.specs.Reply.{clcw_within}
 use Rattle.tc_channel.specs.Era.{IsEraWithin, accepted_since_within}
 use Rattle.tc_channel.proofs.Eras.{era-law}

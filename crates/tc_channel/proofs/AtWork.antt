@@ -1,10 +1,10 @@
 -- The core of a channel, with the facts that its rooms add.
 use Rattle.tc_channel.proofs.Names.{◌≡◌, ℕ, ◌<◌, Bool, true, false, cond, eqb, nat_lt, List, [], ◌∷◌, ◌++◌, length, drop, Option, Some, None, refl, sym, ap, subst, ◌∙◌, arith, slice_get, IsSome, option_map, HoldsWithin, at_most, run_left, run_at, Settings, Event, Take, TakeUnit, AreRuns, first_of, Service, Bd, Store, open_runs, limit_at, StoredQueue, queue_for, oldest_for, popped, shorter, Keyed, rings_in, room_sizes, AreCommitted, Ad, no_limits, stored, ring_in, run_within, length-map, QueueSetting, MapSetting}
 use Rattle.tc_channel.specs.ChannelCore.{HaveLimits, inside_of, CanPassOn, GoOn, KeepRooms, Parts, HoldsInRooms, AreChannelCore}
-use Rattle.tc_channel.specs.Copying.{copied_out}
-use Rattle.tc_channel.specs.StoredQueues.{items_for}
-use Rattle.tc_channel.specs.declared.reply.NotCopied.{NotCopied}
-use Rattle.tc_channel.specs.declared.reply.NotCopied.TheVariants.{NoRoom}
+use Rattle.tc_queues.specs.Copying.{copied_out}
+use Rattle.tc_queues.specs.StoredQueues.{items_for}
+use Rattle.tc_queues.specs.declared.reply.NotCopied.{NotCopied}
+use Rattle.tc_queues.specs.declared.reply.NotCopied.TheVariants.{NoRoom}
 use Rattle.std.specs.Prelude.{OnErr, OnOk, Result, Ok, Err}
 use Rattle.tc_channel.specs.Reply.{take_reply_within, unit_reply_within}
 use Rattle.tc_packet.specs.Reassembly.{place_of}

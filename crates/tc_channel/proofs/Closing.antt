@@ -1,5 +1,4 @@
 -- Sets of lemmas that close goals without a proof by hand: sets for calls, and a set for the laws of each file of src/.
-use Rattle.tc_channel.proofs.Names.{map-set_same}
 use Rattle.tc_channel.proofs.Runs.{run-append, lawful-before, lawful-after}
 use Rattle.tc_channel.proofs.Chosen.{whole-only, packets-only, one-kept, others-stay, chosen-by-settings}
 use Rattle.tc_channel.proofs.Faults.{no-fault}
@@ -11,27 +10,11 @@ use Rattle.tc_channel.proofs.Growth.{queues-are, units-are}
 use Rattle.tc_channel.proofs.StateQueues.{queues-kept, units-kept}
 use Rattle.tc_channel.proofs.Sound.{state-sound}
 use Rattle.tc_channel.proofs.Plain.{run-limit, run-segmented}
-use Rattle.tc_channel.proofs.Counts.{few-packets, steps-by-octets, steps-of-largest}
+use Rattle.tc_queues.proofs.Counts.{few-packets, steps-by-octets, steps-of-largest}
 use Rattle.tc_channel.proofs.Given.{fields-in-order, packets-in-order, units-in-order}
 use Rattle.tc_channel.proofs.Through.{packets-are-made, units-are-made, part-whole}
 use Rattle.tc_channel.proofs.Octets.{fields-fit, packets-fit, units-fit, waits-within, packets-within, units-within}
-use Rattle.std.proofs.lemmas.List.{set-get_or}
-use Rattle.tc_channel.proofs.InRooms.{fit-at, key-in, staged-of-none-at, put-in, same-rings, same-sizes, committed-at, committed-set, full-at}
-use Rattle.tc_channel.proofs.Found.{copied-first, empty-in, first-here, found-in, keys-set, none-more, none-waits, not-found, oldest-in, one-waits, popped-in}
-use Rattle.tc_channel.proofs.Contents.{staged-at, passed-none, committed-one}
-use Rattle.tc_channel.proofs.Passes.{not-telecommand}
-use Rattle.tc_channel.proofs.Tables.{first-key, keys-length, reported-first, reported-none}
 use Rattle.tc_channel.proofs.AtWork.{none-touched, packet-is, unit-is}
-
-pub ruleset at_place = (fit-at, staged-of-none-at, put-in, same-rings, same-sizes, committed-at, committed-set, full-at, copied-first, empty-in, keys-set, none-waits, oldest-in, one-waits, popped-in, staged-at, map-set_same, set-get_or)
-
-pub ruleset by_key = (found-in, not-found)
-
-pub ruleset searched = (none-more, first-here, key-in)
-
-pub ruleset reported = (keys-length, reported-first, reported-none, first-key)
-
-pub ruleset passing = (passed-none, committed-one, keys-set, not-telecommand)
 
 pub ruleset at_work = (none-touched, packet-is, unit-is)
 

@@ -4,7 +4,7 @@ use Rattle.tc_channel.proofs.Names.{◌≡◌, ℕ, ◌+◌, ◌≤◌, Bool, tr
 use Rattle.std.specs.List.{Contains}
 use Rattle.std.proofs.lemmas.Bool.{and_parts, eqb-true}
 use Rattle.std.proofs.lemmas.List.Elements.{All-take, filter_passes}
-use Rattle.tc_channel.proofs.Counted.{IsForOneKey, for-one, queued-within}
+use Rattle.tc_queues.proofs.Counted.{IsForOneKey, for-one, queued-within}
 use Rattle.tc_channel.proofs.Shares.{queued-is}
 use Rattle.tc_channel.proofs.StateQueues.{keys, queues-apart, units-apart}
 use Rattle.tc_channel.proofs.Takes.{same-keys}

@@ -7,7 +7,7 @@ use Rattle.tc_link.specs.Window.{is_ahead, is_behind}
 use Rattle.tc_channel.proofs.Filled.{AreFilled, IsFilled, state-filled}
 use Rattle.tc_channel.proofs.Small.{vr-below}
 use Rattle.tc_channel.proofs.Runs.{run-append, run-push, from-first}
-use Rattle.tc_channel.proofs.Lists.{all-drop}
+use Rattle.tc_queues.proofs.Lists.{all-drop}
 
 -- P holds for each frame and its number, which is counted from n on
 abbrev AreSo : (ℕ → Accepted → Type 0) → ℕ → List Accepted → Type 0

@@ -1,8 +1,8 @@
 -- The fault that settings have, and the faults that they are free of.
 use Rattle.tc_channel.proofs.Names.{List, [], ◌∷◌, inl, inr, ◌≡◌, ◌≢◌, ℕ, zero, suc, ◌++◌, take, drop, refl, subst, sym, arith, Settings, IsAllowed, All, AllPairs, AllByRecursion}
-use Rattle.tc_channel.specs.declared.settings.SettingsFault.{SettingsFault}
-use Rattle.tc_channel.specs.declared.settings.SettingsFault.TheVariants.{BadVcid, BadWindow, BadBuffer, BadApid, DoubleApid, BadCapacity, BadMap, DoubleMap, BadUnits, PlainMap, NoMemory}
-use Rattle.tc_channel.specs.Settings.{IsFreeOf, IsFirstFault, IsFault, faults_in_order}
+use Rattle.tc_queues.specs.declared.settings.SettingsFault.{SettingsFault}
+use Rattle.tc_queues.specs.declared.settings.SettingsFault.TheVariants.{BadVcid, BadWindow, BadBuffer, BadApid, DoubleApid, BadCapacity, BadMap, DoubleMap, BadUnits, PlainMap, NoMemory}
+use Rattle.tc_queues.specs.Settings.{IsFreeOf, IsFirstFault, IsFault, faults_in_order}
 
 pub free-of-each : (s : Settings) (fault : SettingsFault) → IsAllowed s → IsFreeOf s fault
 free-of-each s BadVcid a = a.vcid

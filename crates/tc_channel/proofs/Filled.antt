@@ -2,7 +2,7 @@
 use Rattle.tc_channel.proofs.Names.{ℕ, ◌<◌, List, [], ◌∷◌, length, map, drop, arith, AllByRecursion, length-drop, HasStep, IsWhole, accepts, Settings, Event, Frame, ChannelState, Accepted, step, row_of, first_of, header_of, passed_on, run_within, IsLawfulWithin}
 use Rattle.tc_channel.proofs.StateQueues.{kept-either}
 use Rattle.tc_channel.proofs.Runs.{keeps}
-use Rattle.tc_channel.proofs.Lists.{all-append}
+use Rattle.tc_queues.proofs.Lists.{all-append}
 
 abbrev pub IsFilled : Accepted → Type 0
 IsFilled a = (0 < length a.field) × (a.ns < 256)

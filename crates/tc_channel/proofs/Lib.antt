@@ -1,4 +1,3 @@
-pub mod Lists
 pub mod Walking
 pub mod Names
 pub mod Runs
@@ -9,9 +8,6 @@ pub mod StateQueues
 pub mod Plain
 pub mod Streams
 pub mod Shares
-pub mod Counted
-pub mod Copies
-pub mod Passes
 pub mod Chosen
 pub mod Takes
 pub mod Limits
@@ -26,15 +22,8 @@ pub mod Given
 pub mod Through
 pub mod Lossless
 pub mod Account
-pub mod Apart
-pub mod InRooms
-pub mod Ways
 pub mod Sizes
 pub mod Within
 pub mod AtWork
-pub mod Found
-pub mod Tables
-pub mod Contents
-pub mod Counts
 pub mod Closing
 pub mod Acknowledged

@@ -8,7 +8,7 @@ use Rattle.tc_link.specs.Farm.{Row, E1, E6}
 use Rattle.tc_channel.specs.Reply.{frame_delivery}
 use Rattle.tc_channel.specs.Through.{all_made, packets_ended, units_ended, packets_made, units_made}
 use Rattle.tc_channel.specs.Lossless.{DropsNone, dropped_by}
-use Rattle.tc_channel.proofs.Counted.{IsForOneKey, for-one, queued-within}
+use Rattle.tc_queues.proofs.Counted.{IsForOneKey, for-one, queued-within}
 use Rattle.tc_channel.proofs.Shares.{queued-is}
 use Rattle.tc_channel.proofs.Takes.{same-keys}
 use Rattle.tc_channel.proofs.Runs.{run-push}

@@ -1,14 +1,14 @@
 -- The numbers of items and octets that wait in the queues and in the buffer, and the bound of memory. No more items
 -- wait than the bound counts.
 use Rattle.tc_channel.proofs.Names.{ℕ, zero, suc, ◌+◌, ◌*◌, ◌≤◌, Bool, true, false, cond, List, [], ◌∷◌, length, take, map, drop, filter, Option, Some, refl, arith, ◌≡◌, AllByRecursion, length-drop, length-map, length-take, sum_by-cons, accepts, Service, Bd, IsWithinLimit, unit_ended, largest_unit, stream, Settings, Event, Frame, Release, Take, TakeUnit, ChannelState, Accepted, Queue, empty_queue, empty_unit_queue, buffer, waiting, map_of, is_chosen, packets_offered, units_offered, share_of, with_shares, room_of, is_for, is_of_map, step, row_of, taken_from, unit_of, first_of, IsLawfulWithin, run_within, Ad, passed_on, sym, ap, ◌∙◌, sum_by, QueueSetting, MapSetting, with_share}
-use Rattle.tc_channel.specs.Memory.{packets_stored, units_stored, waiting_in_all, largest_item, largest_field, octets_in, octets_waiting, room_words, queue_words, runs_memory, tables_memory, segment_memory, memory_waiting, memory_bound}
+use Rattle.tc_queues.specs.Memory.{packets_stored, units_stored, waiting_in_all, largest_item, largest_field, octets_in, octets_waiting, room_words, queue_words, runs_memory, tables_memory, segment_memory, memory_waiting, memory_bound}
 use Rattle.tc_packet.specs.SpacePacket.{begins, named_length, packets_within}
 use Rattle.tc_channel.proofs.BufferSize.{buffer-fits}
 use Rattle.tc_channel.proofs.Limits.{within-unit, within-both}
 use Rattle.tc_channel.proofs.StateQueues.{kept-either, taken-same, GoesOn, AreKept, run-both, queues-kept, units-kept}
 use Rattle.tc_channel.proofs.Filled.{each-accepted}
 use Rattle.tc_channel.proofs.Runs.{always}
-use Rattle.tc_channel.proofs.Lists.{all-append, all-take, all-drop, all-map, all-mapped}
+use Rattle.tc_queues.proofs.Lists.{all-append, all-take, all-drop, all-map, all-mapped}
 
 abbrev room : List Queue → ℕ
 room qs = sum_by (λ (q : Queue). q.capacity) qs

@@ -1,12 +1,13 @@
 -- The queues when the unit that a field ends is offered to them.
 use Rattle.tc_channel.proofs.Names.{◌≡◌, ◌≢◌, ℕ, ◌+◌, ◌-◌, ◌≤◌, Bool, true, List, [], ◌∷◌, length, map, drop, Option, Some, None, subst, refl, sym, ap, ◌∙◌, arith, is_some, option_map, sum_by, sum_by-cons, Delivery, delivery_of, Row, E1, E6, row_at, frame_row, accepts, Settings, Frame, Release, ChannelState, Queue, queue_of, has_room, buffer, map_of, is_chosen, is_for, is_of_map, packets_offered, units_offered, share_of, with_share, with_shares, queued_of, Kind, Unlock, SetVr, kind_of, Service, Bd, OpenRuns, at_most, stream, unit_ended, AreRuns, EndsWithin, EndsAtOnceWithin, step, row_of, kept, unit_of, first_of, IsDelivered, Placed, StoredQueue, stored, share, with_items, shared, shares_in, queue_for, copies_from, put_all, placed, AreShares, drop-append-le, length-drop, append-nil, take-nil, header_of, place_of, Ad, passed_on}
-use Rattle.tc_channel.specs.Reply.{nothing, frame_delivery, release_reply_at}
+use Rattle.tc_queues.specs.Delivering.{nothing}
+use Rattle.tc_channel.specs.Reply.{frame_delivery, release_reply_at}
 use Rattle.tc_channel.specs.Steps.{ended_at_once}
-use Rattle.tc_channel.specs.Admission.{offered}
+use Rattle.tc_queues.specs.Admission.{offered}
 use Rattle.tc_channel.proofs.StateQueues.{AreKept}
 use Rattle.tc_channel.proofs.Streams.{not-BD}
 use Rattle.tc_channel.proofs.Takes.{stored-queue}
-use Rattle.tc_channel.proofs.Copies.{Fit, shares-put, copies-places, length-copies}
+use Rattle.tc_queues.proofs.Copies.{Fit, shares-put, copies-places, length-copies}
 use Rattle.tc_link.specs.declared.Kind.TheVariants as kinds
 use Rattle.tc_packet.specs.Segment as segment
 

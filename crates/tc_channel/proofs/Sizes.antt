@@ -1,14 +1,10 @@
 -- Octets that fit rooms.
-use Rattle.tc_channel.proofs.Names.{◌≡◌, ℕ, zero, suc, ◌≤◌, ◌<◌, Bool, true, false, Option, Some, None, List, [], ◌∷◌, length, replicate, refl, sym, subst, arith, AllByRecursion, Service, Bd, stream_place, IsAtMost, Store, limit_at, Fit, Ad}
-use Rattle.tc_channel.specs.Memory.{largest_item}
+use Rattle.tc_channel.proofs.Names.{◌≡◌, ℕ, zero, suc, ◌≤◌, ◌<◌, Bool, true, false, Option, Some, None, List, length, replicate, refl, sym, subst, arith, AllByRecursion, Service, Bd, stream_place, IsAtMost, Store, limit_at, Ad}
+use Rattle.tc_queues.specs.Memory.{largest_item}
 use Rattle.std.specs.Prelude.{min}
-use Rattle.tc_channel.specs.Keyed.{FitsIn}
+use Rattle.tc_queues.specs.Keyed.{FitsIn}
 use Rattle.tc_channel.specs.ChannelCore.{AreEnough, AreSmall}
-
--- octets that are no more than the smallest room fit each room
-pub fit-enough : (octets : List ℕ) (least : ℕ) (sizes : List ℕ) → AllByRecursion (λ (n : ℕ). least ≤ n) sizes → length octets ≤ least → Fit octets sizes
-fit-enough octets least [] all le = tt
-fit-enough octets least (m ∷ sizes) all le = (let e = all.0 in omega arith, fit-enough octets least sizes all.1 le)
+use Rattle.tc_queues.proofs.InRooms.{fit-enough}
 
 all-least : (least size count : ℕ) → least ≤ size → AllByRecursion (λ (n : ℕ). least ≤ n) (replicate count size)
 all-least least size zero le = tt

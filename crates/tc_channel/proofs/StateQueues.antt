@@ -2,7 +2,7 @@
 use Rattle.tc_channel.proofs.Names.{◌≡◌, ◌≢◌, ℕ, suc, ◌+◌, ◌<◌, Bool, true, false, cond, eqb, ◌&&◌, List, [], ◌∷◌, ◌++◌, length, map, drop, filter, get_or, refl, ap, ◌∙◌, arith, nat_lt, AllPairs, AllByRecursion, nat_tests, length-append, length-take, header_of, Row, E1, E6, accepts, Bd, QueueSetting, MapSetting, Settings, Event, Frame, Release, Take, TakeUnit, IsAllowed, ChannelState, Queue, empty_queue, empty_unit_queue, buffer, map_of, is_chosen, packets_offered, units_offered, share_of, with_share, with_shares, room_of, is_for, is_of_map, step, row_of, kept, taken_from, unit_of, first_of, AreDistinct, Ad, passed_on, run_within, map-map}
 use Rattle.tc_channel.specs.Laws.{KeepsToItsCapacity}
 use Rattle.tc_channel.proofs.Runs.{always}
-use Rattle.tc_channel.proofs.Lists.{all-map, all-mapped}
+use Rattle.tc_queues.proofs.Lists.{all-map, all-mapped}
 
 -- A property holds for the state that a frame leaves if it holds for the state before, for that state with one more
 -- accepted frame, and for that state with one more field passed on.

@@ -11,7 +11,7 @@ use Rattle.tc_channel.proofs.Filled.{IsFilled, first-filled, state-filled}
 use Rattle.tc_channel.proofs.Runs.{step-keeps, keeps}
 use Rattle.tc_channel.proofs.Plain.{run-limit}
 use Rattle.tc_channel.proofs.Sound.{HaveEntries, state-sound, frame-enters}
-use Rattle.tc_channel.proofs.Lists.{all-drop}
+use Rattle.tc_queues.proofs.Lists.{all-drop}
 
 abbrev IsCounted : ChannelState → Type 0
 IsCounted b = b.released ≤ length b.accepted

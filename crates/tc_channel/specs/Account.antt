@@ -5,7 +5,7 @@ use Rattle.std.specs.List.{AllByRecursion, flat_map}
 use Rattle.tc_packet.specs.declared.segment.Part.TheVariants as parts
 use Rattle.tc_packet.specs.declared.Service.{Service}
 use Rattle.tc_packet.specs.Reassembly.{IsPart, Passed, at_most, is_of, joined_bodies, largest_unit, open_run, stream}
-use Rattle.tc_channel.specs.declared.settings.Settings.{Settings}
+use Rattle.tc_queues.specs.declared.settings.Settings.{Settings}
 use Rattle.tc_channel.specs.Given.{as_list}
 use Rattle.tc_channel.specs.Through.{all_made, unit_made}
 

@@ -8,11 +8,11 @@ use Rattle.tc_link.specs.declared.Kind.TheVariants as kinds
 use Rattle.tc_packet.specs.declared.Service.{Service}
 use Rattle.tc_packet.specs.declared.Service.TheVariants.{Bd}
 use Rattle.tc_packet.specs.Reassembly.{OpenRuns, Passed, at_most, stream, run_at, run_left, place_of, stream_place, unit_ended}
-use Rattle.tc_channel.specs.declared.settings.Settings.{Settings}
-use Rattle.tc_channel.specs.Settings.{IsAllowed}
+use Rattle.tc_queues.specs.declared.settings.Settings.{Settings}
+use Rattle.tc_queues.specs.Settings.{IsAllowed}
 use Rattle.tc_channel.specs.declared.event.Event.{Event}
-use Rattle.tc_channel.specs.ChannelState.{buffer}
-use Rattle.tc_channel.specs.StoredQueues.{stored, StoredQueue}
+use Rattle.tc_queues.specs.ChannelState.{buffer}
+use Rattle.tc_queues.specs.StoredQueues.{stored, StoredQueue}
 use Rattle.tc_channel.specs.Run.{run_within, IsLawfulWithin}
 
 -- the run stored at this place is the one that the fields leave open, or no run if that one is longer than the limit

@@ -4,14 +4,14 @@ use Rattle.std.specs.List.{AllByRecursion}
 use Rattle.tc_link.specs.Farm.{Machine}
 use Rattle.tc_packet.specs.declared.Service.{Service}
 use Rattle.tc_packet.specs.Reassembly.{largest_unit, place_of, stream_count}
-use Rattle.tc_rooms.specs.Rooms.{Slotted}
+use Rattle.tc_queues.specs.Rooms.{Slotted}
 use Rattle.tc_packet.specs.Store.{Store, open_runs, limit_at}
-use Rattle.tc_channel.specs.declared.settings.Settings.{Settings}
+use Rattle.tc_queues.specs.declared.settings.Settings.{Settings}
 use Rattle.tc_channel.specs.declared.event.Event.{Event}
 use Rattle.tc_channel.specs.Channel.{Inside, HoldsWithin}
-use Rattle.tc_channel.specs.Memory.{largest_item, largest_field}
-use Rattle.tc_channel.specs.Keyed.{Keyed, rings_in, room_sizes, AreCommitted}
-use Rattle.tc_channel.specs.StoredQueues.{AreDistinct, keys_of}
+use Rattle.tc_queues.specs.Memory.{largest_item, largest_field}
+use Rattle.tc_queues.specs.Keyed.{Keyed, rings_in, room_sizes, AreCommitted}
+use Rattle.tc_queues.specs.StoredQueues.{AreDistinct, keys_of}
 
 -- each stream has the limit of its MAP
 abbrev pub HaveLimits : (ℕ → ℕ) → Store → Type 0

@@ -4,10 +4,10 @@ use Rattle.tc_link.specs.Frame.{header_of}
 use Rattle.tc_link.specs.Farm.{Row, E8}
 use Rattle.tc_link.specs.declared.State.{State}
 use Rattle.tc_link.specs.declared.State.TheVariants.{S1, S2}
-use Rattle.tc_channel.specs.declared.settings.Settings.{Settings}
+use Rattle.tc_queues.specs.declared.settings.Settings.{Settings}
 use Rattle.tc_channel.specs.declared.event.Event.{Event}
 use Rattle.tc_channel.specs.declared.event.Event.TheVariants.{Frame, Release, Take, TakeUnit}
-use Rattle.tc_channel.specs.ChannelState.{ChannelState, Accepted, no_limits}
+use Rattle.tc_queues.specs.ChannelState.{ChannelState, Accepted, no_limits}
 use Rattle.tc_channel.specs.Run.{field_of, row_of, run_within}
 
 -- the number that Set V(R) sets V(R) to, which it does in S1 and in S2

@@ -4,10 +4,10 @@ use Rattle.std.specs.Prelude.{ℕ, ◌==◌, List, [], ◌∷◌, ◌++◌, map,
 use Rattle.std.specs.Option.{option_and_then}
 use Rattle.tc_packet.specs.declared.Service.{Service}
 use Rattle.tc_packet.specs.Reassembly.{Passed, same_service}
-use Rattle.tc_channel.specs.declared.settings.Settings.{Settings}
+use Rattle.tc_queues.specs.declared.settings.Settings.{Settings}
 use Rattle.tc_channel.specs.declared.event.Event.{Event}
 use Rattle.tc_channel.specs.declared.event.Event.TheVariants.{Frame, Release, Take, TakeUnit}
-use Rattle.tc_channel.specs.ChannelState.{ChannelState, Queue, queue_of, waiting}
+use Rattle.tc_queues.specs.ChannelState.{ChannelState, Queue, queue_of, waiting}
 use Rattle.tc_channel.specs.Run.{step}
 
 -- the item that a take from the queue with this key gives: the oldest item that waits there

@@ -2,9 +2,9 @@
 -- queues.
 use Rattle.std.specs.Prelude.{List, Option, length, option_map}
 use Rattle.std.specs.List.{filter_map}
-use Rattle.tc_channel.specs.declared.settings.Settings.{Settings}
-use Rattle.tc_channel.specs.declared.settings.QueueSetting.{QueueSetting}
-use Rattle.tc_channel.specs.declared.settings.MapSetting.{MapSetting}
+use Rattle.tc_queues.specs.declared.settings.Settings.{Settings}
+use Rattle.tc_queues.specs.declared.settings.QueueSetting.{QueueSetting}
+use Rattle.tc_queues.specs.declared.settings.MapSetting.{MapSetting}
 use Rattle.tc_channel.specs.declared.event.Event.{Event}
 use Rattle.tc_channel.specs.declared.holding.Holding.{Holding}
 use Rattle.tc_channel.specs.declared.holding.QueueHolding.{QueueHolding}

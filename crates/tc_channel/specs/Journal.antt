@@ -1,6 +1,6 @@
 -- The view that a contract has of a channel: its settings and its events, the oldest first.
 use Rattle.std.specs.Prelude.{◌<◌, List, [], ◌∷◌, ◌++◌, length}
-use Rattle.tc_channel.specs.declared.settings.Settings.{Settings}
+use Rattle.tc_queues.specs.declared.settings.Settings.{Settings}
 use Rattle.tc_channel.specs.declared.event.Event.{Event}
 use Rattle.tc_channel.specs.declared.event.Event.TheVariants as events
 use Rattle.tc_channel.specs.declared.lent.LentEvent.{LentEvent}

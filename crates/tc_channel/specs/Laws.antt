@@ -2,10 +2,10 @@
 use Rattle.std.specs.Prelude.{◌≡◌, ◌≢◌, ℕ, ◌+◌, ◌-◌, ◌≤◌, Bool, nat_lt, true, false, List, [], ◌∷◌, ◌++◌, length, Any, if◌then◌else◌}
 use Rattle.tc_link.specs.declared.State.TheVariants.{S1, S2, S3}
 use Rattle.tc_packet.specs.Reassembly.{Passed}
-use Rattle.tc_channel.specs.declared.settings.Settings.{Settings}
-use Rattle.tc_channel.specs.declared.settings.MapSetting.{MapSetting}
-use Rattle.tc_channel.specs.Admission.{map_of}
-use Rattle.tc_channel.specs.ChannelState.{ChannelState, Accepted, Queue, has_room}
+use Rattle.tc_queues.specs.declared.settings.Settings.{Settings}
+use Rattle.tc_queues.specs.declared.settings.MapSetting.{MapSetting}
+use Rattle.tc_queues.specs.Admission.{map_of}
+use Rattle.tc_queues.specs.ChannelState.{ChannelState, Accepted, Queue, has_room}
 
 -- FARM-1's flags agree with its state and with the buffer
 pub record IsSound (s : Settings) (state : ChannelState) : Type 0 where

@@ -1,8 +1,4 @@
-pub mod Settings
 pub mod Journal
-pub mod ChannelState
-pub mod Memory
-pub mod Admission
 pub mod Run
 pub mod Reply
 pub mod Era
@@ -12,12 +8,7 @@ pub mod Lossless
 pub mod Account
 pub mod Holding
 pub mod Laws
-pub mod StoredQueues
 pub mod Channel
-pub mod Keyed
-pub mod Places
-pub mod Delivering
-pub mod Copying
 pub mod Steps
 pub mod ChannelCore
 pub mod Examples

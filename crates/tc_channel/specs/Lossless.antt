@@ -1,9 +1,9 @@
 -- The packets and units that the replies of a channel report as dropped, over a journal.
 use Rattle.std.specs.Prelude.{◌≡◌, ℕ, List, [], ◌∷◌}
-use Rattle.tc_channel.specs.declared.settings.Settings.{Settings}
+use Rattle.tc_queues.specs.declared.settings.Settings.{Settings}
 use Rattle.tc_channel.specs.declared.event.Event.{Event}
 use Rattle.tc_channel.specs.declared.event.Event.TheVariants.{Frame, Release, Take, TakeUnit}
-use Rattle.tc_channel.specs.ChannelState.{ChannelState}
+use Rattle.tc_queues.specs.ChannelState.{ChannelState}
 use Rattle.tc_channel.specs.Reply.{frame_reply_at, release_reply_at}
 use Rattle.tc_channel.specs.Run.{step}
 

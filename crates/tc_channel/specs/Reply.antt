@@ -1,5 +1,5 @@
 -- The replies of a channel after a journal.
-use Rattle.std.specs.Prelude.{◌≡◌, ℕ, ◌-◌, Bool, true, false, List, length, nat_lt, Option, Some, None, option_map, slice_get}
+use Rattle.std.specs.Prelude.{◌≡◌, ℕ, List, Option, option_map, slice_get}
 use Rattle.std.specs.Option.{option_and_then}
 use Rattle.tc_link.specs.declared.Act.{Act}
 use Rattle.tc_link.specs.declared.Link.{Link}
@@ -9,14 +9,14 @@ use Rattle.tc_link.specs.Command.{kind_of}
 use Rattle.tc_link.specs.Clcw.{word_of}
 use Rattle.tc_link.specs.Farm.{Row, E6, number_of, accepts}
 use Rattle.tc_packet.specs.declared.Service.TheVariants.{Ad, Bd}
-use Rattle.tc_packet.specs.SpacePacket.{packets_of, rest_of}
-use Rattle.tc_channel.specs.declared.reply.Delivery.{Delivery}
-use Rattle.tc_channel.specs.declared.reply.FrameReply.{FrameReply}
-use Rattle.tc_channel.specs.declared.settings.Settings.{Settings}
+use Rattle.tc_queues.specs.declared.reply.Delivery.{Delivery}
+use Rattle.tc_queues.specs.declared.reply.FrameReply.{FrameReply}
+use Rattle.tc_queues.specs.declared.settings.Settings.{Settings}
 use Rattle.tc_channel.specs.declared.event.Event.{Event}
-use Rattle.tc_channel.specs.ChannelState.{ChannelState, no_limits, buffer, queue_of, waiting}
-use Rattle.tc_channel.specs.Admission.{is_chosen, count_queued}
+use Rattle.tc_queues.specs.ChannelState.{ChannelState, no_limits, buffer, queue_of, waiting}
+use Rattle.tc_queues.specs.Admission.{is_chosen, count_queued}
 use Rattle.tc_channel.specs.Run.{field_of, row_of, unit_of, first_of, run_within}
+use Rattle.tc_queues.specs.Delivering.{nothing, delivered}
 
 -- The frame is of Type-BD. If the journal of a channel isn't recorded, only such a frame can make it run out of memory.
 abbrev pub IsBypassData : List ℕ → Type 0
@@ -25,16 +25,6 @@ IsBypassData octets = kind_of (header_of octets) (field_of octets) ≡ kinds.Bd
 -- the octets begin with a frame of Type-BD
 abbrev pub BeginsWithBypassData : List ℕ → Type 0
 BeginsWithBypassData octets = (frame : List ℕ) × BeginsWith octets frame × IsBypassData frame
-
--- the delivery when no unit was ended
-abbrev pub nothing : Delivery
-nothing = record { queued = 0; dropped = 0; rest = false }
-
--- the delivery of a unit when this number of units or packets were queued, for a chosen MAP or for another one
-abbrev pub delivered : Option (List ℕ) → Bool → ℕ → Delivery
-delivered None chosen queued = nothing
-delivered (Some unit) true queued = record { queued = queued; dropped = 1 - queued; rest = false }
-delivered (Some unit) false queued = record { queued = queued; dropped = length (packets_of unit) - queued; rest = nat_lt 0 (length (rest_of unit)) }
 
 abbrev pub delivery_of : List ℕ → Option (List ℕ) → ChannelState → Delivery
 delivery_of field unit state = delivered unit (is_chosen state field) (count_queued field unit state)

@@ -6,11 +6,11 @@ use Rattle.tc_link.specs.Farm.{Row, E1, E6, E10, frame_row, entry, accepts, afte
 use Rattle.tc_packet.specs.declared.Service.{Service}
 use Rattle.tc_packet.specs.declared.Service.TheVariants.{Ad, Bd}
 use Rattle.tc_packet.specs.Reassembly.{at_most, stream, unit_ended}
-use Rattle.tc_channel.specs.declared.settings.Settings.{Settings}
+use Rattle.tc_queues.specs.declared.settings.Settings.{Settings}
 use Rattle.tc_channel.specs.declared.event.Event.{Event}
 use Rattle.tc_channel.specs.declared.event.Event.TheVariants.{Frame, Release, Take, TakeUnit}
-use Rattle.tc_channel.specs.ChannelState.{ChannelState, Queue, first_state_within, no_limits, buffer, has_room}
-use Rattle.tc_channel.specs.Admission.{map_of, offered}
+use Rattle.tc_queues.specs.ChannelState.{ChannelState, Queue, first_state_within, no_limits, buffer, has_room}
+use Rattle.tc_queues.specs.Admission.{map_of, offered}
 
 -- the data field of a frame
 abbrev pub field_of : List ℕ → List ℕ

@@ -1,52 +1,12 @@
--- The steps that are counted: one for each queue that is looked at, and one for each packet that is cut from a unit.
-use Rattle.std.specs.Prelude.{ℕ, ◌+◌, ◌*◌, List, [], ◌∷◌, length, nat_lt, Option, Some, None, if◌then◌else◌}
+-- The largest number of steps for a frame and for a release.
+use Rattle.std.specs.Prelude.{ℕ, List, length, Option, None}
 use Rattle.tc_link.specs.Farm.{Row, E6}
 use Rattle.tc_packet.specs.declared.Service.TheVariants.{Ad, Bd}
-use Rattle.tc_packet.specs.SpacePacket.{packets_of}
-use Rattle.tc_channel.specs.declared.settings.Settings.{Settings}
+use Rattle.tc_queues.specs.declared.settings.Settings.{Settings}
 use Rattle.tc_channel.specs.declared.event.Event.{Event}
-use Rattle.tc_channel.specs.ChannelState.{ChannelState, buffer, no_limits}
-use Rattle.tc_channel.specs.StoredQueues.{apid_count}
-use Rattle.tc_channel.specs.Keyed.{Keyed}
+use Rattle.tc_queues.specs.ChannelState.{ChannelState, buffer, no_limits}
 use Rattle.tc_channel.specs.Run.{field_of, first_of, row_of, run_within, unit_of}
-
--- the number of queues that are looked at to find one: one if there is a table, otherwise at most all of them
-abbrev pub looks : List Keyed → List ℕ → ℕ
-looks queues [] = length queues
-looks queues (n ∷ table) = 1
-
--- the largest number of queues that are looked at to find one among `count` queues, which have a table if there are 8
--- or more and the table can show their places
-abbrev pub most_looks : ℕ → ℕ
-most_looks count = if nat_lt count 8 then count else if nat_lt 65535 count then count else 1
-
--- the number of queues that are looked at to find the one with a key (no table has a key that an APID can't be)
-abbrev pub looks_for : ℕ → ℕ → ℕ
-looks_for key count = if nat_lt key apid_count then most_looks count else count
-
--- the steps of a pass over packets: each one is cut, and its queue is found
-abbrev pub pass_steps : ℕ → ℕ → ℕ
-pass_steps packets looks_for_one = packets * (looks_for_one + 1)
-
--- The steps of a unit. The queue of its MAP is looked for. Then the packets are staged in their queues, and the queues
--- are committed: that of each packet, or all queues.
-abbrev pub unit_steps : ℕ → ℕ → ℕ → ℕ
-unit_steps packets looks_for_one looks_for_map = looks_for_map + (pass_steps packets looks_for_one + (pass_steps packets looks_for_one + looks_for_one))
-
--- the largest number of steps for a unit with this number of packets, given the numbers of packet queues and of unit
--- queues
-abbrev pub packet_steps : ℕ → ℕ → ℕ → ℕ
-packet_steps packets queues units = unit_steps packets (most_looks queues) (most_looks units)
-
--- the largest number of steps for a delivery: none if there is no unit, otherwise the number that its packets need
-abbrev pub delivery_steps : Option (List ℕ) → ℕ → ℕ → ℕ
-delivery_steps None queues units = 0
-delivery_steps (Some unit) queues units = packet_steps (length (packets_of unit)) queues units
-
--- the largest number of packets in a unit, which is reached if each has the least size, seven octets (CCSDS 133.0-B,
--- 4.1.2.1)
-abbrev pub most_packets : ℕ
-most_packets = 9363
+use Rattle.tc_queues.specs.Steps.{delivery_steps}
 
 -- the unit that a frame ends at once (only an accepted BD frame ends one)
 abbrev pub ended_at_once : Row → List ℕ → ChannelState → Option (List ℕ)
@@ -60,11 +20,6 @@ frame_steps_within limits s journal octets = delivery_steps (ended_at_once (row_
 -- the largest number of steps for a release, by the unit that the oldest data field ends
 unfoldable pub release_steps_within : (ℕ → ℕ) → Settings → List Event → ℕ
 release_steps_within limits s journal = delivery_steps (unit_of (run_within limits s journal) Ad (first_of (buffer (run_within limits s journal)))) (length s.queues) (length s.maps)
-
--- the largest number of steps for a take from one of this number of queues: the queue is looked for, and found once
--- more
-abbrev pub take_steps : ℕ → ℕ → ℕ
-take_steps key count = 2 * looks_for key count
 
 -- the steps of a channel without limits by MAP
 

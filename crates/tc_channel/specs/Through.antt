@@ -4,9 +4,9 @@ use Rattle.std.specs.Prelude.{◌≡◌, ℕ, zero, suc, ◌-◌, Bool, List, []
 use Rattle.tc_packet.specs.declared.Service.TheVariants.{Ad}
 use Rattle.tc_packet.specs.Reassembly.{Passed, at_most, stream, unit_ended}
 use Rattle.tc_channel.specs.declared.event.Event.{Event}
-use Rattle.tc_channel.specs.declared.settings.Settings.{Settings}
-use Rattle.tc_channel.specs.ChannelState.{queue_of, empty_unit_queue}
-use Rattle.tc_channel.specs.Admission.{map_of, is_for, is_of_map, packets_offered, units_offered}
+use Rattle.tc_queues.specs.declared.settings.Settings.{Settings}
+use Rattle.tc_queues.specs.ChannelState.{queue_of, empty_unit_queue}
+use Rattle.tc_queues.specs.Admission.{map_of, is_for, is_of_map, packets_offered, units_offered}
 use Rattle.tc_channel.specs.Given.{fields_passed}
 use Rattle.tc_channel.specs.Run.{run_within}
 

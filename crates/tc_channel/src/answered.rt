@@ -1,14 +1,14 @@
 //! The results that the definitions give after short journals.
-#![tactic(auto, unfolding(crate::specs::Run::run_within, crate::specs::Run::passed_on, crate::specs::Run::IsLawfulWithin, crate::specs::ChannelState::no_limits, crate::specs::Reply::frame_reply_within, crate::specs::Reply::release_reply_within, crate::specs::Reply::waiting_packets_within, crate::specs::Reply::waiting_units_within, crate::specs::Reply::buffered_fields_within, crate::specs::Reply::clcw_within, crate::specs::Memory::memory_bound, tc_link::specs::Window::some_of_first))]
+#![tactic(auto, unfolding(crate::specs::Run::run_within, crate::specs::Run::passed_on, crate::specs::Run::IsLawfulWithin, tc_queues::specs::ChannelState::no_limits, crate::specs::Reply::frame_reply_within, crate::specs::Reply::release_reply_within, crate::specs::Reply::waiting_packets_within, crate::specs::Reply::waiting_units_within, crate::specs::Reply::buffered_fields_within, crate::specs::Reply::clcw_within, tc_queues::specs::Memory::memory_bound, tc_link::specs::Window::some_of_first))]
 
 ghost use Rattle.std.specs.Prelude.{◌≡◌, true, false, [], ◌∷◌, Some, None};
 ghost use Rattle.tc_channel.specs.declared.event.Event.TheVariants.{Frame, Release, Take, TakeUnit};
 ghost use Rattle.tc_channel.specs.Reply.{frame_reply, release_reply, release_reply_within, take_reply, unit_reply, unit_reply_within, waiting_packets, waiting_units, buffered_fields, clcw};
 ghost use Rattle.tc_channel.specs.Run.{IsLawful};
-ghost use Rattle.tc_channel.specs.Memory.{memory_bound};
+ghost use Rattle.tc_queues.specs.Memory.{memory_bound};
 ghost use Rattle.tc_channel.specs.Holding.{holding_of};
-ghost use Rattle.tc_channel.specs.Settings.{IsAllowed, IsFault};
-ghost use Rattle.tc_channel.specs.declared.settings.SettingsFault.TheVariants as faults;
+ghost use Rattle.tc_queues.specs.Settings.{IsAllowed, IsFault};
+ghost use Rattle.tc_queues.specs.declared.settings.SettingsFault.TheVariants as faults;
 ghost use Rattle.tc_link.specs.declared.State.TheVariants.{S1};
 ghost use Rattle.tc_channel.specs.Examples as example;
 

@@ -1,12 +1,13 @@
 //! A channel and its journal.
 
 ghost use Rattle.std.specs.Prelude.{◌≡◌, false, [], ◌<◌, ◌≤◌, ◌+◌, ◌↔◌, length, min, ◌^◌, ◌-◌, IfOk, OnOk, OnErr, IsErrOf, MatchResult, Some, None, option_map};
-ghost use Rattle.tc_channel.specs.Settings.{IsAllowed, IsRefusal};
+ghost use Rattle.tc_queues.specs.Settings.{IsAllowed, IsRefusal};
 ghost use Rattle.tc_channel.specs.Journal.{with_event};
 ghost use Rattle.tc_channel.specs.Run.{run, IsLawful};
 ghost use Rattle.tc_channel.specs.Reply.{IsBypassData, frame_reply, release_reply, take_reply, unit_reply, waiting_packets, waiting_units, buffered_fields, clcw as clcw_of};
 ghost use Rattle.tc_channel.specs.Era.{CountsUpInItsEra};
-ghost use Rattle.tc_channel.specs.Steps.{frame_steps, release_steps, take_steps};
+ghost use Rattle.tc_channel.specs.Steps.{frame_steps, release_steps};
+ghost use Rattle.tc_queues.specs.Steps.{take_steps};
 
 use crate::channel_core::ChannelCore;
 use crate::event::Event;
@@ -14,16 +15,16 @@ use crate::journal::Journal;
 use crate::lent::LentEvent;
 use crate::past::Past;
 use crate::recorded::Recorded;
-use crate::reply::{Delivery, FrameReply, NoMemory, ReleaseFault, TakeFault, TakeUnitFault};
-use crate::settings::{Settings, SettingsFault};
-use crate::steps::Tick;
 use crate::unrecorded::Unrecorded;
 use std::alloc::Global;
 use std::marker::Model;
 use std::snapshot::Snapshot;
 use tc_link::{Frame, Link, Report, clcw_word};
-use tc_packet::LARGEST_UNIT;
-use tc_rooms::{GrowingRoom, Runs};
+use tc_packet::{GrowingRoom, LARGEST_UNIT, Runs};
+use tc_queues::{
+    Delivery, FrameReply, NoMemory, ReleaseFault, Settings, SettingsFault, TakeFault,
+    TakeUnitFault, Tick,
+};
 
 // A counter that counts no steps. No other module can name this type, so a function that a channel's calls are built on
 // can't create a counter of its own. It has to count every step with the counter that its caller passes.
@@ -65,7 +66,7 @@ impl<J: Journal> Model for ChannelWith<J> {
 
     ghost Value = { History };
 
-    ghost use Rattle.tc_channel.specs.ChannelState.{no_limits};
+    ghost use Rattle.tc_queues.specs.ChannelState.{no_limits};
     ghost use Rattle.tc_channel.specs.ChannelCore.{HoldsInRooms};
 
     ghost view = { λ c. record { settings = c.settings; journal = J.events c.journal } };

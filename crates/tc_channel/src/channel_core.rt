@@ -7,32 +7,27 @@ ghost use Rattle.tc_packet.specs.Reassembly.{run_at, stream_place};
 ghost use Rattle.tc_packet.specs.Store.{limit_at, open_runs};
 ghost use Rattle.tc_channel.specs.declared.event.Event.{Event};
 ghost use Rattle.tc_channel.specs.declared.event.Event.TheVariants as Event;
-ghost use Rattle.tc_channel.specs.Admission.{map_of};
+ghost use Rattle.tc_queues.specs.Admission.{map_of};
 ghost use Rattle.tc_channel.specs.Channel.{FollowsWithin, FollowsKindWithin, EndsWithin, EndsAtOnceWithin, buffered_of, with_field};
-ghost use Rattle.tc_channel.specs.Copying.{IsCopiedIn, copied_out};
-ghost use Rattle.tc_channel.specs.Delivering.{IsDelivered};
-ghost use Rattle.tc_channel.specs.Keyed.{rings_in};
-ghost use Rattle.tc_channel.specs.Memory.{largest_field};
+ghost use Rattle.tc_queues.specs.Copying.{IsCopiedIn, copied_out};
+ghost use Rattle.tc_queues.specs.Delivering.{IsDelivered};
+ghost use Rattle.tc_queues.specs.Keyed.{rings_in};
+ghost use Rattle.tc_queues.specs.Memory.{largest_field};
 ghost use Rattle.tc_channel.specs.Reply.{IsBypassData, frame_reply_within, release_reply_within, take_reply_within, unit_reply_within, waiting_packets_within, waiting_units_within, buffered_fields_within};
 ghost use Rattle.tc_channel.specs.Run.{run_within};
-ghost use Rattle.tc_channel.specs.Settings.{IsAllowed};
+ghost use Rattle.tc_queues.specs.Settings.{IsAllowed};
 ghost use Rattle.tc_channel.specs.ChannelCore.{AreSmall, CanPassOn, GoOn, HaveLimits, HoldsInRooms, IsEnough, KeepRooms, Stay, WhereverItHolds};
-ghost use Rattle.tc_channel.specs.Steps.{delivery_steps, frame_steps_within, looks_for, release_steps_within};
+ghost use Rattle.tc_queues.specs.Steps.{delivery_steps, looks_for};
+ghost use Rattle.tc_channel.specs.Steps.{frame_steps_within, release_steps_within};
 
-use crate::empty_queues::{empty_queues, empty_unit_queues};
-use crate::queues::{Queues, deliver_ended, deliver_nothing};
-use crate::reply::{Delivery, FrameReply, NotCopied};
-use crate::settings::Settings;
-use crate::steps::Tick;
 use std::alloc::{AllocError, Global};
 use std::marker::Model;
 use tc_link::{Act, Arrival, Farm, Frame, Kind, Report, Window, each_arrival_has_an_entry, kind};
-use tc_packet::{Service, read_segment};
-use tc_rooms::{FixedRoom, GrowingRoom, Room, Runs, Slots};
-
-/// The largest length of a data field in octets: a frame has at most 1,024 octets (CCSDS 232.0-B, 4.1.2.7), and 5 of
-/// them are its primary header.
-pub const LARGEST_FIELD: usize = 1_019;
+use tc_packet::{FixedRoom, GrowingRoom, Room, Runs, Service, read_segment};
+use tc_queues::{
+    Delivery, FrameReply, LARGEST_FIELD, NotCopied, Queues, Settings, Slots, Tick, deliver_ended,
+    deliver_nothing, empty_queues, empty_unit_queues,
+};
 
 /// FARM-1, the buffer of accepted data fields, reassembly, the packet queues and the unit queues of chosen MAPs: all
 /// parts of a channel but its settings and its journal. A [`ChannelWith`](crate::ChannelWith) keeps its core in rooms

@@ -1,6 +1,6 @@
 //! Events of a journal.
 
-use crate::items::Octets;
+use tc_queues::Octets;
 
 /// An operation that a channel carried out. An operation that it refused is no event.
 #[derive(Debug, Drop, PartialEq, Eq)]

@@ -4,11 +4,11 @@
 ghost use Rattle.std.specs.Prelude.{◌≡◌, ◌≤◌, ◌∷◌, ◌+◌, ◌%◌, ℕ, true, List, [], Some, length, map, take};
 ghost use Rattle.tc_link.specs.declared.Link.{Link};
 ghost use Rattle.tc_link.specs.Clcw.{fields_of};
-ghost use Rattle.tc_channel.specs.Settings.{IsAllowed};
+ghost use Rattle.tc_queues.specs.Settings.{IsAllowed};
 ghost use Rattle.tc_packet.specs.declared.Service.{Service};
-ghost use Rattle.tc_channel.specs.declared.settings.Settings.{Settings};
+ghost use Rattle.tc_queues.specs.declared.settings.Settings.{Settings};
 ghost use Rattle.tc_channel.specs.declared.event.Event.{Event};
-ghost use Rattle.tc_channel.specs.ChannelState.{Accepted, Queue, first_state_within, no_limits, queue_of, waiting};
+ghost use Rattle.tc_queues.specs.ChannelState.{Accepted, Queue, first_state_within, no_limits, queue_of, waiting};
 ghost use Rattle.tc_channel.specs.Examples as example;
 ghost use Rattle.tc_channel.specs.Run.{run_within, IsLawfulWithin};
 ghost use Rattle.tc_channel.specs.Reply.{clcw_within, take_reply_within, unit_reply_within};
@@ -98,7 +98,7 @@ pub fn each_passed_field_is_accounted_for()
 /// These data fields make the items that were worked out by hand. Two segments make a packet, for its own application
 /// alone. They make none if they came by different services, or if their unit is over the limit of its MAP. On a chosen
 /// MAP they make the unit as it is, and no packet. A field without a segment header is a packet by itself.
-#[tactic(auto, unfolding(crate::specs::ChannelState::no_limits))]
+#[tactic(auto, unfolding(tc_queues::specs::ChannelState::no_limits))]
 pub fn passed_fields_make_so()
     ensures two_segments { packets_made no_limits (example.buffer_of 2) 5 (example.in_two_segments Service.Ad Service.Ad) ≡ example.joined_packet ∷ [] }
     ensures other_application { packets_made no_limits (example.buffer_of 2) 6 (example.in_two_segments Service.Ad Service.Ad) ≡ [] }

@@ -2,17 +2,15 @@
 
 ghost use Rattle.std.specs.Prelude.{◌≡◌, IfOk};
 ghost use Rattle.std.specs.List.{filter_map};
-ghost use Rattle.tc_channel.specs.Settings.{IsAllowed};
+ghost use Rattle.tc_queues.specs.Settings.{IsAllowed};
 ghost use Rattle.tc_channel.specs.Run.{IsLawful};
 ghost use Rattle.tc_channel.specs.Holding.{holding_of, queue_holding, map_holding};
 
 use crate::channel::ChannelWith;
-use crate::items::Items;
 use crate::journal::Journal;
-use crate::reply::NoMemory;
-use crate::settings::{MapSetting, QueueSetting};
 use std::alloc::Global;
 use tc_link::Report;
+use tc_queues::{Items, MapSetting, NoMemory, QueueSetting};
 
 /// The state of a channel at one moment.
 #[derive(Debug, Drop)]

@@ -3,7 +3,7 @@
 #![tactic(auto, using(crate::proofs::Closing::laws))]
 
 ghost use Rattle.std.specs.Prelude.{List, ℕ, ◌≡◌, ◌≤◌, ◌<◌, ◌+◌, ◌*◌, ◌%◌, ◌^◌, ◌++◌, ◌↔◌, Option, Some, None, false, [], ◌∷◌, ◌≢◌, IsTrue, length, map, slice_get};
-ghost use Rattle.tc_channel.specs.ChannelState.{ChannelState, Accepted, Queue, buffer};
+ghost use Rattle.tc_queues.specs.ChannelState.{ChannelState, Accepted, Queue, buffer};
 ghost use Rattle.std.specs.List.{AllByRecursion, Contains};
 ghost use Rattle.tc_link.specs.Frame.{IsWhole, header_of};
 ghost use Rattle.tc_link.specs.Command.{kind_of};
@@ -11,22 +11,22 @@ ghost use Rattle.tc_link.specs.declared.State.TheVariants.{S1};
 ghost use Rattle.tc_link.specs.declared.Kind.TheVariants as Kind;
 ghost use Rattle.tc_link.specs.declared.Command.TheVariants as Command;
 ghost use Rattle.tc_packet.specs.SpacePacket.{packets_of};
-ghost use Rattle.tc_channel.specs.Steps.{delivery_steps, most_packets, packet_steps};
+ghost use Rattle.tc_queues.specs.Steps.{delivery_steps, most_packets, packet_steps};
 ghost use Rattle.tc_link.specs.declared.Link.{Link};
 ghost use Rattle.tc_packet.specs.declared.Service.{Service};
 ghost use Rattle.tc_packet.specs.Reassembly.{largest_unit, run_left, stream, unit_ended};
-ghost use Rattle.tc_channel.specs.Admission.{map_of, is_chosen, is_for, is_of_map, packets_offered, units_offered, share_of, with_share};
+ghost use Rattle.tc_queues.specs.Admission.{map_of, is_chosen, is_for, is_of_map, packets_offered, units_offered, share_of, with_share};
 ghost use Rattle.tc_channel.specs.Reply.{clcw_within, delivery_of};
-ghost use Rattle.tc_channel.specs.declared.settings.Settings.{Settings};
+ghost use Rattle.tc_queues.specs.declared.settings.Settings.{Settings};
 ghost use Rattle.tc_channel.specs.declared.event.Event.{Event};
-ghost use Rattle.tc_channel.specs.declared.settings.SettingsFault.{SettingsFault};
-ghost use Rattle.tc_channel.specs.Settings.{IsAllowed, IsFault};
+ghost use Rattle.tc_queues.specs.declared.settings.SettingsFault.{SettingsFault};
+ghost use Rattle.tc_queues.specs.Settings.{IsAllowed, IsFault};
 ghost use Rattle.tc_channel.specs.Run.{field_of, run, run_within, run_from, unit_of, passed_on, HasStep, IsLawfulWithin, AreSteps};
 ghost use Rattle.tc_channel.specs.Laws.{IsSound, KeepsToItsCapacity, Grows, IsOfChosenMap, with_unit};
 ghost use Rattle.tc_channel.specs.Examples as example;
 ghost use Rattle.tc_channel.specs.Era.{IsSent, IsEraWithin, CountsUpInItsEraWithin, ComesFromWithin, accepted_since_within};
-ghost use Rattle.tc_channel.specs.declared.settings.QueueSetting.{QueueSetting};
-ghost use Rattle.tc_channel.specs.declared.settings.MapSetting.{MapSetting};
+ghost use Rattle.tc_queues.specs.declared.settings.QueueSetting.{QueueSetting};
+ghost use Rattle.tc_queues.specs.declared.settings.MapSetting.{MapSetting};
 
 use tc_link::{each_arrival_has_an_entry, unlock_and_set_v_r_open_farm_1};
 use tc_packet::a_plain_field_is_a_unit_by_itself;

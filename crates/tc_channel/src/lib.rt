@@ -20,27 +20,15 @@
 mod answered;
 mod channel;
 mod channel_core;
-mod committing;
-mod delivering;
-mod empty_queues;
 mod event;
 mod flow;
 mod holding;
-mod items;
 mod journal;
 mod laws;
 mod lent;
 mod memory;
 mod past;
-mod places;
-mod queue;
-mod queues;
 mod recorded;
-mod reply;
-mod settings;
-mod staging;
-mod steps;
-mod taking;
 mod unrecorded;
 
 pub use answered::{
@@ -49,7 +37,7 @@ pub use answered::{
     short_journals_are_answered_so,
 };
 pub use channel::{Channel, ChannelWith, CountingChannel, FlightChannel};
-pub use channel_core::{ChannelCore, LARGEST_FIELD};
+pub use channel_core::ChannelCore;
 pub use event::Event;
 pub use flow::{
     a_clcw_reports_how_many_were_accepted, each_passed_field_is_accounted_for,
@@ -58,7 +46,6 @@ pub use flow::{
     what_was_passed_on_is_admitted_in_order, what_was_sent_is_given_in_order,
 };
 pub use holding::{Holding, MapHolding, QueueHolding, holding_in};
-pub use items::{Items, Octets};
 pub use journal::Journal;
 pub use laws::{
     a_longer_run_goes_on, a_plain_channel_takes_each_field_as_a_unit,
@@ -71,15 +58,12 @@ pub use laws::{
     what_was_sent_is_accepted_once_and_in_order,
 };
 pub use lent::LentEvent;
-pub use memory::{
-    QUEUE_WORDS, ROOM_WORDS, RUN_WORDS, no_more_items_wait_than_memory_counts,
-    what_waits_is_within_the_bound_of_memory,
-};
+pub use memory::{no_more_items_wait_than_memory_counts, what_waits_is_within_the_bound_of_memory};
 pub use past::Past;
 pub use recorded::Recorded;
-pub use reply::{
-    Delivery, FrameReply, NoMemory, NotCopied, ReleaseFault, TakeFault, TakeUnitFault,
+pub use tc_queues::{
+    Delivery, FrameReply, Items, LARGEST_FIELD, LentSettings, MapSetting, NoMemory, NotCopied,
+    Octets, QUEUE_WORDS, QueueSetting, ROOM_WORDS, RUN_WORDS, ReleaseFault, Settings,
+    SettingsFault, Steps, TakeFault, TakeUnitFault, Tick,
 };
-pub use settings::{LentSettings, MapSetting, QueueSetting, Settings, SettingsFault};
-pub use steps::{Steps, Tick};
 pub use unrecorded::{EventsSeen, Unrecorded};

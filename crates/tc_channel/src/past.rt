@@ -1,9 +1,9 @@
 //! The part of a channel that contracts see. It takes no memory.
 
-use crate::settings::Settings;
 use crate::unrecorded::EventsSeen;
 use std::marker::Model;
 use std::snapshot::Snapshot;
+use tc_queues::Settings;
 
 /// The settings of a channel and its journal at one moment, as contracts see them. They take no memory, and no program
 /// can read them.

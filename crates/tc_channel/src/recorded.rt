@@ -3,11 +3,11 @@
 ghost use Rattle.std.specs.Prelude.{◌≡◌, ◌<◌, vec_len, vec_capacity};
 
 use crate::event::Event;
-use crate::items::Octets;
 use crate::journal::Journal;
 use crate::lent::LentEvent;
 use crate::unrecorded::EventsSeen;
 use std::alloc::{AllocError, Global};
+use tc_queues::Octets;
 
 /// A journal in memory: each event, with a copy of each frame's octets.
 #[derive(Drop)]

@@ -3,11 +3,11 @@ use Rattle.std.proofs.Common.{◌≡◌, ◌⊎◌, ℕ, Bool, List, Result, Ok,
 use Rattle.tc_cli.proofs.Names.{Answer, AtLock, Empty, Event, HasSeenNoMore, Identity, IsAnsweredAt, IsBringAnswer, IsCall, IsDeskAnswer, IsFrameAnswered, IsLocated, IsStaffedCall, IsPlace, IsReleaseAnswered, IsTakeAnswered, IsUnitAnswered, Linked, Staffed, Moment, NoMap, NoQueue, Watching, linked, looked, made}
 use Rattle.logged_lock.specs.Log.{with_entry}
 use Rattle.tc_channel.specs.declared.event.Event.TheVariants as events
-use Rattle.tc_channel.specs.declared.reply.Delivery.{Delivery}
-use Rattle.tc_channel.specs.declared.reply.FrameReply.{FrameReply}
-use Rattle.tc_channel.specs.declared.reply.ReleaseFault.TheVariants as release_faults
-use Rattle.tc_channel.specs.declared.reply.TakeFault.TheVariants as take_faults
-use Rattle.tc_channel.specs.declared.reply.TakeUnitFault.TheVariants as unit_faults
+use Rattle.tc_queues.specs.declared.reply.Delivery.{Delivery}
+use Rattle.tc_queues.specs.declared.reply.FrameReply.{FrameReply}
+use Rattle.tc_queues.specs.declared.reply.ReleaseFault.TheVariants as release_faults
+use Rattle.tc_queues.specs.declared.reply.TakeFault.TheVariants as take_faults
+use Rattle.tc_queues.specs.declared.reply.TakeUnitFault.TheVariants as unit_faults
 use Rattle.tc_desk.specs.Call as at_desk
 use Rattle.tc_rack.specs.declared.answer.Answer.TheVariants.{Frame, Release, Take, Unit as TakeUnit, Refused}
 

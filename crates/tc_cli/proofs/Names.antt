@@ -10,7 +10,7 @@ pub use Rattle.std.specs.Option.{option_and_then}
 pub use Rattle.tc_channel.specs.Journal.{History, IsNumberReported}
 pub use Rattle.tc_channel.specs.Reply.{buffered_fields, clcw, waiting_packets, waiting_units}
 pub use Rattle.tc_channel.specs.declared.event.Event.{Event}
-pub use Rattle.tc_channel.specs.declared.settings.Settings.{Settings}
+pub use Rattle.tc_queues.specs.declared.settings.Settings.{Settings}
 pub use Rattle.tc_cli.specs.Staffed.{AllHaveMet, HasMetAt, HaveMet, IsAnsweredAt, IsBringAnswer, IsDeskAnswer, IsStaffedCall, IsWordAnswer, Staffed, linked}
 pub use Rattle.tc_cli.specs.Parallel.{AreParted, ArePartedFor, AreWorkedChannels, GivesToFound, IsParted, Plan, none_parted, one_parted}
 pub use Rattle.tc_cli.specs.Parting.{IsFrameGiven, IsGiven, IsJobLine, IsWorkedOut, Parted, empty_list, with_job}

@@ -3,8 +3,8 @@
 use Rattle.std.proofs.Common.{◌≡◌, ℕ, ◌<◌, List, length, get_or, sym, ap, ◌∙◌, subst, arith, All}
 use Rattle.tc_cli.proofs.Names.{Roster, Settings, get_or_from_slice_get, length-map, slice_get_within}
 use Rattle.std.proofs.lemmas.List.{get_or-map, get_or-take, get_or_default, length-take}
-use Rattle.tc_channel.specs.declared.settings.SettingsFault.{SettingsFault}
-use Rattle.tc_channel.specs.Settings.{IsAllowed, IsFault}
+use Rattle.tc_queues.specs.declared.settings.SettingsFault.{SettingsFault}
+use Rattle.tc_queues.specs.Settings.{IsAllowed, IsFault}
 use Rattle.tc_station.specs.StationSettings.{HaveDistinctVcids, IsFirstDouble, IsFirstRefused, vcids_of}
 use Rattle.tc_cli.specs.Parting.{IsNewStation}
 use Rattle.tc_cli.specs.Watched.{IsOrdered}

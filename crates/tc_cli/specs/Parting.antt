@@ -1,7 +1,7 @@
 -- The jobs of a script, sorted by channel, and the channels after workers have done these jobs.
 use Rattle.std.specs.Prelude.{◌≡◌, ℕ, List, [], ◌∷◌, ◌++◌, ◌⊎◌, All, Any, length, map, slice_get, slice_set, Some, None}
 use Rattle.tc_channel.specs.Journal.{History}
-use Rattle.tc_channel.specs.declared.settings.Settings.{Settings}
+use Rattle.tc_queues.specs.declared.settings.Settings.{Settings}
 use Rattle.tc_station.specs.Location.{IsLocated, IsLocateFault}
 use Rattle.tc_station.specs.Roster.{Roster, settings_in}
 use Rattle.tc_station.specs.StationSettings.{HaveDistinctVcids, vcids_of}

@@ -2,7 +2,7 @@
 -- desks of its channels, and the journals that its watchers have seen.
 use Rattle.std.specs.Prelude.{◌≡◌, ◌⊎◌, ℕ, zero, suc, List, Contains, Some, Result, length, slice_get, slice_set}
 use Rattle.logged_lock.specs.Log.{IsBeginning, with_entry}
-use Rattle.tc_channel.specs.declared.settings.Settings.{Settings}
+use Rattle.tc_queues.specs.declared.settings.Settings.{Settings}
 use Rattle.tc_channel.specs.declared.event.Event.{Event}
 use Rattle.tc_channel.specs.Reply.{clcw}
 use Rattle.tc_channel.specs.Run.{IsLawful}

@@ -2,17 +2,17 @@
 use Rattle.std.specs.Prelude.{◌≡◌, ◌≢◌, ◌-◌, ◌^◌, min, ⊤, ℕ, Bool, false, List, [], ◌∷◌, ◌++◌, length, Some, None, Result, MatchResult}
 use Rattle.tc_channel.specs.declared.event.Event.{Event}
 use Rattle.tc_channel.specs.declared.event.Event.TheVariants.{Frame}
-use Rattle.tc_channel.specs.declared.reply.Delivery.{Delivery}
-use Rattle.tc_channel.specs.declared.reply.FrameReply.{FrameReply}
-use Rattle.tc_channel.specs.declared.reply.NoMemory.{NoMemory}
-use Rattle.tc_channel.specs.declared.reply.ReleaseFault.{ReleaseFault}
-use Rattle.tc_channel.specs.declared.reply.ReleaseFault.TheVariants as release_faults
-use Rattle.tc_channel.specs.declared.reply.TakeFault.{TakeFault}
-use Rattle.tc_channel.specs.declared.reply.TakeFault.TheVariants as take_faults
-use Rattle.tc_channel.specs.declared.reply.TakeUnitFault.{TakeUnitFault}
-use Rattle.tc_channel.specs.declared.reply.TakeUnitFault.TheVariants as unit_faults
+use Rattle.tc_queues.specs.declared.reply.Delivery.{Delivery}
+use Rattle.tc_queues.specs.declared.reply.FrameReply.{FrameReply}
+use Rattle.tc_queues.specs.declared.reply.NoMemory.{NoMemory}
+use Rattle.tc_queues.specs.declared.reply.ReleaseFault.{ReleaseFault}
+use Rattle.tc_queues.specs.declared.reply.ReleaseFault.TheVariants as release_faults
+use Rattle.tc_queues.specs.declared.reply.TakeFault.{TakeFault}
+use Rattle.tc_queues.specs.declared.reply.TakeFault.TheVariants as take_faults
+use Rattle.tc_queues.specs.declared.reply.TakeUnitFault.{TakeUnitFault}
+use Rattle.tc_queues.specs.declared.reply.TakeUnitFault.TheVariants as unit_faults
 use Rattle.tc_channel.specs.Journal.{History, with_event}
-use Rattle.tc_channel.specs.Settings.{IsAllowed}
+use Rattle.tc_queues.specs.Settings.{IsAllowed}
 use Rattle.tc_channel.specs.Run.{IsLawful}
 use Rattle.tc_channel.specs.Reply.{IsBypassData, frame_reply, release_reply, take_reply, unit_reply, waiting_packets, waiting_units, buffered_fields}
 use Rattle.tc_status.specs.Board.{Watching}

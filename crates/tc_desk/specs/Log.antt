@@ -1,7 +1,7 @@
 -- The log of a desk behind its lock, and the accounts that operators have of it.
 use Rattle.std.specs.Prelude.{◌≡◌, ℕ, suc, ◌-◌, ◌^◌, min, List, [], ◌∷◌, ◌++◌, length, map, true, false, Option, Some, None}
 use Rattle.atomic_table.specs.Seated.{TableId}
-use Rattle.tc_channel.specs.declared.settings.Settings.{Settings}
+use Rattle.tc_queues.specs.declared.settings.Settings.{Settings}
 use Rattle.tc_channel.specs.declared.event.Event.{Event}
 use Rattle.tc_channel.specs.Journal.{History}
 use Rattle.tc_status.specs.Board.{no_history}

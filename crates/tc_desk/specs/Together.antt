@@ -3,7 +3,7 @@ use Rattle.std.specs.Prelude.{◌≡◌, ◌≤◌, ℕ, List, [], ◌∷◌, le
 use Rattle.std.specs.List.{AllZip}
 use Rattle.tc_desk.specs.{TableId}
 use Rattle.tc_channel.specs.Journal.{History}
-use Rattle.tc_channel.specs.declared.settings.Settings.{Settings}
+use Rattle.tc_queues.specs.declared.settings.Settings.{Settings}
 use Rattle.logged_lock.specs.Log.{IsBeginning, total_made, IsMergeOf, AreBehind}
 use Rattle.logged_lock.specs.Rule.{gone}
 use Rattle.tc_desk.specs.Log.{AtLock, AtHand, Identity, nowhere, accounts_of, reported_at}

@@ -4,8 +4,8 @@ ghost use Rattle.std.specs.Prelude.{ℕ, List, ◌≡◌, ◌≢◌, [], ◌∷�
 ghost use Rattle.tc_channel.specs.declared.event.Event.{Event};
 ghost use Rattle.logged_lock.specs.Log.{IsBeginning, IsMergeOf, made_by};
 ghost use Rattle.tc_desk.specs.Log.{Moment, Own};
-ghost use Rattle.tc_channel.specs.declared.reply.Delivery.{Delivery};
-ghost use Rattle.tc_channel.specs.declared.reply.ReleaseFault.{ReleaseFault};
+ghost use Rattle.tc_queues.specs.declared.reply.Delivery.{Delivery};
+ghost use Rattle.tc_queues.specs.declared.reply.ReleaseFault.{ReleaseFault};
 ghost use Rattle.tc_desk.specs.Call.{IsReleased, IsReleaseFault, made, looked};
 ghost use Rattle.tc_desk.specs.Alone.{HasMadeAll, HasSeenItsOwn};
 

@@ -3,7 +3,7 @@
 ghost use Rattle.crossbeam_utils.specs.Padded.{padded_value};
 ghost use Rattle.std.specs.Prelude.{◌≡◌, ◌+◌, ◌-◌, ◌^◌, ◌∷◌, [], true, min, IfOk, MatchResult, IsSome};
 ghost use Rattle.logged_lock.specs.Rule.{HasLock};
-ghost use Rattle.tc_channel.specs.Settings.{IsAllowed, IsRefusal};
+ghost use Rattle.tc_queues.specs.Settings.{IsAllowed, IsRefusal};
 ghost use Rattle.logged_lock.specs.Rule as rule;
 ghost use Rattle.tc_desk.specs.Log.{Moment, IsResting, desk_log, at_lock, view_in, count_of, issued_count, with_one_issued};
 ghost use Rattle.tc_desk.specs.Call.{HasMet, HasSeenNoMore, IsMoment, IsAsked, IsCall, IsMeeting, IsMetCall};

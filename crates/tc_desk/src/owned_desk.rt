@@ -1,7 +1,7 @@
 //! A desk that threads share, with the owner of its lock.
 
 ghost use Rattle.std.specs.Prelude.{◌≡◌, [], IfOk, MatchResult};
-ghost use Rattle.tc_channel.specs.Settings.{IsAllowed, IsRefusal};
+ghost use Rattle.tc_queues.specs.Settings.{IsAllowed, IsRefusal};
 ghost use Rattle.tc_desk.specs.Log.{with_one_issued};
 
 use crate::locked::{DeskOperator, DeskOwner, LockedDesk};

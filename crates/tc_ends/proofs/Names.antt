@@ -4,14 +4,14 @@ pub use Rattle.std.proofs.lemmas.Grind.{flat_map-append}
 pub use Rattle.std.proofs.lemmas.List.{get_or-append_right, get_or_append_left, get_or_at}
 pub use Rattle.std.specs.List.{flat_map}
 pub use Rattle.tc_channel.proofs.Given.{released-within}
-pub use Rattle.tc_channel.proofs.Lists.{all-append}
+pub use Rattle.tc_queues.proofs.Lists.{all-append}
 pub use Rattle.tc_channel.proofs.Names.{Ad, AllByRecursion, Bd, Bool, IsWhole, List, None, Option, Part, Passed, Queue, Service, Some, [], ap, append-nil, append_assoc, arith, as_list, at_most, common_steps, cond, drop, eq-eqb, eqb, eqb_tells, false, filter, filter-append, first_state_within, get_or, get_or-map, inl, inr, is_for, is_of, joined, length, length-append, length-drop, length-map, length-take, map, map-append, map_of, nat_tests, ne_eqb, packets_given, packets_of, packets_offered, queue_of, refl, rest_of, same_service, stream, subst, suc, sym, take, true, units_given, units_offered, zero, ℕ, ◌%◌, ◌&&◌, ◌*◌, ◌++◌, ◌+◌, ◌-◌, ◌<◌, ◌∙◌, ◌∷◌, ◌≡◌, ◌≢◌, ◌≤◌, ◌⊎◌}
 unfoldable pub use Rattle.tc_channel.proofs.Names.{IsLawfulWithin, no_limits, passed_on, run_within}
 pub use Rattle.tc_channel.proofs.Streams.{same_map, stream-other, stream-same}
 pub use Rattle.tc_channel.proofs.Through.{packets-given-of-made, units-given-of-made}
 pub use Rattle.tc_channel.specs.Account.{unit_on}
 pub use Rattle.tc_channel.specs.Given.{fields_passed}
-pub use Rattle.tc_channel.specs.Settings.{HasMapsByHeaders}
+pub use Rattle.tc_queues.specs.Settings.{HasMapsByHeaders}
 pub use Rattle.tc_channel.specs.Through.{IsPartOf, all_made, is_chosen_by, packets_ended, packets_made, unit_made, units_ended, units_made}
 pub use Rattle.tc_cltu.proofs.Decoding.{after-fits, filled-fits, filled-front, some-octets}
 pub use Rattle.tc_cltu.proofs.Starting.{first-far, start-far, start-same}

@@ -9,8 +9,8 @@ use Rattle.std.proofs.lemmas.Bool.Decides.{nat_tests}
 use Rattle.tc_packet.specs.declared.Service.{Service}
 use Rattle.tc_packet.specs.declared.Service.TheVariants.{Ad, Bd}
 use Rattle.tc_packet.specs.Reassembly.{place_of}
-use Rattle.tc_channel.specs.declared.settings.Settings.{Settings}
-use Rattle.tc_channel.specs.Memory.{largest_item}
+use Rattle.tc_queues.specs.declared.settings.Settings.{Settings}
+use Rattle.tc_queues.specs.Memory.{largest_item}
 use Rattle.tc_packet.specs.Store.{Store, limit_at}
 use Rattle.tc_channel.specs.ChannelCore.{AreSmall, HaveLimits}
 use Rattle.tc_fixed.specs.Limits.{AreLimits, AreLimitedMapsApart, HaveOctets, item_size, largest_in, largest_limit, limit_in, limit_of}

@@ -3,9 +3,9 @@ use Rattle.std.proofs.Common.{◌≡◌, ℕ, ◌<◌, ◌≤◌, Bool, true, fa
 use Rattle.std.proofs.lemmas.Bool.Decides.{nat_tests}
 use Rattle.std.specs.Prelude.{slice_get, ◌↔◌, IsErrAnd, IsErrOf, Result, Ok, Err}
 use Rattle.std.specs.Option.{option_and_then}
-use Rattle.tc_channel.specs.Copying.{copied_out}
-use Rattle.tc_channel.specs.declared.reply.NotCopied.{NotCopied}
-use Rattle.tc_channel.specs.declared.reply.NotCopied.TheVariants.{NoRoom}
+use Rattle.tc_queues.specs.Copying.{copied_out}
+use Rattle.tc_queues.specs.declared.reply.NotCopied.{NotCopied}
+use Rattle.tc_queues.specs.declared.reply.NotCopied.TheVariants.{NoRoom}
 use Rattle.tc_fixed.specs.Taking.{IsOver, packet_fault_of, unit_fault_of}
 use Rattle.tc_fixed.specs.declared.faults.NothingTaken.{NothingTaken}
 use Rattle.tc_fixed.specs.declared.faults.NothingTaken.TheVariants as taking

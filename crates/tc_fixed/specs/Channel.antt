@@ -1,7 +1,7 @@
 -- The contents of a channel with fixed memory. Its core is that of the run of its journal within its limits, and its
 -- settings can have these limits.
 use Rattle.std.specs.Prelude.{List}
-use Rattle.tc_channel.specs.declared.settings.Settings.{Settings}
+use Rattle.tc_queues.specs.declared.settings.Settings.{Settings}
 use Rattle.tc_channel.specs.declared.event.Event.{Event}
 use Rattle.tc_channel.specs.ChannelCore.{Parts, HoldsInRooms}
 use Rattle.tc_fixed.specs.Limits.{AreLimits, limit_of}

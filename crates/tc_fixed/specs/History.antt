@@ -1,6 +1,6 @@
 -- A channel with fixed memory as contracts see it: its settings, its limits, and its events, the oldest first.
 use Rattle.std.specs.Prelude.{List, [], ◌∷◌, ◌++◌}
-use Rattle.tc_channel.specs.declared.settings.Settings.{Settings}
+use Rattle.tc_queues.specs.declared.settings.Settings.{Settings}
 use Rattle.tc_channel.specs.declared.event.Event.{Event}
 use Rattle.tc_fixed.specs.declared.limits.Limits.{Limits}
 

@@ -2,8 +2,8 @@
 -- machine of 64 bits.
 use Rattle.std.specs.Prelude.{ℕ, zero, suc, ◌+◌, ◌*◌, length, if◌then◌else◌}
 use Rattle.tc_packet.specs.Reassembly.{stream_count}
-use Rattle.tc_channel.specs.declared.settings.Settings.{Settings}
-use Rattle.tc_channel.specs.Memory.{room_words, run_words, queue_words, buffer_memory, tables_memory, packets_stored, units_stored}
+use Rattle.tc_queues.specs.declared.settings.Settings.{Settings}
+use Rattle.tc_queues.specs.Memory.{room_words, run_words, queue_words, buffer_memory, tables_memory, packets_stored, units_stored}
 use Rattle.tc_fixed.specs.Limits.{item_size, limit_of, none}
 use Rattle.tc_fixed.specs.declared.limits.Limits.{Limits}
 

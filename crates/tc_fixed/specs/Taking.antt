@@ -1,7 +1,7 @@
 -- The reasons why nothing is taken from the queues.
 use Rattle.std.specs.Prelude.{◌≡◌, ℕ, ◌<◌, List, length, Option, Some, None}
-use Rattle.tc_channel.specs.declared.reply.NotCopied.{NotCopied}
-use Rattle.tc_channel.specs.declared.reply.NotCopied.TheVariants.{NoQueue, Empty, NoRoom}
+use Rattle.tc_queues.specs.declared.reply.NotCopied.{NotCopied}
+use Rattle.tc_queues.specs.declared.reply.NotCopied.TheVariants.{NoQueue, Empty, NoRoom}
 use Rattle.tc_fixed.specs.declared.faults.NothingTaken.{NothingTaken}
 use Rattle.tc_fixed.specs.declared.faults.NothingTaken.TheVariants as taking
 use Rattle.tc_fixed.specs.declared.faults.NoUnitTaken.{NoUnitTaken}

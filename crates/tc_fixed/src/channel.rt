@@ -2,13 +2,14 @@
 
 ghost use Rattle.std.specs.Prelude.{◌≡◌, [], ◌<◌, ◌≤◌, ◌+◌, ◌↔◌, ◌++◌, ◌^◌, ◌-◌, length, drop, min, ℕ, IfOk, IfSome, IfNone, OnOk, OnErr, IsErrOf, MatchResult, IsSome, IsTrue, Some, None, option_map, false};
 ghost use Rattle.tc_channel.specs.declared.event.Event.TheVariants as Event;
-ghost use Rattle.tc_channel.specs.Settings.{IsAllowed, IsRefusal};
+ghost use Rattle.tc_queues.specs.Settings.{IsAllowed, IsRefusal};
 ghost use Rattle.tc_channel.specs.Run.{run_within, IsLawfulWithin};
 ghost use Rattle.tc_channel.specs.Reply.{IsBypassData, frame_reply_within, release_reply_within, take_reply_within, unit_reply_within, waiting_packets_within, waiting_units_within, buffered_fields_within, clcw_within};
 ghost use Rattle.tc_channel.specs.Era.{CountsUpInItsEraWithin};
 ghost use Rattle.tc_channel.specs.ChannelCore.{HaveLimits};
-ghost use Rattle.tc_channel.specs.Copying.{IsCopiedIn};
-ghost use Rattle.tc_channel.specs.Steps.{frame_steps_within, looks_for, release_steps_within};
+ghost use Rattle.tc_queues.specs.Copying.{IsCopiedIn};
+ghost use Rattle.tc_channel.specs.Steps.{frame_steps_within, release_steps_within};
+ghost use Rattle.tc_queues.specs.Steps.{looks_for};
 ghost use Rattle.tc_packet.specs.Reassembly.{run_at};
 ghost use Rattle.tc_packet.specs.Store.{open_runs};
 ghost use Rattle.tc_fixed.specs.History.{with_limited_event};
@@ -26,7 +27,7 @@ use tc_channel::{
     ChannelCore, Delivery, FrameReply, LentEvent, Settings, SettingsFault, Tick, Unrecorded,
 };
 use tc_link::{Frame, Link, Report, clcw_word};
-use tc_rooms::{FixedRoom, Runs};
+use tc_packet::{FixedRoom, Runs};
 
 // A counter that counts no steps. No other module can name this type, so a function that a channel's calls are built on
 // can't create a counter of its own. It has to count every step with the counter that its caller passes.

@@ -2,9 +2,9 @@
 
 ghost use Rattle.std.specs.Prelude.{ℕ, ◌≡◌, ◌≤◌, ◌≢◌, ◌∷◌, [], true, false};
 ghost use Rattle.std.specs.List.{AllByRecursion, Contains};
-ghost use Rattle.tc_channel.specs.ChannelState.{no_limits};
+ghost use Rattle.tc_queues.specs.ChannelState.{no_limits};
 ghost use Rattle.tc_channel.specs.Examples as example;
-ghost use Rattle.tc_channel.specs.declared.settings.SettingsFault.TheVariants as settings_faults;
+ghost use Rattle.tc_queues.specs.declared.settings.SettingsFault.TheVariants as settings_faults;
 ghost use Rattle.tc_fixed.specs.declared.limits.Limits.{Limits};
 ghost use Rattle.tc_fixed.specs.declared.limits.MapLimit.{MapLimit};
 ghost use Rattle.tc_fixed.specs.declared.limits.LimitsFault.TheVariants as faults;

@@ -1,11 +1,10 @@
 //! The limits on the length of units, by MAP.
 
 ghost use Rattle.std.specs.Prelude.{ℕ, ◌≡◌, ◌<◌, ◌≤◌, ◌↔◌, IfOk, IsTrue, MatchResult, get_or};
-ghost use Rattle.tc_channel.specs.declared.settings.MapSetting.{MapSetting};
-ghost use Rattle.tc_channel.specs.Settings.{IsAllowed};
+ghost use Rattle.tc_queues.specs.declared.settings.MapSetting.{MapSetting};
+ghost use Rattle.tc_queues.specs.Settings.{IsAllowed, settings_of};
 ghost use Rattle.std.specs.List.{AllByRecursion};
 ghost use Rattle.tc_packet.specs.Reassembly.{largest_unit};
-ghost use Rattle.tc_channel.specs.Settings.{settings_of};
 ghost use Rattle.tc_fixed.specs.Limits.{IsOthers, AreLimitedMaps, AreLimitedMapsApart, HaveOctets, LimitsMapsByHeaders, AreListed, IsListed, AreLimits, IsFaultWithLimits, IsLimitsFault, item_size, largest_limit, limit_of, limits_of, none};
 
 use std::alloc::{AllocError, Global};

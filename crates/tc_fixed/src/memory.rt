@@ -2,8 +2,8 @@
 
 ghost use Rattle.std.specs.Prelude.{◌≡◌, ◌+◌, ◌^◌, ◌-◌, ◌<◌, min};
 ghost use Rattle.tc_fixed.specs.Limits.{limits_of, none};
-ghost use Rattle.tc_channel.specs.Memory.{buffer_memory, tables_memory};
-ghost use Rattle.tc_channel.specs.Settings.{settings_of};
+ghost use Rattle.tc_queues.specs.Memory.{buffer_memory, tables_memory};
+ghost use Rattle.tc_queues.specs.Settings.{settings_of};
 ghost use Rattle.tc_fixed.specs.Storage.{limits_below, queues_in_rooms, runs_storage, storage_of, storage_within};
 
 use crate::limits::{LentLimits, Limits, MAPS};

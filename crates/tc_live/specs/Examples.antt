@@ -1,7 +1,7 @@
 -- A receiver of spacecraft 42, worked out by hand. Its frames have no frame error control field.
 use Rattle.std.specs.Prelude.{false, [], ◌∷◌}
 use Rattle.tc_link.specs.declared.clcw.Link.{Link}
-use Rattle.tc_channel.specs.declared.settings.Settings.{Settings}
+use Rattle.tc_queues.specs.declared.settings.Settings.{Settings}
 use Rattle.tc_rack.specs.declared.stage.Stage.TheVariants.{Operating}
 use Rattle.tc_live.specs.Receiver.{Receiving}
 use Rattle.tc_live.specs.declared.check.FrameCheck.TheVariants.{Nothing}

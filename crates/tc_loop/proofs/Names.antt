@@ -32,6 +32,6 @@ pub use Rattle.std.proofs.lemmas.Bool.{cases_lt, cases_order, cases_eq}
 pub use Rattle.std.proofs.lemmas.List.Elements.{All-cons, All-nil}
 pub use Rattle.tc_channel.specs.declared.event.Event.{Event}
 pub use Rattle.tc_channel.specs.declared.event.Event.TheVariants.{Frame, Release, Take, TakeUnit}
-pub use Rattle.tc_channel.specs.declared.settings.MapSetting.{MapSetting}
-pub use Rattle.tc_channel.specs.declared.settings.QueueSetting.{QueueSetting}
-pub use Rattle.tc_channel.specs.declared.settings.Settings.{Settings}
+pub use Rattle.tc_queues.specs.declared.settings.MapSetting.{MapSetting}
+pub use Rattle.tc_queues.specs.declared.settings.QueueSetting.{QueueSetting}
+pub use Rattle.tc_queues.specs.declared.settings.Settings.{Settings}

@@ -8,7 +8,7 @@ use Rattle.tc_link.specs.declared.Command.TheVariants.{SetVr}
 use Rattle.tc_link.specs.declared.Kind.TheVariants.{Bc}
 use Rattle.tc_channel.specs.declared.event.Event.{Event}
 use Rattle.tc_channel.specs.declared.event.Event.TheVariants.{Frame}
-use Rattle.tc_channel.specs.Settings.{IsAllowed}
+use Rattle.tc_queues.specs.Settings.{IsAllowed}
 use Rattle.tc_channel.specs.Run.{field_of, IsLawfulWithin}
 use Rattle.tc_channel.specs.Era.{NoneSetsWithin, set_by}
 use Rattle.tc_loop.specs.Loop.{Loop, Action, Send, Arrive, Hear, Other, Idle, events, journal, receiver, known, known_from, begun, IsNumbered, IsOther, KeepOrder}

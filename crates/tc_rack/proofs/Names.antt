@@ -6,9 +6,9 @@ pub use Rattle.std.proofs.lemmas.Result.{on_ok_weaker}
 pub use Rattle.std.specs.Io.KnownBytes.{Appends}
 pub use Rattle.std.specs.List.{flat_map}
 pub use Rattle.std.specs.Prelude.{AllPairs, nat_lt, option_map, slice_get}
-pub use Rattle.tc_channel.specs.declared.settings.MapSetting.{MapSetting}
-pub use Rattle.tc_channel.specs.declared.settings.QueueSetting.{QueueSetting}
-pub use Rattle.tc_channel.specs.declared.settings.Settings.{Settings}
+pub use Rattle.tc_queues.specs.declared.settings.MapSetting.{MapSetting}
+pub use Rattle.tc_queues.specs.declared.settings.QueueSetting.{QueueSetting}
+pub use Rattle.tc_queues.specs.declared.settings.Settings.{Settings}
 pub use Rattle.tc_rack.specs.Delivery.{AreAnswersWritten, AreEmptied, AreEmpty, AreTakenFrom, IsHandedOn, IsTakenFrom, none_or, packet_queues, queues_of, reported_line, reported_lines, unit_queues, waiting_in}
 pub use Rattle.tc_rack.specs.Linked.{IsPacketTaken, IsTakeAnswered, IsUnitAnswered, IsUnitTaken, Linked, new_linked, reported_word, vcid_of}
 pub use Rattle.tc_rack.specs.Rack.{AreChannelsApart, IsChannelAt, Racked}

@@ -5,7 +5,7 @@ use Rattle.std.specs.Option.{option_and_then}
 use Rattle.std.proofs.lemmas.Bool.Decides.{nat_tests}
 use Rattle.tc_channel.specs.declared.event.Event.{Event}
 use Rattle.tc_channel.specs.declared.event.Event.TheVariants as events
-use Rattle.tc_channel.specs.ChannelState.{ChannelState, Queue, no_limits, queue_of, waiting}
+use Rattle.tc_queues.specs.ChannelState.{ChannelState, Queue, no_limits, queue_of, waiting}
 use Rattle.tc_channel.specs.Reply.{waiting_packets, waiting_packets_within, waiting_units, waiting_units_within}
 use Rattle.tc_channel.specs.Run.{run, taken_from}
 use Rattle.tc_channel.proofs.Given.{found-key}

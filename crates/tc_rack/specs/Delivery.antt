@@ -3,9 +3,9 @@
 use Rattle.std.specs.Prelude.{◌≡◌, ◌⊎◌, ℕ, List, [], ◌∷◌, ◌++◌, map, codes, Option, Some, None}
 use Rattle.std.specs.List.{flat_map, AllByRecursion}
 use Rattle.std.specs.Io.KnownBytes.{Appends}
-use Rattle.tc_channel.specs.declared.settings.Settings.{Settings}
-use Rattle.tc_channel.specs.declared.settings.QueueSetting.{QueueSetting}
-use Rattle.tc_channel.specs.declared.settings.MapSetting.{MapSetting}
+use Rattle.tc_queues.specs.declared.settings.Settings.{Settings}
+use Rattle.tc_queues.specs.declared.settings.QueueSetting.{QueueSetting}
+use Rattle.tc_queues.specs.declared.settings.MapSetting.{MapSetting}
 use Rattle.tc_channel.specs.Reply.{waiting_packets, waiting_units}
 use Rattle.tc_rack.specs.declared.answer.Answer.{Answer}
 use Rattle.tc_rack.specs.declared.queue.QueueId.{QueueId}

@@ -1,7 +1,7 @@
 -- The progress of a script, as a function of its lines alone. Its channels are set up first, and then each of them has
 -- the journal of the operations so far.
 use Rattle.std.specs.Prelude.{◌≡◌, ℕ, List}
-use Rattle.tc_channel.specs.declared.settings.Settings.{Settings}
+use Rattle.tc_queues.specs.declared.settings.Settings.{Settings}
 use Rattle.tc_rack.specs.Operation.{IsAnswerOf}
 use Rattle.tc_rack.specs.Performing.{IsOperated}
 use Rattle.tc_rack.specs.Rack.{Racked, new_rack}

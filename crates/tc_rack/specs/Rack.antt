@@ -7,7 +7,7 @@ use Rattle.tc_link.specs.declared.location.LocateFault.TheVariants.{Frame, Other
 use Rattle.tc_channel.specs.Holding.{holding_of}
 use Rattle.tc_channel.specs.Journal.{History}
 use Rattle.tc_channel.specs.declared.holding.Holding.{Holding}
-use Rattle.tc_channel.specs.declared.settings.Settings.{Settings}
+use Rattle.tc_queues.specs.declared.settings.Settings.{Settings}
 use Rattle.tc_rack.specs.Linked.{Linked, vcid_of, new_linked}
 
 -- the spacecraft's id, and its channels in the order in which they were set up

@@ -5,9 +5,9 @@ use Rattle.std.specs.List.Sorted.{IsNonDecreasingBy}
 use Rattle.tc_channel.specs.Journal.{History, IsNumberReported}
 use Rattle.tc_channel.specs.Reply.{buffered_fields, clcw, waiting_packets, waiting_units}
 use Rattle.tc_channel.specs.Run.{IsLawful}
-use Rattle.tc_channel.specs.Settings.{IsAllowed}
-use Rattle.tc_channel.specs.declared.settings.QueueSetting.{QueueSetting}
-use Rattle.tc_channel.specs.declared.settings.MapSetting.{MapSetting}
+use Rattle.tc_queues.specs.Settings.{IsAllowed}
+use Rattle.tc_queues.specs.declared.settings.QueueSetting.{QueueSetting}
+use Rattle.tc_queues.specs.declared.settings.MapSetting.{MapSetting}
 use Rattle.tc_text.specs.Printed.{word_text}
 use Rattle.tc_rack.specs.Linked.{no_flag}
 

@@ -17,7 +17,7 @@ use tc_text::Reason;
 /// A way to create a script's channels, and to carry out operations on them.
 pub trait Backend {
     ghost use Rattle.std.specs.Prelude.{List};
-    ghost use Rattle.tc_channel.specs.declared.settings.Settings.{Settings};
+    ghost use Rattle.tc_queues.specs.declared.settings.Settings.{Settings};
     ghost use Rattle.tc_rack.specs.declared.answer.Answer.{Answer};
     ghost use Rattle.tc_rack.specs.declared.operation.Operation.{Operation};
 

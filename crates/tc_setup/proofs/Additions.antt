@@ -1,9 +1,9 @@
 -- A queue or a chosen MAP is added to allowed settings. The resulting settings are allowed, or have one fault.
 use Rattle.tc_setup.proofs.Names.{◌≡◌, ◌≢◌, ℕ, ◌≤◌, true, false, List, [], ◌∷◌, ◌++◌, length, get_or, inl, inr, refl, sym, ◌∙◌, ap, subst, arith, get_or_default, All-push, all_pairs_push, All, AllPairs, Any, QueueSetting, Settings, with_addition}
 use Rattle.std.proofs.lemmas.Grind.{common_steps}
-use Rattle.tc_channel.specs.declared.settings.MapSetting.{MapSetting}
-use Rattle.tc_channel.specs.declared.settings.SettingsFault.TheVariants.{BadApid, DoubleApid, BadCapacity, BadMap, DoubleMap, BadUnits, PlainMap}
-use Rattle.tc_channel.specs.Settings.{IsAllowed, IsFault}
+use Rattle.tc_queues.specs.declared.settings.MapSetting.{MapSetting}
+use Rattle.tc_queues.specs.declared.settings.SettingsFault.TheVariants.{BadApid, DoubleApid, BadCapacity, BadMap, DoubleMap, BadUnits, PlainMap}
+use Rattle.tc_queues.specs.Settings.{IsAllowed, IsFault}
 use Rattle.tc_setup.specs.declared.instruction.Addition.TheVariants.{Queue, Map}
 
 last-of-all : {X : Type 0} (P : X → Type 0) (xs : List X) (y : X) → All P (xs ++ y ∷ []) → P y

@@ -7,7 +7,7 @@ pub use Rattle.std.proofs.lemmas.List.Folds.{Any-from_list_any, list_any-from_An
 pub use Rattle.std.proofs.lemmas.List.Quantifiers.{all_pairs_push}
 pub use Rattle.std.specs.List.{AllZip, list_any}
 pub use Rattle.std.specs.Prelude.{All, AllPairs, Any, MatchOption, is_some}
-pub use Rattle.tc_channel.specs.Settings.{IsAllowed}
-pub use Rattle.tc_channel.specs.declared.settings.QueueSetting.{QueueSetting}
-pub use Rattle.tc_channel.specs.declared.settings.Settings.{Settings}
+pub use Rattle.tc_queues.specs.Settings.{IsAllowed}
+pub use Rattle.tc_queues.specs.declared.settings.QueueSetting.{QueueSetting}
+pub use Rattle.tc_queues.specs.declared.settings.Settings.{Settings}
 pub use Rattle.tc_setup.specs.Configuration.{AreApidsOf, AreApidsOfEach, HasSettings, IsAt, IsConfiguration, vcids_of, with_addition}

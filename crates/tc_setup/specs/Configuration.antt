@@ -1,9 +1,9 @@
 -- The settings of the channels that a script has set up, in the order of their lines.
 use Rattle.std.specs.Prelude.{◌≡◌, ◌≢◌, ◌==◌, ◌≤◌, ℕ, Bool, false, List, [], ◌∷◌, ◌++◌, All, AllPairs, Any, get_or, length, map, slice_get, slice_set, Some}
 use Rattle.std.specs.List.{AllZip, list_any}
-use Rattle.tc_channel.specs.declared.settings.QueueSetting.{QueueSetting}
-use Rattle.tc_channel.specs.declared.settings.Settings.{Settings}
-use Rattle.tc_channel.specs.Settings.{IsAllowed}
+use Rattle.tc_queues.specs.declared.settings.QueueSetting.{QueueSetting}
+use Rattle.tc_queues.specs.declared.settings.Settings.{Settings}
+use Rattle.tc_queues.specs.Settings.{IsAllowed}
 use Rattle.tc_setup.specs.declared.instruction.Addition.{Addition}
 use Rattle.tc_setup.specs.declared.instruction.Addition.TheVariants.{Queue, Map}
 

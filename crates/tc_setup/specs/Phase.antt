@@ -1,8 +1,8 @@
 -- The effect of a script's lines on the set-up, and the reasons why a line is bad.
 use Rattle.std.specs.Prelude.{◌≡◌, ◌≢◌, ℕ, List, [], ◌⊎◌}
-use Rattle.tc_channel.specs.declared.settings.Settings.{Settings}
-use Rattle.tc_channel.specs.declared.settings.SettingsFault.{SettingsFault}
-use Rattle.tc_channel.specs.Settings.{IsFault}
+use Rattle.tc_queues.specs.declared.settings.Settings.{Settings}
+use Rattle.tc_queues.specs.declared.settings.SettingsFault.{SettingsFault}
+use Rattle.tc_queues.specs.Settings.{IsFault}
 use Rattle.tc_setup.specs.Configuration.{HasSettings, IsAt, AddsChannel, AddsToChannel, with_addition}
 use Rattle.tc_text.specs.declared.fault.Reason.{Reason}
 use Rattle.tc_text.specs.declared.fault.Reason.TheVariants.{TooLate, NoChannel, DoubleChannel, UnknownChannel}

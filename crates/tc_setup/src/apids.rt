@@ -3,7 +3,7 @@
 ghost use Rattle.std.specs.Prelude.{◌≤◌, All};
 ghost use Rattle.tc_setup.specs.Configuration.{AreApidsOf};
 
-use tc_channel::QueueSetting;
+use tc_queues::QueueSetting;
 
 /// The number of APIDs that a queue can have: all but that of idle packets.
 const APIDS: usize = 2047;

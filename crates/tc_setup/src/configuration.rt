@@ -1,8 +1,8 @@
 //! The channels that a script sets up.
 
 ghost use Rattle.std.specs.Prelude.{◌≡◌, ◌↔◌, ◌≤◌, ◌⊎◌, Any, IsTrue, [], length, IfOk, IfErr, OnOk, OnErr, MatchOption, MatchResult};
-ghost use Rattle.tc_channel.specs.Settings.{IsAllowed, IsFault};
-ghost use Rattle.tc_channel.specs.declared.settings.Settings.{Settings};
+ghost use Rattle.tc_queues.specs.Settings.{IsAllowed, IsFault};
+ghost use Rattle.tc_queues.specs.declared.settings.Settings.{Settings};
 ghost use Rattle.tc_setup.specs.Configuration.{AddsChannel, AddsToChannel, AreApidsOf, IsConfiguration, HasSettings, IsAt, vcids_of, with_addition};
 ghost use Rattle.tc_setup.specs.Phase.{IsChannelRefused, IsAdditionRefused, IsSettingsReason};
 
@@ -12,7 +12,7 @@ use crate::growing::append;
 use crate::instruction::Addition;
 use std::alloc::Global;
 use std::marker::Model;
-use tc_channel::{MapSetting, QueueSetting, Settings, SettingsFault};
+use tc_queues::{MapSetting, QueueSetting, Settings, SettingsFault};
 use tc_text::Reason;
 
 /// The settings of the channels so far, in the order of their lines. Once there is at least one channel, a station can
@@ -27,7 +27,7 @@ pub struct Configuration {
 
 impl Model for Configuration {
     ghost use Rattle.std.specs.Prelude.{List};
-    ghost use Rattle.tc_channel.specs.declared.settings.Settings.{Settings};
+    ghost use Rattle.tc_queues.specs.declared.settings.Settings.{Settings};
     ghost use Rattle.tc_setup.specs.Configuration.{AreApidsOfEach, IsConfiguration};
 
     ghost Value = { List Settings };

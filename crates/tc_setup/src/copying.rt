@@ -3,7 +3,7 @@
 ghost use Rattle.std.specs.Prelude.{◌≡◌, IfOk, IfErr};
 
 use std::alloc::Global;
-use tc_channel::{Items, Settings};
+use tc_queues::{Items, Settings};
 use tc_text::Reason;
 
 /// Copies the settings, in their order. The copies take as much memory as the originals.

@@ -4,7 +4,7 @@ ghost use Rattle.std.specs.Prelude.{◌≡◌, [], ◌∷◌, ◌++◌, IfErr, O
 
 use std::alloc::Global;
 use std::mem;
-use tc_channel::Items;
+use tc_queues::Items;
 use tc_text::Reason;
 
 /// Appends an item. If memory runs out, the items stay as they are.

@@ -4,7 +4,7 @@ ghost use Rattle.std.specs.Prelude.{◌≡◌};
 ghost use Rattle.tc_setup.specs.Instruction.{instruction_of};
 
 use std::alloc::Global;
-use tc_channel::{Items, MapSetting, Octets, QueueSetting, Settings};
+use tc_queues::{Items, MapSetting, Octets, QueueSetting, Settings};
 use tc_text::Line;
 
 /// An addition to a channel that is set up.

@@ -13,13 +13,13 @@ pub use Rattle.std.proofs.lemmas.Simd.{map-map}
 pub use Rattle.std.specs.Global.{Vec}
 pub use Rattle.std.specs.List.{AllByRecursion, list_any, position_or_len}
 pub use Rattle.std.specs.Prelude.{AllPairs, Any, Contains, IsErrAnd, MatchOption, MatchResult, OnErr, OnOk, count_by, is_none, nat_lt, position, slice_get, slice_index, slice_index_or, slice_set, ◌&&◌, ◌==◌}
-pub use Rattle.tc_channel.specs.ChannelState.{no_limits}
+pub use Rattle.tc_queues.specs.ChannelState.{no_limits}
 pub use Rattle.tc_channel.specs.Journal.{History, IsNumberReported}
 pub use Rattle.tc_channel.specs.Reply.{buffered_fields, clcw, frame_reply, release_reply, take_reply, unit_reply}
-pub use Rattle.tc_channel.specs.Settings.{IsAllowed}
+pub use Rattle.tc_queues.specs.Settings.{IsAllowed}
 pub use Rattle.tc_channel.specs.declared.event.Event.{Event}
 pub use Rattle.tc_channel.specs.declared.event.Event.TheVariants.{Frame, Release, Take, TakeUnit}
-pub use Rattle.tc_channel.specs.declared.settings.Settings.{Settings}
+pub use Rattle.tc_queues.specs.declared.settings.Settings.{Settings}
 pub use Rattle.tc_desk.specs.{TableId}
 pub use Rattle.tc_desk.specs.Call.{HasMet, HasSeenNoMore, IsCall, IsMeeting, IsOldestPacket, IsOldestUnit, IsReleaseFault, IsReleased, IsTakeFault, IsTakeUnitFault, looked, made}
 pub use Rattle.tc_desk.specs.Log.{AtLock, Identity, Moment, Own, accounts_of, count_of, with_one_issued}

@@ -6,9 +6,9 @@ use Rattle.tc_station.specs.declared.faults.TakeRefused.{TakeRefused}
 use Rattle.tc_station.specs.declared.faults.TakeUnitRefused.{TakeUnitRefused}
 use Rattle.tc_station.proofs.Called.{ok-call, err-call, same-set}
 use Rattle.tc_channel.specs.declared.event.Event.TheVariants as events
-use Rattle.tc_channel.specs.declared.reply.ReleaseFault.TheVariants as release_faults
-use Rattle.tc_channel.specs.declared.reply.TakeFault.TheVariants as take_faults
-use Rattle.tc_channel.specs.declared.reply.TakeUnitFault.TheVariants as unit_faults
+use Rattle.tc_queues.specs.declared.reply.ReleaseFault.TheVariants as release_faults
+use Rattle.tc_queues.specs.declared.reply.TakeFault.TheVariants as take_faults
+use Rattle.tc_queues.specs.declared.reply.TakeUnitFault.TheVariants as unit_faults
 use Rattle.tc_station.specs.declared.faults.ReleaseRefused.TheVariants as release_refusals
 use Rattle.tc_station.specs.declared.faults.TakeRefused.TheVariants as take_refusals
 use Rattle.tc_station.specs.declared.faults.TakeUnitRefused.TheVariants as unit_refusals

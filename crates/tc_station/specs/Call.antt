@@ -2,9 +2,9 @@
 use Rattle.std.specs.Prelude.{◌≡◌, ◌⊎◌, ℕ, Bool, false, List, Contains, OnErr, OnOk, Some, Result, Err, slice_get, slice_set}
 use Rattle.tc_channel.specs.declared.event.Event.{Event}
 use Rattle.tc_channel.specs.declared.event.Event.TheVariants.{Frame}
-use Rattle.tc_channel.specs.declared.reply.ReleaseFault.{ReleaseFault}
-use Rattle.tc_channel.specs.declared.reply.TakeFault.{TakeFault}
-use Rattle.tc_channel.specs.declared.reply.TakeUnitFault.{TakeUnitFault}
+use Rattle.tc_queues.specs.declared.reply.ReleaseFault.{ReleaseFault}
+use Rattle.tc_queues.specs.declared.reply.TakeFault.{TakeFault}
+use Rattle.tc_queues.specs.declared.reply.TakeUnitFault.{TakeUnitFault}
 use Rattle.tc_channel.specs.Reply.{IsBypassData}
 use Rattle.tc_status.specs.Board.{Watching}
 use Rattle.tc_desk.specs.Log.{Moment, AtLock}

@@ -1,12 +1,12 @@
 -- The refusals of a station's calls, and the values that a failed close returns.
 use Rattle.std.specs.Prelude.{◌≡◌, ℕ, ◌<◌, ◌≤◌, List, [], length, Contains, Some, None}
 use Rattle.tc_channel.specs.Reply.{buffered_fields, waiting_packets, waiting_units}
-use Rattle.tc_channel.specs.declared.reply.ReleaseFault.{ReleaseFault}
-use Rattle.tc_channel.specs.declared.reply.ReleaseFault.TheVariants as release
-use Rattle.tc_channel.specs.declared.reply.TakeFault.{TakeFault}
-use Rattle.tc_channel.specs.declared.reply.TakeFault.TheVariants as take
-use Rattle.tc_channel.specs.declared.reply.TakeUnitFault.{TakeUnitFault}
-use Rattle.tc_channel.specs.declared.reply.TakeUnitFault.TheVariants as take_unit
+use Rattle.tc_queues.specs.declared.reply.ReleaseFault.{ReleaseFault}
+use Rattle.tc_queues.specs.declared.reply.ReleaseFault.TheVariants as release
+use Rattle.tc_queues.specs.declared.reply.TakeFault.{TakeFault}
+use Rattle.tc_queues.specs.declared.reply.TakeFault.TheVariants as take
+use Rattle.tc_queues.specs.declared.reply.TakeUnitFault.{TakeUnitFault}
+use Rattle.tc_queues.specs.declared.reply.TakeUnitFault.TheVariants as take_unit
 use Rattle.tc_station.specs.Roster.{Roster}
 use Rattle.tc_station.specs.Tally.{AtStation}
 use Rattle.tc_station.specs.Balance.{AreInBalance, AreInReportedBalance}

@@ -1,12 +1,12 @@
 -- The answers of a station's calls. Each answer is the reply of a channel with the requested id at some moment. For an
 -- operator's call, the definitions in `Call` also state that this is a moment of the very channel behind the lock.
 use Rattle.std.specs.Prelude.{◌≡◌, ◌≢◌, [], ℕ, List, Contains, Some, slice_get}
-use Rattle.tc_channel.specs.declared.settings.Settings.{Settings}
+use Rattle.tc_queues.specs.declared.settings.Settings.{Settings}
 use Rattle.tc_channel.specs.declared.event.Event.{Event}
 use Rattle.tc_channel.specs.declared.event.Event.TheVariants.{Frame}
-use Rattle.tc_channel.specs.declared.reply.Delivery.{Delivery}
-use Rattle.tc_channel.specs.declared.reply.FrameReply.{FrameReply}
-use Rattle.tc_channel.specs.Settings.{IsAllowed}
+use Rattle.tc_queues.specs.declared.reply.Delivery.{Delivery}
+use Rattle.tc_queues.specs.declared.reply.FrameReply.{FrameReply}
+use Rattle.tc_queues.specs.Settings.{IsAllowed}
 use Rattle.tc_channel.specs.Journal.{History, with_event}
 use Rattle.tc_channel.specs.Run.{IsLawful}
 use Rattle.tc_channel.specs.Reply.{frame_reply, release_reply, take_reply, unit_reply, buffered_fields}

@@ -1,7 +1,7 @@
 -- The view of a station in contracts: its spacecraft id, the ids of its virtual channels in order, the number of
 -- operators that it has issued, and, for the desk of each channel, its lock and its constant parts.
 use Rattle.std.specs.Prelude.{◌≡◌, ◌==◌, ℕ, List, All, map, position, slice_get, Some}
-use Rattle.tc_channel.specs.declared.settings.Settings.{Settings}
+use Rattle.tc_queues.specs.declared.settings.Settings.{Settings}
 use Rattle.tc_desk.specs.{TableId}
 use Rattle.tc_desk.specs.Log.{Identity, AtLock}
 use Rattle.tc_desk.specs.Together.{locks_of, heads_of, issued_of}

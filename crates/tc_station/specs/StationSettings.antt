@@ -1,9 +1,9 @@
 -- The settings from which a station can be created, and the faults of other settings. The spacecraft id has 10 bits
 -- (CCSDS 232.0-B, 4.1.2.5).
 use Rattle.std.specs.Prelude.{◌≡◌, ◌≢◌, ℕ, ◌≤◌, List, [], All, AllPairs, Any, map, take, slice_get, Some}
-use Rattle.tc_channel.specs.declared.settings.Settings.{Settings}
-use Rattle.tc_channel.specs.declared.settings.SettingsFault.{SettingsFault}
-use Rattle.tc_channel.specs.Settings.{IsAllowed, IsFault}
+use Rattle.tc_queues.specs.declared.settings.Settings.{Settings}
+use Rattle.tc_queues.specs.declared.settings.SettingsFault.{SettingsFault}
+use Rattle.tc_queues.specs.Settings.{IsAllowed, IsFault}
 use Rattle.tc_station.specs.declared.faults.StationFault.{StationFault}
 use Rattle.tc_station.specs.declared.faults.StationFault.TheVariants as fault
 

@@ -7,8 +7,8 @@ ghost use Rattle.tc_station.specs.declared.faults.TakeRefused.TheVariants as Tak
 ghost use Rattle.tc_station.specs.declared.faults.TakeUnitRefused.TheVariants as TakeUnitRefused;
 ghost use Rattle.logged_lock.specs.Log.{IsMergeOf};
 ghost use Rattle.tc_channel.specs.declared.event.Event.{Event};
-ghost use Rattle.tc_channel.specs.declared.reply.Delivery.{Delivery};
-ghost use Rattle.tc_channel.specs.ChannelState.{Queue, first_state_within, no_limits, queue_of};
+ghost use Rattle.tc_queues.specs.declared.reply.Delivery.{Delivery};
+ghost use Rattle.tc_queues.specs.ChannelState.{Queue, first_state_within, no_limits, queue_of};
 ghost use Rattle.tc_channel.specs.Era.{ComesFromWithin, IsEra};
 ghost use Rattle.tc_channel.specs.Given.{packets_given, units_given};
 ghost use Rattle.tc_channel.specs.Journal.{History};

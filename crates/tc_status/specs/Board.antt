@@ -7,7 +7,7 @@ use lib.ListN.{get_elem?}
 use Rattle.atomic_table.specs.Table.{Me}
 use Rattle.atomic_table.specs.Seated.{TableId}
 use Rattle.tc_link.specs.declared.Link.{Link}
-use Rattle.tc_channel.specs.Settings.{IsAllowed}
+use Rattle.tc_queues.specs.Settings.{IsAllowed}
 use Rattle.tc_channel.specs.Journal.{History}
 use Rattle.tc_channel.specs.Run.{IsLawful}
 use Rattle.tc_channel.specs.Reply.{clcw}

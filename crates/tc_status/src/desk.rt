@@ -1,7 +1,7 @@
 //! A channel with its publisher, which together lie under the channel's lock.
 
 ghost use Rattle.std.specs.Prelude.{◌≡◌, ◌↔◌, false, [], IfOk, OnOk, OnErr, IsErrOf, MatchResult, Some, None};
-ghost use Rattle.tc_channel.specs.Settings.{IsAllowed, IsRefusal};
+ghost use Rattle.tc_queues.specs.Settings.{IsAllowed, IsRefusal};
 ghost use Rattle.tc_channel.specs.Journal.{with_event};
 ghost use Rattle.tc_channel.specs.Run.{IsLawful};
 ghost use Rattle.tc_channel.specs.Reply.{IsBypassData, frame_reply, release_reply, take_reply, unit_reply, waiting_packets, waiting_units, buffered_fields};

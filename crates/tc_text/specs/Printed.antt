@@ -1,7 +1,7 @@
 -- The texts of answers, reasons and faults, which docs/reference/scripts.md shows under "Answers" and "Faults".
 use Rattle.std.specs.Prelude.{ℕ, ◌==◌, if◌then◌else◌, List, ◌++◌, length, codes, decimal}
 use Rattle.std.specs.Int.{to_be_bytes, w32}
-use Rattle.tc_channel.specs.declared.reply.Delivery.{Delivery}
+use Rattle.tc_queues.specs.declared.reply.Delivery.{Delivery}
 pub use Rattle.tc_lines.specs.Printed.{octets_text, flag_text}
 use Rattle.tc_text.specs.declared.fault.Reason.{Reason}
 use Rattle.tc_text.specs.declared.fault.Reason.TheVariants.{UnknownCommand, WordCount, BadNumber, BadHex, TooLate, NoChannel, DoubleChannel, UnknownChannel, BadVcid, BadWindow, BadBuffer, BadApid, DoubleApid, BadCapacity, NoMemory, BadOption, BadMap, DoubleMap, BadUnits, PlainMap}

@@ -1,6 +1,6 @@
 -- The reasons why no channel can have the settings of a line.
-use Rattle.tc_channel.specs.declared.settings.SettingsFault.{SettingsFault}
-use Rattle.tc_channel.specs.declared.settings.SettingsFault.TheVariants as faults
+use Rattle.tc_queues.specs.declared.settings.SettingsFault.{SettingsFault}
+use Rattle.tc_queues.specs.declared.settings.SettingsFault.TheVariants as faults
 use Rattle.tc_text.specs.declared.fault.Reason.{Reason}
 use Rattle.tc_text.specs.declared.fault.Reason.TheVariants.{BadVcid, BadWindow, BadBuffer, BadApid, DoubleApid, BadCapacity, BadMap, DoubleMap, BadUnits, PlainMap, NoMemory}
 

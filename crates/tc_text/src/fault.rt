@@ -6,8 +6,8 @@ ghost use Rattle.tc_text.specs.Reason.{reason_of};
 
 use std::error::Error;
 use std::fmt;
-use tc_channel::SettingsFault;
 use tc_lines::BadNumber;
+use tc_queues::SettingsFault;
 
 /// A reason why a line is bad. If several apply, the first in this list is reported, with two exceptions:
 /// `BadOption` comes right before `TooLate`, and `NoMemory` is reported as soon as memory runs out.

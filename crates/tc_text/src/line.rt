@@ -8,8 +8,8 @@ use crate::fault::Reason;
 use crate::word::{is_text, last_argument, next_argument, no_more, three_arguments, two_arguments};
 use hex::FromHexError;
 use std::alloc::Global;
-use tc_channel::Octets;
 use tc_lines::{large_number, next_word, small_number};
+use tc_queues::Octets;
 
 /// A parsed line of a script.
 #[derive(Debug, Drop, PartialEq, Eq)]

@@ -9,9 +9,9 @@ use crate::line::{Line, parse_line};
 use crate::word::{next_argument, no_more, three_arguments};
 use hex::FromHexError;
 use std::alloc::Global;
-use tc_channel::Octets;
 use tc_lines::{next_word, small_number};
 use tc_link::Link;
+use tc_queues::Octets;
 
 /// A parsed line for a live receiver.
 #[derive(Debug, Drop, PartialEq, Eq)]

@@ -4,8 +4,8 @@ ghost use Rattle.std.specs.Prelude.{Some};
 ghost use Rattle.tc_text.specs.Printed.{unit_text, word_text, delivery_text};
 
 use std::fmt;
-use tc_channel::Delivery;
 use tc_lines::Digits;
+use tc_queues::Delivery;
 
 /// The hexadecimal digits of a unit, or `-` if it has no octets.
 #[derive(Clone, Copy, Debug)]

@@ -1,7 +1,8 @@
 //! Rooms, and items in rooms, of both forms.
 
 use super::*;
-use tc_rooms::{FixedRoom, GrowingRoom, Room, Slots};
+use tc_packet::{FixedRoom, GrowingRoom, Room};
+use tc_queues::Slots;
 
 fn check_room<R: Room, T: Abort>(rt: &T, alloc: Global) {
     let mut room: R = Room::with_size(alloc, 4).expect(rt, "a room");

@@ -3,7 +3,7 @@ use Rattle.tc_link.specs.declared.frame.FrameFault.TheVariants as frames
 use Rattle.tc_link.specs.declared.location.LocateFault.TheVariants as locations
 use Rattle.tc_link.specs.declared.writing.WriteFault.TheVariants as writing
 use Rattle.tc_fecf.specs.declared.frames.FieldFault.TheVariants as fields
-use Rattle.tc_channel.specs.declared.settings.SettingsFault.TheVariants as settings
+use Rattle.tc_queues.specs.declared.settings.SettingsFault.TheVariants as settings
 use Rattle.tc_fixed.specs.declared.limits.LimitsFault.TheVariants as limits
 use Rattle.std.proofs.Common.{refl}
 use Rattle.tc_c.proofs.laws.each_fault_has_a_status_of_its_own.Goals as goal

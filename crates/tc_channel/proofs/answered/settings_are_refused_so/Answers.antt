@@ -1,10 +1,10 @@
 use Rattle.tc_channel.proofs.Names.{◌≡◌, ◌≢◌, ℕ, ◌%◌, ◌≤◌, false, true, [], ◌∷◌, refl, arith, QueueSetting, MapSetting}
 use Rattle.std.proofs.Common.{lit≤, lit<}
-use Rattle.tc_channel.specs.Settings.{IsVcid, IsBufferSize, HaveApids, AreApart, HaveCapacities, AreMaps, AreMapsApart, HaveUnitCapacities}
+use Rattle.tc_queues.specs.Settings.{IsVcid, IsBufferSize, HaveApids, AreApart, HaveCapacities, AreMaps, AreMapsApart, HaveUnitCapacities}
 use Rattle.tc_link.specs.Window.{IsWidth}
 use Rattle.tc_channel.specs.Examples.{channel_of, two_apids, two_maps}
 use Rattle.tc_channel.proofs.Faults.{both, first-not, two-apart, not-two-apart, is-fault}
-use Rattle.tc_channel.specs.declared.settings.SettingsFault.TheVariants as faults
+use Rattle.tc_queues.specs.declared.settings.SettingsFault.TheVariants as faults
 use Rattle.tc_channel.proofs.answered.settings_are_refused_so.Goals as goal
 
 abbrev queue : ℕ → ℕ → QueueSetting

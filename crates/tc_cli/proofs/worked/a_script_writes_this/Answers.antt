@@ -10,13 +10,13 @@ use Rattle.hex.specs.Hex.{encode_with}
 use Rattle.hex.proofs.OnLiterals.{hex_on_literals}
 use Rattle.tc_link.specs.Frame.{IsOctets, IsWhole}
 use Rattle.tc_link.specs.Window.{some_of_first}
-use Rattle.tc_channel.specs.declared.settings.MapSetting.{MapSetting}
-use Rattle.tc_channel.specs.declared.settings.QueueSetting.{QueueSetting}
+use Rattle.tc_queues.specs.declared.settings.MapSetting.{MapSetting}
+use Rattle.tc_queues.specs.declared.settings.QueueSetting.{QueueSetting}
 use Rattle.tc_channel.specs.declared.event.Event.TheVariants as events
-use Rattle.tc_channel.specs.ChannelState.{Queue, no_limits}
+use Rattle.tc_queues.specs.ChannelState.{Queue, no_limits}
 use Rattle.tc_channel.specs.Reply.{frame_reply_within, release_reply_within, waiting_packets_within, waiting_units_within, buffered_fields_within, clcw_within}
 use Rattle.tc_channel.specs.Run.{IsLawful, IsLawfulWithin, run_within, passed_on}
-use Rattle.tc_channel.specs.Settings.{IsAllowed}
+use Rattle.tc_queues.specs.Settings.{IsAllowed}
 use Rattle.tc_text.specs.Line.{line_of}
 use Rattle.tc_text.specs.Word.{words}
 use Rattle.tc_text.specs.declared.line.Line.TheVariants as said

@@ -1,11 +1,11 @@
 use Rattle.std.proofs.Common.{◌≡◌, ◌≢◌, ℕ, zero, suc, ◌≤◌, Bool, false, true, List, [], ◌∷◌, ◌++◌, take, drop, refl, ap, ◌∙◌, inl, inr, lit≤, lit<, arith}
 use Rattle.std.specs.List.{AllByRecursion}
 use Rattle.std.proofs.lemmas.List.Elements.{All-nil}
-use Rattle.tc_channel.specs.declared.settings.QueueSetting.{QueueSetting}
-use Rattle.tc_channel.specs.declared.settings.MapSetting.{MapSetting}
-use Rattle.tc_channel.specs.declared.settings.Settings.{Settings}
-use Rattle.tc_channel.specs.declared.settings.SettingsFault.TheVariants as settings_faults
-use Rattle.tc_channel.specs.Settings.{IsAllowed, IsFault as IsFaultOfSettings, faults_in_order as settings_faults_in_order}
+use Rattle.tc_queues.specs.declared.settings.QueueSetting.{QueueSetting}
+use Rattle.tc_queues.specs.declared.settings.MapSetting.{MapSetting}
+use Rattle.tc_queues.specs.declared.settings.Settings.{Settings}
+use Rattle.tc_queues.specs.declared.settings.SettingsFault.TheVariants as settings_faults
+use Rattle.tc_queues.specs.Settings.{IsAllowed, IsFault as IsFaultOfSettings, faults_in_order as settings_faults_in_order}
 use Rattle.tc_channel.specs.Examples.{channel_of, two_maps}
 use Rattle.tc_channel.proofs.Faults.{both, first-not, two-apart, not-two-apart, first-of as first-of-settings}
 use Rattle.tc_fixed.specs.declared.limits.Limits.{Limits}

@@ -1,6 +1,6 @@
 use Rattle.std.proofs.Common.{drop}
 use Rattle.std.specs.List.{AllByRecursion}
-use Rattle.tc_channel.specs.declared.settings.MapSetting.{MapSetting}
+use Rattle.tc_queues.specs.declared.settings.MapSetting.{MapSetting}
 use Rattle.tc_fixed.specs.Limits.{IsListed}
 use Rattle.tc_fixed.proofs.limits.all_listed.Given as goal
 

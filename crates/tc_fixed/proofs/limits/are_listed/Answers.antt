@@ -2,7 +2,7 @@ use Rattle.std.proofs.Common.{◌≡◌, arith}
 use Rattle.std.specs.Prelude.{IsTrue, ◌↔◌}
 use Rattle.std.specs.List.{AllByRecursion}
 use Rattle.std.proofs.lemmas.Grind.{common_steps}
-use Rattle.tc_channel.specs.declared.settings.MapSetting.{MapSetting}
+use Rattle.tc_queues.specs.declared.settings.MapSetting.{MapSetting}
 use Rattle.tc_fixed.specs.Limits.{IsListed}
 use Rattle.tc_fixed.proofs.limits.are_listed.Goals as goal
 

@@ -1,5 +1,5 @@
 use Rattle.std.proofs.Common.{refl}
-use Rattle.tc_channel.proofs.Apart.{not-apart, apart-more}
+use Rattle.tc_queues.proofs.Apart.{not-apart, apart-more}
 use Rattle.tc_fixed.specs.declared.limits.MapLimit.{MapLimit}
 use Rattle.tc_fixed.proofs.limits.are_maps_apart.Goals as goal
 

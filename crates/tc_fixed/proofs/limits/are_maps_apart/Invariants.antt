@@ -1,4 +1,4 @@
-use Rattle.tc_channel.proofs.Apart.{ApartBelow}
+use Rattle.tc_queues.proofs.Apart.{ApartBelow}
 use Rattle.tc_fixed.specs.declared.limits.MapLimit.{MapLimit}
 use Rattle.tc_fixed.proofs.limits.are_maps_apart.Given as goal
 

@@ -3,12 +3,12 @@ use Rattle.std.specs.Fmt.{digits}
 use Rattle.std.proofs.lemmas.List.{append-nil}
 use Rattle.std.proofs.lemmas.List.Elements.{All-nil}
 use Rattle.tc_link.specs.declared.clcw.Link.{Link}
-use Rattle.tc_channel.specs.declared.settings.MapSetting.{MapSetting}
-use Rattle.tc_channel.specs.declared.settings.QueueSetting.{QueueSetting}
-use Rattle.tc_channel.specs.ChannelState.{no_limits}
+use Rattle.tc_queues.specs.declared.settings.MapSetting.{MapSetting}
+use Rattle.tc_queues.specs.declared.settings.QueueSetting.{QueueSetting}
+use Rattle.tc_queues.specs.ChannelState.{no_limits}
 use Rattle.tc_channel.specs.Reply.{clcw_within}
 use Rattle.tc_channel.specs.Run.{run_within}
-use Rattle.tc_channel.specs.Settings.{IsAllowed}
+use Rattle.tc_queues.specs.Settings.{IsAllowed}
 use Rattle.tc_text.specs.Line.{line_of}
 use Rattle.tc_text.specs.LiveLine.{live_line_of}
 use Rattle.tc_text.specs.Printed.{word_text}

@@ -1,7 +1,7 @@
 use Rattle.tc_channel.proofs.Names.{length, no_limits}
 use Rattle.tc_channel.specs.Reply.{waiting_units_within}
 use Rattle.tc_channel.proofs.AtWork.{unit-count}
-use Rattle.tc_channel.proofs.Counts.{found-once, found-twice}
+use Rattle.tc_queues.proofs.Counts.{found-once, found-twice}
 use Rattle.tc_channel.proofs.Takes.{one-is-taken}
 use Rattle.tc_channel.proofs.channel.ChannelWith.take_unit_with_steps.Goals as goal
 

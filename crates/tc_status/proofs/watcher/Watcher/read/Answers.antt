@@ -1,5 +1,5 @@
 use Rattle.std.proofs.Common.{ap, rules, arith}
-use Rattle.tc_channel.specs.ChannelState.{no_limits}
+use Rattle.tc_queues.specs.ChannelState.{no_limits}
 use Rattle.tc_status.specs.Board.{no_flag}
 use Rattle.tc_status.proofs.Steps.{reads}
 use Rattle.tc_status.proofs.watcher.Watcher.read.Goals as goal

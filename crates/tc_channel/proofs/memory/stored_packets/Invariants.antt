@@ -1,6 +1,0 @@
-use Rattle.tc_channel.proofs.Names.{◌≡◌, ◌≤◌, ◌*◌, take, sum_by, QueueSetting}
-use Rattle.tc_channel.proofs.memory.stored_packets.Given as goal
-
-abbrev pub invariant-loop-queue : goal.invariant-loop-queue
-invariant-loop-queue l =
-    (l.stored ≡ sum_by (λ (q : QueueSetting). q.capacity) (take l.queue-index l.queues)) × (l.stored ≤ l.queue-index * 65536)

@@ -1,0 +1,84 @@
+-- Queues in rooms, read and written at one place.
+use Rattle.tc_queues.proofs.Names.{◌≡◌, ℕ, zero, suc, ◌-◌, ◌<◌, ◌≤◌, Bool, List, [], ◌∷◌, ◌++◌, length, map, get_or, refl, sym, ap, subst, ◌∙◌, arith, set, map-set_same, map-map, append-nil, length-append, length-map, map-set, get_or-map, keys_of, room_in, StoredQueue, Keyed, ring_in, rings_in, staged_in, all_staged_in, room_sizes, Fit, AreCommitted, room_at, AllByRecursion}
+use Rattle.circular_buffer.specs.Buffer.{buffer}
+use Rattle.tc_queues.specs.Keyed.{IsPutBehind}
+use Rattle.tc_queues.specs.Delivering.{IsPutAt}
+use Rattle.tc_queues.proofs.Copies.{put-set, longer-fits}
+
+-- if a queue is replaced by one in which the same items wait, the items that wait in all the queues stay the same
+pub same-rings : (qs : List Keyed) (i : ℕ) (q next : Keyed) → q ≡ get_or qs i q → next.key ≡ q.key → next.slots.ring ≡ q.slots.ring → rings_in (set qs i next) ≡ rings_in qs
+same-rings qs i q next is key ring =
+    let same : ring_in next ≡ ring_in (get_or qs i q) = rw (key, ring) (ap ring_in is) in
+    map-set_same ring_in qs i next q same
+
+pub same-sizes : (qs : List Keyed) (i : ℕ) (q next : Keyed) → q ≡ get_or qs i q → next.slots.size ≡ q.slots.size → room_sizes (set qs i next) ≡ room_sizes qs
+same-sizes qs i q next is same = map-set_same (λ (x : Keyed). x.slots.size) qs i next q (same ∙ ap (λ (x : Keyed). x.slots.size) is)
+
+pub fit-at : (octets : List ℕ) (qs : List Keyed) (i : ℕ) (q : Keyed) → Fit octets (room_sizes qs) → i < length qs → q ≡ get_or qs i q → length octets ≤ q.slots.size
+fit-at octets [] i q fits inside is = absurd (omega arith)
+fit-at octets (r ∷ qs) zero q fits inside is = subst (λ (x : Keyed). length octets ≤ x.slots.size) (sym is) fits.0
+fit-at octets (r ∷ qs) (suc i) q fits inside is = fit-at octets qs i q fits.1 (omega arith) is
+
+-- if nothing is staged, the items that wait are all items
+staged-one : (q : Keyed) → q.slots.staged ≡ [] → staged_in q ≡ ring_in q
+staged-one q none = ap (λ (xs : List (List ℕ)). record { key = q.key; ring = buffer xs q.slots.ring.capacity }) (rw none (append-nil q.slots.ring.items))
+
+pub staged-none : (qs : List Keyed) → AreCommitted qs → all_staged_in qs ≡ rings_in qs
+staged-none [] all = refl
+staged-none (q ∷ qs) all = ap (λ (x : StoredQueue). x ∷ all_staged_in qs) (staged-one q all.0) ∙ ap (λ (x : List StoredQueue). ring_in q ∷ x) (staged-none qs all.1)
+
+-- the keys are the same with staged items and without
+pub same-keys : (qs : List Keyed) → keys_of (all_staged_in qs) ≡ keys_of (rings_in qs)
+same-keys qs = map-map (λ (w : StoredQueue). w.key) staged_in qs ∙ sym (map-map (λ (w : StoredQueue). w.key) ring_in qs)
+
+-- the key of a queue is the key at its place
+pub key-in : (qs : List Keyed) (i k : ℕ) (q : Keyed) → i < length qs → q ≡ get_or qs i q → k ≡ q.key → k ≡ get_or (keys_of (rings_in qs)) i k
+key-in qs i k q inside is k_is =
+    k_is ∙ sym (get_or-map (λ (x : StoredQueue). x.key) (rings_in qs) i (ring_in q) k (omega (arith, length-map qs ring_in))
+    ∙ ap (λ (x : StoredQueue). x.key) (get_or-map ring_in qs i q (ring_in q) inside ∙ ap ring_in (sym is)))
+
+-- if one queue is replaced by the queue with one more item, the list of queues has the item at that place, whether
+-- staged items are counted or not
+pub put-in : (f : Keyed → StoredQueue) (qs : List Keyed) (i : ℕ) (q next : Keyed) (p : List ℕ) (place : Bool) → i < length qs → q ≡ get_or qs i q → IsPutBehind p (f q) (f next) place → IsPutAt i p (map f qs) (map f (set qs i next)) place
+put-in f qs i q next p place inside is behind =
+    let here : f q ≡ get_or (map f qs) i (f q) = ap f is ∙ sym (get_or-map f qs i q (f q) inside) in
+    let room : room_at i (map f qs) ≡ (f q).ring.capacity - length (f q).ring.items = get_or-map room_in (map f qs) i (f q) 0 (omega (arith, length-map qs f)) ∙ ap room_in (sym here) in
+    record {
+      done = λ yes.
+          let d = behind.done yes in
+          let fits = d.1 in
+          (map-set f qs i next ∙ ap (λ (x : StoredQueue). set (map f qs) i x) (d.0 ∙ sym (longer-fits (f q) p fits)) ∙ put-set (map f qs) i (f q) p here (omega (arith, length-map qs f)), omega arith);
+      full = λ no.
+          let n = behind.full no in
+          let full = n.1 in
+          (map-set_same f qs i next q (n.0 ∙ ap f is), omega arith);
+    }
+
+-- if nothing is staged in any queue, and one is replaced by a queue in which nothing is staged, nothing is staged in
+-- any
+pub committed-at : (qs : List Keyed) (i : ℕ) (next : Keyed) → AreCommitted qs → next.slots.staged ≡ [] → AreCommitted (set qs i next)
+committed-at [] i next all one = tt
+committed-at (r ∷ qs) zero next all one = (one, all.1)
+committed-at (r ∷ qs) (suc i) next all one = (all.0, committed-at qs i next all.1 one)
+
+pub staged-of-none-at : (qs : List Keyed) (i : ℕ) (q : Keyed) → AreCommitted qs → i < length qs → q ≡ get_or qs i q → q.slots.staged ≡ []
+staged-of-none-at [] i q all inside is = absurd (omega arith)
+staged-of-none-at (r ∷ qs) zero q all inside is = ap (λ (x : Keyed). x.slots.staged) is ∙ all.0
+staged-of-none-at (r ∷ qs) (suc i) q all inside is = staged-of-none-at qs i q all.1 (omega arith) is
+
+-- this also holds if the queue that is written has the staged items of the queue that was there
+pub committed-set : (qs : List Keyed) (i : ℕ) (q next : Keyed) → AreCommitted qs → i < length qs → q ≡ get_or qs i q → next.slots.staged ≡ q.slots.staged → AreCommitted (set qs i next)
+committed-set qs i q next all inside is same = committed-at qs i next all (same ∙ staged-of-none-at qs i q all inside is)
+
+-- a full queue has no room
+pub full-at : (qs : List Keyed) (i : ℕ) (q : Keyed) → i < length qs → q ≡ get_or qs i q → q.slots.ring.capacity ≤ length q.slots.ring.items → room_at i (all_staged_in qs) ≡ 0
+full-at qs i q inside is full =
+    let here : staged_in q ≡ get_or (all_staged_in qs) i (staged_in q) = ap staged_in is ∙ sym (get_or-map staged_in qs i q (staged_in q) inside) in
+    let room : room_at i (all_staged_in qs) ≡ q.slots.ring.capacity - length (q.slots.ring.items ++ q.slots.staged) =
+    get_or-map room_in (all_staged_in qs) i (staged_in q) 0 (omega (arith, length-map qs staged_in)) ∙ ap room_in (sym here) in
+    room ∙ omega (arith, length-append q.slots.ring.items q.slots.staged)
+
+-- octets that are no more than the smallest room fit each room
+pub fit-enough : (octets : List ℕ) (least : ℕ) (sizes : List ℕ) → AllByRecursion (λ (n : ℕ). least ≤ n) sizes → length octets ≤ least → Fit octets sizes
+fit-enough octets least [] all le = tt
+fit-enough octets least (m ∷ sizes) all le = (let e = all.0 in omega arith, fit-enough octets least sizes all.1 le)

@@ -1,0 +1,14 @@
+pub mod Names
+pub mod Waiting
+pub mod Lists
+pub mod Counted
+pub mod Copies
+pub mod Passes
+pub mod Apart
+pub mod InRooms
+pub mod Ways
+pub mod Found
+pub mod Tables
+pub mod Contents
+pub mod Counts
+pub mod Closing

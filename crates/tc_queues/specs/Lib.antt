@@ -1,0 +1,11 @@
+pub mod Rooms
+pub mod Settings
+pub mod ChannelState
+pub mod Memory
+pub mod Admission
+pub mod StoredQueues
+pub mod Keyed
+pub mod Places
+pub mod Delivering
+pub mod Copying
+pub mod Steps

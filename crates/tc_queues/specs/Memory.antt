@@ -1,0 +1,89 @@
+-- The largest number of bytes that a channel requests from an allocator, besides its journal, in a program for a
+-- machine of 64 bits.
+use Rattle.std.specs.Prelude.{ℕ, ◌+◌, ◌*◌, ◌^◌, Bool, List, length, nat_lt, sum_by, if◌then◌else◌}
+use Rattle.tc_packet.specs.Reassembly.{largest_unit, stream_count}
+use Rattle.tc_queues.specs.declared.settings.QueueSetting.{QueueSetting}
+use Rattle.tc_queues.specs.declared.settings.MapSetting.{MapSetting}
+use Rattle.tc_queues.specs.declared.settings.Settings.{Settings}
+use Rattle.tc_queues.specs.ChannelState.{ChannelState, Queue, buffer, waiting}
+
+-- the bytes that a room itself takes, besides its octets: the address and the capacity of its block, the number of
+-- octets in it, and the largest number that it may hold
+abbrev pub room_words : ℕ
+room_words = 32
+
+-- the bytes that a run itself takes, besides its octets: its room, whether the run is open, and the number of its
+-- octets
+abbrev pub run_words : ℕ
+run_words = 40
+
+-- the bytes that a queue itself takes, besides its rooms: its key, the ring of its rooms, the numbers of waiting and of
+-- staged items, and the size of a room
+abbrev pub queue_words : ℕ
+queue_words = 64
+
+-- the largest data field: a frame has at most 1,024 octets, and five of them are its header (CCSDS 232.0-B, 4.1.2.7)
+abbrev pub largest_field : ℕ
+largest_field = 1019
+
+-- the bytes in the room of a run, once the room was doubled until it can hold the largest unit
+abbrev pub run_room : ℕ
+run_room = 2 ^ 17
+
+-- the largest unit, which is also the largest packet (on a plain channel each unit is a data field)
+abbrev pub largest_item : Bool → ℕ
+largest_item segmented = if segmented then largest_unit else largest_field
+
+-- the largest number of packets that the packet queues hold together
+abbrev pub packets_stored : Settings → ℕ
+packets_stored s = sum_by (λ (q : QueueSetting). q.capacity) s.queues
+
+-- the largest number of units that the unit queues hold together
+abbrev pub units_stored : Settings → ℕ
+units_stored s = sum_by (λ (m : MapSetting). m.capacity) s.maps
+
+-- a room for each data field of the buffer
+abbrev pub buffer_memory : Settings → ℕ
+buffer_memory s = s.buffer * (room_words + largest_field)
+
+-- an open run of the largest unit on each MAP of each service, or none on a plain channel
+abbrev pub runs_memory : Settings → ℕ
+runs_memory s = if s.segmented then stream_count * (run_words + run_room) else 0
+
+-- each queue full of the largest packets, and each unit queue full of the largest units
+abbrev pub queues_memory : Settings → ℕ
+queues_memory s = (length s.queues + length s.maps) * queue_words + packets_stored s * (room_words + largest_item s.segmented) + units_stored s * (room_words + largest_unit)
+
+-- a table of the places of 2,048 keys, if there are 8 queues or more
+abbrev pub table_memory : ℕ → ℕ
+table_memory queues = if nat_lt queues 8 then 0 else 2048 * 2
+
+-- the tables of the packet queues and of the unit queues
+abbrev pub tables_memory : Settings → ℕ
+tables_memory s = table_memory (length s.queues) + table_memory (length s.maps)
+
+-- a first segment for which the block of its run is too small, and which lies beside that block
+abbrev pub segment_memory : Settings → ℕ
+segment_memory s = if s.segmented then largest_field else 0
+
+-- the largest number of bytes that a channel of these settings holds at any moment
+unfoldable pub memory_bound : Settings → ℕ
+memory_bound s = buffer_memory s + runs_memory s + queues_memory s + tables_memory s + segment_memory s
+
+-- the number of items that wait in the queues together
+abbrev pub waiting_in_all : List Queue → ℕ
+waiting_in_all queues = sum_by (λ (q : Queue). length (waiting q)) queues
+
+-- the number of octets that items have together
+abbrev pub octets_in : List (List ℕ) → ℕ
+octets_in items = sum_by (λ (i : List ℕ). length i) items
+
+-- the number of octets that wait in the queues together
+abbrev pub octets_waiting : List Queue → ℕ
+octets_waiting queues = sum_by (λ (q : Queue). octets_in (waiting q)) queues
+
+-- the memory that waiting items and data fields take: their octets, and the words of each item and of each queue
+abbrev pub memory_waiting : Settings → ChannelState → ℕ
+memory_waiting s state =
+    (length s.queues + length s.maps) * queue_words + (waiting_in_all state.queues * room_words + octets_waiting state.queues)
+    + (waiting_in_all state.units * room_words + octets_waiting state.units) + octets_in (buffer state)

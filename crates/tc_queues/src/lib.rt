@@ -1,0 +1,44 @@
+//! What a channel stands on: its settings, its replies, and its packet queues and unit queues.
+//!
+//! A unit is delivered to [`Queues`] by [`deliver_ended`]. Settings and replies are plain data, and [`Tick`] counts the
+//! steps that a call takes.
+//!
+//! The items of a queue lie in rooms that are created at the start or in rooms that grow. One implementation serves
+//! both. [`Slots`] are the items that wait, each in a [`Room`](tc_packet::Room) of its own. A call stages the items
+//! that it adds behind those that count. Once they are all staged, they count ([`Slots::commit`]). If memory runs out
+//! before, they are rolled back ([`Slots::roll_back`]), and everything is as it was before the call.
+//!
+//! The rooms of a queue are a ring made of the kit's `circular_buffer`, behind a type that has no call that grows the
+//! ring (`ring.rt`, the only file whose code could make the ring grow). So for rooms that are created at the start,
+//! memory is allocated only when they are created, and no other call can run out of memory.
+#![tactic(auto)]
+
+mod committing;
+mod delivering;
+mod items;
+mod memory;
+mod new_queues;
+mod places;
+mod queue;
+mod queues;
+mod reply;
+mod ring;
+mod settings;
+mod slots;
+mod staging;
+mod steps;
+mod taking;
+
+pub use items::{Items, Octets};
+pub use memory::{LARGEST_FIELD, QUEUE_WORDS, ROOM_WORDS, RUN_WORDS};
+pub use new_queues::{empty_queues, empty_unit_queues};
+pub use queue::Queue;
+pub use queues::{Queues, deliver_ended, deliver_nothing};
+pub use reply::{
+    Delivery, FrameReply, NoMemory, NotCopied, ReleaseFault, TakeFault, TakeUnitFault,
+};
+#[doc(hidden)]
+pub use ring::Ring;
+pub use settings::{LentSettings, MapSetting, QueueSetting, Settings, SettingsFault};
+pub use slots::Slots;
+pub use steps::{Steps, Tick};
