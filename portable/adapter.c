@@ -77,7 +77,7 @@ uint8_t *EXPORT(module_frames)(void) {
     return frames;
 }
 
-/* Reserves room in the module for this many octets or entries, which the next call frees. Returns null if there is
+/* Reserves room in the module for this many octets or entries, which module_room_back() frees. Returns null if there is
  * none. */
 void *EXPORT(module_room)(u32 count) {
     return heap_take(count);

@@ -15,7 +15,7 @@ if(NOT TARGET dekorihe::tcrx_static)
     foreach(_dekorihe_file IN ITEMS memory static)
         set(_dekorihe_${_dekorihe_file} "${_dekorihe}/share/dekorihe/tcrx_${_dekorihe_file}.c")
         if(NOT "C" IN_LIST _dekorihe_languages)
-            # CMake would silently leave out a file for C.
+            # In a project without C, CMake would silently leave out a C file.
             file(WRITE "${CMAKE_CURRENT_BINARY_DIR}/dekorihe/tcrx_${_dekorihe_file}.cc"
                 "#include \"${_dekorihe_${_dekorihe_file}}\"\n")
             set(_dekorihe_${_dekorihe_file} "${CMAKE_CURRENT_BINARY_DIR}/dekorihe/tcrx_${_dekorihe_file}.cc")

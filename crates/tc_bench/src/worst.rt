@@ -25,16 +25,19 @@ const LARGEST_UNIT: usize = 65_542;
 // field may have.
 const ROOM: u16 = 145;
 
-// A data field full of the smallest packets, unsegmented and as a first segment, and last segments of largest units: of
-// a unit that is full of these packets, of one that is a packet, and of one that is queued whole.
+// A data field full of the smallest packets, as an unsegmented unit.
 const PACKETS_FIELD: Field = (Some(UNSEGMENTED | PACKETS), 0, BODY);
 
+// A data field full of the smallest packets, as the first segment of a unit.
 const FIRST_FIELD: Field = (Some(FIRST | PACKETS), 0, BODY);
 
+// The last segment of a largest unit that is full of the smallest packets.
 const PACKETS_END: Field = (Some(LAST | PACKETS), 0, 390);
 
+// The last segment of a largest unit that is one packet.
 const PACKET_END: Field = (Some(LAST | PACKETS), LARGEST, 390);
 
+// The last segment of a largest unit that is queued whole.
 const WHOLE_END: Field = (Some(LAST | CHOSEN), LARGEST, 390);
 
 // A channel, to whose last application all packets are sent, and room for the item that is taken.
