@@ -184,6 +184,7 @@ class VirtualChannel:
         """What a release is answered."""
         want(len(self.buffer) > 0, Refused("empty"))
         self.events += 1
+        self.reached[f"E10 in S{self.farm.state}"] += 1
         self.farm.step("E10")
         return f"release {self.vcid} {self.pass_on('AD', self.buffer.popleft())}"
 
