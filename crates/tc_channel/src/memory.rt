@@ -1,4 +1,4 @@
-//! What waits in a channel, within the bound of its memory.
+//! Laws on the items that wait in a channel and on the bound of its memory.
 
 ghost use Rattle.std.specs.Prelude.{List, ℕ, true, ◌≡◌, ◌≤◌, ◌*◌};
 ghost use Rattle.tc_queues.specs.declared.settings.Settings.{Settings};

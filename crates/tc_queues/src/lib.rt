@@ -1,7 +1,7 @@
-//! What a channel stands on: its settings, its replies, and its packet queues and unit queues.
+//! The settings, the replies and the queues that a channel stands on.
 //!
-//! A unit is delivered to [`Queues`] by [`deliver_ended`]. Settings and replies are plain data, and [`Tick`] counts the
-//! steps that a call takes.
+//! There are packet queues and unit queues, and a unit is delivered to both kinds of [`Queues`] by [`deliver_ended`].
+//! Settings and replies are plain data, and [`Tick`] counts the steps that a call takes.
 //!
 //! The items of a queue lie in rooms that are created at the start or in rooms that grow. One implementation serves
 //! both. [`Slots`] are the items that wait, each in a [`Room`](tc_packet::Room) of its own. A call stages the items
