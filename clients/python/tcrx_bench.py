@@ -273,7 +273,7 @@ class Bench:  # pylint: disable=too-many-instance-attributes  # it is made of th
 
     async def _begin_anew(self, turn: Turn) -> None:
         """Ends the receiver once all is answered, with its report, and begins another one, with another file of the log."""
-        answer = f"anew {self.journal.part + 1}"
+        answer = ""
         try:
             while self.engine.pending and not self.engine.over.done():
                 await asyncio.sleep(0.005)
@@ -285,6 +285,7 @@ class Bench:  # pylint: disable=too-many-instance-attributes  # it is made of th
             self.journal.end(self.engine.report)
             await self._say_report()
             self.journal.begin_part()
+            answer = f"anew {self.journal.part}"
             self.engine = self._engine_of(process)
             self._watch()
             self.craft.begin_anew(self.engine)
@@ -296,7 +297,7 @@ class Bench:  # pylint: disable=too-many-instance-attributes  # it is made of th
             answer = f"bad {error}"
         finally:
             if turn.asker:
-                turn.asker(answer)
+                turn.asker(answer or f"bad {self.engine.over.result()}")
             self.craft.go_on()
         if self.link_watch and self.link_watch.lost:
             self.craft.set_link(True)

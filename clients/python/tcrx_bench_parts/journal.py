@@ -68,12 +68,15 @@ class Journal:
         self.write(f"# tcrx-bench {__version__} spacecraft {self.scid}{', with frame error control' if self.fecf else ''}, begun {begun}")
 
     def begin_part(self) -> None:
-        """Goes on in another file, for a receiver that is begun anew. Where that fails the journal ends."""
+        """Goes on in the file with the next free number, for a receiver that is begun anew. Where that fails the journal ends."""
         self.close()
         self.part += 1
-        if self.path and not self.fault:
+        while self.path and not self.fault:
             try:
                 self._begin(self.path.with_name(f"{self.path.name}.{self.part}"))
+                return
+            except FileExistsError:
+                self.part += 1
             except OSError as error:
                 self.fault = f"the log can't be written: {error.strerror}"
 
