@@ -12,11 +12,11 @@ _tcrx_bench() {
         --release) mapfile -t COMPREPLY < <(compgen -W 'auto manual' -- "$current") ;;
         # A number, a port or an address follows.
         --scid | --tc-* | --cltu-frames | --lines | --clcw-* | --packets-* | --units-* | --tm-tcp | --tm-udp | --tm-length | --tm-rate | --tm-vcid | --http | --allow | \
-            --fill | --period | --release-after | --link-timeout | --sender | --connections | --patience | --drop | --twice | --flip | --delay | --drop-clcw | \
+            --fill | --period | --release-after | --link-timeout | --sender | --connections | --connections-per-address | --patience | --drop | --twice | --flip | --delay | --drop-clcw | \
             --seed) ;;
         *) mapfile -t COMPREPLY < <(compgen -W '--scid --fecf --setup --program --tcmake --tc-tcp --tc-udp --lines --clcw-tcp --packets-tcp --units-tcp
             --tm-tcp --http --clcw-udp --packets-udp --units-udp --tm-udp --allow --cltu --cltu-frames --randomised --tm-length --tm-rate --tm-vcid --tm-fecf --tm-marker
-            --fill --resync --period --release --release-after --link-timeout --sender --connections --patience --drop --twice --flip --delay --drop-clcw --seed --demo --log --replay -h --help -V --version' -- "$current") ;;
+            --fill --resync --period --release --release-after --link-timeout --sender --connections --connections-per-address --patience --drop --twice --flip --delay --drop-clcw --seed --demo --log --replay -h --help -V --version' -- "$current") ;;
     esac
 }
 complete -F _tcrx_bench tcrx-bench

@@ -27,6 +27,7 @@ from functools import partial  # noqa: E402
 from typing import Callable, Dict, List, Optional  # noqa: E402
 
 import tcrx  # noqa: E402
+from tcrx_bench_parts.admission import room_for  # noqa: E402
 from tcrx_bench_parts.craft import Craft, Release, Turn  # noqa: E402
 from tcrx_bench_parts.demo import KEYS, SETUP, STAND_IN, Demo, stand_in  # noqa: E402
 from tcrx_bench_parts.edges import MAKER, MARKER, CltuConnection, Decoding, Telemetry  # noqa: E402
@@ -36,7 +37,7 @@ from tcrx_bench_parts.journal import Journal, replay  # noqa: E402
 from tcrx_bench_parts.octets import Cutter  # noqa: E402
 from tcrx_bench_parts.options import read_setup, read_words, warning_of, warning_of_files  # noqa: E402
 from tcrx_bench_parts.ports import (Connection, Datagrams, FrameConnection, Hub, LineConnection, Notes, Place, Port, Reader, Target, all_senders,  # noqa: E402
-                                    readers_sender, room_for, write_some)
+                                    readers_sender, write_some)
 from tcrx_bench_parts.watch import Watches  # noqa: E402
 from tcrx_bench_parts.web import Visitor, Web  # noqa: E402
 
@@ -96,7 +97,7 @@ class Bench:  # pylint: disable=too-many-instance-attributes  # it is made of th
         release = Release.MANUAL if options.release == "manual" else Release.AUTO if options.release_after is None else Release.AFTER
         self.craft = Craft(self.engine, journal, options.scid, options.fecf, release, options.release_after or 0.0)
         listening = sum(not place.kind.endswith("-udp") for place in options.places)
-        self.hub = Hub(self.craft, notes, room_for(listening, options.connections), options.patience)
+        self.hub = Hub(self.craft, notes, room_for(listening, options.connections), options.patience, options.connections_per_address)
         self.web: Optional[Web] = None
         self.listening: Dict[str, List[Port]] = {}
         self.targets: List[Target] = []

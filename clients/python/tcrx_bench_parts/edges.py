@@ -17,6 +17,7 @@ from .craft import Craft, Turn
 from .engine import Engine, Speech
 from .octets import BROWSER, LONGEST_FRONT, begins_request
 from .ports import Connection, Hub, Port, stop_transport
+from .turns import MOST_IN_TURN
 
 MAKER = Speech(
     "tcmake", {"frame": re.compile("frame [0-9a-f]+"), "random": re.compile("random [0-9a-f]+"), "tm": re.compile("tm [0-9a-f]+"),
@@ -28,6 +29,8 @@ MAKER = Speech(
 MOST_STREAMS, FOR_DATAGRAMS = 255, 255
 # Octets that are under way to the decoders, so that nobody waits long, and as how many more each piece of them counts.
 MOST_UNDER_WAY, EACH = 1 << 15, 64
+# Octets that are read at once from a stream: the shortest CLTUs have 18 octets with a frame, so they carry no more frames than a turn has.
+PIECE = 18 * MOST_IN_TURN
 # What is counted of CLTUs.
 CLTU_COUNTS = ("cltus", "corrected_blocks", "rejected_blocks", "overlong_cltus", "overfull_cltus")
 # The attached synchronization marker of telemetry frames (CCSDS 131.0-B).
@@ -174,6 +177,8 @@ class Decoding:
 
 class CltuConnection(Connection):
     """CLTUs with whatever is between them."""
+
+    room = bytearray(PIECE)
 
     def __init__(self, port: Port, decoding: Decoding) -> None:
         super().__init__(port)

@@ -2,6 +2,7 @@
 from __future__ import annotations
 
 import re
+import sys
 from binascii import crc_hqx
 from typing import List, Optional, Tuple
 
@@ -62,8 +63,8 @@ class Cutter:
         first = bytes(flags << 4 | scid >> 8 for flags in range(4))
         self.pattern = re.compile(b"[" + re.escape(first) + b"]" + re.escape(bytes([scid & 255])), re.S)
 
-    def feed(self, octets: bytes) -> Tuple[List[bytes], str]:
-        """The frames that are whole now, and what is wrong with the octets behind them, if anything is."""
+    def feed(self, octets: bytes, most: int = sys.maxsize) -> Tuple[List[bytes], str]:
+        """The frames that are whole now, up to so many, and what is wrong with the octets behind them, if anything is."""
         kept = self.kept
         kept += octets
         is_request = not self.place and begins_request(bytes(kept[:LONGEST_FRONT]))
@@ -72,7 +73,7 @@ class Cutter:
             return [], BROWSER if is_request else ""
         frames: List[bytes] = []
         at, fault, end = 0, "", len(kept)
-        while not fault:
+        while not fault and len(frames) < most:
             if self.to_skip:
                 step = min(self.to_skip, end - at)
                 at, self.to_skip = at + step, self.to_skip - step

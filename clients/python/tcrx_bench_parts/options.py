@@ -191,7 +191,9 @@ def add_behaviour(made: argparse.ArgumentParser) -> None:
                       help="watch the sender of a channel (0 to 63): whether it keeps a window of K frames (1 to 127), and the link the order; "
                            "again for another")
     made.add_argument("--connections", type=number_in(1, 10000), default=32, metavar="<N>",
-                      help="connections that a port takes at a time; 32 if not given")
+                      help="how many connections a port takes at a time; 32 if not given")
+    made.add_argument("--connections-per-address", type=number_in(1, 10000), default=0, metavar="<N>",
+                      help="how many connections a port takes from one address at a time; no such limit if not given")
     made.add_argument("--patience", type=seconds, default=10.0, metavar="<SECONDS>",
                       help="time for the rest of a frame or request, an answer of tclive or tcmake, and the last answers; 10 if not given")
     for name, text in FAULTS:

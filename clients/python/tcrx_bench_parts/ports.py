@@ -7,7 +7,6 @@ import ipaddress
 import logging
 import os
 import re
-import resource
 import select
 import socket
 import sys
@@ -17,8 +16,10 @@ from collections import deque
 from pathlib import Path
 from typing import IO, Any, Callable, Deque, Dict, List, Mapping, NamedTuple, Optional, Set, Tuple, Union, cast
 
+from .admission import MOST_LINGERING, refusal_of
 from .craft import Craft
 from .octets import BROWSER, Cutter, has_request
+from .turns import Ring, Turns
 
 # Octets of a line, without its end; octets that wait for a slow reader of CLCWs, and of packets or units; lines of one connection that
 # wait for their answers.
@@ -34,10 +35,8 @@ DATAGRAM_BUFFER, SO_MEMINFO, DROPS = 1 << 22, 55, 8
 # After 60 seconds of silence the other end's machine is asked whether it is there, three times; else its place is given back.
 KEEPALIVE = ((socket.SOL_SOCKET, socket.SO_KEEPALIVE, 1), (socket.IPPROTO_TCP, socket.TCP_KEEPIDLE, 60),
              (socket.IPPROTO_TCP, socket.TCP_KEEPINTVL, 10), (socket.IPPROTO_TCP, socket.TCP_KEEPCNT, 3))
-# Seconds that a connection that was sent why it is closed has to read that, and how many such there are at most.
-LINGER, MOST_LINGERING = 0.5, 256
-# Files that may be open besides the connections that are taken: those that were sent why they are closed, and the bench's own.
-OTHER_FILES = MOST_LINGERING + 64
+# Seconds that a connection that was told why it is closed has to read that.
+LINGER = 0.5
 
 Network = Union[ipaddress.IPv4Network, ipaddress.IPv6Network]
 WORDS = re.compile(r"[ \t\r]+")
@@ -171,22 +170,28 @@ class Port:
         self.counts[what] = self.counts.get(what, 0) + more
         self.hub.craft.changes += 1
 
-    def note(self, peer: str, text: str) -> None:
-        """Says what happened with a peer, on standard error and among the notes of the page."""
-        self.hub.notes.say(f"{self.place.kind} {peer}: {text}")
-        self.hub.craft.note_text(f"{self.place.kind} {peer}", text)
+    def note(self, source: str, text: str) -> None:
+        """Says what happened with a peer, on standard error and among the notes of the page. The source names this port and the peer."""
+        self.hub.notes.say(f"{source}: {text}")
+        self.hub.craft.note_text(source, text)
 
     def state(self) -> Dict[str, object]:
         """Returns the state of the port as values of JSON."""
         self.look()
         return {"port": self.place.kind, "address": self.address, "open": len(self.open), **self.counts}
 
+    def peers(self) -> List[Dict[str, object]]:
+        """Who is connected, the oldest connection first, as values of JSON."""
+        now = time.monotonic()
+        return [{"peer": each.peer, "seconds": round(now - each.since, 3), "octets": each.octets} for each in sorted(self.open, key=lambda each: each.since)]
+
 
 class Hub:  # pylint: disable=too-many-instance-attributes  # what ports share
     """All ports with what they share."""
 
-    def __init__(self, craft: Craft, notes: Notes, most: int, patience: float) -> None:
-        self.craft, self.notes, self.most, self.patience = craft, notes, most, patience
+    # pylint: disable-next=too-many-arguments  # what ports share
+    def __init__(self, craft: Craft, notes: Notes, most: int, patience: float, per_address: int = 0) -> None:
+        self.craft, self.notes, self.most, self.patience, self.per_address = craft, notes, most, patience, per_address
         self.ports: List[Port] = []
         self.datagrams: List[Datagrams] = []
         self.loop = asyncio.get_running_loop()
@@ -197,6 +202,7 @@ class Hub:  # pylint: disable=too-many-instance-attributes  # what ports share
         """How often something was read, on all ports."""
         self.is_behind: Callable[[], bool] = lambda: False
         """Whether nothing is to be read for now, as much waits elsewhere."""
+        self.turns = Turns(self.loop, lambda: not self.is_stopped, lambda: not self.closed and not craft.is_slow)
         craft.slow = lambda slow: self.stop_all()
         self._sweep()
 
@@ -211,6 +217,7 @@ class Hub:  # pylint: disable=too-many-instance-attributes  # what ports share
         everyone: List[Union[Connection, Datagrams]] = [*self.datagrams, *(connection for port in self.ports for connection in port.open)]
         for each in sorted(everyone, key=lambda each: each.turn):
             each.stop(self.is_stopped)
+        self.turns.go_on()
 
     def next_turn(self) -> int:
         """The number of a turn that is taken now."""
@@ -270,22 +277,7 @@ def address_of(given: socket.socket) -> str:
     return shown(host, port)
 
 
-def room_for(ports: int, wanted: int) -> int:
-    """How many connections each of so many ports can take at a time, up to what is wanted; as many files as they need may be open then,
-    where this process may allow that to itself."""
-    soft, hard = resource.getrlimit(resource.RLIMIT_NOFILE)
-    needed = ports * wanted + OTHER_FILES
-    if soft == resource.RLIM_INFINITY or soft >= needed:
-        return wanted
-    most = needed if hard == resource.RLIM_INFINITY else min(needed, hard)
-    try:
-        resource.setrlimit(resource.RLIMIT_NOFILE, (most, hard))
-    except (OSError, ValueError):
-        most = soft
-    return max(1, min(wanted, (most - min(OTHER_FILES, most // 2)) // max(1, ports)))
-
-
-class Connection(asyncio.BufferedProtocol):
+class Connection(asyncio.BufferedProtocol):  # pylint: disable=too-many-instance-attributes  # what all kinds have
     """One connection. `welcome` says whether a text may be written to it before it is closed."""
 
     welcome = True
@@ -295,8 +287,10 @@ class Connection(asyncio.BufferedProtocol):
 
     def __init__(self, port: Port) -> None:
         self.port, self.hub = port, port.hub
-        self.peer, self.source = "", ""
+        self.peer, self.source, self.address = "", "", ""
         self.done = self.paused = False
+        self.since, self.octets = time.monotonic(), 0
+        """When it was made, and how many octets came."""
         # As if it was just read, so that none that comes anew again and again is always the first.
         self.turn = self.hub.turn
 
@@ -304,12 +298,10 @@ class Connection(asyncio.BufferedProtocol):
         """Takes the connection, or says why not."""
         self.transport = cast(asyncio.Transport, transport)
         name = transport.get_extra_info("peername") or ("?", 0)
-        self.peer = shown(name[0], name[1])
+        self.address, self.peer = name[0], shown(name[0], name[1])
         self.source = f"{self.port.place.kind} {self.peer}"
-        if not self.port.place.allows(name[0]):
-            self._refuse("this address isn't allowed here")
-        elif len(self.port.open) >= self.hub.most:
-            self._refuse(f"there are {self.hub.most} connections, and no more are taken")
+        if why := refusal_of(self.port, self.address):
+            self._refuse(why)
         else:
             self.port.open.add(self)
             self.port.count("connections")
@@ -339,6 +331,7 @@ class Connection(asyncio.BufferedProtocol):
     def buffer_updated(self, nbytes: int) -> None:
         """Called when this number of octets was read."""
         self.turn = self.hub.next_turn()
+        self.octets += nbytes
         self.data_received(bytes(self.room[:nbytes]))
 
     def data_received(self, data: bytes) -> None:
@@ -349,7 +342,7 @@ class Connection(asyncio.BufferedProtocol):
         if self.done:
             return
         self.done = True
-        self.port.note(self.peer, why)
+        self.port.note(self.source, why)
         if not self.welcome:
             self.transport.abort()
             return
@@ -397,24 +390,57 @@ class Connection(asyncio.BufferedProtocol):
         self.paused = False
 
 
-class FrameConnection(Connection):
+class BringingConnection(Connection):
+    """One that brings frames or lines, by turns. While it waits for its turn it reads nothing, so little of it waits."""
+
+    def __init__(self, port: Port, ring: Ring) -> None:
+        super().__init__(port)
+        self.ring, self.wants_turn = ring, False
+
+    def come(self) -> None:
+        """Asks for a turn."""
+        if not self.wants_turn:
+            self.hub.turns.come(self.ring, self)
+
+    def take_turn(self, most: int) -> int:
+        """Brings up to so many, and returns how many."""
+        raise NotImplementedError
+
+    def balance(self) -> None:
+        """Reads on, or not."""
+        stop_transport(self, self.wants_turn or self.hub.closed)
+
+    def stop(self, stopped: bool) -> None:
+        self.balance()
+
+
+class FrameConnection(BringingConnection):
     """Raw frames, one after the other."""
 
     def __init__(self, port: Port, cutter: Cutter) -> None:
-        super().__init__(port)
+        super().__init__(port, port.hub.turns.frames)
         self.cutter = cutter
         self.begun: Optional[float] = None
         """Since when a frame has begun that isn't whole."""
 
     def data_received(self, data: bytes) -> None:
-        """Brings the frames that are whole now."""
+        """Keeps what came, and asks for a turn to bring the frames that are whole now."""
         if self.done:
             return
+        self.cutter.kept += data
+        self.come()
+        self.balance()
+
+    def take_turn(self, most: int) -> int:
+        self.wants_turn = False
+        if self.done:
+            return 0
         skipped = self.cutter.skipped
-        frames, fault = self.cutter.feed(data)
+        frames, fault = self.cutter.feed(b"", most)
         for frame in frames:
             self.port.bring(frame, self.source)
         self.port.count("frames", len(frames))
+        self.wants_turn = len(frames) == most and not fault
         if frames or not self.cutter.kept:
             self.begun = None
         if self.cutter.kept and self.begun is None:
@@ -424,14 +450,16 @@ class FrameConnection(Connection):
         if fault:
             self.port.count("turned_away" if fault == BROWSER else "faults")
             self.turn_away(fault)
+        self.balance()
+        return len(frames)
 
     def _note_skipped(self, count: int, why: str) -> None:
         self.port.count("skipped_octets", count)
-        self.port.note(self.peer, f"{count} octets skipped: {why}")
+        self.port.note(self.source, f"{count} octets skipped: {why}")
 
     def look(self) -> None:
         """A frame that has begun must be whole after some time."""
-        if self.begun is None or self.done or time.monotonic() - self.begun < self.hub.patience or self._has_more():
+        if self.begun is None or self.done or self.wants_turn or time.monotonic() - self.begun < self.hub.patience or self._has_more():
             return
         what = f"{len(self.cutter.kept)} octets of a frame, and no more within {self.hub.patience:g} seconds"
         self.port.count("faults")
@@ -454,11 +482,8 @@ class FrameConnection(Connection):
         """Says so where it ended within a frame, and not since the bench ends."""
         if self.cutter.kept and not self.done and not self.hub.closed:
             self.port.count("faults")
-            self.port.note(self.peer, f"the connection ended with {len(self.cutter.kept)} octets of a frame")
+            self.port.note(self.source, f"the connection ended with {len(self.cutter.kept)} octets of a frame")
         super().connection_lost(exc)
-
-    def stop(self, stopped: bool) -> None:
-        stop_transport(self, stopped)
 
 
 def stop_transport(connection: Connection, stopped: bool) -> None:
@@ -471,18 +496,20 @@ def stop_transport(connection: Connection, stopped: bool) -> None:
         connection.transport.resume_reading()
 
 
-class LineConnection(Connection):
+class LineConnection(BringingConnection):
     """Lines, as `tclive` reads them; the answers go back."""
 
     def __init__(self, port: Port) -> None:
-        super().__init__(port)
+        super().__init__(port, port.hub.turns.lines)
         self.begun = b""
+        self.lines: Deque[Optional[bytes]] = deque()
+        """Lines that wait for their turn; None stands for one that is too long."""
         self.too_long = False
         self.asked = 0
-        self.stopped = self.ended = False
+        self.ended = False
 
     def data_received(self, data: bytes) -> None:
-        """Passes the lines that are whole on."""
+        """Keeps the lines that are whole, and asks for a turn to pass them on."""
         if self.done:
             return
         octets = self.begun + data
@@ -492,15 +519,32 @@ class LineConnection(Connection):
             return
         *lines, begun = octets.split(b"\n")
         for line in lines:
-            self._order(line, self.too_long)
-            self.too_long = False
+            self._keep(line)
         self.too_long = self.too_long or len(begun) > LONGEST_LINE
         self.begun = begun[:LONGEST_LINE + 1]
-        self._balance()
+        self.balance()
 
-    def _order(self, octets: bytes, too_long: bool) -> None:
+    def _keep(self, line: bytes) -> None:
+        """Keeps a whole line until its turn."""
+        self.lines.append(None if self.too_long or len(line) > LONGEST_LINE else line)
+        self.too_long = False
+
+    def _may_order(self) -> bool:
+        """Whether lines wait and can be passed on. They can't while many answers are to come, or aren't read."""
+        return bool(self.lines) and self.asked <= MOST_ASKED and not self.paused and not self.done
+
+    def take_turn(self, most: int) -> int:
+        count = 0
+        while count < most and self._may_order():
+            self._order(self.lines.popleft())
+            count += 1
+        self.wants_turn = self._may_order()
+        self.balance()
+        return count
+
+    def _order(self, octets: Optional[bytes]) -> None:
         """Passes a line on, unless it has neither an answer nor an effect."""
-        if too_long or len(octets) > LONGEST_LINE:
+        if octets is None:
             # A line that is answered `bad` in any case, so that the answers keep their order.
             self._ask("?", "bad too long")
             return
@@ -515,42 +559,41 @@ class LineConnection(Connection):
             self.asked -= 1
             if answer and not self.done and not self.transport.is_closing():
                 self.transport.write(f"{instead or answer}\n".encode("ascii", errors="replace"))
-            self._balance()
+            self.balance()
         self.asked += 1
         self.hub.craft.order(line, self.source, answered)
 
-    def _balance(self) -> None:
-        """Reads no more lines while many answers are to come, or aren't read."""
-        stop_transport(self, self.stopped or self.asked > MOST_ASKED or self.paused)
-        if self.ended and not self.asked and not self.transport.is_closing():
+    def balance(self) -> None:
+        """Reads no more lines while some wait, or while their answers do; asks for a turn where one is wanted; closes at the end."""
+        if self._may_order():
+            self.come()
+        # One that was told why it is closed is read on, as that text would be lost otherwise.
+        stop_transport(self, not self.done and (bool(self.lines) or self.asked > MOST_ASKED or self.paused or self.hub.closed))
+        if self.ended and not self.asked and not self.lines and not self.transport.is_closing():
             self.transport.close()
 
     def eof_received(self) -> bool:
         """No more lines come; the answers of those that are under way still go out."""
         if self.begun and not self.done:
-            self._order(self.begun, self.too_long)
+            self._keep(self.begun)
             self.begun = b""
         self.ended = True
-        self.hub.loop.call_soon(self._balance)
+        self.hub.loop.call_soon(self.balance)
         return not self.done
 
     def finish(self) -> None:
         """Says so where not all of its lines were answered."""
-        if self.asked and not self.done and not self.transport.is_closing():
-            self.transport.write(self.last_words(f"lines of this connection that were left unanswered at the end: {self.asked}"))
+        if (left := self.asked + len(self.lines)) and not self.done and not self.transport.is_closing():
+            self.transport.write(self.last_words(f"lines of this connection that were left unanswered at the end: {left}"))
         super().finish()
-
-    def stop(self, stopped: bool) -> None:
-        self.stopped = stopped
-        self._balance()
 
     def pause_writing(self) -> None:
         super().pause_writing()
-        self._balance()
+        self.balance()
 
     def resume_writing(self) -> None:
         super().resume_writing()
-        self._balance()
+        self.balance()
 
 
 class Reader(Connection):

@@ -56,8 +56,9 @@ class Web:
         self.asked = False
         self._tick()
 
-    def state(self, since: int = 0) -> Dict[str, object]:
-        """All that is known, with the events after one of this number."""
+    def state(self, since: int = 0, has_peers: bool = False) -> Dict[str, object]:
+        """All that is known, with the events after one of this number, and perhaps with who is connected."""
+        ports = [{**port.state(), **({"peers": port.peers()} if has_peers and port.server else {})} for port in self.hub.ports]
         return {"program": f"tcrx-bench {__version__}", "receiver": self.receiver, "begun": round(self.begun, 3),
                 "seconds": round(self.craft.now(), 3), **self.craft.state(), "ports": [port.state() for port in self.hub.ports],
                 "notes": list(self.craft.last_notes), "count_of_events": self.craft.count_of_events,
@@ -176,7 +177,7 @@ class Visitor(Connection):
         if self.transport.is_closing():
             return
         if path == "/state":
-            self._say(200, json.dumps(self.web.state()) + "\n", "application/json")
+            self._say(200, json.dumps(self.web.state(has_peers=True)) + "\n", "application/json")
         else:
             self._say(200, "".join(line + "\n" for line in metrics_of(self.web.state())), "text/plain; version=0.0.4")
 
