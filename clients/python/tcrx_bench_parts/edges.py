@@ -15,7 +15,7 @@ from tcrx import NUMBER
 
 from .craft import Craft, Turn
 from .engine import Engine, Speech
-from .octets import BROWSER, LONGEST_FRONT, begins_request
+from .octets import BROWSER, LONGEST_FRONT, begins_frame, begins_request
 from .ports import Connection, Hub, Port, stop_transport
 from .turns import MOST_IN_TURN
 
@@ -144,20 +144,22 @@ class Decoding:
         if not self.closed:
             for frame in frames:
                 piece.port.bring(bytes.fromhex(frame[6:]), piece.source)
+            if frames:
+                piece.port.count("frames", len(frames))
             if word == "more" and len(frames) < self.most:
                 piece.port.bring(bytes.fromhex(behind), piece.source)
             elif word == "more":
-                self._say_overfull(piece, len(behind) // 2)
+                self._say_overfull(piece, bytes.fromhex(behind))
         self._balance(-piece.size)
 
-    def _say_overfull(self, piece: Piece, left: int) -> None:
-        """Counts and notes a CLTU with more frames than may be."""
+    def _say_overfull(self, piece: Piece, left: bytes) -> None:
+        """Counts and notes a CLTU with more frames than may be, or with noise behind them."""
         self.counts["overfull_cltus"] += 1
         piece.port.count("overfull_cltus")
-        text = f"behind {self.most} frame{'s' * (self.most > 1)} of a CLTU {left} octets are left out: see --cltu-frames"
-        piece.port.note(piece.source, text)
         craft = self.hub.craft
-        craft.journal.write(f"# {craft.now():.6f} cltu {piece.source} overfull frames {self.most} left {left}")
+        hint = ": see --cltu-frames" if begins_frame(left, craft.scid, craft.fecf) else ""
+        piece.port.note(piece.source, f"behind {self.most} frame{'s' * (self.most > 1)} of a CLTU {len(left)} octets are left out{hint}")
+        craft.journal.write(f"# {craft.now():.6f} cltu {piece.source} overfull frames {self.most} left {len(left)}")
 
     def idle(self) -> bool:
         """Whether nothing is under way."""

@@ -32,6 +32,13 @@ def ends_with_sum(octets: bytes) -> bool:
     return not crc_hqx(octets[:((octets[2] & 3) << 8 | octets[3]) + 1], 0xFFFF)
 
 
+def begins_frame(octets: bytes, scid: int, fecf: bool) -> bool:
+    """Whether octets begin with a whole frame of this spacecraft, with the right frame error control field if frames have one."""
+    if len(octets) < SHORTEST or octets[0] & 0xCC or (octets[0] & 3) << 8 | octets[1] != scid:
+        return False
+    return SHORTEST <= ((octets[2] & 3) << 8 | octets[3]) + 1 <= len(octets) and (not fecf or ends_with_sum(octets))
+
+
 def has_request(octets: bytes) -> bool:
     """Whether a line of these octets begins as a browser does."""
     return REQUEST.search(octets) is not None
