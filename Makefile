@@ -8,7 +8,7 @@
 #   make help    prints this list
 .PHONY: all demo test clean prove ci help
 all:
-	$(MAKE) -C dist all live
+	$(MAKE) -C dist all programs
 demo test clean:
 	$(MAKE) -C dist $@
 prove:

@@ -1,0 +1,36 @@
+/*
+ * The third function of memory, over realloc. Only the calls of tcrx_lines.h need it. If your program makes these calls,
+ * link this file besides tcrx_memory.c, or write a function of your own in its place. A C++ compiler accepts it, too.
+ *
+ * rattle_realloc moves a block that rattle_alloc or rattle_realloc returned to one of `count` bytes, with the octets that
+ * both have room for. If there is none, it returns `given` false, and the block stays as it was. What tcrx_memory.c says
+ * of blocks also holds here.
+ */
+#include <stdbool.h>
+#include <stddef.h>
+#include <stdlib.h>
+
+typedef struct {
+    bool given;
+    void *at;
+} rattle_block;
+
+#ifdef __cplusplus
+extern "C" {
+#endif
+rattle_block rattle_realloc(void *at, size_t count_before, size_t count, size_t alignment);
+#ifdef __cplusplus
+}
+#endif
+
+static char nothing;
+
+static rattle_block answer(void *at) {
+    const rattle_block block = {at != NULL, at != NULL ? at : &nothing};
+    return block;
+}
+
+rattle_block rattle_realloc(void *at, size_t count_before, size_t count, size_t alignment) {
+    (void)count_before;
+    return answer(realloc(at, count == 0 ? alignment : count));
+}
