@@ -8,7 +8,10 @@ failed=0
 skipped=
 # No check builds.
 export TCRX_BUILD=no
-need() { tools/launch --build "$@" >&2 || { echo "$0: nothing was compared"; exit 70; }; }
+need() { [ -n "${TCRX_PROGRAMS:-}" ] || tools/launch --build "$@" >&2 || { echo "$0: nothing was compared"; exit 70; }; }
+# With TCRX_PROGRAMS=FOLDER a check compares the programs there, which stand in for those that are proved and built here. What they say of
+# their command line is their own, but for the version, words that aren't UTF-8, and the status.
+stands_in() { [ -n "${TCRX_PROGRAMS:-}" ]; }
 
 # Counts a comparison: a title, and a command that must end well. Where it doesn't, what it printed is shown, with what there is to show.
 expect() {

@@ -20,6 +20,9 @@ STORED = ("crates/conformance/data/*", "crates/*/stdin", "crates/*/stdout", "cra
 NAME = Path(sys.argv[0]).stem
 # No check builds.
 os.environ["TCRX_BUILD"] = "no"
+# The folder of programs that stand in for those that are proved and built here, and are compared in their place. What they say of their
+# command line is their own, but for the version, words that aren't UTF-8, and the status.
+STAND_INS = os.environ.get("TCRX_PROGRAMS", "")
 # Seconds after which something that doesn't end counts as failed: one wait, and one check as a whole.
 PATIENCE, LONGEST = 60, 900
 counted: Counter[bool] = Counter()
@@ -54,6 +57,11 @@ def cases() -> List[Case]:
     """All conformance cases, as the index lists them."""
     lines = (DATA / "index").read_text(encoding="utf-8").splitlines()
     return [Case(*[*line.split(" ", 2), ""][:3]) for line in lines]
+
+
+def program_of(name: str) -> Path:
+    """The program of this name that is compared."""
+    return Path(STAND_INS) / name if STAND_INS else TOP / "crates" / name / "out" / name
 
 
 def good_cases() -> List[Case]:
@@ -115,7 +123,10 @@ def run(*words: object, given: str = "", names: Optional[Mapping[str, str]] = No
 
 
 def need(*goals: str) -> None:
-    """Ends the check where one of these programs and libraries isn't built as its sources are, and says what builds it."""
+    """Ends the check where one of these programs and libraries isn't built as its sources are, and says what builds it. What stands in for
+    them is there."""
+    if STAND_INS:
+        return
     ran = run(TOP / "tools/launch", "--build", *goals)
     if ran.returncode:
         print(f"{ran.stderr}{NAME}: nothing was compared")
