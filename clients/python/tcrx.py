@@ -73,8 +73,9 @@ PROBE, PROBE_ANSWER = "?", "bad unknown command"
 LONGEST_ANSWER, LONGEST_REPORT, LONGEST_ERROR = 1 << 20, 1 << 23, 1 << 16
 # The seconds that a program has to end by itself, and again when it was asked to.
 GRACE = 5.0
-# Makes a `tclive` of the repository that isn't built exit with this status and say how to build it.
-NO_BUILD, NOT_BUILT = {"TCRX_BUILD": "no"}, 70
+# Has a `tclive` of the repository that isn't proved and built stand on what the folder dist has, which a C compiler builds in a second. If
+# that isn't possible either, or TCRX_BUILD is already `no`, it exits with this status and says how to build it.
+NO_PROOF, NOT_BUILT = {"TCRX_BUILD": "no" if os.environ.get("TCRX_BUILD") == "no" else "dist"}, 70
 
 
 class Event(enum.Enum):
@@ -472,7 +473,7 @@ class Process(Link):
                 # The program has a session of its own, so that Ctrl-C ends only this program.
                 # pylint: disable-next=consider-using-with  # it is ended in `end`
                 self.child = subprocess.Popen(words, stdin=its_input.fileno(), stdout=its_output.fileno(), stderr=self.errors,
-                                              start_new_session=True, env={**os.environ, **NO_BUILD})
+                                              start_new_session=True, env={**os.environ, **NO_PROOF})
             except (OSError, ValueError) as error:
                 raise NotStarted(f"{words[0]} can't be started: {getattr(error, 'strerror', None) or error}") from error
             opened.pop_all()

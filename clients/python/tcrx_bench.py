@@ -29,7 +29,7 @@ from typing import Callable, Dict, List, Optional  # noqa: E402
 import tcrx  # noqa: E402
 from tcrx_bench_parts.admission import room_for  # noqa: E402
 from tcrx_bench_parts.craft import Craft, Release, Turn  # noqa: E402
-from tcrx_bench_parts.demo import KEYS, SETUP, STAND_IN, Demo, stand_in  # noqa: E402
+from tcrx_bench_parts.demo import KEYS, SETUP, Demo  # noqa: E402
 from tcrx_bench_parts.edges import MAKER, MARKER, CltuConnection, Decoding, Telemetry  # noqa: E402
 from tcrx_bench_parts.engine import RECEIVER, Engine, Speech  # noqa: E402
 from tcrx_bench_parts.faults import Faults  # noqa: E402
@@ -87,10 +87,7 @@ class Bench:  # pylint: disable=too-many-instance-attributes  # it is made of th
     def __init__(self, options: Namespace, journal: Journal, notes: Notes) -> None:
         self.options, self.journal, self.notes = options, journal, notes
         program = options.program or tcrx.find_program(named_by="--program FILE")
-        other = stand_in(program) if options.demo and not options.program else None
-        if other:
-            notes.say_once(STAND_IN)
-        self.words = [other or program, "--scid", str(options.scid)] + ["--fecf"] * options.fecf
+        self.words = [program, "--scid", str(options.scid)] + ["--fecf"] * options.fecf
         self.over: "asyncio.Future[str]" = asyncio.get_running_loop().create_future()
         """Done when the receiver has ended, and no other one is begun."""
         self.engine = self._engine_of(tcrx.Process(self.words))

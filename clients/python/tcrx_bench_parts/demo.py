@@ -7,16 +7,14 @@ from __future__ import annotations
 import asyncio
 import os
 import socket
-import subprocess
 import sys
 import termios
 import time
 import tty
 from binascii import crc_hqx
-from pathlib import Path
 from typing import Any, Callable, List, Optional, Tuple
 
-from tcrx import NO_BUILD, NOT_BUILT, Clcw
+from tcrx import Clcw
 
 SETUP = ("channel 1 20 8 0", "queue 1 5 16", "channel 2 10 4 0", "queue 2 6 8")
 # Each channel with the application that its packets are for.
@@ -26,24 +24,7 @@ PACE, TIMER, MOST = 0.25, 1.5, 8
 # The standard's flags of a frame's kind: data in sequence, and a control command.
 AD, BC = 0, 3
 LOST = 5
-# The receiver where `tclive` isn't built: C over the library, which a C compiler and make make of the text in the folder dist of a clone.
-DIST = Path(__file__).resolve().parents[3] / "dist"
-STAND_IN = ("tclive isn't built, so the receiver is dist/live: what the library decides is proved, the C around its calls "
-            "(c/examples/script.c) is not")
 KEYS = "keys: l loses the next frames, o locks channel 1 out, u unlocks it, q ends"
-
-
-def stand_in(program: str) -> Optional[str]:
-    """Returns a program that takes the place of a `tclive` that isn't built, or `None` if no such program is needed or can be made."""
-    ran = subprocess.run([program, "--version"], env={**os.environ, **NO_BUILD}, stdin=subprocess.DEVNULL, stdout=subprocess.DEVNULL,
-                         stderr=subprocess.DEVNULL, check=False)
-    if ran.returncode != NOT_BUILT:
-        return None
-    try:
-        made = subprocess.run(["make", "-s", "-C", DIST, "live"], stdin=subprocess.DEVNULL, stdout=subprocess.DEVNULL, stderr=subprocess.DEVNULL, check=False)
-    except OSError:
-        return None
-    return None if made.returncode else str(DIST / "live")
 
 
 # pylint: disable-next=too-many-arguments  # the fields of a frame

@@ -23,7 +23,7 @@ from threading import Thread
 from functools import partial
 from typing import Callable, Iterable, Iterator, List, NamedTuple, Optional, Sequence
 
-from tcrx import LONGEST_ANSWER, NO_BUILD, NotStarted, __version__, find_program
+from tcrx import LONGEST_ANSWER, NO_PROOF, NotStarted, __version__, find_program
 
 from .octets import HEADER, without_sum
 from .watch import Watches
@@ -313,7 +313,7 @@ def compare(log: Log, answers: Iterator[str], watches: Optional[Watches] = None)
 def run_again(log: Log, words: List[str], watches: Optional[Watches]) -> str:
     """Has a program, of which these words begin, answer the lines of a journal, and compares its answers."""
     try:
-        child = subprocess.Popen(words, stdin=subprocess.PIPE, stdout=subprocess.PIPE, encoding="latin-1", env={**os.environ, **NO_BUILD})
+        child = subprocess.Popen(words, stdin=subprocess.PIPE, stdout=subprocess.PIPE, encoding="latin-1", env={**os.environ, **NO_PROOF})
     except OSError as error:
         raise Unfit(f"{words[0]} can't be started: {error.strerror}") from None
     with child:
@@ -340,7 +340,7 @@ class Judge:
     def __init__(self, program: str) -> None:
         # pylint: disable-next=consider-using-with  # it is ended in `end`
         self.child = subprocess.Popen([program, "--scid", "0"], stdin=subprocess.PIPE, stdout=subprocess.PIPE, text=True, bufsize=1,
-                                      env={**os.environ, **NO_BUILD})
+                                      env={**os.environ, **NO_PROOF})
 
     def write(self, lines: List[str]) -> None:
         """Writes lines."""
