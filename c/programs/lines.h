@@ -91,6 +91,7 @@ static inline int refuse_octets(const command_line *of, int place, const char *w
 
 static inline bool read_scid(const char *word, uint16_t *scid) {
     unsigned number = 0;
+    word += *word == '+';
     const char *at = word;
     for (; *at >= '0' && *at <= '9' && number <= 1023; at++) {
         number = 10 * number + (unsigned)(*at - '0');
@@ -99,8 +100,9 @@ static inline bool read_scid(const char *word, uint16_t *scid) {
     return at != word && *at == '\0' && number <= 1023;
 }
 
-static inline bool is_either(const char *word, const char *one, const char *other) {
-    return strcmp(word, one) == 0 || strcmp(word, other) == 0;
+/* Whether a word is this long option, or begins with the letter that is short for it. */
+static inline bool is_option(const char *word, const char *letter, const char *option) {
+    return strncmp(word, letter, 2) == 0 || strcmp(word, option) == 0;
 }
 
 /* The option of a word, or 0. */
@@ -108,7 +110,7 @@ static inline unsigned option_of(const char *word) {
     if (strncmp(word, "--scid", 6) == 0 && (word[6] == '\0' || word[6] == '=')) {
         return SCID;
     }
-    return strcmp(word, "--fecf") == 0 ? FECF : strcmp(word, "--strict") == 0 ? STRICT : is_either(word, "-V", "--version") ? VERSION : 0;
+    return strcmp(word, "--fecf") == 0 ? FECF : strcmp(word, "--strict") == 0 ? STRICT : is_option(word, "-V", "--version") ? VERSION : 0;
 }
 
 /* Reads the words from `at` on. Prints help, the version, or what is wrong, and returns the exit status or GO_ON. */
@@ -121,7 +123,10 @@ static inline int read_words(const command_line *of, int count, char **word, int
     for (; at < count; at++) {
         const char *const it = word[at];
         const unsigned option = option_of(it) & of->options;
-        if (is_either(it, "-h", "--help")) {
+        if (strcmp(it, "--") == 0 && at == count - 1) {
+            continue;
+        }
+        if (is_option(it, "-h", "--help")) {
             return print(of, of->help, "");
         }
         if (option == VERSION) {
