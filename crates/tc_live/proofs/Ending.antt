@@ -13,8 +13,8 @@ pub all-written : (closed : Result FrameEnds ServingFault) (receiver last : Rece
     → IfOk closed (λ ends. ends ≡ last.ends) → IfOk closed (λ ends. IfSome known (λ octets. IsReceptionWritten receiver octets a c ends))
 all-written (Err fault) receiver last known a b c answered report same = tt
 all-written (Ok ends) receiver last None a b c answered report same = tt
-all-written (Ok ends) receiver last (Some octets) a b c (answers, is, before) (channels, all, rising, more) same =
-    (last, answers, channels, is, same, all, rising, Appends-trans a b c answers _ before more)
+all-written (Ok ends) receiver last (Some octets) a b c (answers, is, before) (report, final, more) same =
+    (last, answers, report, is, same, final, Appends-trans a b c answers report before more)
 
 -- if there is no report, or only a part of it, the reception was cut short
 pub not-reported : {T : Type 0} (closed : Result T ServingFault) (receiver last : Receiving) (known a b c : Option (List ℕ))

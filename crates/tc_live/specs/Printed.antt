@@ -12,6 +12,8 @@ use Rattle.tc_channel.specs.declared.holding.MapHolding.{MapHolding}
 use Rattle.tc_rack.specs.Printed.{answer_text}
 use Rattle.tc_live.specs.Hint.{bad_word_text, line_hint_text}
 use Rattle.tc_live.specs.declared.answer.LiveAnswer.{LiveAnswer}
+use Rattle.tc_live.specs.declared.serving.ServingFault.{ServingFault}
+use Rattle.tc_live.specs.declared.serving.ServingFault.TheVariants as faults
 use Rattle.tc_live.specs.declared.answer.LiveAnswer.TheVariants.{Nothing, Operation, Delivery, Collection, Unchecked, More, Link as LinkOf, Report, UnknownChannel}
 
 abbrev pub state_text : State → List ℕ
@@ -71,3 +73,10 @@ live_text UnknownChannel = codes "refused channel\n"
 -- the answer to a bad line of these words: the reason, and what to write instead
 abbrev pub bad_line_text : List (List ℕ) → Reason → List ℕ
 bad_line_text line reason = bad_word_text reason ++ reason_text reason ++ line_hint_text line reason ++ codes "\n"
+
+-- the text of a fault after which lines are no longer answered
+abbrev pub serving_fault_text : ServingFault → List ℕ
+serving_fault_text faults.Read = codes "cannot read"
+serving_fault_text faults.Write = codes "cannot write"
+serving_fault_text faults.NoMemory = codes "no memory"
+serving_fault_text faults.Unbalanced = codes "unbalanced"

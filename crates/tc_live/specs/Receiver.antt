@@ -2,6 +2,7 @@
 use Rattle.std.specs.Prelude.{◌≡◌, ◌⊎◌, Bool, true, false, ℕ, List, [], Option, Some, None, Ok, Err}
 use Rattle.tc_link.specs.declared.clcw.Link.{Link}
 use Rattle.tc_text.specs.Word.{words}
+use Rattle.tc_text.specs.Line.{line_of}
 use Rattle.tc_text.specs.LiveLine.{live_line_of}
 use Rattle.tc_text.specs.declared.fault.Reason.{Reason}
 use Rattle.tc_text.specs.declared.fault.Reason.TheVariants.{NoMemory}
@@ -170,3 +171,12 @@ abbrev pub IsReady : LiveAnswer → Receiving → Type 0
 IsReady (reported.Delivery vcid a) receiver = phase_of receiver.stage ≡ InOperation
 IsReady (reported.Collection vcid) receiver = phase_of receiver.stage ≡ InOperation
 IsReady _ receiver = Unit {0}
+
+-- what the answer is to a line of a script, and what the line does
+abbrev pub IsScriptLineAnswered : Receiving → List ℕ → Receiving → LiveAnswer → Type 0
+IsScriptLineAnswered old octets new answer = (said : Line) × (line_of (words octets) ≡ Ok said) × IsScriptDone old said new answer
+
+-- why a line of a script is bad, by its words or by what they ask for, memory aside
+abbrev pub IsBadScriptLine : Receiving → List ℕ → Reason → Type 0
+IsBadScriptLine old octets reason =
+    (line_of (words octets) ≡ Err reason) ⊎ ((said : Line) × (line_of (words octets) ≡ Ok said) × IsBadScript old said reason)

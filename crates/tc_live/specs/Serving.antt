@@ -16,7 +16,7 @@ use Rattle.tc_live.specs.Printed.{live_text, bad_line_text}
 use Rattle.tc_live.specs.Receiver.{Receiving, rack_at, IsDeliveryDone, IsLiveLineAnswered, IsBadLiveLine, IsReceiverLeft}
 use Rattle.tc_channel.specs.Journal.{History, IsNumberReported}
 use Rattle.tc_rack.specs.Rack.{histories}
-use Rattle.tc_rack.specs.Report.{AreRising, report_text}
+use Rattle.tc_rack.specs.Report.{IsReportOf}
 use Rattle.tc_live.specs.declared.serving.ServingFault.{ServingFault}
 use Rattle.tc_live.specs.declared.serving.ServingFault.TheVariants.{Read, Write, NoMemory, Unbalanced}
 
@@ -55,11 +55,14 @@ IsReasonSaid old octets new text =
 abbrev pub IsLineSaid : Receiving → List ℕ → Receiving → List ℕ → Type 0
 IsLineSaid old octets new text = IsAnswerSaid old octets new text ⊎ IsReasonSaid old octets new text
 
--- the final report was written, with each of the receiver's channels once, in rising order of their ids
+-- the text is the final report, with each of the receiver's channels once, in rising order of their ids
+abbrev pub IsFinalReport : Receiving → List ℕ → Type 0
+IsFinalReport receiver text =
+    (channels : List History) × IsPermutation (histories (rack_at receiver)) channels × IsReportOf channels text
+
+-- the final report was written
 abbrev pub IsReportWritten : Receiving → Option (List ℕ) → Option (List ℕ) → Type 0
-IsReportWritten receiver before after =
-    (channels : List History) × IsPermutation (histories (rack_at receiver)) channels × AreRising channels
-    × Appends before after (report_text channels)
+IsReportWritten receiver before after = lines.Writes before after (IsFinalReport receiver)
 
 -- the number of octets that a line may have, without its line feed
 abbrev pub line_limit : ℕ
@@ -69,8 +72,8 @@ line_limit = 8192
 -- is about the channels as the last line left them, and `ends` is the record of the ends of frames at that time.
 abbrev pub IsReceptionWritten : Receiving → List ℕ → Option (List ℕ) → Option (List ℕ) → FrameEnds → Type 0
 IsReceptionWritten receiver octets before after ends =
-    (last : Receiving) × (answers : List ℕ) × (channels : List History) × lines.AreAnswered line_limit IsLineSaid receiver (lines.lines_of octets) last answers
-    × (ends ≡ last.ends) × IsPermutation (histories (rack_at last)) channels × AreRising channels × Appends before after (answers ++ report_text channels)
+    (last : Receiving) × (answers : List ℕ) × (report : List ℕ) × lines.AreAnswered line_limit IsLineSaid receiver (lines.lines_of octets) last answers
+    × (ends ≡ last.ends) × IsFinalReport last report × Appends before after (answers ++ report)
 
 -- the answers to all lines were written, but no report
 abbrev pub IsReportMissing : Receiving → List ℕ → Option (List ℕ) → Option (List ℕ) → Type 0

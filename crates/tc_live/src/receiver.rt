@@ -6,7 +6,7 @@ ghost use Rattle.tc_rack.specs.Delivery.{AreAnswersWritten};
 ghost use Rattle.tc_rack.specs.Report.{AreRising};
 ghost use Rattle.tc_rack.specs.Stage.{phase_of};
 ghost use Rattle.tc_live.specs.Ends.{ends_behind};
-ghost use Rattle.tc_live.specs.Receiver.{new_receiver, begun, rack_at, IsInstructed, IsScriptDone, IsPassedDone, IsCandidateDone, IsBadCandidate, IsLinked, IsReportDone, IsDeliveryBegun, IsCollectionBegun, IsDeliveryDone, IsLiveLineAnswered, IsBadLiveLine, IsBadScript, IsReceiverLeft};
+ghost use Rattle.tc_live.specs.Receiver.{new_receiver, begun, rack_at, IsInstructed, IsScriptDone, IsPassedDone, IsCandidateDone, IsBadCandidate, IsLinked, IsReportDone, IsDeliveryBegun, IsCollectionBegun, IsDeliveryDone, IsLiveLineAnswered, IsBadLiveLine, IsBadScript, IsBadScriptLine, IsScriptLineAnswered, IsReceiverLeft};
 ghost use Rattle.tc_live.specs.Serving.{IsClosingFault, IsReportWritten};
 ghost use Rattle.tc_rack.specs.Rack.{histories};
 ghost use Rattle.tc_setup.specs.Instruction.{instruction_of};
@@ -25,7 +25,7 @@ use tc_channel::{CountingChannel, Octets};
 use tc_link::Link;
 use tc_rack::{Operation, Rack, RackBackend, Stage, begin, perform, write_report};
 use tc_setup::{Configuration, Instruction};
-use tc_text::{Line, LiveLine, Reason, SpacecraftId, parse_live_line};
+use tc_text::{Line, LiveLine, Reason, SpacecraftId, parse_line, parse_live_line};
 
 /// The channels of a spacecraft, set up so far or in operation, and the check that octets must pass before they are
 /// brought to one of the channels.
@@ -77,6 +77,17 @@ impl Receiver {
             LiveLine::Collect(vcid) => self.begin_collection(alloc, vcid),
             LiveLine::Candidate(octets) => self.candidate(alloc, octets),
         }
+    }
+
+    /// Carries out a line of a script, as [`do_line`](Receiver::do_line) does, and returns its answer. The lines that only
+    /// a live receiver answers are bad lines here.
+    pub fn do_script_line(&mut self, alloc: Global, octets: &[u8]) -> Result<LiveAnswer, Reason>
+        ensures answer { IfOk result (IsScriptLineAnswered self.old octets.now self.new) }
+        ensures reason { IfErr result (λ reason. (reason ≡ Reason.NoMemory) ⊎ IsBadScriptLine self.old octets.now reason) }
+        ensures refused { IfErr result (λ reason. IsReceiverLeft reason self.old self.new) }
+    {
+        let line = parse_line(alloc, octets)?;
+        self.perform(alloc, line)
     }
 
     fn perform(&mut self, alloc: Global, line: Line) -> Result<LiveAnswer, Reason>

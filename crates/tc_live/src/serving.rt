@@ -1,11 +1,11 @@
 //! Reading lines, and writing their answers.
 
 ghost use Rattle.std.specs.Io.KnownBytes.{Appends, Keeps};
-ghost use Rattle.std.specs.Prelude.{◌≡◌, ◌⊎◌, IfErr, IfOk, IfSome, OnOk};
+ghost use Rattle.std.specs.Prelude.{◌≡◌, ◌⊎◌, IfErr, IfOk, IfSome, OnOk, Some};
 ghost use Rattle.tc_lines.specs.Answering.{Writes};
 ghost use Rattle.tc_lines.specs.Word.{words};
 ghost use Rattle.tc_rack.specs.Delivery.{AreAnswersWritten};
-ghost use Rattle.tc_live.specs.Printed.{live_text, bad_line_text};
+ghost use Rattle.tc_live.specs.Printed.{live_text, bad_line_text, serving_fault_text};
 ghost use Rattle.tc_live.specs.Receiver.{IsReady};
 ghost use Rattle.tc_live.specs.Serving.{IsClosingFault, IsReceptionCutShort, IsFollowedBy, IsLineSaid, IsReportWritten, IsReported, IsReceptionWritten, fault_at_lines};
 
@@ -15,32 +15,43 @@ use crate::ends::FrameEnds;
 use crate::hint::{hint_for, word_before};
 use crate::receiver::Receiver;
 use std::alloc::Global;
-use std::io;
+use std::error::Error;
 use std::io::{BufRead, BufReader, BufWriter, Write};
+use std::{fmt, io};
 use tc_lines::LineAnswerer;
 use tc_text::{Reason, SpacecraftId};
-use thiserror::Error;
 
 /// The number of octets that a line may have, without its line feed. The digits of a frame of 1,024 octets take a
 /// quarter of it.
 pub const MAX_LINE: usize = 8_192;
 
 /// A fault after which lines are no longer answered.
-#[derive(Clone, Copy, Debug, PartialEq, Eq, Error)]
+#[derive(Clone, Copy, Debug, PartialEq, Eq)]
 pub enum ServingFault {
     /// The reader failed.
-    #[error("cannot read")]
     Read,
     /// The writer failed.
-    #[error("cannot write")]
     Write,
     /// Memory ran out before the first line, or at the final report.
-    #[error("no memory")]
     NoMemory,
     /// A channel has had 2^64 - 1 events or more, a number that the final report can't give.
-    #[error("unbalanced")]
     Unbalanced,
 }
+
+impl fmt::Display for ServingFault {
+    ghost output = { λ fault. Some (serving_fault_text fault) };
+
+    fn fmt<W: fmt::Write>(&self, f: &mut fmt::Formatter<W>) -> fmt::Result {
+        match self {
+            ServingFault::Read => f.write_str("cannot read"),
+            ServingFault::Write => f.write_str("cannot write"),
+            ServingFault::NoMemory => f.write_str("no memory"),
+            ServingFault::Unbalanced => f.write_str("unbalanced"),
+        }
+    }
+}
+
+impl Error for ServingFault {}
 
 impl ServingFault {
     // Returns the receiver's fault for a fault that occurred while lines were answered.
