@@ -275,7 +275,7 @@ static void check_text(tcrx_status status, const char *wanted) {
 
 static void check_texts(void) {
     static const struct { tcrx_status status; const char *text; } texts[] = {
-#include "texts.inc" /* The check that compiles this file writes it from Status.antt of tc_c. */
+#include "texts.inc" /* The check that compiles this file writes it from Status.antt of tc_c_base. */
     };
     unsigned long there = 0;
     for (size_t i = 0; i < sizeof texts / sizeof texts[0]; i++) {

@@ -1,5 +1,4 @@
 pub mod Names
-pub mod Walking
 mod Buffers
 mod Places
 mod Records

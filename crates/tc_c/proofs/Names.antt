@@ -9,7 +9,7 @@ pub use Rattle.tc_c.specs.Decoder.{reception_of}
 pub use Rattle.tc_c.specs.Farm.{IsFarm, agrees, farm_of, first_farm, is_width, left, report_of, with_ok}
 pub use Rattle.tc_c.specs.Place.{channel_row}
 pub use Rattle.tc_c.specs.Rack.{IsFirstWithVcid, IsHeld, IsHeldAt, channels_in, rack_reply, replied}
-pub use Rattle.tc_c.specs.declared.status.Status.TheVariants.{BadWidth}
+pub use Rattle.tc_c_base.specs.declared.status.Status.TheVariants.{BadWidth}
 pub use Rattle.tc_channel.specs.Reply.{frame_reply_within}
 pub use Rattle.tc_cltu.proofs.Decoding.{block-counted, block-frames, block-state, counted-append, frames-append, one-counted, state-append}
 pub use Rattle.tc_cltu.specs.Cltu.{cltu, code_blocks, filled, start_sequence, tail_sequence}

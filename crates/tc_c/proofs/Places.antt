@@ -7,7 +7,7 @@ use Rattle.tc_channel.specs.contracts.unrecorded.Unrecorded as Unrecorded
 use Rattle.tc_fixed.specs.contracts.noted.UnrecordedNoted.TheImpl as journal
 use Rattle.tc_fixed.proofs.channel.FixedChannelWith.TheLaws as channel
 use Rattle.tc_channel.proofs.unrecorded.Unrecorded.TheLaws as unrecorded
-use Rattle.tc_c.specs.contracts.parts.Parts as Parts
+use Rattle.tc_c_base.specs.contracts.parts.Parts as Parts
 use Rattle.tc_c.specs.contracts.place.Place as Place
 
 -- the box of a counting channel

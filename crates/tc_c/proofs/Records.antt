@@ -1,7 +1,7 @@
 -- If a FARM-1 can be read from a record, it is the record of that FARM-1.
 use Rattle.tc_c.proofs.Names.{rules, arith, ◌≡◌, ℕ, ◌<◌, Bool, true, Result, Ok, Err, refl, if◌then◌else◌, common_steps, Report, Machine, BadWidth, IsFarm, is_width, with_ok, report_of, farm_of, agrees}
 use Rattle.tc_link.specs.Window.{IsWidth}
-use Rattle.tc_c.specs.declared.status.Status.{Status}
+use Rattle.tc_c_base.specs.declared.status.Status.{Status}
 use Rattle.tc_c.specs.declared.farm.FarmRecord.{FarmRecord}
 
 pub few : (kept : FarmRecord) (report : Report) → report_of kept ≡ Ok report → report.farm_b < 4

@@ -3,9 +3,10 @@ use Rattle.tc_c.proofs.Names.{◌≡◌, ◌≤◌, ◌∙◌, ℕ, List, length
 use Rattle.tc_channel.specs.declared.event.Event.TheVariants as Event
 use Rattle.std.proofs.Common.{◌<◌, arith}
 use Rattle.tc_fixed.specs.Taking.{IsOver}
-use Rattle.tc_c.specs.declared.buffer.WrittenRecord.{WrittenRecord}
+use Rattle.tc_c_base.specs.declared.buffer.WrittenRecord.{WrittenRecord}
 use Rattle.tc_c.specs.declared.channel.ReplyRecord.{ReplyRecord}
-use Rattle.tc_c.specs.Channel.{reply_record, taken, too_short, IsCopied}
+use Rattle.tc_c_base.specs.Written.{taken, too_short, IsCopied}
+use Rattle.tc_c.specs.Channel.{reply_record}
 
 pub left-so : {A : Type 0} (lent : Option A) (held : A) (left : Option LimitedHistory) (new : LimitedHistory) → lent ≡ Some held
     → OnSome lent (left ≡ Some new) → left ≡ Some new

@@ -1,5 +1,5 @@
 -- The replies of a channel, as records of numbers.
-use Rattle.std.specs.Prelude.{◌≡◌, ◌⊎◌, ◌++◌, ℕ, List, length, drop, Result, Ok, Err}
+use Rattle.std.specs.Prelude.{◌≡◌, ◌⊎◌, ℕ, List, Result, Ok, Err}
 use Rattle.tc_link.specs.Bits.{bit}
 use Rattle.tc_link.specs.declared.Link.{Link}
 use Rattle.tc_queues.specs.declared.reply.Delivery.{Delivery}
@@ -13,14 +13,14 @@ use Rattle.tc_fixed.specs.declared.limits.Limits.{Limits}
 use Rattle.tc_fixed.specs.declared.limits.LimitsFault.{LimitsFault}
 use Rattle.tc_fixed.specs.declared.limits.MapLimit.{MapLimit}
 use Rattle.tc_fixed.specs.Limits.{AreLimits, IsFaultWithLimits}
-use Rattle.tc_c.specs.declared.status.Status.{Status}
-use Rattle.tc_c.specs.declared.status.Status.TheVariants.{Done, NoMemory, NoRoom}
+use Rattle.tc_c_base.specs.declared.status.Status.{Status}
+use Rattle.tc_c_base.specs.declared.status.Status.TheVariants.{Done, NoMemory}
 use Rattle.tc_c.specs.declared.settings.SettingsRecord.{SettingsRecord}
 use Rattle.tc_c.specs.declared.channel.ReplyRecord.{ReplyRecord}
 use Rattle.tc_c.specs.declared.channel.DeliveryRecord.{DeliveryRecord}
-use Rattle.tc_c.specs.declared.buffer.WrittenRecord.{WrittenRecord}
 use Rattle.tc_c.specs.declared.counts.CountRecord.{CountRecord}
-use Rattle.tc_c.specs.Status.{code_of, settings_status, limits_status}
+use Rattle.tc_c_base.specs.Status.{code_of}
+use Rattle.tc_c.specs.Status.{settings_status, limits_status}
 use Rattle.tc_c.specs.Farm.{with_ok, flag_of}
 
 -- the settings that the records stand for
@@ -89,18 +89,3 @@ IsUnfitWithin (Ok s) limits fault = (f : LimitsFault) × IsFaultWithLimits s lim
 -- created, running out of memory
 abbrev pub IsRefusedWithin : Result Settings Status → Limits → Status → Type 0
 IsRefusedWithin given limits fault = IsUnfitWithin given limits fault ⊎ ((fault ≡ NoMemory) × (s : Settings) × (given ≡ Ok s) × IsAllowed s × AreLimits s limits)
-
-abbrev pub no_octets : Status → WrittenRecord
-no_octets fault = record { status = code_of fault; length = 0 }
-
--- the record for a buffer that is too short for this number of octets
-abbrev pub too_short : ℕ → WrittenRecord
-too_short needed = record { status = code_of NoRoom; length = needed }
-
--- the record of a call that took this number of octets
-abbrev pub taken : ℕ → WrittenRecord
-taken count = record { status = code_of Done; length = count }
-
--- the octets are at the front of a buffer, and the rest of the buffer is as it was
-abbrev pub IsCopied : List ℕ → List ℕ → List ℕ → Type 0
-IsCopied octets old new = new ≡ octets ++ drop (length octets) old

@@ -3,11 +3,11 @@ use Rattle.std.specs.Prelude.{ℕ, Result, Ok, Err, nat_lt, if◌then◌else◌}
 use Rattle.tc_link.specs.Bits.{bit}
 use Rattle.tc_link.specs.declared.clcw.ClcwFields.{ClcwFields}
 use Rattle.tc_link.specs.Clcw.{word_of}
-use Rattle.tc_c.specs.declared.status.Status.{Status}
-use Rattle.tc_c.specs.declared.status.Status.TheVariants.{Done, BadVcid, NoClcw}
+use Rattle.tc_c_base.specs.declared.status.Status.{Status}
+use Rattle.tc_c_base.specs.declared.status.Status.TheVariants.{Done, BadVcid, NoClcw}
 use Rattle.tc_c.specs.declared.farm.FarmRecord.{FarmRecord}
 use Rattle.tc_c.specs.declared.clcw.ClcwFieldsRecord.{ClcwFieldsRecord}
-use Rattle.tc_c.specs.Status.{code_of}
+use Rattle.tc_c_base.specs.Status.{code_of}
 use Rattle.tc_c.specs.Farm.{with_ok, flag_of, farm_of}
 
 -- the CLCW, or the first reason why there is none, in the order below

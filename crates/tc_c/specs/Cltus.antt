@@ -1,8 +1,8 @@
 -- CLTUs as octets in a buffer, and the reasons why there are none.
 use Rattle.tc_cltu.specs.declared.writer.CltuFault.{CltuFault}
 use Rattle.tc_cltu.specs.declared.writer.CltuFault.TheVariants as cltus
-use Rattle.tc_c.specs.declared.status.Status.{Status}
-use Rattle.tc_c.specs.declared.status.Status.TheVariants as st
+use Rattle.tc_c_base.specs.declared.status.Status.{Status}
+use Rattle.tc_c_base.specs.declared.status.Status.TheVariants as st
 
 abbrev pub cltu_status : CltuFault → Status
 cltu_status cltus.Empty = st.EmptyData

@@ -4,11 +4,11 @@ use Rattle.tc_cltu.specs.declared.block.Mode.{Mode}
 use Rattle.tc_cltu.specs.declared.block.Mode.TheVariants.{Detect, Correct}
 use Rattle.tc_cltu.specs.Cltu.{most_octets}
 use Rattle.tc_cltu.specs.Reception.{Reception, Searching, Decoding}
-use Rattle.tc_c.specs.declared.status.Status.{Status}
-use Rattle.tc_c.specs.declared.status.Status.TheVariants.{BadDecoder, NoRoom}
+use Rattle.tc_c_base.specs.declared.status.Status.{Status}
+use Rattle.tc_c_base.specs.declared.status.Status.TheVariants.{BadDecoder, NoRoom}
 use Rattle.tc_c.specs.declared.decoder.DecoderRecord.{DecoderRecord}
 use Rattle.tc_c.specs.declared.decoder.DecodedRecord.{DecodedRecord}
-use Rattle.tc_c.specs.Status.{code_of}
+use Rattle.tc_c_base.specs.Status.{code_of}
 use Rattle.tc_c.specs.Farm.{with_ok, flag_of}
 
 abbrev pub mode_of : Bool → Mode

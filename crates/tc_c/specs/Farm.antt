@@ -10,8 +10,8 @@ use Rattle.tc_link.specs.declared.farm.State.{State}
 use Rattle.tc_link.specs.declared.farm.State.TheVariants.{S1, S2, S3}
 use Rattle.tc_link.specs.declared.farm.Report.{Report}
 use Rattle.tc_link.specs.Farm.{Machine, row_of, entry, after, first_report}
-use Rattle.tc_c.specs.declared.status.Status.{Status}
-use Rattle.tc_c.specs.declared.status.Status.TheVariants.{BadWidth, BadState, BadFarmB, BadFlag, FlagsDisagree, BadArrival, NoEntry}
+use Rattle.tc_c_base.specs.declared.status.Status.{Status}
+use Rattle.tc_c_base.specs.declared.status.Status.TheVariants.{BadWidth, BadState, BadFarmB, BadFlag, FlagsDisagree, BadArrival, NoEntry}
 use Rattle.tc_c.specs.declared.farm.FarmRecord.{FarmRecord}
 
 abbrev pub state_number : State → ℕ

@@ -6,12 +6,13 @@ use Rattle.tc_link.specs.declared.command.Command.TheVariants.{Unlock, SetVr}
 use Rattle.tc_link.specs.declared.command.Kind.{Kind}
 use Rattle.tc_link.specs.declared.command.Kind.TheVariants.{Ad, Bd, Bc, Invalid}
 use Rattle.tc_link.specs.Frame.{header_of, write_fault_of}
-use Rattle.tc_c.specs.declared.status.Status.{Status}
-use Rattle.tc_c.specs.declared.status.Status.TheVariants.{Done}
+use Rattle.tc_c_base.specs.declared.status.Status.{Status}
+use Rattle.tc_c_base.specs.declared.status.Status.TheVariants.{Done}
 use Rattle.tc_c.specs.declared.frames.HeaderRecord.{HeaderRecord}
 use Rattle.tc_c.specs.declared.frames.FrameRecord.{FrameRecord}
 use Rattle.tc_c.specs.declared.frames.KindRecord.{KindRecord}
-use Rattle.tc_c.specs.Status.{code_of, write_status}
+use Rattle.tc_c_base.specs.Status.{code_of}
+use Rattle.tc_c.specs.Status.{write_status}
 use Rattle.tc_c.specs.Farm.{with_ok, flag_of}
 
 abbrev pub header_record : Header → HeaderRecord

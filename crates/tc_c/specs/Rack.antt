@@ -14,12 +14,13 @@ use Rattle.tc_channel.specs.Reply.{frame_reply_within}
 use Rattle.tc_fixed.specs.History.{LimitedHistory, with_limited_event}
 use Rattle.tc_fixed.specs.Limits.{limit_of}
 use Rattle.tc_c.specs.declared.seat.Seat.{Seat}
-use Rattle.tc_c.specs.declared.status.Status.{Status}
-use Rattle.tc_c.specs.declared.status.Status.TheVariants.{Done}
+use Rattle.tc_c_base.specs.declared.status.Status.{Status}
+use Rattle.tc_c_base.specs.declared.status.Status.TheVariants.{Done}
 use Rattle.tc_c.specs.declared.rack.RackReplyRecord.{RackReplyRecord}
 use Rattle.tc_c.specs.declared.rack.CandidateReplyRecord.{CandidateReplyRecord}
 use Rattle.tc_c.specs.declared.rack.PlaceRecord.{PlaceRecord}
-use Rattle.tc_c.specs.Status.{code_of, frame_status, locate_status, field_status}
+use Rattle.tc_c_base.specs.Status.{code_of}
+use Rattle.tc_c.specs.Status.{frame_status, locate_status, field_status}
 
 -- the channel in each seat, if one is held there
 abbrev pub channels_in : List Seat → List (Option LimitedHistory)

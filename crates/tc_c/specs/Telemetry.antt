@@ -10,11 +10,11 @@ use Rattle.tc_tm.specs.declared.reading.TmFields.{TmFields}
 use Rattle.tc_tm.specs.declared.reading.TmReadFault.{TmReadFault}
 use Rattle.tc_tm.specs.declared.reading.TmReadFault.TheVariants as reading
 use Rattle.tc_tm.specs.TmFrame.{tm_frame, most_length, tm_fault_of, tm_fields_of, read_fault_of}
-use Rattle.tc_c.specs.declared.status.Status.{Status}
-use Rattle.tc_c.specs.declared.status.Status.TheVariants as st
+use Rattle.tc_c_base.specs.declared.status.Status.{Status}
+use Rattle.tc_c_base.specs.declared.status.Status.TheVariants as st
 use Rattle.tc_c.specs.declared.telemetry.TmHeaderRecord.{TmHeaderRecord}
 use Rattle.tc_c.specs.declared.telemetry.TmFieldsRecord.{TmFieldsRecord}
-use Rattle.tc_c.specs.Status.{code_of}
+use Rattle.tc_c_base.specs.Status.{code_of}
 use Rattle.tc_c.specs.Farm.{with_ok, flag_of}
 
 -- whether frames end with a frame error control field

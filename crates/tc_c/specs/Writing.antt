@@ -6,8 +6,8 @@ use Rattle.tc_link.specs.declared.command.Command.TheVariants.{Unlock, SetVr}
 use Rattle.tc_write.specs.declared.packets.PacketHeader.{PacketHeader}
 use Rattle.tc_write.specs.Frames.{IsMadeFrame, header_later}
 use Rattle.tc_write.specs.Parts.{segments_needed, piece_at, segment_at}
-use Rattle.tc_c.specs.declared.status.Status.{Status}
-use Rattle.tc_c.specs.declared.status.Status.TheVariants.{BadField, EmptyData, LongPacket, LongUnit, BadMap, BadSize, NoSegment, BadCommand}
+use Rattle.tc_c_base.specs.declared.status.Status.{Status}
+use Rattle.tc_c_base.specs.declared.status.Status.TheVariants.{BadField, EmptyData, LongPacket, LongUnit, BadMap, BadSize, NoSegment, BadCommand}
 use Rattle.tc_c.specs.declared.frames.HeaderRecord.{HeaderRecord}
 use Rattle.tc_c.specs.declared.writing.PacketHeaderRecord.{PacketHeaderRecord}
 use Rattle.tc_c.specs.Farm.{with_ok, flag_of}

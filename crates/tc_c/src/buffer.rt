@@ -1,50 +1,9 @@
 //! Writing octets into the caller's buffer.
 
 ghost use Rattle.std.specs.Prelude.{◌≡◌, ◌<◌, ◌≤◌, ◌+◌, ◌∷◌, [], ◌++◌, length, take, drop, IfSome, IfNone};
-ghost use Rattle.tc_c.specs.Channel.{no_octets, taken, too_short};
-ghost use Rattle.tc_c.specs.Status.{code_of, status_of, text_of};
+ghost use Rattle.tc_c_base.specs.Status.{code_of, status_of, text_of};
 
-use crate::status::{Status, code, from_number, text};
-
-/// A status with a number of octets.
-#[repr(C)]
-#[derive(Clone, Copy)]
-pub struct WrittenRecord {
-    pub status: u32,
-    /// The number of octets that stand at the front of the buffer, or the number that it would need if it is too short,
-    /// or 0 otherwise.
-    pub length: usize,
-}
-
-/// Returns the record of a call that fails with this status.
-pub(crate) fn not_written(fault: Status) -> WrittenRecord
-    ensures { result ≡ no_octets fault }
-{
-    WrittenRecord {
-        status: code(fault),
-        length: 0,
-    }
-}
-
-/// Returns the record of a call that wrote this number of octets.
-pub(crate) fn written(length: usize) -> WrittenRecord
-    ensures { result ≡ taken length }
-{
-    WrittenRecord {
-        status: code(Status::Done),
-        length,
-    }
-}
-
-/// Returns the record of a call whose buffer is too short for this number of octets.
-pub(crate) fn no_room(needed: usize) -> WrittenRecord
-    ensures { result ≡ too_short needed }
-{
-    WrittenRecord {
-        status: code(Status::NoRoom),
-        length: needed,
-    }
-}
+use tc_c_base::{Status, WrittenRecord, from_number, no_room, not_written, text, written};
 
 /// Writes two runs of octets to the front of a buffer, one after the other. A buffer that is too short stays as it was.
 pub(crate) fn put(first: &[u8], second: &[u8], to: &mut [u8]) -> WrittenRecord

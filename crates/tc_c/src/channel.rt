@@ -7,12 +7,14 @@ ghost use Rattle.tc_channel.specs.Reply.{frame_reply_within, release_reply_withi
 ghost use Rattle.tc_channel.specs.Steps.{frame_steps_within, release_steps_within};
 ghost use Rattle.tc_fixed.specs.History.{with_limited_event};
 ghost use Rattle.tc_fixed.specs.Limits.{limit_of};
-ghost use Rattle.tc_c.specs.Status.{code_of, frame_status};
+ghost use Rattle.tc_c_base.specs.Status.{code_of};
+ghost use Rattle.tc_c.specs.Status.{frame_status};
 ghost use Rattle.tc_c.specs.Channel.{reply_record, no_reply, delivery_record, no_delivery};
 
 use crate::lent::NoSteps;
 use crate::seat::Seat;
-use crate::status::{Status, code, frame_fault};
+use crate::status::frame_fault;
+use tc_c_base::{Status, code};
 use tc_channel::{Delivery, FrameReply, Tick};
 use tc_fixed::{FixedChannel, NothingReleased};
 use tc_link::read_frame;

@@ -2,12 +2,12 @@
 
 ghost use Rattle.std.specs.Prelude.{◌≡◌, ◌↔◌, IfOk, IfErr};
 ghost use Rattle.tc_link.specs.Clcw.{IsClcw, fields_of};
-ghost use Rattle.tc_c.specs.Status.{code_of};
+ghost use Rattle.tc_c_base.specs.Status.{code_of};
 ghost use Rattle.tc_c.specs.Channel.{link_of};
 ghost use Rattle.tc_c.specs.Clcw.{clcw_or_status, fields_record, no_clcw};
 
 use crate::farm::{FarmRecord, farm, flag};
-use crate::status::{Status, code};
+use tc_c_base::{Status, code};
 use tc_link::{Link, clcw_word, read_clcw};
 
 /// A status with a CLCW.

@@ -4,11 +4,10 @@ ghost use Rattle.std.specs.Prelude.{◌≡◌, ◌<◌, ◌≤◌, ◌+◌, ◌*
 ghost use Rattle.tc_cltu.specs.CodeBlock.{code_block};
 ghost use Rattle.tc_cltu.specs.Cltu.{cltu, filled, code_blocks, most_octets, cltu_fault_of};
 ghost use Rattle.tc_cltu.specs.Randomiser.{randomised};
-ghost use Rattle.tc_c.specs.Channel.{no_octets, too_short, taken};
+ghost use Rattle.tc_c_base.specs.Written.{no_octets, too_short, taken};
 ghost use Rattle.tc_c.specs.Cltus.{cltu_status};
 
-use crate::buffer::{WrittenRecord, no_room, not_written, written};
-use crate::status::Status;
+use tc_c_base::{Status, WrittenRecord, no_room, not_written, written};
 use tc_cltu::{MOST_OCTETS, START, TAIL, encode_block, randomise};
 
 /// Writes the CLTU that carries a frame, or other octets, to the front of a buffer. The CLTU has the start sequence,

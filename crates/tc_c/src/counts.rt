@@ -6,14 +6,14 @@ ghost use Rattle.tc_queues.specs.Settings.{IsAllowed};
 ghost use Rattle.tc_channel.specs.Era.{CountsUpInItsEraWithin};
 ghost use Rattle.tc_channel.specs.Reply.{waiting_packets_within, waiting_units_within, buffered_fields_within, clcw_within};
 ghost use Rattle.tc_fixed.specs.Limits.{limit_of};
-ghost use Rattle.tc_c.specs.Status.{code_of};
+ghost use Rattle.tc_c_base.specs.Status.{code_of};
 ghost use Rattle.tc_c.specs.Farm.{record_of, no_record};
 ghost use Rattle.tc_c.specs.Channel.{link_of, count_record, no_count};
 
 use crate::clcw::{ClcwRecord, link, no_word};
 use crate::farm::{FarmAnswer, no_farm, record};
 use crate::seat::Seat;
-use crate::status::{Status, code};
+use tc_c_base::{Status, code};
 use tc_fixed::FixedChannel;
 
 /// A status with a count.

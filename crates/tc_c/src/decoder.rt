@@ -5,11 +5,11 @@ ghost use Rattle.tc_cltu.specs.Cltu.{most_octets};
 ghost use Rattle.tc_cltu.specs.Reception.{is_start, reception_step, state_after, frames_of, fate_of, fate_after, after_block, counted_in, corrected_in, rejected_in, overlong_in};
 ghost use Rattle.tc_cltu.specs.declared.block.Fate.{Fate};
 ghost use Rattle.tc_cltu.specs.CodeBlock.{decoded};
-ghost use Rattle.tc_c.specs.Status.{code_of};
+ghost use Rattle.tc_c_base.specs.Status.{code_of};
 ghost use Rattle.tc_c.specs.Decoder.{decoder_room, decoder_given, reception_of, given_by, none_taken, searching};
 
 use crate::farm::flag;
-use crate::status::{Status, code};
+use tc_c_base::{Status, code};
 use tc_cltu::{Blocks, Fate, Judged, MOST_OCTETS, Mode, begins, judge};
 
 /// A decoder of CLTUs, apart from the octets that it holds, which are in a buffer. Flags are 0 or 1.

@@ -3,10 +3,10 @@
 ghost use Rattle.std.specs.Prelude.{◌≡◌, ◌<◌, is_some, IsSome, IfOk, IfErr, OnOk};
 ghost use Rattle.tc_link.specs.Bits.{bit};
 ghost use Rattle.tc_link.specs.Farm.{row_of, number_of, entry, accepts, first_report};
-ghost use Rattle.tc_c.specs.Status.{code_of};
+ghost use Rattle.tc_c_base.specs.Status.{code_of};
 ghost use Rattle.tc_c.specs.Farm.{no_record, record_of, state_of, flag_of, agrees, report_of, farm_of, first_farm, arrival_of, asked_of, left};
 
-use crate::status::{Status, code};
+use tc_c_base::{Status, code};
 use tc_link::{Arrival, Command, Farm, Kind, Place, Report, State, Window};
 
 /// FARM-1 as C keeps it: the width of its window and its six components (CCSDS 232.1-B, 6.1).

@@ -3,12 +3,14 @@
 ghost use Rattle.std.specs.Prelude.{◌≡◌, ◌<◌, ◌≤◌, ◌+◌, ◌++◌, ℕ, List, length, take, drop, IfSome, IfNone, IfOk, IfErr, MatchResult, Err};
 ghost use Rattle.tc_link.specs.Frame.{IsFrame, BeginsWith, header_of, fault_of};
 ghost use Rattle.tc_link.specs.Command.{kind_of};
-ghost use Rattle.tc_c.specs.Status.{code_of, frame_status};
+ghost use Rattle.tc_c_base.specs.Status.{code_of};
+ghost use Rattle.tc_c.specs.Status.{frame_status};
 ghost use Rattle.tc_c.specs.Frame.{header_record, frame_record, no_frame, kind_record, no_kind, header_in, header_to_write};
 
-use crate::buffer::{WrittenRecord, not_written, put};
+use crate::buffer::put;
 use crate::farm::flag;
-use crate::status::{Status, code, frame_fault, write_fault};
+use crate::status::{frame_fault, write_fault};
+use tc_c_base::{Status, WrittenRecord, code, not_written};
 use tc_link::{Command, Header, Kind, kind, read_frame, written_header};
 
 /// The fields of a frame's primary header, apart from its length (CCSDS 232.0-B, 4.1.2). Flags are 0 or 1.

@@ -21,9 +21,10 @@ ghost use Rattle.tc_queues.specs.Settings.{IsAllowed};
 ghost use Rattle.tc_channel.specs.Run.{IsLawfulWithin, run_within};
 ghost use Rattle.tc_fixed.specs.declared.limits.LimitsFault.{LimitsFault};
 ghost use Rattle.tc_c.specs.declared.farm.FarmRecord.{FarmRecord};
-ghost use Rattle.tc_c.specs.declared.status.Status.{Status};
-ghost use Rattle.tc_c.specs.declared.status.Status.TheVariants as st;
-ghost use Rattle.tc_c.specs.Status.{code_of, status_of, text_of, frame_status, locate_status, write_status, field_status, settings_status, limits_status};
+ghost use Rattle.tc_c_base.specs.declared.status.Status.{Status};
+ghost use Rattle.tc_c_base.specs.declared.status.Status.TheVariants as st;
+ghost use Rattle.tc_c_base.specs.Status.{code_of, status_of, text_of};
+ghost use Rattle.tc_c.specs.Status.{frame_status, locate_status, write_status, field_status, settings_status, limits_status};
 ghost use Rattle.tc_c.specs.Farm.{IsFarm, first_farm, record_of, farm_of, arrival_of, left};
 ghost use Rattle.tc_c.specs.Frame.{kind_number, kind_value, header_record, frame_record};
 ghost use Rattle.tc_c.specs.Packet.{packet_record, written_packet};
@@ -74,7 +75,7 @@ pub fn each_fault_has_a_status_of_its_own()
 
 /// The numbers of statuses are those of `c/tcrx.h`, in its order. First come the statuses for frames that are read,
 /// then for octets that are written, then for FARM-1, CLCWs, packets and buffers, then for channels, their settings and
-/// their limits, and then for CLTUs and telemetry frames.
+/// their limits, and then for CLTUs and telemetry frames. The last ones are for sessions, in `c/tcrx_lines.h`.
 pub fn statuses_have_these_numbers()
     ensures frames { map code_of (st.Done ∷ st.Short ∷ st.Version ∷ st.Spare ∷ st.LengthSmall ∷ st.Truncated ∷ st.Fill ∷ st.NoFecf ∷ st.WrongFecf ∷ []) ≡ 0 ∷ 1 ∷ 2 ∷ 3 ∷ 4 ∷ 5 ∷ 6 ∷ 7 ∷ 8 ∷ [] }
     ensures writing { map code_of (st.BadField ∷ st.EmptyData ∷ st.TooLong ∷ st.NoMemory ∷ st.LongPacket ∷ st.LongUnit ∷ st.LongFrame ∷ st.BadSize ∷ st.NoSegment ∷ st.BadCommand ∷ []) ≡ 10 ∷ 11 ∷ 12 ∷ 13 ∷ 14 ∷ 15 ∷ 16 ∷ 17 ∷ 18 ∷ 19 ∷ [] }
@@ -83,6 +84,7 @@ pub fn statuses_have_these_numbers()
     ensures channels { map code_of (st.NoChannel ∷ st.InUse ∷ st.NoQueue ∷ st.NoMap ∷ st.Empty ∷ st.OtherSpacecraft ∷ st.UnknownChannel ∷ []) ≡ 70 ∷ 71 ∷ 72 ∷ 73 ∷ 74 ∷ 75 ∷ 76 ∷ [] }
     ensures limits { map code_of (st.BadOthers ∷ st.BadLimitMap ∷ st.DoubleLimit ∷ st.BadLimit ∷ st.PlainLimit ∷ st.UnlistedMap ∷ []) ≡ 80 ∷ 81 ∷ 82 ∷ 83 ∷ 84 ∷ 85 ∷ [] }
     ensures edges { map code_of (st.LongCltu ∷ st.BadLength ∷ st.NoControl ∷ st.BadDecoder ∷ []) ≡ 90 ∷ 91 ∷ 92 ∷ 93 ∷ [] }
+    ensures sessions { map code_of (st.NoSession ∷ st.SessionInUse ∷ st.BadScid ∷ st.BadLine ∷ st.Waiting ∷ st.Lost ∷ st.Over ∷ []) ≡ 100 ∷ 101 ∷ 102 ∷ 103 ∷ 104 ∷ 105 ∷ 106 ∷ [] }
 {}
 
 /// FARM-1 sets Retransmit when it has no room for a frame, and Wait stays set together with Retransmit until there is

@@ -17,7 +17,6 @@ mod frames;
 mod laws;
 mod lent;
 mod packets;
-mod parts;
 mod place;
 mod rack;
 mod seat;
@@ -28,7 +27,7 @@ mod takes;
 mod telemetry;
 mod writing;
 
-pub use buffer::{WrittenRecord, tcrx_text_at};
+pub use buffer::tcrx_text_at;
 pub use channel::{
     DeliveryRecord, ReplyRecord, frame_with_steps, release_with_steps, tcrx_channel_frame_at,
     tcrx_channel_free_at, tcrx_channel_release_at,
@@ -58,7 +57,6 @@ pub use rack::{
 };
 pub use seat::Seat;
 pub use settings::{SettingsRecord, tcrx_channel_new_at, tcrx_channel_new_with_limits_at};
-pub use status::Status;
 pub use storage::{tcrx_storage_at, tcrx_storage_with_limits_at};
 pub use takes::{
     take_unit_with_steps, take_with_steps, tcrx_channel_take_at, tcrx_channel_take_unit_at,

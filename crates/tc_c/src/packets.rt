@@ -2,10 +2,10 @@
 
 ghost use Rattle.std.specs.Prelude.{◌≡◌, ◌≢◌, ℕ, List, length, take};
 ghost use Rattle.tc_packet.specs.SpacePacket.{IsPacket};
-ghost use Rattle.tc_c.specs.Status.{code_of};
+ghost use Rattle.tc_c_base.specs.Status.{code_of};
 ghost use Rattle.tc_c.specs.Packet.{packet_record, no_packet};
 
-use crate::status::{Status, code};
+use tc_c_base::{Status, code};
 use tc_packet::read_packet;
 
 /// The fields of the primary header of the packet at the front of octets (CCSDS 133.0-B, 4.1.3), and its length. Flags

@@ -5,10 +5,10 @@ ghost use Rattle.std.specs.Borrow.{sem};
 ghost use Rattle.tc_fixed.specs.History.{LimitedHistory};
 ghost use Rattle.tc_c.specs.Place.{place_owns, history_coded};
 
-use crate::parts::Parts;
 use std::alloc::Global;
 use std::marker::Model;
 use std::ptr;
+use tc_c_base::Parts;
 use tc_fixed::FixedChannel;
 
 /// The place of a channel, or the place of no channel. C passes it on, and never reads or copies it. It is dropped only

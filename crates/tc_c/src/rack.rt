@@ -7,13 +7,15 @@ ghost use Rattle.tc_channel.specs.declared.event.Event.TheVariants as Event;
 ghost use Rattle.tc_fecf.specs.FrameWithField.{frame_with_field, taking_fault_of};
 ghost use Rattle.tc_fixed.specs.History.{LimitedHistory, with_limited_event};
 ghost use Rattle.tc_fixed.specs.Limits.{limit_of};
-ghost use Rattle.tc_c.specs.Status.{code_of, field_status};
+ghost use Rattle.tc_c_base.specs.Status.{code_of};
+ghost use Rattle.tc_c.specs.Status.{field_status};
 ghost use Rattle.tc_c.specs.Rack.{channels_in, IsFirstWithVcid, IsHeld, IsLocatedAmong, IsLocateFaultAmong, rack_reply, no_rack_reply, no_place, IsRackReplied, IsEndedReplied, IsCandidateReplied, candidate_reply, no_candidate_reply};
 
 use crate::channel::tcrx_channel_frame_at;
 use crate::farm::flag;
 use crate::seat::Seat;
-use crate::status::{Status, code, field_fault, frame_fault, locate_fault};
+use crate::status::{field_fault, frame_fault, locate_fault};
+use tc_c_base::{Status, code};
 use tc_fecf::{Delimited, delimit, is_fill};
 use tc_link::{LocateFault, each_input_begins_with_one_frame_at_most, read_frame};
 use tc_write::{check_taking, write_without_field};

@@ -3,10 +3,10 @@
 
 ghost use Rattle.std.specs.Prelude.{◌≡◌, Some, None, is_some, option_map};
 
-use crate::parts::Parts;
 use crate::place::Place;
 use std::alloc::Global;
 use std::mem::replace;
+use tc_c_base::Parts;
 use tc_fixed::FixedChannel;
 
 /// A channel that C holds, or none. A seat of zeros holds none.

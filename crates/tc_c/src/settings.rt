@@ -2,16 +2,17 @@
 
 ghost use Rattle.std.specs.Prelude.{◌≡◌, ◌<◌, IfOk, IfErr, IfSome, IfNone, MatchResult, Ok, Err, Some, []};
 ghost use Rattle.tc_queues.specs.declared.settings.Settings.{Settings as ChannelSettings};
-ghost use Rattle.tc_c.specs.declared.status.Status.{Status as StatusName};
-ghost use Rattle.tc_c.specs.Status.{code_of};
+ghost use Rattle.tc_c_base.specs.declared.status.Status.{Status as StatusName};
+ghost use Rattle.tc_c_base.specs.Status.{code_of};
 ghost use Rattle.tc_queues.specs.Settings.{settings_of as owned_of, IsAllowed};
 ghost use Rattle.tc_fixed.specs.Limits.{AreLimits, limits_of, none};
 ghost use Rattle.tc_c.specs.Channel.{settings_in_records, limits_given, IsUnfit, IsUnfitWithin, IsRefusedBy, IsRefusedWithin};
 
 use crate::farm::flag;
 use crate::seat::Seat;
-use crate::status::{Status, code, limits_fault, settings_fault};
+use crate::status::{limits_fault, settings_fault};
 use std::alloc::Global;
+use tc_c_base::{Status, code};
 use tc_channel::{LentSettings, MapSetting, QueueSetting};
 use tc_fixed::{FixedChannel, LentLimits, MapLimit};
 

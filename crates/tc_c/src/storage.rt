@@ -5,13 +5,13 @@ ghost use Rattle.tc_queues.specs.declared.settings.Settings.{Settings as Channel
 ghost use Rattle.tc_queues.specs.Settings.{IsAllowed};
 ghost use Rattle.tc_fixed.specs.Limits.{AreLimits, limits_of};
 ghost use Rattle.tc_fixed.specs.Storage.{storage_of, storage_within};
-ghost use Rattle.tc_c.specs.declared.status.Status.{Status as StatusName};
-ghost use Rattle.tc_c.specs.Status.{code_of};
+ghost use Rattle.tc_c_base.specs.declared.status.Status.{Status as StatusName};
+ghost use Rattle.tc_c_base.specs.Status.{code_of};
 ghost use Rattle.tc_c.specs.Channel.{settings_in_records, limits_given, IsUnfit, IsUnfitWithin, count_record, no_count};
 
 use crate::counts::{CountRecord, counted, not_counted};
 use crate::settings::{SettingsRecord, checked, checked_within};
-use crate::status::Status;
+use tc_c_base::Status;
 use tc_channel::{MapSetting, QueueSetting};
 use tc_fixed::{LentLimits, MapLimit, storage_of_lent, storage_with_lent};
 

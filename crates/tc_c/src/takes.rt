@@ -6,12 +6,11 @@ ghost use Rattle.tc_channel.specs.Reply.{take_reply_within, unit_reply_within, w
 ghost use Rattle.tc_queues.specs.Steps.{looks_for};
 ghost use Rattle.tc_fixed.specs.History.{with_limited_event};
 ghost use Rattle.tc_fixed.specs.Limits.{limit_of};
-ghost use Rattle.tc_c.specs.Channel.{no_octets, too_short, taken, IsCopied};
+ghost use Rattle.tc_c_base.specs.Written.{no_octets, too_short, taken, IsCopied};
 
-use crate::buffer::{WrittenRecord, no_room, not_written, written};
 use crate::lent::NoSteps;
 use crate::seat::Seat;
-use crate::status::Status;
+use tc_c_base::{Status, WrittenRecord, no_room, not_written, written};
 use tc_channel::Tick;
 use tc_fixed::{FixedChannel, NoUnitTaken, NothingTaken};
 

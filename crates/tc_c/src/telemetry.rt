@@ -2,12 +2,11 @@
 
 ghost use Rattle.std.specs.Prelude.{◌≡◌, ◌<◌, ◌≤◌, length, take, drop, Ok, Err, IfOk, IfErr, MatchResult};
 ghost use Rattle.tc_tm.specs.TmFrame.{primary_header as primary, before_sum, tm_frame, least_length};
-ghost use Rattle.tc_c.specs.Channel.{no_octets, too_short, taken};
+ghost use Rattle.tc_c_base.specs.Written.{no_octets, too_short, taken};
 ghost use Rattle.tc_c.specs.Telemetry.{error_given, tm_header_in, tm_header_record, tm_allowed, tm_read_status, tm_to_write, tm_frame_carrying, tm_to_read, tm_record, no_tm};
 
-use crate::buffer::{WrittenRecord, no_room, not_written, written};
 use crate::farm::flag;
-use crate::status::{Status, code};
+use tc_c_base::{Status, WrittenRecord, code, no_room, not_written, written};
 use tc_fecf::checksum;
 use tc_tm::{ErrorControl, TmFields, TmHeader, TmReadFault, read_tm};
 

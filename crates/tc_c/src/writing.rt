@@ -6,14 +6,15 @@ ghost use Rattle.tc_fecf.specs.FrameWithField.{frame_with_field, adding_fault_of
 ghost use Rattle.tc_write.specs.Frames.{IsMadeFrame, IsCommandFrame, command_length};
 ghost use Rattle.tc_write.specs.Packets.{IsPacketOf};
 ghost use Rattle.tc_write.specs.Parts.{segments_needed};
-ghost use Rattle.tc_c.specs.Channel.{no_octets, too_short, taken};
+ghost use Rattle.tc_c_base.specs.Written.{no_octets, too_short, taken};
 ghost use Rattle.tc_c.specs.Status.{field_status};
 ghost use Rattle.tc_c.specs.Writing.{packet_to_write, packet_header_in, segment_to_write, IsSegmentFrame, segment_length, command_to_write};
 
-use crate::buffer::{WrittenRecord, no_room, not_written, put, written};
+use crate::buffer::put;
 use crate::farm::flag;
 use crate::frames::{HeaderRecord, read_header, tcrx_write_frame_at};
-use crate::status::{Status, field_fault};
+use crate::status::field_fault;
+use tc_c_base::{Status, WrittenRecord, no_room, not_written, written};
 use tc_link::Header;
 use tc_packet::Segment;
 use tc_write::{

@@ -1,5 +1,5 @@
 -- A place of no channel owns nothing beyond its fields.
-use Rattle.tc_c.proofs.Walking.{List, [], ◌∷◌, ◌++◌, refl, sym, subst, None, lit<, T, Val, vnull, vstruct, vcons, vnil, has_ty, SProp, ent, emp, id⊢, ftrue, fsep, WpFn, ‵, raw, ◌⊛◌, ◌$◌, ◌∵◌, !, qed, move, drop, join, split, fsplit, fjoin, fpack, feq_i, suffices, done, agg, no_more, and_then, lit, returns, enter, alloc_all, pass_all, free_all, look_at, get, sets, tables, yes, Valss, null_ptr, ptr_val, plain, nothing, says, Stays, stay_dropped, walk_of, ends_at, Goes-dropped, α, handle_tells, proved_at}
+use Rattle.tc_c_base.proofs.Walking.{List, [], ◌∷◌, ◌++◌, refl, sym, subst, None, lit<, T, Val, vnull, vstruct, vcons, vnil, has_ty, SProp, ent, emp, id⊢, ftrue, fsep, WpFn, ‵, raw, ◌⊛◌, ◌$◌, ◌∵◌, !, qed, move, drop, join, split, fsplit, fjoin, fpack, feq_i, suffices, done, agg, no_more, and_then, lit, returns, enter, alloc_all, pass_all, free_all, look_at, get, sets, tables, yes, Valss, null_ptr, ptr_val, plain, nothing, says, Stays, stay_dropped, walk_of, ends_at, Goes-dropped, α, handle_tells, proved_at}
 use mathlib.Core.Bool.{Bool, true, false, ◌&&◌}
 use denote.Struct.Struct.{within}
 use denote.Struct.Owning.{shape, fields, to}

@@ -1,11 +1,11 @@
 -- The resources that the parts own are those that the library's call requires, and the box owns them afterwards.
-use Rattle.tc_c.proofs.Walking.{◌≡◌, List, [], ◌∷◌, ◌++◌, refl, sym, subst, ap, T, Body, place, copy, assign, rv_opd, seq, return, a_type, dcons, dnil, inst_fn, Val, vptr, has_ty, WT, SProp, ent, id⊢, ftrue, fsep, flft, WpFn, Item, at_ret, ‵, raw, ◌⊛◌, some, later, ◌$◌, ◌∵◌, !, qed, move, drop, use1, join, split, split3, pick, rewrite, fsplit, fjoin, feq_i, suffices, await, done, whole, sub, stop, fld, no_more, and_then, of_opd, returns, enter, first, blocks, exec, alloc_all, pass_all, free_all, look_at, get, get_in, sets, lands_last, env, ◌⊑◌, fact, tables, no, bounded, RattleType, block_ptr, plain, heard, nothing, only, calls_at_last, triple_of, framed, says, Stays, stay_dropped, walk_of, ends_at, Goes-blank, proved_at, Bx, D, R, P, B, box_ty, word, box_typed, box_out, box_in}
+use Rattle.tc_c_base.proofs.Walking.{◌≡◌, List, [], ◌∷◌, ◌++◌, refl, sym, subst, ap, T, Body, place, copy, assign, rv_opd, seq, return, a_type, dcons, dnil, inst_fn, Val, vptr, has_ty, WT, SProp, ent, id⊢, ftrue, fsep, flft, WpFn, Item, at_ret, ‵, raw, ◌⊛◌, some, later, ◌$◌, ◌∵◌, !, qed, move, drop, use1, join, split, split3, pick, rewrite, fsplit, fjoin, feq_i, suffices, await, done, whole, sub, stop, fld, no_more, and_then, of_opd, returns, enter, first, blocks, exec, alloc_all, pass_all, free_all, look_at, get, get_in, sets, lands_last, env, ◌⊑◌, fact, tables, no, bounded, RattleType, block_ptr, plain, heard, nothing, only, calls_at_last, triple_of, framed, says, Stays, stay_dropped, walk_of, ends_at, Goes-blank, proved_at, Bx, D, R, P, B, box_ty, word, box_typed, box_out, box_in}
 use Rattle.std.specs.contracts.boxed.Box.from_raw as g
 use Rattle.std.proofs.boxed.Box.from_raw.Met.{met}
-use Rattle.tc_c.specs.contracts.parts.Parts as Parts
-use Rattle.tc_c.specs.contracts.parts.Parts.into_box as f
-use Rattle.tc_c.proofs.parts.Parts.into_box.Statement.{statement}
-use Rattle.tc_c.proofs.parts.Parts.into_box.Code as code
+use Rattle.tc_c_base.specs.contracts.parts.Parts as Parts
+use Rattle.tc_c_base.specs.contracts.parts.Parts.into_box as f
+use Rattle.tc_c_base.proofs.parts.Parts.into_box.Statement.{statement}
+use Rattle.tc_c_base.proofs.parts.Parts.into_box.Code as code
 
 -- the code after the block with the call
 abbrev after_block : Body

@@ -1,14 +1,15 @@
 -- The library's call takes the box apart, and the parts own the resources that the call ensures.
-use Rattle.tc_c.proofs.Walking.{◌≡◌, List, [], ◌∷◌, ◌++◌, refl, sym, subst, ap, ◌∙◌, a_type, dcons, dnil, inst_fn, Val, vstruct, of_list, SProp, ent, id⊢, never, fst∗, ftrue, fsep, flft, WpFn, Item, ‵, raw, ◌⊛◌, some, later, ◌$◌, ◌∵◌, !, qed, move, drop, use1, join, split, split3, pick, rewrite, fsplit, fjoin, fpick, feq_l, suffices, await, done, whole, sub, agg, stop, fld, no_more, and_then, of_opd, returns, enter, alloc_all, pass_all, free_all, look_at, get, get_in, sets, lands_as, ◌⊑◌, fact, tables, no, bounded, RattleType, Ptr, RawPtr, block_ptr, null_ptr, ptr_val, in_a_block, plain, heard, nothing, only, calls_at, triple_of, framed, says, Stays, stay_dropped, walk_of, ends_at, token, handle_tells, Goes-blank, proved_at, Bx, D, R, P, B, τ, word, box_typed, box_out, box_in}
-use Rattle.tc_c.proofs.Names.{raw as bare, sem}
+use Rattle.tc_c_base.proofs.Walking.{◌≡◌, List, [], ◌∷◌, ◌++◌, refl, sym, subst, ap, ◌∙◌, a_type, dcons, dnil, inst_fn, Val, vstruct, of_list, SProp, ent, id⊢, never, fst∗, ftrue, fsep, flft, WpFn, Item, ‵, raw, ◌⊛◌, some, later, ◌$◌, ◌∵◌, !, qed, move, drop, use1, join, split, split3, pick, rewrite, fsplit, fjoin, fpick, feq_l, suffices, await, done, whole, sub, agg, stop, fld, no_more, and_then, of_opd, returns, enter, alloc_all, pass_all, free_all, look_at, get, get_in, sets, lands_as, ◌⊑◌, fact, tables, no, bounded, RattleType, Ptr, RawPtr, block_ptr, null_ptr, ptr_val, in_a_block, plain, heard, nothing, only, calls_at, triple_of, framed, says, Stays, stay_dropped, walk_of, ends_at, token, handle_tells, Goes-blank, proved_at, Bx, D, R, P, B, τ, word, box_typed, box_out, box_in}
+use mir.Raw.{raw as bare}
+use types.Logic.{sem}
 use denote.Struct.Tuple.{Tuple}
 use Rattle.std.specs.Box.Ownership.{box_owns}
 use Rattle.std.specs.contracts.boxed.Box.into_raw_with_allocator as g
 use Rattle.std.proofs.boxed.Box.into_raw_with_allocator.Met.{met}
-use Rattle.tc_c.specs.contracts.parts.Parts as Parts
-use Rattle.tc_c.specs.contracts.parts.Parts.of as f
-use Rattle.tc_c.proofs.parts.Parts.of.Statement.{statement}
-use Rattle.tc_c.proofs.parts.Parts.of.Code as code
+use Rattle.tc_c_base.specs.contracts.parts.Parts as Parts
+use Rattle.tc_c_base.specs.contracts.parts.Parts.of as f
+use Rattle.tc_c_base.proofs.parts.Parts.of.Statement.{statement}
+use Rattle.tc_c_base.proofs.parts.Parts.of.Code as code
 
 pub of_spec : {M : Type 1} → statement M
 of_spec 𝓤 𝓛 𝓜 𝓡 wired X Z LX LZ ghosts d dd dx allocator glued glued_value =

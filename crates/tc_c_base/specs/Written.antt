@@ -1,0 +1,22 @@
+-- The record of a call that writes octets into the caller's buffer.
+use Rattle.std.specs.Prelude.{◌≡◌, ◌++◌, ℕ, List, length, drop}
+use Rattle.tc_c_base.specs.Status.{code_of}
+use Rattle.tc_c_base.specs.declared.status.Status.{Status}
+use Rattle.tc_c_base.specs.declared.status.Status.TheVariants.{Done, NoRoom}
+use Rattle.tc_c_base.specs.declared.buffer.WrittenRecord.{WrittenRecord}
+
+-- the record of a call that fails, which wrote no octets
+abbrev pub no_octets : Status → WrittenRecord
+no_octets fault = record { status = code_of fault; length = 0 }
+
+-- the record for a buffer that is too short for this number of octets
+abbrev pub too_short : ℕ → WrittenRecord
+too_short needed = record { status = code_of NoRoom; length = needed }
+
+-- the record of a call that took this number of octets
+abbrev pub taken : ℕ → WrittenRecord
+taken count = record { status = code_of Done; length = count }
+
+-- the octets are at the front of a buffer, and the rest of the buffer is as it was
+abbrev pub IsCopied : List ℕ → List ℕ → List ℕ → Type 0
+IsCopied octets old new = new ≡ octets ++ drop (length octets) old

@@ -1,0 +1,46 @@
+//! The record of a call that writes octets into the caller's buffer.
+
+ghost use Rattle.std.specs.Prelude.{◌≡◌};
+ghost use Rattle.tc_c_base.specs.Written.{no_octets, taken, too_short};
+
+use crate::status::{Status, code};
+
+/// A status with a number of octets.
+#[repr(C)]
+#[derive(Clone, Copy)]
+pub struct WrittenRecord {
+    pub status: u32,
+    /// The number of octets that stand at the front of the buffer, or the number that it would need if it is too short,
+    /// or 0 otherwise.
+    pub length: usize,
+}
+
+/// Returns the record of a call that fails with this status.
+pub fn not_written(fault: Status) -> WrittenRecord
+    ensures { result ≡ no_octets fault }
+{
+    WrittenRecord {
+        status: code(fault),
+        length: 0,
+    }
+}
+
+/// Returns the record of a call that wrote this number of octets.
+pub fn written(length: usize) -> WrittenRecord
+    ensures { result ≡ taken length }
+{
+    WrittenRecord {
+        status: code(Status::Done),
+        length,
+    }
+}
+
+/// Returns the record of a call whose buffer is too short for this number of octets.
+pub fn no_room(needed: usize) -> WrittenRecord
+    ensures { result ≡ too_short needed }
+{
+    WrittenRecord {
+        status: code(Status::NoRoom),
+        length: needed,
+    }
+}
