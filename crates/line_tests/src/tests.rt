@@ -1,3 +1,4 @@
 mod live;
 mod make;
 mod script;
+mod session;

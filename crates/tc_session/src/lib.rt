@@ -1,0 +1,12 @@
+//! A session takes lines, one at a time, and gives the texts of their answers. It has no reader and no writer, so that
+//! any program can stand on it. It answers as `tclive`, as `tcrx run` or as `tcmake` does.
+//!
+//! [`Session::answer`] carries out a line and keeps the text of its answer, and [`Session::end`] keeps the final
+//! report.
+#![tactic(auto)]
+
+mod engine;
+mod session;
+
+pub use engine::{Engine, live_engine, maker_engine, script_engine};
+pub use session::{Said, Session};
