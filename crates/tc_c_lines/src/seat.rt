@@ -1,0 +1,78 @@
+//! The part of C's memory by which C holds a session, and the ways in which a session comes there and goes.
+
+ghost use Rattle.std.specs.Prelude.{◌≡◌, Some, None, is_some, option_map};
+
+use crate::place::Place;
+use std::alloc::Global;
+use std::mem::replace;
+use tc_c_base::Parts;
+use tc_session::Session;
+
+/// A session that C holds, or none. A seat of zeros holds none.
+#[repr(C)]
+pub struct Seat {
+    pub(crate) held: bool,
+    alloc: Global,
+    pub place: Place,
+    pub ghost agrees: { held ≡ is_some place.session },
+}
+
+impl Seat {
+    fn empty(alloc: Global) -> Seat
+        ensures { result.place.session ≡ None }
+    {
+        Seat {
+            held: false,
+            alloc,
+            place: Place::empty(alloc),
+        }
+    }
+
+    fn of(alloc: Global, held: Box<Session>) -> Seat
+        ensures { result.place.session ≡ Some held.value }
+    {
+        Seat {
+            held: true,
+            alloc,
+            place: Place::of(Parts::of(held)),
+        }
+    }
+
+    // Takes the session out, and leaves none.
+    fn take(&mut self) -> Option<Box<Session>>
+        ensures session { self.old.place.session ≡ option_map (λ held. held.value) result }
+        ensures empty { self.new.place.session ≡ None }
+    {
+        let Seat {
+            held,
+            alloc: _alloc,
+            place,
+        } = replace(self, Seat::empty(self.alloc));
+        if held {
+            Some(place.into_parts().into_box())
+        } else {
+            None
+        }
+    }
+
+    /// Puts a session into a seat that holds none.
+    pub(crate) fn put(&mut self, held: Box<Session>)
+        requires { self.old.place.session ≡ None }
+        ensures { self.new.place.session ≡ Some held.value }
+    {
+        let Seat {
+            held: _was_held,
+            alloc: _alloc,
+            place,
+        } = replace(self, Seat::of(self.alloc, held));
+        drop(place);
+    }
+
+    /// Frees the session, and returns whether one was held.
+    pub(crate) fn free(&mut self) -> bool
+        ensures freed { result ≡ is_some self.old.place.session }
+        ensures empty { self.new.place.session ≡ None }
+    {
+        self.take().is_some()
+    }
+}
