@@ -4,3 +4,4 @@ mod Scripted
 mod GivenOut
 mod Merged
 mod Spelled
+mod Scripts

@@ -4,11 +4,13 @@
 //! ([`channels_of_a_station_do_not_touch_each_other`]).
 //!
 //! Another law leads from a sender's packets to the packets that are taken, over any threads:
-//! [`a_station_gives_out_what_a_loop_sent`].
+//! [`a_station_gives_out_what_a_loop_sent`]. By a last one, a session carries out a script as `tcrx run` does:
+//! [`a_session_does_a_script_as_tcrx_does`].
 #![tactic(auto)]
 
 mod laws;
 mod making;
+mod sessions;
 mod threads;
 
 pub use laws::{
@@ -16,4 +18,5 @@ pub use laws::{
     channels_of_a_station_do_not_touch_each_other,
 };
 pub use making::tcmake_writes_numbered_frames;
+pub use sessions::a_session_does_a_script_as_tcrx_does;
 pub use threads::a_station_gives_out_what_a_loop_sent;
