@@ -1,6 +1,7 @@
 -- The effect of a call at one desk on the operator's list of desks.
-use Rattle.tc_station.proofs.Names.{◌≡◌, ℕ, ◌+◌, ◌<◌, List, [], ◌∷◌, length, map, get_or, set, Option, Some, Result, Ok, Err, refl, sym, ap, ◌∙◌, subst, arith, ◌==◌, position, slice_get, slice_index, eqb-true, map-map, get_or-map, length-map, length-append, position-Some, slice_get_read, TableId, Event, Settings, Moment, Own, AtLock, count_of, IsCall, made, heads_of, locks_of, settings_of_desks, vcids_of, AtStation, IsOurs, IsPlace, KnowsTheSame, Roster, at_station, counts_of, tallied, tally, raised, raised_at, IsCallAt, IsCounted, IsErrAnd, MatchResult, OnOk, OnErr, map-set, set-get_or, looked}
+use Rattle.tc_station.proofs.Names.{◌≡◌, ℕ, ◌+◌, ◌<◌, List, [], ◌∷◌, length, map, get_or, set, Option, Some, Result, Ok, Err, refl, sym, ap, ◌∙◌, subst, arith, ◌==◌, position, slice_get, slice_index, eqb-true, map-map, get_or-map, length-map, length-append, position-Some, slice_get_read, TableId, Event, Settings, Moment, Own, AtLock, count_of, IsCall, made, heads_of, locks_of, settings_of_desks, vcids_of, AtStation, HasGoneOnAtEach, IsOurs, IsPlace, KnowsTheSame, Roster, at_station, counts_of, tallied, tally, raised, raised_at, IsCallAt, IsCounted, IsErrAnd, MatchResult, OnOk, OnErr, map-set, set-get_or, looked}
 use Rattle.tc_station.proofs.Counts.{raised-is}
+use Rattle.tc_station.proofs.GoneOn.{longer, on-by-one}
 
 -- a list of values read from desks stays the same if one desk is replaced by another with an equal value
 pub same-set : {A : Type 0} (f : AtLock → A) (desks : List AtLock) (place : ℕ) (there next : AtLock) → there ≡ get_or desks place there → f next ≡ f there → map f (set desks place next) ≡ map f desks
@@ -72,8 +73,12 @@ module _ {R F : Type 0} (e : Event) (ok : Moment → R → Type 0) (err : Moment
   pub heads-kept : KnowsTheSame o changed
   heads-kept = same-set (λ (d : AtLock). d.own.seen.head) desks place there next is (head-kept e ok err there next r c) ∙ ap (λ (x : AtStation). heads_of x.desks) view
 
--- ---- a call at the operator's desk at the place of a channel
+  pub gone-on : place < length desks → HasGoneOnAtEach o changed
+  gone-on inside =
+      let was = ap (λ (x : AtStation). slice_get x.desks place) (sym view) ∙ slice_get_read desks (length desks) place there refl inside is in
+      on-by-one place o changed there next was (ap (λ (x : AtStation). set x.desks place next) view) (longer e ok err there next r c)
 
+-- a call at the operator's desk of a place, which is that of a channel
 module _ {R F : Type 0} (e : Event) (ok : Moment → R → Type 0) (err : Moment → F → Type 0) (station : Roster) (o : AtStation) (vcids : List ℕ) (desks : List AtLock) (place vcid : ℕ) (there next : AtLock) (r : Result R F)
     (view : at_station vcids desks ≡ o) (ids : vcids_of (settings_of_desks desks) ≡ vcids) (ours : IsOurs station o) (place_is : IsPlace station vcid place)
     (is : there ≡ get_or desks place there) (c : IsCall e ok err there r next) where
@@ -105,6 +110,7 @@ module _ {R F : Type 0} (e : Event) (ok : Moment → R → Type 0) (err : Moment
     refused = refused e ok err station o vcids desks place there next r view ids ours is c;
     ours = ours-kept e ok err station o vcids desks place there next r view ids ours is c;
     knows = heads-kept e ok err station o vcids desks place there next r view ids ours is c;
+    later = gone-on e ok err station o vcids desks place there next r view ids ours is c (id-of vcids desks place vcid there ids is at).0;
   }
 
 -- at a place, the operator's desk and the station's desk have the same lock

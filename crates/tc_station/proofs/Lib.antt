@@ -1,6 +1,7 @@
 pub mod Names
 pub mod Distinct
 pub mod Counts
+pub mod GoneOn
 pub mod Called
 pub mod Tried
 pub mod OwnedDesks

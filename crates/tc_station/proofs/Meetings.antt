@@ -1,5 +1,9 @@
 -- The effects of a call with meetings, and of a meeting alone, on the operator's list of desks and on the watcher.
-use Rattle.tc_station.proofs.Names.{◌≡◌, ◌<◌, ℕ, List, length, get_or, Option, None, Some, Err, sym, ap, ◌∙◌, arith, ◌==◌, position, slice_get, get_or-map, get_or_from_slice_get, length-map, none-some, same_Some, slice_get_within, History, AtLock, Identity, HasMet, HasSeenNoMore, IsCall, IsMeeting, heads_of, Roster, IsPlace, Watching, Release}
+use Rattle.tc_station.proofs.Names.{◌≡◌, ◌<◌, ℕ, List, length, get_or, Option, None, Some, Err, sym, ap, ◌∙◌, arith, ◌==◌, position, slice_get, get_or-map, get_or_from_slice_get, length-map, none-some, same_Some, slice_get_within, History, AtLock, Identity, HasMet, HasSeenNoMore, IsCall, IsMeeting, heads_of, Roster, IsPlace, Watching, Release, Result, Ok, subst, Moment, AtStation, KnowsDesks, IsCallAt, Frame}
+use Rattle.std.proofs.lemmas.Option.{slice_get-map}
+use Rattle.std.specs.Prelude.{option_map}
+use Rattle.tc_queues.specs.declared.reply.FrameReply.{FrameReply}
+use Rattle.tc_desk.specs.Call.{IsFramedWatched}
 use Rattle.tc_station.specs.Moments.{IsWatcherAt, IsWatcherOf}
 
 -- for an operator's desk, a meeting has the effect of a call that was refused
@@ -37,7 +41,19 @@ pub watcher-kept : (station : Roster) (place : ℕ) (there next : AtLock) (late 
 watcher-kept station place there next late known head met =
     (there.own.seen.head, known, met.0 ∙ ap (λ (h : Identity). h.board) head, ap (λ (h : History). h.settings) met.1 ∙ ap (λ (h : Identity). h.settings) head)
 
--- the channel of a watcher is one of the station's channels
+-- a watcher that saw the channel process a frame belongs to that channel, if the operator that brought the frame knows
+-- its desks
+pub watcher-there : {F : Type 0} (station : Roster) (place vcid : ℕ) (frame : List ℕ) (err : Moment → F → Type 0) (before after : AtStation) (r : Result (FrameReply × Watching) F) (answer : FrameReply × Watching)
+    → IsPlace station vcid place → KnowsDesks station before → IsCallAt place vcid (Frame frame) (IsFramedWatched frame) err before r after → r ≡ Ok answer → IsWatcherOf station vcid answer.1
+watcher-there station place vcid frame err before after r answer at knows c is =
+    let call = subst (λ x. IsCallAt place vcid (Frame frame) (IsFramedWatched frame) err before x after) is c in
+    let saw = call.call.answer.0.1 in
+    let head : call.call.now.head ≡ call.there.own.seen.head = call.call.later.0 in
+    let known : slice_get station.heads place ≡ Some call.there.own.seen.head =
+    ap (λ (l : List Identity). slice_get l place) (sym knows) ∙ (slice_get-map (λ (d : AtLock). d.own.seen.head) before.desks place ∙ ap (option_map (λ (d : AtLock). d.own.seen.head)) call.was) in
+    (call.there.own.seen.head, (place, at, known), saw.0 ∙ ap (λ (h : Identity). h.board) head, ap (λ (h : History). h.settings) saw.1 ∙ ap (λ (h : Identity). h.settings) head)
+
+-- the channel of a watcher is among those of the station
 pub channel-there : (station : Roster) (vcids : List ℕ) (vcid : ℕ) (w : Watching) (place : Option ℕ) → vcids ≡ station.vcids → IsWatcherOf station vcid w → place ≡ position (λ v. v == vcid) vcids → place ≡ None → ⊥
 channel-there station vcids vcid w place whole (head, (p, here, of), board, settings) is none =
     none-some p (sym none ∙ (is ∙ (ap (λ (l : List ℕ). position (λ v. v == vcid) l) whole ∙ here)))

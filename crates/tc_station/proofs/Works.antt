@@ -1,5 +1,5 @@
--- The effect of jobs, and of lists of jobs, on the counts of the operators that carry them out.
-use Rattle.tc_station.proofs.Names.{◌≡◌, ℕ, zero, suc, ◌+◌, ◌<◌, List, [], ◌∷◌, ◌++◌, length, map, take, get_or, set, min, cond, Option, Some, None, refl, sym, ap, ◌∙◌, subst, inl, inr, arith, ◌==◌, All, position, slice_index, Contains, eqb-true, take_more, length-map, All-map, All-weaker, position-Some, Roster, IsPlace, Tally, AtStation, IsOurs, KnowsTheSame, tally, tallied, raised, IsListMade, IsTried, IsDone, AreDone, IsWorked, Shift, IsShift, IsTallyOf, AreWorked, lowest, brings_to, is_other, IsRaised, NoCountFalls, Job, count_by, AllByRecursion, eqb_tells, map-append, All-from_recursion, sum_by-cons}
+-- Lists of jobs, and the counts of their operators.
+use Rattle.tc_station.proofs.Names.{◌≡◌, ℕ, zero, suc, ◌+◌, ◌<◌, List, [], ◌∷◌, ◌++◌, length, map, take, get_or, set, min, cond, Option, Some, None, refl, sym, ap, ◌∙◌, subst, inl, inr, arith, ◌==◌, All, position, slice_index, Contains, eqb-true, take_more, length-map, All-map, All-weaker, position-Some, Roster, IsPlace, Tally, AtStation, IsOurs, HasGoneOnAtEach, KnowsTheSame, tally, tallied, raised, IsListMade, IsTried, IsDone, AreDone, IsWorked, Shift, IsShift, IsTallyOf, AreWorked, lowest, brings_to, is_other, IsRaised, NoCountFalls, Job, count_by, AllByRecursion, eqb_tells, map-append, All-from_recursion, sum_by-cons}
 use Rattle.tc_station.specs.Lowest.{lower}
 use Rattle.tc_station.specs.declared.work.Order.{Order}
 use Rattle.tc_station.specs.declared.work.Order.TheVariants.{Bring}
@@ -48,10 +48,10 @@ lower-none (Some x) = refl
 
 -- if the only operator works on the only list, all lists are worked on
 pub one-worked : (station : Roster) (lists : List WorkList) (ops : List AtStation) (l : WorkList) (o z : AtStation) (line : Option ℕ) → length lists ≡ 1 → length ops ≡ 1 → l ≡ get_or lists 0 l → o ≡ get_or ops 0 o
-    → IsTallyOf station (tally o) → IsOurs station z → KnowsTheSame o z → IsWorked station l line (tally o) (tally z) → IsListMade station l line o z → AreWorked station lists line ops (set ops 0 z)
-one-worked station (x ∷ []) (y ∷ []) l o z line e f p q fits ours knows worked made =
-    (record { list = l; refused = line; before = o; after = z } ∷ [], ap (λ w. w ∷ []) p, ap (λ w. w ∷ []) q, refl, (record { ours = fits; kept = ours; knows = knows; worked = worked; made = made }, tt), lower-none line)
-one-worked station _ _ l o z line e f p q fits ours knows worked made = absurd (omega arith)
+    → IsTallyOf station (tally o) → IsOurs station z → KnowsTheSame o z → HasGoneOnAtEach o z → IsWorked station l line (tally o) (tally z) → IsListMade station l line o z → AreWorked station lists line ops (set ops 0 z)
+one-worked station (x ∷ []) (y ∷ []) l o z line e f p q fits ours knows later worked made =
+    (record { list = l; refused = line; before = o; after = z } ∷ [], ap (λ w. w ∷ []) p, ap (λ w. w ∷ []) q, refl, (record { ours = fits; kept = ours; knows = knows; later = later; worked = worked; made = made }, tt), lower-none line)
+one-worked station _ _ l o z line e f p q fits ours knows later worked made = absurd (omega arith)
 
 pub moved-worked : (station : Roster) (fl gl : List WorkList) (a b : Option ℕ) (fo go : List AtStation) (z : List AtStation) → AreWorked station fl a fo z → fl ≡ gl → a ≡ b → fo ≡ go → AreWorked station gl b go z
 moved-worked station fl gl a b fo go z w p q r = (w.0, w.1 ∙ p, w.2 ∙ r, w.3, w.4, w.5 ∙ q)
@@ -194,18 +194,27 @@ work-ours station lists line os ps w =
     let each = All-weaker (IsShift station) (λ (s : Shift). IsOurs station s.after) (λ s x. x.kept) w.0 (All-from_recursion (IsShift station) w.0 w.4) in
     subst (All (IsOurs station)) w.3 (All-map (IsOurs station) (λ (s : Shift). s.after) w.0 each)
 
-shifts-know : (station : Roster) (shifts : List Shift) → AllByRecursion (IsShift station) shifts → (k : ℕ) (o : AtStation) → k < length shifts
-    → KnowsTheSame (get_or (map (λ (s : Shift). s.before) shifts) k o) (get_or (map (λ (s : Shift). s.after) shifts) k o)
-shifts-know station [] all k o lt = absurd (omega arith)
-shifts-know station (s ∷ ss) all zero o lt = all.0.knows
-shifts-know station (s ∷ ss) all (suc k) o lt = shifts-know station ss all.1 k o (omega arith)
+-- what holds of each operator after its shift holds of the operator at each place
+shifts-hold : (station : Roster) (P : AtStation → AtStation → Type 0) (shifts : List Shift) → ((s : Shift) → IsShift station s → P s.before s.after) → AllByRecursion (IsShift station) shifts → (k : ℕ) (o : AtStation) → k < length shifts
+    → P (get_or (map (λ (s : Shift). s.before) shifts) k o) (get_or (map (λ (s : Shift). s.after) shifts) k o)
+shifts-hold station P [] each all k o lt = absurd (omega arith)
+shifts-hold station P (s ∷ ss) each all zero o lt = each s all.0
+shifts-hold station P (s ∷ ss) each all (suc k) o lt = shifts-hold station P ss each all.1 k o (omega arith)
 
--- after the work, each operator has the same settings and boards at its desks as before
+work-holds : (station : Roster) (P : AtStation → AtStation → Type 0) (lists : List WorkList) (line : Option ℕ) (os ps : List AtStation) → ((s : Shift) → IsShift station s → P s.before s.after) → AreWorked station lists line os ps
+    → (k : ℕ) (o : AtStation) → k < length lists → P (get_or os k o) (get_or ps k o)
+work-holds station P lists line os ps each w k o lt =
+    let inside : k < length w.0 = omega (arith, ap (length {A = WorkList}) w.1, length-map w.0 (λ (s : Shift). s.list)) in
+    rw (← w.2, ← w.3) (shifts-hold station P w.0 each w.4 k o inside)
+
+-- each operator knows its desks as before, and has gone on
 pub work-knows : (station : Roster) (lists : List WorkList) (line : Option ℕ) (os ps : List AtStation) → AreWorked station lists line os ps → (k : ℕ) (o : AtStation) → k < length lists
     → KnowsTheSame (get_or os k o) (get_or ps k o)
-work-knows station lists line os ps w k o lt =
-    let inside : k < length w.0 = omega (arith, ap (length {A = WorkList}) w.1, length-map w.0 (λ (s : Shift). s.list)) in
-    rw (← w.2, ← w.3) (shifts-know station w.0 w.4 k o inside)
+work-knows station lists line os ps = work-holds station KnowsTheSame lists line os ps (λ s x. x.knows)
+
+pub work-goes-on : (station : Roster) (lists : List WorkList) (line : Option ℕ) (os ps : List AtStation) → AreWorked station lists line os ps → (k : ℕ) (o : AtStation) → k < length lists
+    → HasGoneOnAtEach (get_or os k o) (get_or ps k o)
+work-goes-on station lists line os ps = work-holds station HasGoneOnAtEach lists line os ps (λ s x. x.later)
 
 pub work-length : (station : Roster) (lists : List WorkList) (line : Option ℕ) (os ps : List AtStation) → AreWorked station lists line os ps → length ps ≡ length os
 work-length station lists line os ps w =

@@ -10,7 +10,7 @@ use Rattle.tc_status.specs.Board.{Watching}
 use Rattle.tc_desk.specs.Log.{Moment, AtLock}
 use Rattle.tc_desk.specs.Call.{IsCall, IsMeeting, HasMet, HasSeenNoMore, IsFramed, IsFramedWatched, IsReleaseFault, IsTakeFault, IsTakeUnitFault}
 use Rattle.tc_station.specs.Roster.{Roster, IsPlace}
-use Rattle.tc_station.specs.Tally.{AtStation, IsOurs, KnowsTheSame, tally, tallied}
+use Rattle.tc_station.specs.Tally.{AtStation, HasGoneOnAtEach, IsOurs, KnowsTheSame, tally, tallied}
 use Rattle.tc_station.specs.Location.{IsPlaced, IsLocateFault}
 use Rattle.tc_station.specs.Faults.{release_refused, take_refused, take_unit_refused}
 use Rattle.tc_link.specs.declared.location.LocateFault.{LocateFault}
@@ -31,14 +31,15 @@ pub record IsCallAt {R F : Type 0} (place vcid : ℕ) (e : Event) (ok : Moment �
   pub others : after.desks ≡ slice_set before.desks place next
   pub vcids : after.vcids ≡ before.vcids
 
--- The operator made this call, and it was counted for that channel if it was answered. The operator still belongs to
--- the station, and the settings and boards that it has seen at its desks are as before.
+-- The operator made this call, and it was counted for that channel if it was answered. The operator stays the
+-- station's, knows its desks as before, and has gone on at each of them.
 pub record IsCounted {R F : Type 0} (station : Roster) (place vcid : ℕ) (e : Event) (ok : Moment → R → Type 0) (err : Moment → F → Type 0) (before : AtStation) (result : Result R F) (after : AtStation) : Type 0 where
   pub call : IsCallAt place vcid e ok err before result after
   pub counted : OnOk result (tally after ≡ tallied vcid (tally before))
   pub refused : OnErr result (tally after ≡ tally before)
   pub ours : IsOurs station after
   pub knows : KnowsTheSame before after
+  pub later : HasGoneOnAtEach before after
 
 -- The operator made this call, and a watcher met the desk before and after it, all under one hold of the desk's lock.
 -- The watcher had seen no more than the journal at the moment of the call, and afterwards it has seen all that the

@@ -1,5 +1,6 @@
 -- The view of an operator in contracts: the channels of its station, a count for each, and its accounts at their desks.
-use Rattle.std.specs.Prelude.{◌≡◌, ℕ, ◌+◌, List, [], map, Option, Some, None, if◌then◌else◌, ◌==◌, nat_lt, slice_index, slice_set, position, length, replicate, option_map, All}
+use Rattle.std.specs.Prelude.{◌≡◌, ℕ, ◌+◌, List, [], map, Option, Some, None, if◌then◌else◌, ◌==◌, nat_lt, slice_get, slice_index, slice_set, position, length, replicate, option_map, All}
+use Rattle.logged_lock.specs.Log.{IsBeginning}
 use Rattle.tc_desk.specs.Log.{AtLock, count_of}
 use Rattle.tc_desk.specs.Together.{locks_of, heads_of}
 use Rattle.tc_station.specs.Roster.{Roster}
@@ -52,6 +53,18 @@ KnowsDesks station o = heads_of o.desks ≡ station.heads
 -- the settings and boards that the operator has seen at its desks are as before
 abbrev pub KnowsTheSame : AtStation → AtStation → Type 0
 KnowsTheSame before after = heads_of after.desks ≡ heads_of before.desks
+
+-- the moment that an operator has seen at the desk of this place continues the one that it had seen there before
+pub record HasGoneOn (place : ℕ) (early late : AtStation) : Type 0 where
+  pub before : AtLock
+  pub after : AtLock
+  pub was : slice_get early.desks place ≡ Some before
+  pub is : slice_get late.desks place ≡ Some after
+  pub longer : IsBeginning before.own.seen after.own.seen
+
+-- the operator has gone on at each of its desks
+pub record HasGoneOnAtEach (early late : AtStation) : Type 0 where
+  pub each : (place : ℕ) (desk : AtLock) → slice_get early.desks place ≡ Some desk → HasGoneOn place early late
 
 abbrev pub HasMadeNothing : AtStation → Type 0
 HasMadeNothing o = All (λ (d : AtLock). d.own.made ≡ []) o.desks

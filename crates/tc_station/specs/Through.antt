@@ -1,25 +1,19 @@
 -- The calls of an operator, seen from the channel that was returned when its station was closed.
 use Rattle.std.specs.Prelude.{◌≡◌, ◌≤◌, ℕ, List, [], ◌∷◌, ◌++◌, Some, length, slice_get, take}
-use Rattle.logged_lock.specs.Log.{IsBeginning}
 use Rattle.tc_channel.specs.declared.event.Event.{Event}
+use Rattle.tc_channel.specs.declared.event.Event.TheVariants.{Frame}
 use Rattle.tc_queues.specs.declared.settings.Settings.{Settings}
 use Rattle.tc_channel.specs.Journal.{History}
-use Rattle.tc_channel.specs.Reply.{clcw}
+use Rattle.tc_channel.specs.Reply.{clcw, frame_reply}
 use Rattle.tc_link.specs.declared.Link.{Link}
 use Rattle.tc_status.specs.Board.{Watching}
 use Rattle.tc_status.specs.Board as board
 use Rattle.tc_desk.specs.Log.{AtLock}
+use Rattle.tc_station.specs.Location.{IsLocated}
 use Rattle.tc_station.specs.Roster.{Roster, IsPlace}
-use Rattle.tc_station.specs.Tally.{AtStation}
+use Rattle.tc_station.specs.Tally.{AtStation, HasGoneOn}
 use Rattle.tc_station.specs.Together.{AreClosedTogether}
-
--- the moment that an operator has seen at the desk at this place continues the one that it had seen there before
-pub record HasGoneOn (place : ℕ) (early late : AtStation) : Type 0 where
-  pub before : AtLock
-  pub after : AtLock
-  pub was : slice_get early.desks place ≡ Some before
-  pub is : slice_get late.desks place ≡ Some after
-  pub longer : IsBeginning before.own.seen after.own.seen
+use Rattle.tc_station.specs.declared.station.Brought.{Brought}
 
 -- The station was closed together with its operators. One of them is this operator, which may have made more calls. The
 -- channel is the one at this place.
@@ -52,8 +46,14 @@ abbrev pub IsAnsweredAmong : Roster → ℕ → AtStation → List History → E
 IsAnsweredAmong station vcid operator closed e Answers =
     (place : ℕ) × (channel : History) × IsGivenOut station vcid closed place channel × IsAnsweredIn place operator channel e (Answers channel.settings)
 
--- The watcher read this CLCW, with these flags of the link. It is the CLCW of the history that the watcher has seen
--- after the read, which continues the history that the watcher had seen before.
+-- the octets begin with a frame for the channel that the answer names, the frame has a place in that channel's journal
+-- with this reply there, and it is the last event that the operator has made
+abbrev pub IsBroughtAmong : Roster → List ℕ → Brought → AtStation → List History → Type 0
+IsBroughtAmong station octets brought operator closed =
+    (frame : List ℕ) × IsLocated station octets brought.vcid frame × IsAnsweredAmong station brought.vcid operator closed (Frame frame) (λ s journal. brought.reply ≡ frame_reply s journal frame)
+
+-- the watcher read this CLCW, with these flags of the link, of the history that it has then seen, which continues what
+-- it had seen before
 abbrev pub IsWordRead : Link → Watching → ℕ → Watching → Type 0
 IsWordRead link early word late = board.IsEarlier early.seen late.seen × (word ≡ clcw late.seen.settings late.seen.journal link)
 

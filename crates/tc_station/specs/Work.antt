@@ -3,7 +3,7 @@ use Rattle.std.specs.Prelude.{◌≡◌, ℕ, ◌+◌, ◌≤◌, ◌==◌, ◌&
 use Rattle.std.specs.List.{AllByRecursion}
 use Rattle.tc_link.specs.Frame.{header_of, fault_of}
 use Rattle.tc_station.specs.Roster.{Roster}
-use Rattle.tc_station.specs.Tally.{Tally, AtStation, tally, tallied, IsOurs, KnowsTheSame}
+use Rattle.tc_station.specs.Tally.{Tally, AtStation, HasGoneOnAtEach, tally, tallied, IsOurs, KnowsTheSame}
 use Rattle.tc_station.specs.Lowest.{lower}
 use Rattle.tc_station.specs.Location.{IsLocated, IsLocateFault}
 use Rattle.tc_station.specs.Tried.{IsListMade}
@@ -65,6 +65,7 @@ pub record IsShift (station : Roster) (s : Shift) : Type 0 where
   pub ours : IsTallyOf station (tally s.before)
   pub kept : IsOurs station s.after
   pub knows : KnowsTheSame s.before s.after
+  pub later : HasGoneOnAtEach s.before s.after
   pub worked : IsWorked station s.list s.refused (tally s.before) (tally s.after)
   pub made : IsListMade station s.list s.refused s.before s.after
 

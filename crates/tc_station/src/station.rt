@@ -9,7 +9,7 @@ ghost use Rattle.tc_desk.specs.Call as at_desk;
 ghost use Rattle.tc_desk.specs.Together.{settings_of_desks};
 ghost use Rattle.tc_station.specs.Roster.{IsDeskOf, IsPlace, settings_in};
 ghost use Rattle.tc_station.specs.Room.{IsRoomFor};
-ghost use Rattle.tc_station.specs.Tally.{HasMadeNothing, KnowsDesks, KnowsTheSame, IsOurs, tallied, fresh, issued_more, newcomer_at_desks, tally};
+ghost use Rattle.tc_station.specs.Tally.{HasGoneOnAtEach, HasMadeNothing, KnowsDesks, KnowsTheSame, IsOurs, tallied, fresh, issued_more, newcomer_at_desks, tally};
 ghost use Rattle.tc_station.specs.Call.{IsBringCall, IsCallOn, IsCounted, IsMetAt, IsMetCallAt, IsNotBrought, IsNotBroughtWatched, IsNotReleased, IsNotTaken, IsReplied, IsRepliedWatched, IsUnitNotTaken};
 ghost use Rattle.tc_station.specs.Balance.{AreInBalance};
 ghost use Rattle.tc_channel.specs.Journal.{IsNumberReported};
@@ -184,6 +184,7 @@ impl<J: Journal> StationOf<J> {
         ensures refused { OnErr result (tally operator.new ≡ tally operator.old) }
         ensures ours { IsOurs self.now operator.new }
         ensures knows { KnowsTheSame operator.old operator.new }
+        ensures later { HasGoneOnAtEach operator.old operator.new }
         ensures answered { J.grows ≡ false → IsErrOf result BringFault.NoMemory → BeginsWithBypassData octets.now }
     {
         let (place, Located { vcid, frame }) = self
@@ -210,6 +211,7 @@ impl<J: Journal> StationOf<J> {
         ensures refused { OnErr result (tally operator.new ≡ tally operator.old) }
         ensures ours { IsOurs self.now operator.new }
         ensures knows { KnowsTheSame operator.old operator.new }
+        ensures later { HasGoneOnAtEach operator.old operator.new }
     {
         let Some(place) = self.vcids.place_of(vcid) else {
             return Err(ReleaseRefused::UnknownChannel);
@@ -233,6 +235,7 @@ impl<J: Journal> StationOf<J> {
         ensures refused { OnErr result (tally operator.new ≡ tally operator.old) }
         ensures ours { IsOurs self.now operator.new }
         ensures knows { KnowsTheSame operator.old operator.new }
+        ensures later { HasGoneOnAtEach operator.old operator.new }
         ensures answered { J.grows ≡ false → IsErrOf result TakeRefused.NoMemory → ⊥ }
     {
         let Some(place) = self.vcids.place_of(vcid) else {
@@ -257,6 +260,7 @@ impl<J: Journal> StationOf<J> {
         ensures refused { OnErr result (tally operator.new ≡ tally operator.old) }
         ensures ours { IsOurs self.now operator.new }
         ensures knows { KnowsTheSame operator.old operator.new }
+        ensures later { HasGoneOnAtEach operator.old operator.new }
         ensures answered { J.grows ≡ false → IsErrOf result TakeUnitRefused.NoMemory → ⊥ }
     {
         let Some(place) = self.vcids.place_of(vcid) else {
@@ -308,10 +312,12 @@ impl<J: Journal> StationOf<J> {
         requires ours { IsOurs self.now operator.old }
         ensures answer { MatchResult result (λ answer. IsBroughtWatched self.now octets.now answer.0.vcid answer.0.reply answer.1.seen) (IsBringFault self.now octets.now) }
         ensures call { IsBringCall self.now octets.now IsRepliedWatched IsNotBroughtWatched operator.old result operator.new }
+        ensures desk { KnowsDesks self.now operator.old → IfOk result (λ answer. IsWatcherOf self.now answer.0.vcid answer.1) }
         ensures counted { IfOk result (λ answer. tally operator.new ≡ tallied answer.0.vcid (tally operator.old)) }
         ensures refused { OnErr result (tally operator.new ≡ tally operator.old) }
         ensures ours { IsOurs self.now operator.new }
         ensures knows { KnowsTheSame operator.old operator.new }
+        ensures later { HasGoneOnAtEach operator.old operator.new }
     {
         let (place, Located { vcid, frame }) = self
             .place_frame(octets)
@@ -342,6 +348,7 @@ impl<J: Journal> StationOf<J> {
         ensures refused { OnErr result (tally operator.new ≡ tally operator.old) }
         ensures ours { IsOurs self.now operator.new }
         ensures knows { KnowsDesks self.now operator.new }
+        ensures later { HasGoneOnAtEach operator.old operator.new }
         ensures watcher { IsWatcherAt self.now place watcher.new }
     {
         let owned_desk = &self.desks[place];
@@ -358,6 +365,7 @@ impl<J: Journal> StationOf<J> {
         ensures same { tally operator.new ≡ tally operator.old }
         ensures ours { IsOurs self.now operator.new }
         ensures knows { KnowsDesks self.now operator.new }
+        ensures later { HasGoneOnAtEach operator.old operator.new }
         ensures watcher { IsWatcherOf self.now vcid watcher.new }
     {
         let Some(place) = self.vcids.place_of(vcid) else {

@@ -21,11 +21,10 @@ ghost use Rattle.tc_desk.specs.Together.{column};
 ghost use Rattle.tc_station.specs.declared.station.Brought.{Brought};
 ghost use Rattle.tc_status.specs.Board.{IsEarlier, Watching};
 ghost use Rattle.tc_link.specs.declared.Link.{Link};
-ghost use Rattle.tc_station.specs.Call.{IsBringCall, IsCallAt, IsCallOn, IsMetAt, IsReplied, IsNotBrought, IsNotReleased, IsNotTaken, IsUnitNotTaken};
-ghost use Rattle.tc_station.specs.Location.{IsLocated};
+ghost use Rattle.tc_station.specs.Call.{IsBringCall, IsCallAt, IsCallOn, IsMetAt, IsReplied, IsRepliedWatched, IsNotBrought, IsNotBroughtWatched, IsNotReleased, IsNotTaken, IsUnitNotTaken};
 ghost use Rattle.tc_station.specs.Roster.{Roster, IsPlace};
-ghost use Rattle.tc_station.specs.Tally.{AtStation, IsOurs};
-ghost use Rattle.tc_station.specs.Through.{IsAnsweredAmong, IsAnsweredIn, IsClosedSince, IsGivenOut, IsWordRead, IsShownIn};
+ghost use Rattle.tc_station.specs.Tally.{AtStation, HasGoneOnAtEach, IsOurs};
+ghost use Rattle.tc_station.specs.Through.{IsAnsweredAmong, IsAnsweredIn, IsBroughtAmong, IsClosedSince, IsGivenOut, IsWordRead, IsShownIn};
 ghost use Rattle.tc_station.specs.Together.{AreClosedTogether, operator_lists_of};
 
 use tc_channel::{what_was_passed_on_is_admitted_in_order, what_was_sent_is_given_in_order};
@@ -52,7 +51,7 @@ use tc_desk::each_event_stands_at_its_place;
 /// - `whole`: If the takes returned as many packets or units as these fields make, none is missing.
 ///
 /// Each call of an operator continues all that the operator had seen (`later` of `IsCall`), and so do several calls
-/// together.
+/// together ([`calls_go_on_one_after_another`]).
 pub fn from_a_sender_to_packets()
     ensures merge { (station : Roster) (operators : List AtStation) (closed : List History) (place : ℕ) (channel : History)
         → AreClosedTogether station operators closed → slice_get closed place ≡ Some channel
@@ -90,38 +89,48 @@ pub fn from_a_sender_to_packets()
     what_was_sent_is_given_in_order();
 }
 
+/// An operator that made no call has gone on at each of its desks (`none`), and if it has gone on in one part of its
+/// calls and then in another, it has gone on in both together (`both`).
+pub fn calls_go_on_one_after_another()
+    ensures none { (operator : AtStation) → HasGoneOnAtEach operator operator }
+    ensures both { (before between after : AtStation) → HasGoneOnAtEach before between → HasGoneOnAtEach between after → HasGoneOnAtEach before after }
+{}
+
 /// Answered calls promise what [`from_a_sender_to_packets`] requires: each is in the closed journal of its channel,
 /// with its answer there. The premises are contracts and nothing else: the contract of the call by an operator of the
 /// station, and that of [`StationOf::close_together`](crate::StationOf::close_together) with this operator among the
-/// others.
+/// others, as it was left by the last call that it made.
 ///
-/// - `frames` is about calls of `bring`, and `releases`, `takes` and `units` are about calls of `release`, `take` and
-///   `take_unit`.
+/// - `frames` is about calls of `bring`, `watched` is about calls of `bring_watched`, and `releases`, `takes` and `units`
+///   are about calls of `release`, `take` and `take_unit`.
 /// - `words` is about each read of a watcher by `watch` before its `meet`. In between, the watcher may have read on.
 ///
-/// The station is closed with the operator as the call left it. If it made other calls in between, the law requires
-/// `HasGoneOn`, which each further call promises, too (`later` of `IsCall`).
+/// Between the call and the close the operator may have made any other calls. Each of them promises that it has gone on
+/// (`later` of [`StationOf`](crate::StationOf)'s calls), and [`calls_go_on_one_after_another`] joins them.
 pub fn what_calls_answered_stands_in_the_closed_journals()
-    ensures frames { (station : Roster) (octets : List ℕ) (grows : Bool) (before after : AtStation) (brought : Brought) (operators : List AtStation) (closed : List History) (number : ℕ)
+    ensures frames { (station : Roster) (octets : List ℕ) (grows : Bool) (before after last : AtStation) (brought : Brought) (operators : List AtStation) (closed : List History) (number : ℕ)
         → IsOurs station before → IsBringCall station octets IsReplied (IsNotBrought grows) before (Ok brought) after
-        → slice_get operators number ≡ Some after → AreClosedTogether station operators closed
-        → (frame : List ℕ) × IsLocated station octets brought.vcid frame
-        × IsAnsweredAmong station brought.vcid after closed (Event.Frame frame) (λ s journal. brought.reply ≡ frame_reply s journal frame) }
-    ensures releases { (station : Roster) (vcid : ℕ) (before after : AtStation) (delivery : Delivery) (operators : List AtStation) (closed : List History) (number : ℕ)
+        → HasGoneOnAtEach after last → slice_get operators number ≡ Some last → AreClosedTogether station operators closed
+        → IsBroughtAmong station octets brought after closed }
+    ensures watched { (station : Roster) (octets : List ℕ) (before after last : AtStation) (answer : Brought × Watching) (operators : List AtStation) (closed : List History) (number : ℕ)
+        → IsOurs station before → IsBringCall station octets IsRepliedWatched IsNotBroughtWatched before (Ok answer) after
+        → HasGoneOnAtEach after last → slice_get operators number ≡ Some last → AreClosedTogether station operators closed
+        → IsBroughtAmong station octets answer.0 after closed }
+    ensures releases { (station : Roster) (vcid : ℕ) (before after last : AtStation) (delivery : Delivery) (operators : List AtStation) (closed : List History) (number : ℕ)
         → IsOurs station before → IsCallOn station vcid Event.Release at_desk.IsReleased IsNotReleased ReleaseRefused.UnknownChannel before (Ok delivery) after
-        → slice_get operators number ≡ Some after → AreClosedTogether station operators closed
+        → HasGoneOnAtEach after last → slice_get operators number ≡ Some last → AreClosedTogether station operators closed
         → IsAnsweredAmong station vcid after closed Event.Release (λ s journal. (buffered_fields s journal ≢ []) × (delivery ≡ release_reply s journal)) }
-    ensures takes { (station : Roster) (vcid apid : ℕ) (grows : Bool) (before after : AtStation) (packet : Vec ℕ) (operators : List AtStation) (closed : List History) (number : ℕ)
+    ensures takes { (station : Roster) (vcid apid : ℕ) (grows : Bool) (before after last : AtStation) (packet : Vec ℕ) (operators : List AtStation) (closed : List History) (number : ℕ)
         → IsOurs station before → IsCallOn station vcid (Event.Take apid) (λ m p. at_desk.IsOldestPacket apid m p.items) (IsNotTaken grows apid) TakeRefused.UnknownChannel before (Ok packet) after
-        → slice_get operators number ≡ Some after → AreClosedTogether station operators closed
+        → HasGoneOnAtEach after last → slice_get operators number ≡ Some last → AreClosedTogether station operators closed
         → IsAnsweredAmong station vcid after closed (Event.Take apid) (λ s journal. take_reply s journal apid ≡ Some packet.items) }
-    ensures units { (station : Roster) (vcid map_id : ℕ) (grows : Bool) (before after : AtStation) (unit : Vec ℕ) (operators : List AtStation) (closed : List History) (number : ℕ)
+    ensures units { (station : Roster) (vcid map_id : ℕ) (grows : Bool) (before after last : AtStation) (unit : Vec ℕ) (operators : List AtStation) (closed : List History) (number : ℕ)
         → IsOurs station before → IsCallOn station vcid (Event.TakeUnit map_id) (λ m u. at_desk.IsOldestUnit map_id m u.items) (IsUnitNotTaken grows map_id) TakeUnitRefused.UnknownChannel before (Ok unit) after
-        → slice_get operators number ≡ Some after → AreClosedTogether station operators closed
+        → HasGoneOnAtEach after last → slice_get operators number ≡ Some last → AreClosedTogether station operators closed
         → IsAnsweredAmong station vcid after closed (Event.TakeUnit map_id) (λ s journal. unit_reply s journal map_id ≡ Some unit.items) }
-    ensures words { (station : Roster) (vcid : ℕ) (link : Link) (early mid late met : Watching) (word : ℕ) (before after : AtStation) (operators : List AtStation) (closed : List History) (number : ℕ)
+    ensures words { (station : Roster) (vcid : ℕ) (link : Link) (early mid late met : Watching) (word : ℕ) (before after last : AtStation) (operators : List AtStation) (closed : List History) (number : ℕ)
         → IsOurs station before → IsWordRead link early word mid → IsEarlier mid.seen late.seen → ((place : ℕ) × IsPlace station vcid place × IsMetAt place vcid late before met after)
-        → slice_get operators number ≡ Some after → AreClosedTogether station operators closed
+        → HasGoneOnAtEach after last → slice_get operators number ≡ Some last → AreClosedTogether station operators closed
         → (place : ℕ) × (channel : History) × IsGivenOut station vcid closed place channel × IsShownIn channel early link word }
 {
     each_event_stands_at_its_place();

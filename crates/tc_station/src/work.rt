@@ -2,7 +2,7 @@
 
 ghost use Rattle.std.specs.Prelude.{◌≡◌, ◌<◌, ℕ, All, Option, None, Some, length, map, slice_index_or, OnOk, OnErr, MatchResult};
 ghost use Rattle.std.specs.Thread.{IsSend, IsSync};
-ghost use Rattle.tc_station.specs.Tally.{AtStation, IsOurs, KnowsTheSame, tally};
+ghost use Rattle.tc_station.specs.Tally.{AtStation, HasGoneOnAtEach, IsOurs, KnowsTheSame, tally};
 ghost use Rattle.tc_station.specs.Lowest.{lower};
 
 use crate::faults::{BringFault, ReleaseRefused, TakeRefused, TakeUnitRefused, WorkFault};
@@ -80,6 +80,7 @@ where
         ensures kept { map (λ o. o.vcids) operators.new.items ≡ map (λ o. o.vcids) operators.old.items }
         ensures ours { All (IsOurs self.now) operators.new.items }
         ensures knows { (k : ℕ) (o : AtStation) → k < length lists.now → KnowsTheSame (slice_index_or operators.old.items k o) (slice_index_or operators.new.items k o) }
+        ensures later { (k : ℕ) (o : AtStation) → k < length lists.now → HasGoneOnAtEach (slice_index_or operators.old.items k o) (slice_index_or operators.new.items k o) }
         ensures risen { (k : ℕ) (o : AtStation) → k < length lists.now → NoCountFalls (tally (slice_index_or operators.old.items k o)) (tally (slice_index_or operators.new.items k o)) }
         ensures raised { OnOk result ((k : ℕ) (l : WorkList) (o : AtStation) → k < length lists.now →
             IsRaised self.now (slice_index_or lists.now k l) (tally (slice_index_or operators.old.items k o)) (tally (slice_index_or operators.new.items k o))) }
@@ -172,6 +173,7 @@ where
         ensures tally { IsTallyOf self.now (tally operator.old) }
         ensures ours { IsOurs self.now operator.new }
         ensures knows { KnowsTheSame operator.old operator.new }
+        ensures later { HasGoneOnAtEach operator.old operator.new }
         ensures worked { IsWorked self.now list.now result (tally operator.old) (tally operator.new) }
         ensures made { IsListMade self.now list.now result operator.old operator.new }
     {
@@ -196,6 +198,7 @@ where
         requires ours { IsOurs self.now operator.old }
         ensures ours { IsOurs self.now operator.new }
         ensures knows { KnowsTheSame operator.old operator.new }
+        ensures later { HasGoneOnAtEach operator.old operator.new }
         ensures done { OnOk result (IsDone self.now vcid order.now (tally operator.old) (tally operator.new)) }
         ensures refused { OnErr result (tally operator.new ≡ tally operator.old) }
         ensures wanting { OnErr result (MayWantMemory self.now vcid order.now) }

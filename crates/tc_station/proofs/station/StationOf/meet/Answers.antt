@@ -32,5 +32,6 @@ returns g c =
       same = all.refused;
       ours = all.ours;
       knows = all.knows ∙ c.requires.knows;
+      later = all.later;
       watcher = (late.0, (c.in-Some.place, at, late.1), late.2, late.3);
     }

@@ -1,5 +1,5 @@
 use Rattle.tc_station.proofs.Names.{◌∙◌, ap, sym, arith, heads_of, AtStation, Roster}
-use Rattle.tc_station.proofs.Called.{call-at, called, head-kept, heads-kept, ids-kept, ours-kept, refused, same-lock-at}
+use Rattle.tc_station.proofs.Called.{call-at, called, gone-on, head-kept, heads-kept, ids-kept, ours-kept, refused, same-lock-at}
 use Rattle.tc_station.proofs.Meetings.{desk-there, head-at, watcher-kept}
 use Rattle.tc_station.proofs.station.StationOf.operate_met.Goals as goal
 
@@ -38,5 +38,6 @@ returns g c =
       refused = refused _ _ _ c.args.self.now _ _ _ _ _ _ _ c.operator.view_is c.operator.invariant c.requires.ours is call;
       ours = ours-kept _ _ _ c.args.self.now _ _ _ _ _ _ _ c.operator.view_is c.operator.invariant c.requires.ours is call;
       knows = heads-kept _ _ _ c.args.self.now _ _ _ _ _ _ _ c.operator.view_is c.operator.invariant c.requires.ours is call ∙ c.requires.knows;
+      later = gone-on _ _ _ c.args.self.now _ _ _ _ _ _ _ c.operator.view_is c.operator.invariant c.requires.ours is call (desk-there c.args.self.now _ c.args.place c.args.watcher.now knows c.requires.watcher);
       watcher = watcher-kept c.args.self.now c.args.place c.index_mut.result.now c.operate_met.new.self c.operate_met.new.watcher known.0 (head-kept _ _ _ _ _ _ call) c.operate_met.ensures.call.met;
     }

@@ -1,5 +1,5 @@
 use Rattle.tc_station.proofs.Names.{◌∙◌, arith, drop, length, rules, subst, common_steps, take_at, AreWorked}
-use Rattle.tc_station.proofs.Works.{work-keeps, work-knows, work-ours, work-rises, work-raises, work-length}
+use Rattle.tc_station.proofs.Works.{work-goes-on, work-keeps, work-knows, work-ours, work-rises, work-raises, work-length}
 use Rattle.tc_station.proofs.station.StationOf.work.Goals as goal
 
 pub returns-in-None : goal.returns-in-None
@@ -13,6 +13,7 @@ returns-in-None g c =
       kept = rw all (work-keeps _ _ _ _ _ w);
       ours = rw all (work-ours _ _ _ _ _ w);
       knows = rw all (work-knows _ _ _ _ _ w);
+      later = rw all (work-goes-on _ _ _ _ _ w);
       risen = rw all (work-rises _ _ _ _ _ w);
       raised = rw all (work-raises _ _ _ _ _ c.in-None.is w);
     }
@@ -28,6 +29,7 @@ returns-in-Some g c =
       kept = rw all (work-keeps _ _ _ _ _ w);
       ours = rw all (work-ours _ _ _ _ _ w);
       knows = rw all (work-knows _ _ _ _ _ w);
+      later = rw all (work-goes-on _ _ _ _ _ w);
       risen = rw all (work-rises _ _ _ _ _ w);
       raised = search rules;
     }

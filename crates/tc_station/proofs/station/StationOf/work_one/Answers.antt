@@ -1,4 +1,4 @@
-use Rattle.tc_station.proofs.Names.{sym, subst, rules, tally, IsListMade, IsTallyOf, IsWorked, KnowsTheSame}
+use Rattle.tc_station.proofs.Names.{sym, subst, rules, tally, IsListMade, IsTallyOf, IsWorked, HasGoneOnAtEach, KnowsTheSame}
 use Rattle.tc_station.proofs.Works.{one-worked}
 use Rattle.tc_station.proofs.station.StationOf.work_one.Goals as goal
 
@@ -12,5 +12,6 @@ returns g c =
     (subst (λ t. IsTallyOf c.args.self.now (tally t)) (sym c.index-operators-0.is) c.do_list.ensures.tally)
     c.do_list.ensures.ours
     (subst (λ t. KnowsTheSame t z) (sym c.index-operators-0.is) c.do_list.ensures.knows)
+    (subst (λ t. HasGoneOnAtEach t z) (sym c.index-operators-0.is) c.do_list.ensures.later)
     (subst (λ t. IsWorked c.args.self.now l line (tally t) (tally z)) (sym c.index-operators-0.is) c.do_list.ensures.worked)
     (subst (λ t. IsListMade c.args.self.now l line t z) (sym c.index-operators-0.is) c.do_list.ensures.made)
