@@ -1,5 +1,5 @@
 -- The starts that were worked out by hand, one of which meets each premise.
-use Rattle.tc_loop.proofs.Names.{Action, All, Arrive, Bool, ChannelState, Frame, Hear, Idle, IsAllowed, IsLawfulWithin, IsLoop, IsNumbered, IsOctets, IsOther, IsStart, IsWhole, KeepOrder, List, NamesAnother, None, NoneSetsWithin, Other, QueueSetting, Release, Send, Some, Take, [], arith, around, begun, clcw_within, drop, era, era_before, events, false, header_of, inl, inr, journal, known, known_since, learnt_by_9, nat_lt, nat_tests, no_limits, octets-append, octets-cons, passed_on, receiver, refl, run_within, session_before, set_by, slice_get, smallest, some_of_first, subst, suc, take, trap, true, zero, ℕ, ◌%◌, ◌&&◌, ◌+◌, ◌<◌, ◌∷◌, ◌≡◌, ◌≤◌, ◌⊎◌, All-cons, All-nil}
+use Rattle.tc_loop.proofs.Names.{Action, All, Arrive, Bool, ChannelState, Frame, Hear, Idle, IsAllowed, IsLawfulWithin, IsLoop, IsNumbered, IsOctets, IsOther, IsStart, IsWhole, KeepOrder, List, NamesAnother, None, NoneSetsWithin, Other, QueueSetting, Release, Send, Some, Take, [], arith, around, begun, clcw_within, drop, era, era_before, events, false, header_of, inl, inr, journal, known, acknowledged, by_bd, known_since, learnt_by_9, nat_lt, nat_tests, no_limits, octets-append, octets-cons, passed_on, receiver, refl, run_within, session_before, set_by, slice_get, smallest, some_of_first, subst, suc, take, trap, true, zero, ℕ, ◌%◌, ◌&&◌, ◌+◌, ◌<◌, ◌∷◌, ◌≡◌, ◌≤◌, ◌⊎◌, All-cons, All-nil}
 use Rattle.tc_channel.specs.Examples as example
 use Rattle.tc_loop.proofs.Begun.{smallest-whole}
 use Rattle.tc_loop.proofs.Actions.{so-at}
@@ -28,6 +28,9 @@ whole-2 i = record { each = each; least = omega arith; most = omega arith; versi
   each = octets-append (0x00 ∷ 0x2a ∷ 0x04 ∷ 0x0c ∷ []) ((9 + i) % 256 ∷ back) (octets-by (0x00 ∷ 0x2a ∷ 0x04 ∷ 0x0c ∷ []) refl)
       (octets-cons ((9 + i) % 256) back (omega arith) (octets-by back refl))
 
+pub whole-bd : IsWhole by_bd
+whole-bd = record { each = octets-by by_bd refl; least = omega arith; most = omega arith; version = refl; spare = refl; named = refl }
+
 numbered : (i : ℕ) → IsNumbered (era learnt_by_9) i
 numbered i =
     let at : suc (suc i) ≡ learnt_by_9.directive + 1 + i = omega arith in
@@ -42,13 +45,13 @@ lawful : IsLawfulWithin learnt_by_9.loop.limits learnt_by_9.loop.settings (journ
 unfolding IsLawfulWithin some_of_first passed_on no_limits
 lawful =
     let packet : List ℕ = 0x10 ∷ 0x05 ∷ 0xc0 ∷ 0x00 ∷ 0x00 ∷ 0x00 ∷ 0xaa ∷ [] in
-    ((whole-0, refl), ((whole-1, refl), ((whole-1, refl), ((whole-2 0, refl), (omega arith, (omega arith, ((0, record { key = 5; capacity = 1; admitted = packet ∷ []; taken = 0 }, omega arith, refl, (refl, omega arith)), tt)))))))
+    ((whole-0, refl), ((whole-1, refl), ((whole-1, refl), ((whole-2 0, refl), ((whole-bd, refl), (omega arith, (omega arith, ((0, record { key = 5; capacity = 1; admitted = packet ∷ []; taken = 0 }, omega arith, refl, (refl, omega arith)), tt))))))))
 
 one-item : {A : Type 0} (P : A → Type 0) (a : A) → P a → All P (a ∷ [])
 one-item P a h = All-cons P a [] h (All-nil P)
 
-pub allowed-2 : IsAllowed (example.buffer_of 2)
-allowed-2 = record {
+pub allowed-from : (first : ℕ) → first < 256 → IsAllowed (record (example.buffer_of 2) { first = first })
+allowed-from first low = record {
   vcid = omega arith;
   width = record { least = omega arith; most = omega arith; even = refl };
   buffer = (omega arith, omega arith);
@@ -62,17 +65,20 @@ allowed-2 = record {
   by_headers = λ plain. absurd cc;
 }
 
+pub allowed-2 : IsAllowed (example.buffer_of 2)
+allowed-2 = allowed-from 0 (omega arith)
+
 -- the action at each moment
 abbrev IsAt : ℕ → Action → Type 0
-IsAt t (Send j) = ((t ≡ 0) × (j ≡ 0)) ⊎ (((t ≡ 2) × (j ≡ 1)) ⊎ ((t ≡ 7) × (j ≡ 2)))
+IsAt t (Send j) = ((t ≡ 0) × (j ≡ 0)) ⊎ (((t ≡ 2) × (j ≡ 1)) ⊎ (((t ≡ 5) × (j ≡ 1)) ⊎ ((t ≡ 7) × (j ≡ 2))))
 IsAt t (Arrive j s) = ((t ≡ 1) × (j ≡ 0) × (s ≡ 0)) ⊎ (((t ≡ 4) × (j ≡ 1) × (s ≡ 2)) ⊎ (((t ≡ 8) × (j ≡ 1) × (s ≡ 2)) ⊎ ((t ≡ 9) × (j ≡ 2) × (s ≡ 7))))
-IsAt t (Hear m) = ((t ≡ 3) × (m ≡ 0)) ⊎ (((t ≡ 5) × (m ≡ 2)) ⊎ (((t ≡ 6) × (m ≡ 5)) ⊎ ((t ≡ 10) × (m ≡ 10))))
+IsAt t (Hear m) = ((t ≡ 3) × (m ≡ 0)) ⊎ (((t ≡ 6) × (m ≡ 5)) ⊎ (((t ≡ 11) × (m ≡ 11)) ⊎ ((t ≡ 12) × (m ≡ 11))))
 IsAt t (Other e) = IsOther e × ((state : ChannelState) → set_by learnt_by_9.loop.settings state e ≡ None)
 IsAt t Idle = ⊥
 
 at : (t : ℕ) (a : Action) → slice_get learnt_by_9.session t ≡ Some a → IsAt t a
 at t a e = so-at IsAt learnt_by_9.session t a
-    (inl (refl, refl), (inl (refl, refl, refl), (inr (inl (refl, refl)), (inl (refl, refl), (inr (inl (refl, refl, refl)), (inr (inl (refl, refl)), (inr (inr (inl (refl, refl))), (inr (inr (refl, refl)), (inr (inr (inl (refl, refl, refl))), (inr (inr (inr (refl, refl, refl))), (inr (inr (inr (refl, refl))), ((tt, λ state. refl), ((tt, λ state. refl), ((tt, λ state. refl), tt))))))))))))))
+    (inl (refl, refl), (inl (refl, refl, refl), (inr (inl (refl, refl)), (inl (refl, refl), (inr (inl (refl, refl, refl)), (inr (inr (inl (refl, refl))), (inr (inl (refl, refl)), (inr (inr (inr (refl, refl))), (inr (inr (inl (refl, refl, refl))), (inr (inr (inr (refl, refl, refl))), ((λ low control. absurd cc, λ state. refl), (inr (inr (inl (refl, refl))), (inr (inr (inr (refl, refl))), ((tt, λ state. refl), ((tt, λ state. refl), ((tt, λ state. refl), tt))))))))))))))))
     e
 
 in-order : KeepOrder learnt_by_9.session
@@ -91,16 +97,18 @@ in-order = record {
 last : NoneSetsWithin learnt_by_9.loop.limits learnt_by_9.loop.settings (journal learnt_by_9.loop (take 9 learnt_by_9.session)) (events learnt_by_9.loop (drop 9 learnt_by_9.session))
 unfolding run_within some_of_first passed_on no_limits
 last zero e h = let q : Frame (around 9 2) ≡ e = cc in rw (← q) refl
-last (suc zero) e h = let q : Release ≡ e = cc in rw (← q) refl
+last (suc zero) e h = let q : Frame by_bd ≡ e = cc in rw (← q) refl
 last (suc (suc zero)) e h = let q : Release ≡ e = cc in rw (← q) refl
-last (suc (suc (suc zero))) e h = let q : Take 5 ≡ e = cc in rw (← q) refl
-last (suc (suc (suc (suc i)))) e h = absurd cc
+last (suc (suc (suc zero))) e h = let q : Release ≡ e = cc in rw (← q) refl
+last (suc (suc (suc (suc zero)))) e h = let q : Take 5 ≡ e = cc in rw (← q) refl
+last (suc (suc (suc (suc (suc i))))) e h = absurd cc
 
 sends : (t i : ℕ) → IsAt t (Send (1 + 1 + i)) → (6 < t) × (known_since learnt_by_9 t ≤ i) × (i < known_since learnt_by_9 t + 5)
 unfolding run_within some_of_first clcw_within
 sends t i (inl p) = let q = p.1 in absurd (omega arith)
 sends t i (inr (inl p)) = let q = p.1 in absurd (omega arith)
-sends t i (inr (inr p)) = let q = p.1 in let none : i ≡ 0 = omega arith in rw (p.0, none) (omega arith, omega arith, omega arith)
+sends t i (inr (inr (inl p))) = let q = p.1 in absurd (omega arith)
+sends t i (inr (inr (inr p))) = let q = p.1 in let none : i ≡ 0 = omega arith in rw (p.0, none) (omega arith, omega arith, omega arith)
 
 pub each-premise : IsStart learnt_by_9
 unfolding run_within some_of_first clcw_within
@@ -169,6 +177,18 @@ before-loop = record {
 
 pub another : NamesAnother learnt_by_9 0 5 (smallest 0) 2
 another a low high e = let one : begun (session_before learnt_by_9) 4 ≡ 1 = refl in absurd (omega arith)
+
+-- the number of a frame that is known to be accepted may be named, and that of the next frame may not
+pub known-named : NamesAnother (acknowledged 0) 0 5 (smallest 0) 3
+unfolding run_within some_of_first clcw_within
+known-named a low high e =
+    let known_one : known (era_before (acknowledged 0) 0 5 (smallest 0)) (session_before (acknowledged 0)) 3 ≡ 1 = refl in
+    let one : begun (session_before (acknowledged 0)) 4 ≡ 1 = refl in
+    absurd (omega arith)
+
+pub next-not-another : NamesAnother (acknowledged 1) 0 5 (smallest 0) 3 → ⊥
+unfolding run_within some_of_first clcw_within
+next-not-another another = another 1 (omega arith) (omega arith) refl
 
 pub trap-not-another : NamesAnother trap 0 5 (smallest 0) 2 → ⊥
 trap-not-another another = another 0 (omega arith) (omega arith) refl

@@ -2,7 +2,7 @@
 use Rattle.std.specs.Prelude.{ℕ, zero, suc, ◌+◌, ◌%◌, List, [], ◌∷◌, ◌++◌}
 unfoldable use Rattle.tc_channel.specs.ChannelState.{no_limits}
 use Rattle.tc_channel.specs.Examples as example
-use Rattle.tc_channel.specs.declared.event.Event.TheVariants.{Release, Take}
+use Rattle.tc_channel.specs.declared.event.Event.TheVariants.{Frame, Release, Take}
 use Rattle.tc_loop.specs.Loop.{Loop, Action, Send, Arrive, Hear, Other, new_loop, smallest}
 use Rattle.tc_loop.specs.Start.{Start}
 
@@ -60,15 +60,32 @@ trap = record {
   believed = 4;
 }
 
--- A start with a Set V(R) to 9, a number that no earlier CLCW has. Set V(R) is obeyed twice, the second time when the
--- sender already believes that it was obeyed. Then frame 0 of the era is accepted, and the sender hears of it. The data
--- fields of the earlier frame 0 and of this one are released, and the packet is taken.
+-- a Type-BD frame whose data field is a unit of one octet on MAP 1
+abbrev pub by_bd : List ℕ
+by_bd = 0x20 ∷ 0x2a ∷ 0x04 ∷ 0x06 ∷ 0x00 ∷ 0xc1 ∷ 0x00 ∷ []
+
+-- A start with a Set V(R) to 9, a number that no earlier CLCW has. The sender sends Set V(R) again before it believes
+-- that it was obeyed. This time it is lost, but the first one comes twice and is obeyed twice. Then frame 0 of the era
+-- is accepted, a Type-BD frame comes, and the sender hears of frame 0 by a CLCW that comes twice. The data fields of the
+-- earlier frame 0 and of this one are released, and the packet is taken.
 abbrev pub learnt_by_9 : Start
 learnt_by_9 = record {
   loop = around_set_to 9;
   directive = 1;
-  session = Send 0 ∷ Arrive 0 0 ∷ Send 1 ∷ Hear 0 ∷ Arrive 1 2 ∷ Hear 2 ∷ Hear 5 ∷ Send 2 ∷ Arrive 1 2 ∷ Arrive 2 7 ∷ Hear 10 ∷ Other Release ∷ Other Release ∷ Other (Take 5) ∷ [];
+  session = Send 0 ∷ Arrive 0 0 ∷ Send 1 ∷ Hear 0 ∷ Arrive 1 2 ∷ Send 1 ∷ Hear 5 ∷ Send 2 ∷ Arrive 1 2 ∷ Arrive 2 7 ∷ Other (Frame by_bd) ∷ Hear 11 ∷ Hear 11 ∷ Other Release ∷ Other Release ∷ Other (Take 5) ∷ [];
   obeyed = 4;
   again = 8;
   believed = 6;
+}
+
+-- V(R) was 0, and then 1. The sender hears that its frame 0 is accepted, and sends a Set V(R) to a number x, which is
+-- obeyed.
+abbrev pub acknowledged : ℕ → Start
+acknowledged x = record {
+  loop = around_set_to x;
+  directive = 1;
+  session = Send 0 ∷ Arrive 0 0 ∷ Hear 2 ∷ Send 1 ∷ Arrive 1 3 ∷ [];
+  obeyed = 4;
+  again = 4;
+  believed = 5;
 }

@@ -92,10 +92,11 @@ pub fn a_number_of_its_own_shows_that_set_v_r_was_obeyed()
         → NamesAnother s first window frames asked → slice_get s.session s.believed ≡ Some (Hear made) → reported s.loop s.session made ≡ s.loop.first → s.obeyed < made }
 {}
 
-/// These two starts come to the results that were worked out by hand. FOP-1's rule alone, by which a sender believes a
-/// CLCW with the number that Set V(R) names, isn't enough (`trap`): an earlier CLCW has the number 0, too, and the
-/// sender takes its lost frame for accepted. A Set V(R) to 9 meets each premise of both laws (`met`, `before_met`,
-/// `another_met`), although it is obeyed twice.
+/// These starts come to the results that were worked out by hand. FOP-1's rule alone, by which a sender believes a CLCW
+/// with the number that Set V(R) names, isn't enough (`trap`): an earlier CLCW has the number 0, too, and the sender
+/// takes its lost frame for accepted. A Set V(R) to 9 meets each premise of both laws (`met`, `before_met`,
+/// `another_met`), although it is obeyed twice. It may also name a number whose frame is known to be accepted
+/// (`known_named`), but not that of the next frame (`next_not_named`).
 pub fn starts_come_to_this()
     ensures trap_says { reported example.trap.loop example.trap.session 0 ≡ example.trap.loop.first }
     ensures trap_known { known_since example.trap 7 ≡ 1 }
@@ -104,13 +105,16 @@ pub fn starts_come_to_this()
     ensures met { IsStart example.learnt_by_9 }
     ensures before_met { IsLoop (era_before example.learnt_by_9 0 5 (smallest 0)) (session_before example.learnt_by_9) }
     ensures another_met { NamesAnother example.learnt_by_9 0 5 (smallest 0) 2 }
-    ensures met_known { known_since example.learnt_by_9 11 ≡ 1 }
+    ensures known_named { NamesAnother (example.acknowledged 0) 0 5 (smallest 0) 3 }
+    ensures next_not_named { NamesAnother (example.acknowledged 1) 0 5 (smallest 0) 3 → ⊥ }
+    ensures met_known { known_since example.learnt_by_9 13 ≡ 1 }
     ensures met_accepted { accepted (era example.learnt_by_9) (era_session example.learnt_by_9) ≡ 1 }
 {}
 
-/// This session comes to the results that were worked out by hand. V(R) is 255 at first. Frame 0 is lost once and then
-/// comes twice, and frame 1 comes too early.
+/// This session is one of a loop (`met`), and comes to the results that were worked out by hand. V(R) is 255 at first.
+/// Frame 0 is lost once and then comes twice, and frame 1 comes too early.
 pub fn a_session_comes_to_this()
+    ensures met { IsLoop example.five example.one_lost }
     ensures none_accepted { accepted example.five (take 5 example.one_lost) ≡ 0 }
     ensures one_accepted { accepted example.five example.one_lost ≡ 1 }
     ensures none_known { known example.five example.one_lost 7 ≡ 0 }

@@ -1,5 +1,5 @@
 use Rattle.tc_loop.proofs.Names.{clcw_within, no_limits, passed_on, refl, run_within, some_of_first}
-use Rattle.tc_loop.proofs.Starts.{another, before-loop, each-premise, trap-not-another}
+use Rattle.tc_loop.proofs.Starts.{another, before-loop, each-premise, known-named, next-not-another, trap-not-another}
 use Rattle.tc_loop.proofs.laws.starts_come_to_this.Goals as goal
 
 pub returns : goal.returns
@@ -12,6 +12,8 @@ returns c = record {
   met = each-premise;
   before_met = before-loop;
   another_met = another;
+  known_named = known-named;
+  next_not_named = next-not-another;
   met_known = refl;
   met_accepted = refl;
 }
