@@ -1,10 +1,9 @@
 //! A law that leads from a sender's packets to the packets that are taken, over any threads.
 
-ghost use Rattle.std.specs.Prelude.{Bool, List, ℕ, ◌++◌, ◌≡◌, length, slice_get, Some};
+ghost use Rattle.std.specs.Prelude.{List, ℕ, ◌++◌, ◌≡◌, length, slice_get, Some};
 ghost use Rattle.std.specs.List.{AllByRecursion};
 ghost use Rattle.tc_link.specs.declared.frame.Header.{Header};
 ghost use Rattle.tc_cltu.specs.Reception.{Reception};
-ghost use Rattle.tc_cltu.specs.declared.block.Mode.{Mode};
 ghost use Rattle.tc_channel.specs.declared.event.Event.{Event};
 ghost use Rattle.tc_queues.specs.ChannelState.{Queue, no_limits, queue_of};
 ghost use Rattle.tc_channel.specs.Journal.{History};
@@ -15,7 +14,7 @@ ghost use Rattle.tc_station.specs.Tally.{AtStation};
 ghost use Rattle.tc_station.specs.Together.{AreClosedTogether};
 ghost use Rattle.tc_loop.specs.Loop.{Loop, Action, IsLoop, journal, receiver, sent};
 ghost use Rattle.tc_loop.specs.Start.{Start, IsStart, era, era_session};
-ghost use Rattle.tc_ends.specs.Arrivals.{AltersNothing, AreEventsOf, Coming};
+ghost use Rattle.tc_ends.specs.Arrivals.{AltersNothing, AreEventsOf, Coming, LinkEnd};
 ghost use Rattle.tc_ends.specs.Ends.{AreFrom, AreGivenOf, AreNumbered, CanBeSent, SendsOnly, UnitSent, units_on};
 
 use tc_write::the_segments_of_a_unit_make_the_unit;
@@ -42,10 +41,10 @@ pub fn a_station_gives_out_what_a_loop_sent()
         → IsLoop l session → channel.journal ≡ journal l session → AllByRecursion (CanBeSent l.limits l.settings.segmented) units → AreNumbered l.settings.segmented header units frames → AreFrom l.frames frames → SendsOnly (length frames) session
         → queue_of apid (receiver l session).queues ≡ Some q
         → AreGivenOf no_limits channel.settings apid l.before channel.journal (length frames) (units_on units) }
-    ensures in_cltus { (station : Roster) (operators : List AtStation) (closed : List History) (place : ℕ) (channel : History) (s : Start) (header : Header) (units : List UnitSent) (frames : List (List ℕ)) (apid : ℕ) (q : Queue) (mode : Mode) (field : Bool) (state : Reception) (coming : List Coming) (came : List Event)
+    ensures in_cltus { (station : Roster) (operators : List AtStation) (closed : List History) (place : ℕ) (channel : History) (s : Start) (header : Header) (units : List UnitSent) (frames : List (List ℕ)) (apid : ℕ) (q : Queue) (end : LinkEnd) (state : Reception) (coming : List Coming) (came : List Event)
         → AreClosedTogether station operators closed → slice_get closed place ≡ Some channel → slice_get (settings_in station) place ≡ Some s.loop.settings → s.loop.limits ≡ no_limits
         → IsStart s → channel.journal ≡ s.loop.before ++ came → AllByRecursion (CanBeSent s.loop.limits s.loop.settings.segmented) units → AreNumbered s.loop.settings.segmented header units frames → AreFrom (era s).frames frames → SendsOnly (length frames) (era_session s)
-        → AltersNothing mode field s.loop.frames state s.session coming → AreEventsOf mode field state coming came
+        → AltersNothing end s.loop.frames state s.session coming → AreEventsOf end state coming came
         → queue_of apid (run_within s.loop.limits s.loop.settings (s.loop.before ++ came)).queues ≡ Some q
         → AreGivenOf no_limits channel.settings apid (era s).before channel.journal (length frames) (units_on units) }
 {

@@ -1,6 +1,6 @@
--- The frame of a CLTU with few wrong bits arrives, and octets in CLTUs bring about the events of the session at a
--- receiver.
-use Rattle.tc_ends.proofs.Names.{Action, AltersNothing, AreBrought, AreCarried, AreEventsAt, AreEventsOf, AreNearBlocks, Asks, Bool, Brings, CarryWell, Coming, Decoding, Event, Frame, IsCarried, IsNearCltu, IsWhole, List, Loop, Mode, None, Octets, Option, Reception, Searching, Step, [], after-fits, after_block, ap, append-nil, append_assoc, arith, cltu_fault_of, decoded, enclosed, events, events_at, false, fill, filled, filled-fits, filled-front, frame_with_field-alike, frames_of, inl, inr, is_fill, is_start, length, length-append, map, most_octets, nat_tests, one-frame, reception_step, refl, some-octets, state_after, state_behind, subst, suc, sym, take, taken, true, ℕ, ◌++◌, ◌+◌, ◌<◌, ◌∙◌, ◌∷◌, ◌≡◌, ◌≤◌}
+-- A CLTU with few wrong bits is the arrival of its frames, and octets in CLTUs bring about the events of the session at
+-- a receiver.
+use Rattle.tc_ends.proofs.Names.{if◌then◌else◌, Action, AllByRecursion, AltersNothing, AreBrought, AreCarriedOrLost, AreEventsAt, AreEventsOf, AreNearBlocks, ArePassed, AreTakenOut, Asks, Bool, CarriesWell, Coming, Decoding, Event, Frame, HasNoStart, IsCarriedOrLost, IsLost, IsNearCltu, IsWhole, LinkEnd, List, Loop, Mode, None, Octets, Option, Reception, Searching, Step, [], after-fits, after_block, ap, append-nil, append_assoc, arith, cltu_fault_of, concat, decoded, enclosed, events, events_at, events_of, false, fault_of, fill, filled, filled-fits, filled-front, flat_map-append, frame_with_field-alike, frames_of, inl, inr, is_fill, is_some, is_start, length, length-append, length-map, map, most_octets, nat_lt, nat_tests, one-frame, only-frames, reception_step, refl, some-octets, state_after, state_behind, subst, suc, sym, take, taken, true, ℕ, ◌++◌, ◌+◌, ◌<◌, ◌∙◌, ◌∷◌, ◌≡◌, ◌≤◌}
 
 -- the state after octets, and the candidate frames that they end
 abbrev Both : Mode → ℕ → Reception → List ℕ → Step
@@ -48,27 +48,27 @@ filled-some frame some =
     let f = filled-front frame in
     omega (arith, ap length f.2 ∙ length-append frame (take f.0 fill))
 
+no-start : (mode : Mode) (last octet : ℕ) → is_start mode last octet ≡ false → reception_step mode most_octets (Searching last) octet ≡ (Searching octet, [])
+no-start mode last octet e = rw e refl
+
+a-start : (mode : Mode) (last octet : ℕ) → is_start mode last octet ≡ true → reception_step mode most_octets (Searching last) octet ≡ (Decoding [] [], [])
+a-start mode last octet e = rw e refl
+
 near-both : (mode : Mode) (last : ℕ) (frame octets rest : List ℕ) → cltu_fault_of frame ≡ None → IsNearCltu mode last frame octets
     → Both mode most_octets (Searching last) (octets ++ rest) ≡ behind mode most_octets (Searching 0, filled frame ∷ []) rest
 near-both mode last frame octets rest fault n =
     let end = n.tail ++ n.end ∷ [] in
     let some = some-octets frame fault in
     ap (λ (x : List ℕ). Both mode most_octets (Searching last) (x ++ rest)) n.parts
-    ∙ ap (λ (s : Step). behind mode most_octets s (n.two ∷ (n.blocks ++ end) ++ rest)) (no-start n.no_start_yet)
-    ∙ ap (λ (s : Step). behind mode most_octets s ((n.blocks ++ end) ++ rest)) (a-start n.start)
+    ∙ ap (λ (s : Step). behind mode most_octets s (n.two ∷ (n.blocks ++ end) ++ rest)) (no-start mode last n.one n.no_start_yet)
+    ∙ ap (λ (s : Step). behind mode most_octets s ((n.blocks ++ end) ++ rest)) (a-start mode n.one n.two n.start)
     ∙ ap (Both mode most_octets (Decoding [] [])) (append_assoc n.blocks end rest)
     ∙ near-taken mode most_octets (filled frame) [] n.blocks (end ++ rest) n.near (let fits = filled-fits frame fault in omega arith)
     ∙ tail-ends mode most_octets (filled frame) n.tail n.end rest (filled-some frame some) n.long n.rejected
-  where
-    no-start : is_start mode last n.one ≡ false → reception_step mode most_octets (Searching last) n.one ≡ (Searching n.one, [])
-    no-start e = rw e refl
 
-    a-start : is_start mode n.one n.two ≡ true → reception_step mode most_octets (Searching n.one) n.two ≡ (Decoding [] [], [])
-    a-start e = rw e refl
-
--- a frame of this length can be carried by a CLTU
-no-fault : (frame : List ℕ) → 6 ≤ length frame → length frame ≤ 1024 → cltu_fault_of frame ≡ None
-no-fault frame least most = grind (arith, nat_tests)
+-- octets of this length can be carried by a CLTU
+no-fault : (octets : List ℕ) → 1 ≤ length octets → length octets ≤ most_octets → cltu_fault_of octets ≡ None
+no-fault octets least most = grind (arith, nat_tests)
 
 fills : (k : ℕ) → k < 7 → is_fill (take k fill) ≡ true
 fills (suc (suc (suc (suc (suc (suc (suc k))))))) low = absurd (omega arith)
@@ -78,84 +78,147 @@ enclosed-alike : (field : Bool) (one other : List ℕ) → IsWhole one → IsWho
 enclosed-alike true one other w v same = frame_with_field-alike one other w v same
 enclosed-alike false one other w v same = same
 
-its-own : (field : Bool) (frame : List ℕ) → IsWhole frame → IsWhole (enclosed field frame) → Brings field (filled (enclosed field frame)) frame
-its-own field frame whole own = let f = filled-front (enclosed field frame) in (take f.0 fill, whole, record { whole = own; parts = f.2 }, fills f.0 f.1)
+-- an input brings about one list of events and no other
+taken-alike : (several : Bool) (carried : List ℕ) (one other : List (List ℕ)) → AreTakenOut several carried one → AreTakenOut several carried other → one ≡ other
+taken-alike true carried one other a b = (only-frames (length carried) carried a.0 b.0 one other a.1 b.1).0
+taken-alike false carried one other (inl a) (inl b) =
+    let same = one-frame a.0 b.0 a.1 b.1 a.2.whole b.2.whole (sym a.2.parts ∙ b.2.parts) in
+    a.4 ∙ ap (λ (x : List ℕ). x ∷ []) same.0 ∙ sym b.4
+taken-alike false carried one other (inl a) (inr b) = absurd (b.0 a.0 a.1 a.2 a.3)
+taken-alike false carried one other (inr a) (inl b) = absurd (a.0 b.0 b.1 b.2 b.3)
+taken-alike false carried one other (inr a) (inr b) = a.1 ∙ sym b.1
 
--- the octets that the CLTU of a frame carries bring this frame and no other
-just-its-own : (field : Bool) (frame : List ℕ) (frames : List (List ℕ)) → IsWhole frame → IsWhole (enclosed field frame)
-    → AreBrought field (filled (enclosed field frame) ∷ []) frames → frames ≡ frame ∷ []
-just-its-own field frame frames whole own (inl b) =
-    let f = filled-front (enclosed field frame) in
-    let same = one-frame (enclosed field frame) (enclosed field b.0) (take f.0 fill) b.2.0 own b.2.2.whole (sym f.2 ∙ b.2.2.parts) in
-    let is = enclosed-alike field frame b.0 whole b.2.1 same.0 in
-    b.3 ∙ ap (λ (x : List (List ℕ)). b.0 ∷ x) b.4 ∙ ap (λ (x : List ℕ). x ∷ []) (sym is)
-just-its-own field frame frames whole own (inr b) = absurd (b.0 frame (its-own field frame whole own))
+passed-alike : (field : Bool) (taken one other : List (List ℕ)) → ArePassed field taken one → ArePassed field taken other → one ≡ other
+passed-alike field [] one other a b = a ∙ sym b
+passed-alike field (t ∷ ts) one other (inl a) (inl b) =
+    a.4 ∙ ap (λ (x : List ℕ). x ∷ a.1) (enclosed-alike field a.0 b.0 a.2 b.2 (sym a.3 ∙ b.3))
+    ∙ ap (λ (xs : List (List ℕ)). b.0 ∷ xs) (passed-alike field ts a.1 b.1 a.5 b.5) ∙ sym b.4
+passed-alike field (t ∷ ts) one other (inl a) (inr b) = absurd (b.0 a.0 a.2 a.3)
+passed-alike field (t ∷ ts) one other (inr a) (inl b) = absurd (a.0 b.0 b.2 b.3)
+passed-alike field (t ∷ ts) one other (inr a) (inr b) = passed-alike field ts one other a.1 b.1
 
-near-now : (mode : Mode) (last : ℕ) (frame octets : List ℕ) → IsWhole frame → IsNearCltu mode last frame octets
-    → Both mode most_octets (Searching last) octets ≡ (Searching 0, filled frame ∷ [])
-near-now mode last frame octets whole near =
-    let least = whole.least in
-    let most = whole.most in
-    ap (Both mode most_octets (Searching last)) (sym (append-nil octets)) ∙ near-both mode last frame octets [] (no-fault frame least most) near
+brought-alike : (several field : Bool) (candidates one other : List (List ℕ)) → AreBrought several field candidates one → AreBrought several field candidates other → one ≡ other
+brought-alike several field [] one other a b = a ∙ sym b
+brought-alike several field (c ∷ cs) one other a b =
+    let taken = taken-alike several c a.0 b.0 a.3 b.3 in
+    let own = passed-alike field b.0 a.1 b.1 (subst (λ ts. ArePassed field ts a.1) taken a.4) b.4 in
+    a.5 ∙ ap (λ (xs : List (List ℕ)). xs ++ a.2) own ∙ ap (λ (xs : List (List ℕ)). b.1 ++ xs) (brought-alike several field cs a.2 b.2 a.6 b.6) ∙ sym b.5
 
-pub near-searches : (mode : Mode) (field : Bool) (last : ℕ) (frame octets : List ℕ) → IsWhole frame → IsWhole (enclosed field frame) → IsNearCltu mode last (enclosed field frame) octets
-    → state_after mode most_octets (Searching last) octets ≡ Searching 0
-near-searches mode field last frame octets whole own near = ap (λ (s : Step). s.0) (near-now mode last (enclosed field frame) octets own near)
+pub events-alike : (end : LinkEnd) (state : Reception) (c : Coming) (one other : List Event) → AreEventsAt end state c one → AreEventsAt end state c other → one ≡ other
+events-alike end state (Octets octets) one other a b =
+    a.2 ∙ ap (map Frame) (brought-alike end.several end.field (frames_of end.mode most_octets state octets) a.0 b.0 a.1 b.1) ∙ sym b.2
+events-alike end state (Asks e) one other a b = a ∙ sym b
 
-pub near-arrives : (mode : Mode) (field : Bool) (last : ℕ) (frame octets : List ℕ) → IsWhole frame → IsWhole (enclosed field frame) → IsNearCltu mode last (enclosed field frame) octets
-    → AreEventsAt mode field (Searching last) (Octets octets) (Frame frame ∷ [])
-near-arrives mode field last frame octets whole own near =
-    let one : AreBrought field (filled (enclosed field frame) ∷ []) (frame ∷ []) = inl (frame, [], its-own field frame whole own, refl, refl) in
-    (frame ∷ [], subst (λ candidates. AreBrought field candidates (frame ∷ [])) (sym (ap (λ (s : Step). s.1) (near-now mode last (enclosed field frame) octets own near))) one, refl)
+-- the frames that a CLTU carries are taken out of it, and pass
+all-passed : (field : Bool) (frames : List (List ℕ)) → AllByRecursion IsWhole frames → ArePassed field (map (enclosed field) frames) frames
+all-passed field [] all = refl
+all-passed field (f ∷ fs) all = inl (f, fs, all.0, refl, refl, all-passed field fs all.1)
 
-pub near-alone : (mode : Mode) (field : Bool) (last : ℕ) (frame octets : List ℕ)
-    → IsWhole frame → IsWhole (enclosed field frame) → IsNearCltu mode last (enclosed field frame) octets → (now : List Event) → AreEventsAt mode field (Searching last) (Octets octets) now → now ≡ Frame frame ∷ []
-near-alone mode field last frame octets whole own near now are =
-    let is = ap (λ (s : Step). s.1) (near-now mode last (enclosed field frame) octets own near) in
-    are.2 ∙ ap (map Frame) (just-its-own field frame are.0 whole own (subst (λ candidates. AreBrought field candidates are.0) is are.1))
+as-long : (xs : List (List ℕ)) → AllByRecursion IsWhole xs → length xs ≤ length (concat xs)
+as-long [] all = omega arith
+as-long (x ∷ xs) all = let least = all.0.least in let more = as-long xs all.1 in omega (arith, length-append x (concat xs))
+
+unless : (b o : Bool) → (if b then false else o) ≡ true → o ≡ true
+unless true o e = absurd cc
+unless false o e = e
+
+taken-out : (several : Bool) (xs : List (List ℕ)) (rest : List ℕ) → AllByRecursion IsWhole xs → (several ≡ false → length xs ≡ 1) → is_fill rest ≡ true → AreTakenOut several (concat xs ++ rest) xs
+taken-out true xs rest all one filling = (
+  rest,
+  record { each = all; parts = refl; few = omega (arith, as-long xs all, length-append (concat xs) rest); ended = inr (unless (nat_lt 6 (length rest)) (is_some (fault_of rest)) filling) },
+)
+taken-out false (x ∷ []) rest all one filling = inl (x, rest, record { whole = all.0; parts = ap (λ (l : List ℕ). l ++ rest) (append-nil x) }, filling, refl)
+taken-out false _ rest all one filling = let many = one refl in absurd (omega arith)
+
+near-now : (mode : Mode) (last : ℕ) (carried octets : List ℕ) → cltu_fault_of carried ≡ None → IsNearCltu mode last carried octets
+    → Both mode most_octets (Searching last) octets ≡ (Searching 0, filled carried ∷ [])
+near-now mode last carried octets fault near =
+    ap (Both mode most_octets (Searching last)) (sym (append-nil octets)) ∙ near-both mode last carried octets [] fault near
+
+-- frames that octets carry well come, and the receiver searches again
+pub well-come : (end : LinkEnd) (last : ℕ) (frames : List (List ℕ)) (octets : List ℕ) → CarriesWell end last frames octets
+    → (state_behind end (Searching last) (Octets octets) ≡ Searching 0) × AreEventsAt end (Searching last) (Octets octets) (map Frame frames)
+well-come end last frames octets w =
+    let xs = map (enclosed end.field) frames in
+    let all = concat xs in
+    let many = length-map frames (enclosed end.field) in
+    let some = w.some in
+    let now = near-now end.mode last all octets (no-fault all (omega (arith, many, as-long xs w.fitting, some)) w.few) w.near in
+    let f = filled-front all in
+    let taken = subst (λ c. AreTakenOut end.several c xs) (sym f.2) (taken-out end.several xs (take f.0 fill) w.fitting (λ e. many ∙ w.one e) (fills f.0 f.1)) in
+    let one : AreBrought end.several end.field (filled all ∷ []) frames = (xs, frames, [], taken, all-passed end.field frames w.whole, sym (append-nil frames), refl) in
+    (ap (λ (s : Step). s.0) now, (frames, subst (λ cs. AreBrought end.several end.field cs frames) (sym (ap (λ (s : Step). s.1) now)) one, refl))
+
+-- octets that step by step do as others do from another state are lost, too
+lost-alike : (end : LinkEnd) (last o : ℕ) (octets os : List ℕ) (later : ℕ) → Both end.mode most_octets (Searching last) octets ≡ Both end.mode most_octets (Searching o) os → IsLost end o os later → IsLost end last octets later
+lost-alike end last o octets os later same is = (
+  (is.0.0, subst (λ cs. AreBrought end.several end.field cs is.0.0) (sym (ap (λ (s : Step). s.1) same)) is.0.1, is.0.2),
+  ap (λ (s : Step). s.0) same ∙ is.1,
+)
+
+-- what a link may lose: idle octets, a CLTU whose first code block is rejected, and one that carries nothing that passes
+pub idle-lost : (end : LinkEnd) (last : ℕ) (octets : List ℕ) → HasNoStart end.mode last octets → (later : ℕ) × IsLost end last octets later
+idle-lost end last [] none = (last, (([], refl, refl), refl))
+idle-lost end last (o ∷ os) none =
+    let more = idle-lost end o os none.1 in
+    (more.0, lost-alike end last o (o ∷ os) os more.0 (ap (λ (s : Step). behind end.mode most_octets s os) (no-start end.mode last o none.0)) more.1)
+
+none-lost : (end : LinkEnd) (last : ℕ) (octets : List ℕ) (candidates : List (List ℕ)) → Both end.mode most_octets (Searching last) octets ≡ (Searching 0, candidates) → AreBrought end.several end.field candidates [] → IsLost end last octets 0
+none-lost end last octets candidates now none =
+    (([], subst (λ cs. AreBrought end.several end.field cs []) (sym (ap (λ (s : Step). s.1) now)) none, refl), ap (λ (s : Step). s.0) now)
+
+pub cut-lost : (end : LinkEnd) (last one two : ℕ) (block : List ℕ) (parity : ℕ) → is_start end.mode last one ≡ false → is_start end.mode one two ≡ true → length block ≡ 7
+    → decoded end.mode (block ++ parity ∷ []) ≡ None → IsLost end last (one ∷ two ∷ (block ++ parity ∷ [])) 0
+cut-lost end last one two bs parity yet start seven rejected =
+    let now : Both end.mode most_octets (Searching last) (one ∷ two ∷ (bs ++ parity ∷ [])) ≡ (Searching 0, []) =
+    ap (λ (s : Step). behind end.mode most_octets s (two ∷ (bs ++ parity ∷ []))) (no-start end.mode last one yet)
+    ∙ ap (λ (s : Step). behind end.mode most_octets s (bs ++ parity ∷ [])) (a-start end.mode one two start)
+    ∙ ap (Both end.mode most_octets (Decoding [] [])) (sym (append-nil (bs ++ parity ∷ [])))
+    ∙ block end.mode most_octets [] bs parity [] seven
+    ∙ ap (λ (o : Option (List ℕ)). behind end.mode most_octets (after_block most_octets [] o) []) rejected in
+    none-lost end last (one ∷ two ∷ (bs ++ parity ∷ [])) [] now refl
+
+pub refused-lost : (end : LinkEnd) (last : ℕ) (carried octets : List ℕ) → cltu_fault_of carried ≡ None → IsNearCltu end.mode last carried octets
+    → AreBrought end.several end.field (filled carried ∷ []) [] → IsLost end last octets 0
+refused-lost end last carried octets fault near none = none-lost end last octets (filled carried ∷ []) (near-now end.mode last carried octets fault near) none
+
+-- an input that carries events brings about just these, and the receiver searches again
+step : (end : LinkEnd) (last later : ℕ) (es : List Event) (c : Coming) → IsCarriedOrLost end last es c later → (state_behind end (Searching last) c ≡ Searching later) × AreEventsAt end (Searching last) c es
+step end last later es (Asks e) is = (ap Searching (sym is.1), is.0)
+step end last later es (Octets octets) (inl is) = (is.1.1, subst (AreEventsAt end (Searching last) (Octets octets)) (sym is.0) is.1.0)
+step end last later es (Octets octets) (inr is) =
+    let w = well-come end last is.0 octets is.2 in
+    (w.0 ∙ ap Searching (sym is.3), subst (AreEventsAt end (Searching last) (Octets octets)) (sym is.1) w.1)
+
+pub carried-unaltered : (end : LinkEnd) (frames : ℕ → List ℕ) (last : ℕ) (session : List Action) (coming : List Coming) → AreCarriedOrLost end frames last session coming
+    → AltersNothing end frames (Searching last) session coming
+carried-unaltered end frames last session [] are = are
+carried-unaltered end frames last session (c ∷ coming) are =
+    let s = step end last are.2 (events_of frames are.0) c are.4 in (
+      are.0,
+      are.1,
+      are.3,
+      λ es at. events-alike end (Searching last) c es (events_of frames are.0) at s.1,
+      subst (λ state. AltersNothing end frames state are.1 coming) (sym s.0) (carried-unaltered end frames are.2 are.1 coming are.5),
+    )
+
+pub carried-whole : (end : LinkEnd) (frames : ℕ → List ℕ) (last : ℕ) (session : List Action) (coming : List Coming) → AreCarriedOrLost end frames last session coming
+    → AreEventsOf end (Searching last) coming (events_of frames session)
+carried-whole end frames last session [] are = are
+carried-whole end frames last session (c ∷ coming) are =
+    let s = step end last are.2 (events_of frames are.0) c are.4 in (
+      events_of frames are.0,
+      events_of frames are.1,
+      s.1,
+      ap (events_of frames) are.3 ∙ flat_map-append (events_at frames) are.0 are.1,
+      subst (λ state. AreEventsOf end state coming (events_of frames are.1)) (sym s.0) (carried-whole end frames are.2 are.1 coming are.5),
+    )
 
 -- if detection lets nothing through that was altered, the events of the receiver are those of the session
-pub events-came : (mode : Mode) (field : Bool) (l : Loop) (state : Reception) (session : List Action) (coming : List Coming) (came : List Event)
-    → AltersNothing mode field l.frames state session coming → AreEventsOf mode field state coming came → came ≡ events l session
-events-came mode field l state [] [] came so are = are
-events-came mode field l state (action ∷ session) (c ∷ coming) came so are =
-    are.3 ∙ ap (λ (x : List Event). x ++ are.1) (so.0 are.0 are.2)
-    ∙ ap (λ (x : List Event). events_at l.frames action ++ x) (events-came mode field l (state_behind mode state c) session coming are.1 so.1 are.4)
-events-came mode field l state _ _ came so are = absurd so
-
--- an input that carries events well alters none and loses none
-record IsWell (mode : Mode) (field : Bool) (events : List Event) (c : Coming) : Type 0 where
-  searches : state_behind mode (Searching 0) c ≡ Searching 0
-  come : AreEventsAt mode field (Searching 0) c events
-  alone : (now : List Event) → AreEventsAt mode field (Searching 0) c now → now ≡ events
-
-well-octets : (mode : Mode) (field : Bool) (events : List Event) (octets : List ℕ) → CarryWell mode field octets events → IsWell mode field events (Octets octets)
-well-octets mode field [] [] is = record { searches = refl; come = ([], refl, refl); alone = λ now are. are.2 ∙ ap (map Frame) are.1 }
-well-octets mode field [] (o ∷ os) is = absurd cc
-well-octets mode field (Frame frame ∷ []) octets is = record {
-  searches = near-searches mode field 0 frame octets is.0 is.1 is.2;
-  come = near-arrives mode field 0 frame octets is.0 is.1 is.2;
-  alone = near-alone mode field 0 frame octets is.0 is.1 is.2;
-}
-well-octets mode field _ octets is = absurd is
-
-well : (mode : Mode) (field : Bool) (events : List Event) (c : Coming) → IsCarried mode field events c → IsWell mode field events c
-well mode field events (Octets octets) is = well-octets mode field events octets is
-well mode field events (Asks e) is = record { searches = refl; come = is; alone = λ now are. are ∙ sym is }
-
-pub carried-unaltered : (mode : Mode) (field : Bool) (frames : ℕ → List ℕ) (session : List Action) (coming : List Coming) → AreCarried mode field frames session coming
-    → AltersNothing mode field frames (Searching 0) session coming
-carried-unaltered mode field frames [] [] are = tt
-carried-unaltered mode field frames (action ∷ session) (c ∷ coming) are =
-    let w = well mode field (events_at frames action) c are.0 in
-    (w.alone, subst (λ state. AltersNothing mode field frames state session coming) (sym w.searches) (carried-unaltered mode field frames session coming are.1))
-carried-unaltered mode field frames _ _ are = absurd are
-
-pub carried-whole : (mode : Mode) (field : Bool) (l : Loop) (session : List Action) (coming : List Coming) → AreCarried mode field l.frames session coming
-    → AreEventsOf mode field (Searching 0) coming (events l session)
-carried-whole mode field l [] [] are = refl
-carried-whole mode field l (action ∷ session) (c ∷ coming) are =
-    let w = well mode field (events_at l.frames action) c are.0 in
-    let rest = subst (λ state. AreEventsOf mode field state coming (events l session)) (sym w.searches) (carried-whole mode field l session coming are.1) in
-    (events_at l.frames action, events l session, w.come, refl, rest)
-carried-whole mode field l _ _ are = absurd are
+pub events-came : (end : LinkEnd) (l : Loop) (state : Reception) (session : List Action) (coming : List Coming) (came : List Event)
+    → AltersNothing end l.frames state session coming → AreEventsOf end state coming came → came ≡ events l session
+events-came end l state session [] came so are = are ∙ sym so
+events-came end l state session (c ∷ coming) came so are =
+    are.3 ∙ ap (λ (x : List Event). x ++ are.1) (so.3 are.0 are.2)
+    ∙ ap (λ (x : List Event). events_of l.frames so.0 ++ x) (events-came end l (state_behind end state c) so.1 coming are.1 so.4 are.4)
+    ∙ sym (ap (events l) so.2 ∙ flat_map-append (events_at l.frames) so.0 so.1)

@@ -2,7 +2,8 @@
 pub use Rattle.std.proofs.lemmas.Bool.{eqb-true, le-leb, cases_Bool}
 pub use Rattle.std.proofs.lemmas.Grind.{flat_map-append}
 pub use Rattle.std.proofs.lemmas.List.{get_or-append_right, get_or_append_left, get_or_at}
-pub use Rattle.std.specs.List.{flat_map}
+pub use Rattle.std.specs.List.{concat, flat_map}
+pub use Rattle.std.specs.Prelude.{if◌then◌else◌, is_some, nat_lt}
 pub use Rattle.tc_channel.proofs.Given.{released-within}
 pub use Rattle.tc_queues.proofs.Lists.{all-append}
 pub use Rattle.tc_channel.proofs.Names.{Ad, AllByRecursion, Bd, Bool, IsWhole, List, None, Option, Part, Passed, Queue, Service, Some, [], ap, append-nil, append_assoc, arith, as_list, at_most, common_steps, cond, drop, eq-eqb, eqb, eqb_tells, false, filter, filter-append, first_state_within, get_or, get_or-map, inl, inr, is_for, is_of, joined, length, length-append, length-drop, length-map, length-take, map, map-append, map_of, nat_tests, ne_eqb, packets_given, packets_of, packets_offered, queue_of, refl, rest_of, same_service, stream, subst, suc, sym, take, true, units_given, units_offered, zero, ℕ, ◌%◌, ◌&&◌, ◌*◌, ◌++◌, ◌+◌, ◌-◌, ◌<◌, ◌∙◌, ◌∷◌, ◌≡◌, ◌≢◌, ◌≤◌, ◌⊎◌}
@@ -14,21 +15,24 @@ pub use Rattle.tc_channel.specs.Given.{fields_passed}
 pub use Rattle.tc_queues.specs.Settings.{HasMapsByHeaders}
 pub use Rattle.tc_channel.specs.Through.{IsPartOf, all_made, is_chosen_by, packets_ended, packets_made, unit_made, units_ended, units_made}
 pub use Rattle.tc_cltu.proofs.Decoding.{after-fits, filled-fits, filled-front, some-octets}
-pub use Rattle.tc_cltu.proofs.Starting.{first-far, start-far, start-same}
+pub use Rattle.tc_cltu.proofs.Starting.{first-far, idle-far, start-far, start-same}
 pub use Rattle.tc_cltu.proofs.Taking.{taken}
 pub use Rattle.tc_cltu.specs.Cltu.{cltu_fault_of, fill, filled, most_octets}
 pub use Rattle.tc_cltu.specs.CodeBlock.{IsInformation, errors}
 unfoldable pub use Rattle.tc_cltu.specs.CodeBlock.{block_times_x, decoded}
-pub use Rattle.tc_cltu.specs.Reception.{Decoding, Reception, Searching, Step, after_block, frames_of, is_start, reception_step, state_after}
+pub use Rattle.tc_cltu.specs.Reception.{Decoding, HasNoStart, Reception, Searching, Step, after_block, frames_of, idle, is_start, reception_step, state_after}
 pub use Rattle.tc_cltu.specs.declared.block.Mode.{Mode}
 pub use Rattle.tc_cltu.specs.declared.block.Mode.TheVariants.{Correct}
-pub use Rattle.tc_ends.specs.Arrivals.{AltersNothing, AreBrought, AreCarried, AreEventsAt, AreEventsOf, AreNearBlocks, Asks, Brings, CarryWell, Coming, IsCarried, IsNearCltu, Octets, enclosed, state_behind}
+pub use Rattle.tc_ends.specs.Arrivals.{AltersNothing, AreBrought, AreCarriedOrLost, AreEventsAt, AreEventsOf, AreNearBlocks, ArePassed, AreTakenOut, Asks, CarriesWell, Coming, IsCarriedOrLost, IsLost, IsNearCltu, LinkEnd, Octets, all_enclosed, enclosed, events_of, state_behind}
 pub use Rattle.tc_ends.specs.Ends.{AreAllPackets, AreFramesOf, AreFrom, AreGivenOf, AreMerged, AreNumbered, AreWritten, CanBeSent, CarrySent, CarryUnits, EndAtLast, IsSendable, OnStream, PacketsSent, SendsOnly, SendsPackets, Sent, UnitSent, all_joined, behind_ad, fields_in_order, is_chosen_map, is_from, is_in, is_same_stream, joined_on, map_in, on_map, packet_on, packets_for, packets_in_era, packets_sent_on, packets_to, passed_before, passed_in, stream_in, stream_unit, units_ended_by, units_on, unless_chosen, until_ad}
-pub use Rattle.tc_ends.specs.Examples.{enclosing, first_frame, first_header, in_cltus, of_before, of_first_frame, of_set_v_r, one_unit, packet}
-pub use Rattle.tc_fecf.proofs.Delimiting.{one-frame}
-pub use Rattle.tc_fecf.proofs.Plain.{frame_with_field-alike}
+pub use Rattle.tc_ends.specs.Examples.{correcting, enclosing, first_frame, first_header, in_cltus, in_small_segments, of_before, of_both, of_nothing, of_set_v_r, of_wrong, one_unit, packet, with_wrong_field}
+pub use Rattle.tc_fecf.proofs.Delimiting.{one-frame, only-frames}
+pub use Rattle.tc_fecf.proofs.Plain.{frame_with_field-alike, frame_with_field-frame, frame_with_field-passes}
 pub use Rattle.tc_fecf.specs.Candidate.{is_fill}
-unfoldable pub use Rattle.tc_fecf.specs.Checksum.{octet_bits}
+unfoldable pub use Rattle.tc_fecf.specs.Checksum.{octet_bits, times_x}
+pub use Rattle.tc_fecf.specs.Checksum.{checksum_of}
+unfoldable pub use Rattle.tc_fecf.specs.FrameWithField.{frame_with_field, octets_before_field}
+pub use Rattle.tc_link.specs.Frame.{fault_of}
 pub use Rattle.tc_link.specs.declared.frame.Header.{Header}
 pub use Rattle.tc_loop.proofs.Counted.{begins, comes, known-so}
 pub use Rattle.tc_loop.proofs.Actions.{so-at}
@@ -36,7 +40,8 @@ pub use Rattle.tc_loop.proofs.Names.{events_at, drop_all, take_at, cases_lt, nil
 unfoldable pub use Rattle.tc_loop.proofs.Names.{some_of_first}
 pub use Rattle.tc_loop.proofs.Onward.{whole}
 pub use Rattle.tc_loop.proofs.Started.{is-loop, journal-whole}
-pub use Rattle.tc_loop.proofs.Starts.{each-premise, octets-by, whole-0, whole-1, whole-2}
+pub use Rattle.tc_loop.proofs.Starts.{each-premise, octets-by, small, whole-0, whole-1, whole-2, whole-bd}
+pub use Rattle.tc_loop.specs.Examples.{around, by_bd}
 pub use Rattle.tc_packet.proofs.Cuts.{only-cut}
 pub use Rattle.tc_packet.proofs.Streams.{is-unit}
 pub use Rattle.tc_packet.specs.Reassembly.{IsPart, unit_at}

@@ -1,5 +1,5 @@
--- The way from a sender's packets to the packets that are taken, over the start of an era.
-use Rattle.tc_ends.proofs.Names.{Action, AllByRecursion, AltersNothing, AreEventsOf, AreFrom, AreGivenOf, AreNumbered, Bool, CanBeSent, Coming, Event, Header, IsLoop, IsStart, List, Loop, Mode, Queue, Reception, SendsOnly, Some, Start, UnitSent, [], accepted, ap, arith, begins, begun, comes, era, era_session, field_of, inl, inr, is-loop, journal, journal-whole, known-so, length, length-drop, map, queue_of, receiver, refl, released-within, released_since, run_within, sent, sent_from, subst, suc, sym, units_on, whole, zero, ℕ, ◌++◌, ◌∙◌, ◌∷◌, ◌≡◌, ◌≤◌}
+-- The way from a sender's packets to the packets that takes give, over the start of an era.
+use Rattle.tc_ends.proofs.Names.{Action, AllByRecursion, AltersNothing, AreEventsOf, AreFrom, AreGivenOf, AreNumbered, CanBeSent, Coming, Event, Header, IsLoop, IsStart, LinkEnd, List, Loop, Queue, Reception, SendsOnly, Some, Start, UnitSent, [], accepted, ap, arith, begins, begun, comes, era, era_session, field_of, inl, inr, is-loop, journal, journal-whole, known-so, length, length-drop, map, queue_of, receiver, refl, released-within, released_since, run_within, sent, sent_from, subst, suc, sym, units_on, whole, zero, ℕ, ◌++◌, ◌∙◌, ◌∷◌, ◌≡◌, ◌≤◌}
 use Rattle.tc_ends.proofs.Arrived.{events-came}
 use Rattle.tc_ends.proofs.Numbered.{numbered-sends}
 use Rattle.tc_ends.proofs.Segmented.{Makes}
@@ -51,12 +51,12 @@ packets-of-start make s header units frames apid q k can numbered are only has =
     (subst (λ es. queue_of apid (run_within s.loop.limits s.loop.settings es).queues ≡ Some q) (sym same) has))
 
 -- over CLTUs, too, the sent packets are given, because the receiver's journal is that of the session
-pub packets-in-cltus : Makes → (s : Start) (header : Header) (units : List UnitSent) (frames : List (List ℕ)) (apid : ℕ) (q : Queue) (mode : Mode) (field : Bool) (state : Reception) (coming : List Coming) (came : List Event)
+pub packets-in-cltus : Makes → (s : Start) (header : Header) (units : List UnitSent) (frames : List (List ℕ)) (apid : ℕ) (q : Queue) (end : LinkEnd) (state : Reception) (coming : List Coming) (came : List Event)
     → IsStart s → AllByRecursion (CanBeSent s.loop.limits s.loop.settings.segmented) units → AreNumbered s.loop.settings.segmented header units frames → AreFrom (era s).frames frames → SendsOnly (length frames) (era_session s)
-    → AltersNothing mode field s.loop.frames state s.session coming → AreEventsOf mode field state coming came
+    → AltersNothing end s.loop.frames state s.session coming → AreEventsOf end state coming came
     → queue_of apid (run_within s.loop.limits s.loop.settings (s.loop.before ++ came)).queues ≡ Some q
     → AreGivenOf s.loop.limits s.loop.settings apid (era s).before (s.loop.before ++ came) (length frames) (units_on units)
-packets-in-cltus make s header units frames apid q mode field state coming came k can numbered are only so events has =
-    let same : journal s.loop s.session ≡ s.loop.before ++ came = ap (λ (x : List Event). s.loop.before ++ x) (sym (events-came mode field s.loop state s.session coming came so events)) in
+packets-in-cltus make s header units frames apid q end state coming came k can numbered are only so events has =
+    let same : journal s.loop s.session ≡ s.loop.before ++ came = ap (λ (x : List Event). s.loop.before ++ x) (sym (events-came end s.loop state s.session coming came so events)) in
     subst (λ es. AreGivenOf s.loop.limits s.loop.settings apid (era s).before es (length frames) (units_on units)) same
     (packets-of-start make s header units frames apid q k can numbered are only (subst (λ es. queue_of apid (run_within s.loop.limits s.loop.settings es).queues ≡ Some q) (sym same) has))

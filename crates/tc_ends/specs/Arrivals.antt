@@ -1,12 +1,13 @@
 -- A CLTU on its way, some of whose bits are flipped (CCSDS 231.0-B), and the events that a stream of octets brings
 -- about at a receiver.
 use Rattle.std.specs.Prelude.{◌≡◌, ℕ, ◌≤◌, ◌⊎◌, Bool, true, false, List, [], ◌∷◌, ◌++◌, length, map, None}
+use Rattle.std.specs.List.{AllByRecursion, concat, flat_map}
 use Rattle.tc_link.specs.Frame.{IsWhole}
-use Rattle.tc_fecf.specs.Candidate.{IsDelimited, is_fill}
+use Rattle.tc_fecf.specs.Candidate.{AreDelimited, IsDelimited, is_fill}
 use Rattle.tc_fecf.specs.FrameWithField.{frame_with_field}
 use Rattle.tc_cltu.specs.Cltu.{filled, most_octets}
 use Rattle.tc_cltu.specs.CodeBlock.{IsInformation, decoded, errors, most_errors}
-use Rattle.tc_cltu.specs.Reception.{Reception, frames_of, is_start, state_after}
+use Rattle.tc_cltu.specs.Reception.{Reception, Searching, frames_of, is_start, state_after}
 use Rattle.tc_cltu.specs.declared.block.Mode.{Mode}
 use Rattle.tc_channel.specs.declared.event.Event.{Event}
 use Rattle.tc_channel.specs.declared.event.Event.TheVariants.{Frame}
@@ -41,61 +42,99 @@ abbrev pub enclosed : Bool → List ℕ → List ℕ
 enclosed true frame = frame_with_field frame
 enclosed false frame = frame
 
--- The octets that a CLTU carried bring this frame: it stands in front, with its field if frames have one, and at most
--- fill follows.
-abbrev pub Brings : Bool → List ℕ → List ℕ → Type 0
-Brings field carried frame = (rest : List ℕ) × IsWhole frame × IsDelimited carried (enclosed field frame) rest × (is_fill rest ≡ true)
+-- The whole frames that a receiver takes out of the octets that a CLTU carried, with their frame error control fields
+-- if frames have one. A receiver of several frames takes one after the other, as a program does that calls
+-- tcrx_rack_candidate() again while frames may follow. Any other takes one frame, if at most fill follows it, as tclive
+-- does with `candidate`, and else none.
+abbrev pub AreTakenOut : Bool → List ℕ → List (List ℕ) → Type 0
+AreTakenOut true carried taken = (rest : List ℕ) × AreDelimited (length carried) carried taken rest
+AreTakenOut false carried taken =
+    ((frame rest : List ℕ) × IsDelimited carried frame rest × (is_fill rest ≡ true) × (taken ≡ frame ∷ []))
+    ⊎ (((frame rest : List ℕ) → IsDelimited carried frame rest → is_fill rest ≡ true → ⊥) × (taken ≡ []))
+
+-- These are the frames that pass the check, without their fields. A frame with a wrong field is refused.
+abbrev pub ArePassed : Bool → List (List ℕ) → List (List ℕ) → Type 0
+ArePassed field [] frames = frames ≡ []
+ArePassed field (one ∷ taken) frames =
+    ((frame : List ℕ) × (later : List (List ℕ)) × IsWhole frame × (one ≡ enclosed field frame) × (frames ≡ frame ∷ later) × ArePassed field taken later)
+    ⊎ (((frame : List ℕ) → IsWhole frame → one ≡ enclosed field frame → ⊥) × ArePassed field taken frames)
 
 -- These are the frames that candidate frames bring. A candidate frame that brings none is refused.
-abbrev pub AreBrought : Bool → List (List ℕ) → List (List ℕ) → Type 0
-AreBrought field [] frames = frames ≡ []
-AreBrought field (carried ∷ candidates) frames =
-    ((frame : List ℕ) × (later : List (List ℕ)) × Brings field carried frame × (frames ≡ frame ∷ later) × AreBrought field candidates later)
-    ⊎ (((frame : List ℕ) → Brings field carried frame → ⊥) × AreBrought field candidates frames)
+abbrev pub AreBrought : Bool → Bool → List (List ℕ) → List (List ℕ) → Type 0
+AreBrought several field [] frames = frames ≡ []
+AreBrought several field (carried ∷ candidates) frames =
+    (taken : List (List ℕ)) × (own : List (List ℕ)) × (later : List (List ℕ)) × AreTakenOut several carried taken × ArePassed field taken own × (frames ≡ own ++ later)
+    × AreBrought several field candidates later
 
 -- an input of a receiver at a moment: octets of its link, or a release or a take
 pub data Coming : Type 0 where
   Octets : List ℕ → Coming
   Asks : Event → Coming
 
+-- a receiver's end of the link: the mode of its decoder, whether it takes several frames out of a CLTU, and whether
+-- frames have a frame error control field
+pub record LinkEnd : Type 0 where
+  pub mode : Mode
+  pub several : Bool
+  pub field : Bool
+
 -- the events that this input brings about at the receiver, whose decoder is in this state
-abbrev pub AreEventsAt : Mode → Bool → Reception → Coming → List Event → Type 0
-AreEventsAt mode field state (Octets octets) events = (frames : List (List ℕ)) × AreBrought field (frames_of mode most_octets state octets) frames × (events ≡ map Frame frames)
-AreEventsAt mode field state (Asks e) events = events ≡ e ∷ []
+abbrev pub AreEventsAt : LinkEnd → Reception → Coming → List Event → Type 0
+AreEventsAt end state (Octets octets) events =
+    (frames : List (List ℕ)) × AreBrought end.several end.field (frames_of end.mode most_octets state octets) frames × (events ≡ map Frame frames)
+AreEventsAt end state (Asks e) events = events ≡ e ∷ []
 
 -- the state of the decoder after this input
-abbrev pub state_behind : Mode → Reception → Coming → Reception
-state_behind mode state (Octets octets) = state_after mode most_octets state octets
-state_behind mode state (Asks e) = state
+abbrev pub state_behind : LinkEnd → Reception → Coming → Reception
+state_behind end state (Octets octets) = state_after end.mode most_octets state octets
+state_behind end state (Asks e) = state
 
 -- the events of the receiver for all these inputs
-abbrev pub AreEventsOf : Mode → Bool → Reception → List Coming → List Event → Type 0
-AreEventsOf mode field state [] events = events ≡ []
-AreEventsOf mode field state (c ∷ coming) events =
-    (now : List Event) × (later : List Event) × AreEventsAt mode field state c now × (events ≡ now ++ later) × AreEventsOf mode field (state_behind mode state c) coming later
+abbrev pub AreEventsOf : LinkEnd → Reception → List Coming → List Event → Type 0
+AreEventsOf end state [] events = events ≡ []
+AreEventsOf end state (c ∷ coming) events =
+    (now : List Event) × (later : List Event) × AreEventsAt end state c now × (events ≡ now ++ later) × AreEventsOf end (state_behind end state c) coming later
 
--- Detection lets nothing through that was altered: at each moment of a session, the input brings about exactly the
--- events of the session's action at the receiver. So a CLTU that is refused is a loss, and octets that bring nothing
--- may come at any moment at which nothing arrives.
-abbrev pub AltersNothing : Mode → Bool → (ℕ → List ℕ) → Reception → List Action → List Coming → Type 0
-AltersNothing mode field frames state [] [] = Unit {0}
-AltersNothing mode field frames state (action ∷ session) (c ∷ coming) =
-    ((now : List Event) → AreEventsAt mode field state c now → now ≡ events_at frames action) × AltersNothing mode field frames (state_behind mode state c) session coming
-AltersNothing mode field frames state _ _ = ⊥
+-- the events of the receiver at these actions
+abbrev pub events_of : (ℕ → List ℕ) → List Action → List Event
+events_of frames session = flat_map (events_at frames) session
 
--- octets that carry these events well: no octets if there is no event, or a CLTU with few wrong bits if the event is a
--- frame
-abbrev pub CarryWell : Mode → Bool → List ℕ → List Event → Type 0
-CarryWell mode field octets [] = octets ≡ []
-CarryWell mode field octets (Frame frame ∷ []) = IsWhole frame × IsWhole (enclosed field frame) × IsNearCltu mode 0 (enclosed field frame) octets
-CarryWell mode field octets _ = ⊥
+-- Detection lets nothing through that was altered: the inputs come one after the other during these actions, and each
+-- brings about exactly the events of the actions during which it comes. So a CLTU that is refused is a loss, octets that
+-- bring nothing may come at any time, and frames of one CLTU arrive one directly after the other.
+abbrev pub AltersNothing : LinkEnd → (ℕ → List ℕ) → Reception → List Action → List Coming → Type 0
+AltersNothing end frames state session [] = events_of frames session ≡ []
+AltersNothing end frames state session (c ∷ coming) =
+    (now : List Action) × (later : List Action) × (session ≡ now ++ later) × ((es : List Event) → AreEventsAt end state c es → es ≡ events_of frames now)
+    × AltersNothing end frames (state_behind end state c) later coming
 
-abbrev pub IsCarried : Mode → Bool → List Event → Coming → Type 0
-IsCarried mode field events (Octets octets) = CarryWell mode field octets events
-IsCarried mode field events (Asks e) = events ≡ e ∷ []
+-- frames, each with its frame error control field if frames have one, one after the other
+abbrev pub all_enclosed : Bool → List (List ℕ) → List ℕ
+all_enclosed field frames = concat (map (enclosed field) frames)
 
--- the inputs carry the events well at each moment of a session
-abbrev pub AreCarried : Mode → Bool → (ℕ → List ℕ) → List Action → List Coming → Type 0
-AreCarried mode field frames [] [] = Unit {0}
-AreCarried mode field frames (action ∷ session) (c ∷ coming) = IsCarried mode field (events_at frames action) c × AreCarried mode field frames session coming
-AreCarried mode field frames _ _ = ⊥
+-- octets that carry these frames well: a CLTU with few wrong bits, in which the frames stand one after the other
+pub record CarriesWell (end : LinkEnd) (last : ℕ) (frames : List (List ℕ)) (octets : List ℕ) : Type 0 where
+  pub whole : AllByRecursion IsWhole frames
+  pub fitting : AllByRecursion IsWhole (map (enclosed end.field) frames)
+  pub some : 1 ≤ length frames
+  pub one : end.several ≡ false → length frames ≡ 1
+  pub few : length (all_enclosed end.field frames) ≤ most_octets
+  pub near : IsNearCltu end.mode last (all_enclosed end.field frames) octets
+
+-- Octets that bring nothing to a receiver that searches, behind which it searches again: idle octets, or a CLTU that is
+-- refused. The receiver's last octets are then `last` and `later`.
+abbrev pub IsLost : LinkEnd → ℕ → List ℕ → ℕ → Type 0
+IsLost end last octets later = AreEventsAt end (Searching last) (Octets octets) [] × (state_after end.mode most_octets (Searching last) octets ≡ Searching later)
+
+-- the input carries these events: octets carry all of them well, or none and are lost
+abbrev pub IsCarriedOrLost : LinkEnd → ℕ → List Event → Coming → ℕ → Type 0
+IsCarriedOrLost end last events (Octets octets) later =
+    ((events ≡ []) × IsLost end last octets later) ⊎ ((frames : List (List ℕ)) × (events ≡ map Frame frames) × CarriesWell end last frames octets × (later ≡ 0))
+IsCarriedOrLost end last events (Asks e) later = (events ≡ e ∷ []) × (later ≡ last)
+
+-- the inputs come one after the other during these actions, and carry the events of the actions, or are lost
+abbrev pub AreCarriedOrLost : LinkEnd → (ℕ → List ℕ) → ℕ → List Action → List Coming → Type 0
+AreCarriedOrLost end frames last session [] = events_of frames session ≡ []
+AreCarriedOrLost end frames last session (c ∷ coming) =
+    (now : List Action) × (behind : List Action) × (later : ℕ) × (session ≡ now ++ behind) × IsCarriedOrLost end last (events_of frames now) c later
+    × AreCarriedOrLost end frames later behind coming

@@ -1,7 +1,7 @@
 //! Laws that lead from a sender's packets to a receiver's.
 #![tactic(auto, using(crate::proofs::Closing::laws))]
 
-ghost use Rattle.std.specs.Prelude.{Bool, List, ℕ, [], ◌∷◌, ◌++◌, ◌≡◌, ◌≤◌, ◌<◌, ◌+◌, ◌%◌, length, map, slice_index_or, true, false, Some};
+ghost use Rattle.std.specs.Prelude.{Bool, List, ℕ, [], ◌∷◌, ◌++◌, ◌≡◌, ◌≤◌, ◌<◌, ◌+◌, ◌%◌, length, map, slice_index_or, true, false, None, Some};
 ghost use Rattle.std.specs.List.{AllByRecursion};
 ghost use Rattle.tc_packet.specs.SpacePacket.{IsPacket, joined, packets_of, rest_of};
 ghost use Rattle.tc_write.specs.Segments.{AreSegments};
@@ -11,13 +11,13 @@ ghost use Rattle.tc_channel.specs.Through.{IsPartOf, all_made, packets_made, rel
 ghost use Rattle.tc_queues.specs.declared.settings.Settings.{Settings};
 ghost use Rattle.tc_queues.specs.Settings.{HasMapsByHeaders};
 ghost use Rattle.tc_link.specs.Frame.{IsWhole, header_of};
-ghost use Rattle.tc_cltu.specs.Reception.{Reception, Searching};
-ghost use Rattle.tc_cltu.specs.declared.block.Mode.{Mode};
-ghost use Rattle.tc_cltu.specs.declared.block.Mode.TheVariants.{Correct};
+ghost use Rattle.tc_cltu.specs.Cltu.{cltu_fault_of, filled};
+ghost use Rattle.tc_cltu.specs.CodeBlock.{decoded};
+ghost use Rattle.tc_cltu.specs.Reception.{HasNoStart, Reception, Searching, is_start};
 ghost use Rattle.tc_link.specs.declared.frame.Header.{Header};
 ghost use Rattle.tc_channel.specs.declared.event.Event.{Event};
 ghost use Rattle.tc_channel.specs.declared.event.Event.TheVariants.{Frame};
-ghost use Rattle.tc_queues.specs.ChannelState.{Queue, first_state_within, queue_of};
+ghost use Rattle.tc_queues.specs.ChannelState.{Queue, first_state_within, no_limits, queue_of};
 ghost use Rattle.tc_channel.specs.Account.{unit_on};
 ghost use Rattle.tc_channel.specs.Era.{IsEraWithin, ComesFromWithin};
 ghost use Rattle.tc_channel.specs.Given.{packets_given, units_given};
@@ -25,7 +25,7 @@ ghost use Rattle.tc_channel.specs.Lossless.{DropsNone};
 ghost use Rattle.tc_channel.specs.Run.{IsLawfulWithin, field_of, run_within};
 ghost use Rattle.tc_loop.specs.Loop.{Loop, Action, IsLoop, events, journal, receiver, sent};
 ghost use Rattle.tc_loop.specs.Start.{Start, IsStart, era, era_session};
-ghost use Rattle.tc_ends.specs.Arrivals.{AltersNothing, AreCarried, AreEventsAt, AreEventsOf, Coming, IsNearCltu, Octets, enclosed, state_behind};
+ghost use Rattle.tc_ends.specs.Arrivals.{AltersNothing, AreBrought, AreCarriedOrLost, AreEventsAt, AreEventsOf, CarriesWell, Coming, IsLost, IsNearCltu, LinkEnd, Octets, enclosed, events_of, state_behind};
 ghost use Rattle.tc_ends.specs.Ends.{AreAllPackets, AreFrom, AreGivenOf, AreMerged, AreNumbered, AreWritten, CanBeSent, CarrySent, CarryUnits, EndAtLast, IsSendable, PacketsSent, SendsOnly, SendsPackets, Sent, UnitSent, all_joined, fields_in_order, is_chosen_map, is_same_stream, joined_on, on_map, packets_sent_on, packets_to, passed_before, passed_in, units_on};
 ghost use Rattle.tc_loop.specs.Examples as start;
 ghost use Rattle.tc_ends.specs.Examples as example;
@@ -140,58 +140,84 @@ pub fn packets_from_a_start_are_given()
     the_segments_of_a_unit_make_the_unit();
 }
 
-/// Suppose that a CLTU has no more wrong bits in any code block than the mode tolerates, and that its tail, as it
-/// comes, is rejected as a code block. Then its frame arrives (`arrives`) and no other does (`alone`), with a frame
-/// error control field if frames have one. After it the receiver searches for a start sequence again (`searches`).
-pub fn a_cltu_with_few_wrong_bits_brings_its_frame()
-    ensures arrives { (mode : Mode) (field : Bool) (last : ℕ) (frame octets : List ℕ) → IsWhole frame → IsWhole (enclosed field frame) → IsNearCltu mode last (enclosed field frame) octets
-        → AreEventsAt mode field (Searching last) (Octets octets) (Frame frame ∷ []) }
-    ensures alone { (mode : Mode) (field : Bool) (last : ℕ) (frame octets : List ℕ) → IsWhole frame → IsWhole (enclosed field frame) → IsNearCltu mode last (enclosed field frame) octets
-        → (now : List Event) → AreEventsAt mode field (Searching last) (Octets octets) now → now ≡ Frame frame ∷ [] }
-    ensures searches { (mode : Mode) (field : Bool) (last : ℕ) (frame octets : List ℕ) → IsWhole frame → IsWhole (enclosed field frame) → IsNearCltu mode last (enclosed field frame) octets
-        → state_behind mode (Searching last) (Octets octets) ≡ Searching 0 }
+/// Suppose that a CLTU carries whole frames one after the other, that it has no more wrong bits in any code block than
+/// the mode tolerates, and that its tail, as it comes, is rejected as a code block. Then these frames arrive
+/// (`arrives`), each with its frame error control field if frames have one, and the receiver searches for a start
+/// sequence again (`searches`). An input never brings about other events than those that it does (`alone`).
+pub fn a_cltu_with_few_wrong_bits_brings_its_frames()
+    ensures arrives { (end : LinkEnd) (last : ℕ) (frames : List (List ℕ)) (octets : List ℕ) → CarriesWell end last frames octets → AreEventsAt end (Searching last) (Octets octets) (map Frame frames) }
+    ensures searches { (end : LinkEnd) (last : ℕ) (frames : List (List ℕ)) (octets : List ℕ) → CarriesWell end last frames octets → state_behind end (Searching last) (Octets octets) ≡ Searching 0 }
+    ensures alone { (end : LinkEnd) (state : Reception) (c : Coming) (one other : List Event) → AreEventsAt end state c one → AreEventsAt end state c other → one ≡ other }
+{}
+
+/// Octets bring nothing, and the receiver searches again behind them, if nothing in them counts as a start sequence
+/// (`idle`), if the first code block after a start sequence is rejected (`cut`), or if a CLTU carries octets that bring
+/// nothing (`refused`): they don't begin with a frame, as those in front of a rejected code block, or the check sum is
+/// wrong.
+pub fn a_link_may_lose_this()
+    ensures idle { (end : LinkEnd) (last : ℕ) (octets : List ℕ) → HasNoStart end.mode last octets → (later : ℕ) × IsLost end last octets later }
+    ensures cut { (end : LinkEnd) (last one two : ℕ) (block : List ℕ) (parity : ℕ) → is_start end.mode last one ≡ false → is_start end.mode one two ≡ true → length block ≡ 7
+        → decoded end.mode (block ++ parity ∷ []) ≡ None → IsLost end last (one ∷ two ∷ (block ++ parity ∷ [])) 0 }
+    ensures refused { (end : LinkEnd) (last : ℕ) (carried octets : List ℕ) → cltu_fault_of carried ≡ None → IsNearCltu end.mode last carried octets
+        → AreBrought end.several end.field (filled carried ∷ []) [] → IsLost end last octets 0 }
 {}
 
 /// This law covers the whole way, from a ground system's packets to the packets that are taken. The sender is that of
 /// [`packets_from_a_start_are_given`]. Its frames come in CLTUs, as octets in which any bits may be flipped, over links
 /// that keep order. Suppose that error detection lets no altered frame through. Detection uses the parity of the code
 /// blocks, the frame's length and, if frames have one, the frame error control field. A frame that is refused is lost,
-/// and a CLTU with few wrong bits arrives ([`a_cltu_with_few_wrong_bits_brings_its_frame`]). Then the
-/// packets that were taken are those that [`packets_that_are_sent_are_given`] promises.
+/// and the frames of a CLTU with few wrong bits arrive ([`a_cltu_with_few_wrong_bits_brings_its_frames`]). Then takes
+/// gave what [`packets_that_are_sent_are_given`] promises. [`a_link_that_idles_and_loses_alters_nothing`] discharges the
+/// premise about detection.
 pub fn packets_in_cltus_are_given()
-    ensures { (s : Start) (header : Header) (units : List UnitSent) (frames : List (List ℕ)) (apid : ℕ) (q : Queue) (mode : Mode) (field : Bool) (state : Reception) (coming : List Coming) (came : List Event)
+    ensures { (s : Start) (header : Header) (units : List UnitSent) (frames : List (List ℕ)) (apid : ℕ) (q : Queue) (end : LinkEnd) (state : Reception) (coming : List Coming) (came : List Event)
         → IsStart s → AllByRecursion (CanBeSent s.loop.limits s.loop.settings.segmented) units → AreNumbered s.loop.settings.segmented header units frames → AreFrom (era s).frames frames → SendsOnly (length frames) (era_session s)
-        → AltersNothing mode field s.loop.frames state s.session coming → AreEventsOf mode field state coming came
+        → AltersNothing end s.loop.frames state s.session coming → AreEventsOf end state coming came
         → queue_of apid (run_within s.loop.limits s.loop.settings (s.loop.before ++ came)).queues ≡ Some q
         → AreGivenOf s.loop.limits s.loop.settings apid (era s).before (s.loop.before ++ came) (length frames) (units_on units) }
 {
     the_segments_of_a_unit_make_the_unit();
 }
 
-/// If each frame of a session comes in a CLTU with few wrong bits, and nothing else comes, then nothing is altered
-/// (`unaltered`), and nothing is lost on the way to the receiver (`whole`).
-pub fn cltus_with_few_wrong_bits_bring_a_session()
-    ensures unaltered { (mode : Mode) (field : Bool) (frames : ℕ → List ℕ) (session : List Action) (coming : List Coming) → AreCarried mode field frames session coming
-        → AltersNothing mode field frames (Searching 0) session coming }
-    ensures whole { (mode : Mode) (field : Bool) (l : Loop) (session : List Action) (coming : List Coming) → AreCarried mode field l.frames session coming
-        → AreEventsOf mode field (Searching 0) coming (events l session) }
+/// Suppose that each frame that arrives comes in a CLTU with few wrong bits, alone or with those that arrive directly
+/// after it, and that all other octets are lost ([`a_link_may_lose_this`]). Then nothing is altered (`unaltered`), and
+/// the events of the receiver are those of the session (`events`).
+pub fn a_link_that_idles_and_loses_alters_nothing()
+    ensures unaltered { (end : LinkEnd) (frames : ℕ → List ℕ) (last : ℕ) (session : List Action) (coming : List Coming) → AreCarriedOrLost end frames last session coming
+        → AltersNothing end frames (Searching last) session coming }
+    ensures events { (end : LinkEnd) (frames : ℕ → List ℕ) (last : ℕ) (session : List Action) (coming : List Coming) → AreCarriedOrLost end frames last session coming
+        → AreEventsOf end (Searching last) coming (events_of frames session) }
 {}
 
 /// One session that was worked out by hand meets each premise of [`packets_in_cltus_are_given`], and so of
-/// [`packets_from_a_start_are_given`]. It is the session of `learnt_by_9` of tc_loop, in CLTUs with wrong bits in three
-/// code blocks. The take gave the packet that was sent.
+/// [`packets_from_a_start_are_given`]. It is that of `learnt_by_9` of tc_loop, in CLTUs with wrong bits in three code
+/// blocks, with check sums (`fields`), two frames in one CLTU, idle octets, and two CLTUs that are refused. The law's
+/// conclusion then says that the fields make all packets that were sent (`whole`), and that none is left out (`all`),
+/// and the take gave the packet that was sent (`given`). A unit may also hold two packets, on the last MAP and in
+/// segments of one octet (`can_be_in_small_segments`).
 pub fn all_premises_are_met_at_once()
     ensures begins { IsStart start.learnt_by_9 }
     ensures can_be_sent { AllByRecursion (CanBeSent start.learnt_by_9.loop.limits true) example.one_unit }
+    ensures can_be_in_small_segments { CanBeSent no_limits true example.in_small_segments }
+    ensures fields { (enclosed true (start.around 9 0) ≡ 0x00 ∷ 0x00 ∷ 0x00 ∷ 0x07 ∷ 0x00 ∷ 0x00 ∷ 0x8b ∷ 0x80 ∷ [])
+        × (enclosed true (start.around 9 1) ≡ 0x30 ∷ 0x2a ∷ 0x04 ∷ 0x09 ∷ 0x00 ∷ 0x82 ∷ 0x00 ∷ 0x09 ∷ 0x80 ∷ 0x94 ∷ [])
+        × (enclosed true example.first_frame ≡ 0x00 ∷ 0x2a ∷ 0x04 ∷ 0x0e ∷ 0x09 ∷ 0xc0 ∷ 0x10 ∷ 0x05 ∷ 0xc0 ∷ 0x00 ∷ 0x00 ∷ 0x00 ∷ 0xaa ∷ 0xa9 ∷ 0xb2 ∷ [])
+        × (enclosed true start.by_bd ≡ 0x20 ∷ 0x2a ∷ 0x04 ∷ 0x08 ∷ 0x00 ∷ 0xc1 ∷ 0x00 ∷ 0x05 ∷ 0x92 ∷ []) }
     ensures numbered { AreNumbered true example.first_header example.one_unit (example.first_frame ∷ []) }
     ensures frames_sent { AreFrom (era start.learnt_by_9).frames (example.first_frame ∷ []) }
     ensures only { SendsOnly 1 (era_session start.learnt_by_9) }
-    ensures carried { AreCarried Correct false start.learnt_by_9.loop.frames start.learnt_by_9.session example.in_cltus }
-    ensures unaltered { AltersNothing Correct false start.learnt_by_9.loop.frames (Searching 0) start.learnt_by_9.session example.in_cltus }
-    ensures brought { AreEventsOf Correct false (Searching 0) example.in_cltus (events start.learnt_by_9.loop start.learnt_by_9.session) }
+    ensures carried { AreCarriedOrLost example.correcting start.learnt_by_9.loop.frames 0 start.learnt_by_9.session example.in_cltus }
+    ensures unaltered { AltersNothing example.correcting start.learnt_by_9.loop.frames (Searching 0) start.learnt_by_9.session example.in_cltus }
+    ensures brought { AreEventsOf example.correcting (Searching 0) example.in_cltus (events start.learnt_by_9.loop start.learnt_by_9.session) }
     ensures headers { start.learnt_by_9.loop.settings.segmented ≡ true }
     ensures queue { (q : Queue) × (queue_of 5 (receiver start.learnt_by_9.loop start.learnt_by_9.session).queues ≡ Some q) }
     ensures asked { packets_to 5 (units_on example.one_unit 0) ≡ example.packet ∷ [] }
     ensures drops_none { DropsNone start.learnt_by_9.loop.settings (first_state_within start.learnt_by_9.loop.limits start.learnt_by_9.loop.settings) (events start.learnt_by_9.loop start.learnt_by_9.session) }
+    ensures whole { (g : AreGivenOf start.learnt_by_9.loop.limits start.learnt_by_9.loop.settings 5 (era start.learnt_by_9).before (journal start.learnt_by_9.loop start.learnt_by_9.session) 1 (units_on example.one_unit))
+        → packets_made start.learnt_by_9.loop.limits start.learnt_by_9.loop.settings 5 (receiver start.learnt_by_9.loop start.learnt_by_9.session).passed
+        ≡ packets_made start.learnt_by_9.loop.limits start.learnt_by_9.loop.settings 5 (passed_before start.learnt_by_9.loop.limits start.learnt_by_9.loop.settings (era start.learnt_by_9).before (journal start.learnt_by_9.loop start.learnt_by_9.session)) ++ g.merged }
+    ensures all { (g : AreGivenOf start.learnt_by_9.loop.limits start.learnt_by_9.loop.settings 5 (era start.learnt_by_9).before (journal start.learnt_by_9.loop start.learnt_by_9.session) 1 (units_on example.one_unit))
+        → packets_given start.learnt_by_9.loop.settings 5 (first_state_within start.learnt_by_9.loop.limits start.learnt_by_9.loop.settings) (journal start.learnt_by_9.loop start.learnt_by_9.session)
+        ≡ packets_made start.learnt_by_9.loop.limits start.learnt_by_9.loop.settings 5 (passed_before start.learnt_by_9.loop.limits start.learnt_by_9.loop.settings (era start.learnt_by_9).before (journal start.learnt_by_9.loop start.learnt_by_9.session)) ++ g.merged }
     ensures given { packets_given start.learnt_by_9.loop.settings 5 (first_state_within start.learnt_by_9.loop.limits start.learnt_by_9.loop.settings) (events start.learnt_by_9.loop start.learnt_by_9.session) ≡ example.packet ∷ [] }
 {}

@@ -14,7 +14,7 @@ returns-clause-given c = λ station operators closed place channel l session hea
     (packets-of-loop c.the_segments_of_a_unit_make_the_unit.ensures l session header units frames apid q k can numbered are only has)
 
 pub returns-clause-in_cltus : goal.returns-clause-in_cltus
-returns-clause-in_cltus c = λ station operators closed place channel s header units frames apid q mode field state coming came together out here free k is can numbered are only so events has.
+returns-clause-in_cltus c = λ station operators closed place channel s header units frames apid q end state coming came together out here free k is can numbered are only so events has.
     of-channel (λ limits settings es. AreGivenOf limits settings apid (era s).before es (length frames) (units_on units)) s.loop.limits s.loop.settings (s.loop.before ++ came) channel
     free (settings-given station operators closed place channel s.loop.settings together out here) is
-    (packets-in-cltus c.the_segments_of_a_unit_make_the_unit.ensures s header units frames apid q mode field state coming came k can numbered are only so events has)
+    (packets-in-cltus c.the_segments_of_a_unit_make_the_unit.ensures s header units frames apid q end state coming came k can numbered are only so events has)
