@@ -1,6 +1,6 @@
 -- Sessions worked out by hand, to be read with the definitions.
 use Rattle.std.specs.Prelude.{ℕ, zero, suc, ◌+◌, ◌%◌, List, [], ◌∷◌, ◌++◌}
-unfoldable use Rattle.tc_channel.specs.ChannelState.{no_limits}
+unfoldable use Rattle.tc_queues.specs.ChannelState.{no_limits}
 use Rattle.tc_channel.specs.Examples as example
 use Rattle.tc_channel.specs.declared.event.Event.TheVariants.{Frame, Release, Take}
 use Rattle.tc_loop.specs.Loop.{Loop, Action, Send, Arrive, Hear, Other, new_loop, smallest}
