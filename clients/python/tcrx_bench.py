@@ -45,8 +45,10 @@ from tcrx_bench_parts.web import Visitor, Web  # noqa: E402
 LOG_PAUSE, LAST_READ, SLOW_START = 0.2, 1.0, 3.0
 # What is said of a frame whose frame error control field was data.
 TOOK_SUM = "a frame ends with its frame error control field, which is data here; --fecf takes it off"
-# What part of `--patience` what has arrived has at the end to be answered; the rest is for what is under way then.
-LAST_ANSWERS = 0.9
+# What part of `--patience` what has arrived has at the end to be answered; the rest is for what is under way then, and for the report.
+LAST_ANSWERS = 0.8
+# What is said if senders are watched and frames have no frame error control field.
+NO_FECF = "--sender without --fecf: a frame whose bits were flipped on the way can look like a breach of its sender"
 
 
 class NotUp(Exception):
@@ -108,6 +110,8 @@ class Bench:  # pylint: disable=too-many-instance-attributes  # it is made of th
         self.said_fault = False
         self.link_watch: Optional[LinkWatch] = None
         self.renewal: Optional["asyncio.Task[None]"] = None
+        self.until: Optional[float] = None
+        """When it must have ended, once it has to."""
 
     # --- The begin ---
 
@@ -186,6 +190,8 @@ class Bench:  # pylint: disable=too-many-instance-attributes  # it is made of th
                 await self._is_up(engine, name)
         if bad:
             raise NotUp(bad[0], 2)
+        if self.watches and self.options.lines and (missing := self.watches.missing()):
+            raise NotUp(f"--sender: channel {missing[0]} isn't set up", 2)
 
     async def open_ports(self) -> None:
         """Opens all ports. Raises `NotUp` where one can't be opened."""
@@ -331,24 +337,32 @@ class Bench:  # pylint: disable=too-many-instance-attributes  # it is made of th
 
     # --- The end ---
 
+    def has_to_end(self) -> None:
+        """From now on it has `--patience` to end. What hasn't answered by then is stopped."""
+        if self.until is None:
+            seconds = self.options.patience
+            self.until = time.monotonic() + seconds
+            self.engine.loop.call_later(seconds, self.stop, f"what had arrived wasn't answered within {seconds:g} seconds")
+
     async def end(self) -> int:
         """Answers what has arrived, prints the final report, and closes all; the status."""
+        self.has_to_end()
         self.craft.is_ending = True
         await self.hub.stop_listening()
         left = await self._answer_last()
-        if not self.engine.over.done():
-            self.engine.end_lines()
-            await self.engine.over
-        own = why = self.engine.over.result()
-        for other in (self.maker, self.judge):
-            if other:
-                if not other.over.done():
-                    other.end_lines()
-                ended = await other.over
-                why = why or ended
+        unjudged = self.watches.leave() if self.watches else 0
+        own = why = await self._end_program(self.engine)
+        if self.maker:
+            why = await self._end_program(self.maker, not self.decoding or self.decoding.idle()) or why
+        if self.judge and self.watches:
+            while not self._is_judged():
+                await asyncio.sleep(0.005)
+            why = await self._end_program(self.judge) or why
         self._log_edges()
         if left:
             self._say_unanswered(left)
+        if unjudged:
+            self.notes.say_once(f"left unjudged at the end: {unjudged} frames of watched senders")
         if why:
             self._report_all(why)
         if not own:
@@ -365,24 +379,40 @@ class Bench:  # pylint: disable=too-many-instance-attributes  # it is made of th
         if self.watches:
             said = self.write("".join(line + "\n" for line in self.watches.texts())) and said
         self.notes.say_left_out()
-        return 1 if why or left or self.journal.fault or not said else 0
+        is_whole = not (why or left or unjudged or self.journal.fault or (self.watches and self.watches.missing()))
+        return 0 if is_whole and said else 1
+
+    @staticmethod
+    async def _end_program(engine: Engine, is_idle: bool = True) -> str:
+        """Ends a program: by the end of its lines, or at once if it is busy with what nobody waits for. Returns why it ended early, if it did."""
+        if not is_idle:
+            engine.stop("")
+        elif not engine.over.done():
+            engine.end_lines()
+        return await engine.over
 
     async def _answer_last(self) -> List[Turn]:
         """Has what has arrived answered, as far as `--patience` reaches; gives what the receiver wasn't given by then."""
         until = time.monotonic() + LAST_ANSWERS * self.options.patience
-        while not self._is_answered() and time.monotonic() < until:
+        while not (self._is_answered() and self._is_decoded() and self._is_judged()) and time.monotonic() < until:
             await asyncio.sleep(0.005)
         left = self.craft.leave() + (self.decoding.leave() if self.decoding else [])
-        # What is under way is answered in any case; a receiver that doesn't answer is ended.
+        # What the receiver was given is answered in any case; one that doesn't answer is ended.
         while not self._is_answered():
             await asyncio.sleep(0.005)
         return left
 
     def _is_answered(self) -> bool:
-        """Whether there is nothing to be answered, or nobody who answers."""
-        is_decoded = not self.maker or not self.decoding or self.maker.over.done() or self.decoding.idle()
-        is_judged = not self.judge or not self.watches or self.judge.over.done() or self.watches.idle()
-        return is_decoded and is_judged and not self.craft.is_renewing and (self.engine.over.done() or self.craft.idle())
+        """Whether the receiver has nothing to answer, or there is none."""
+        return not self.craft.is_renewing and (self.engine.over.done() or self.craft.idle())
+
+    def _is_decoded(self) -> bool:
+        """Whether no CLTUs wait, or nobody decodes them."""
+        return not self.maker or not self.decoding or self.maker.over.done() or self.decoding.idle()
+
+    def _is_judged(self) -> bool:
+        """Whether no frames of senders wait, or nobody judges them."""
+        return not self.judge or not self.watches or self.judge.over.done() or self.watches.idle()
 
     def _log_edges(self) -> None:
         """Adds to the log what was counted of CLTUs and telemetry frames."""
@@ -406,7 +436,7 @@ class Bench:  # pylint: disable=too-many-instance-attributes  # it is made of th
     async def _say_report(self) -> bool:
         """Prints the final report; whether that could be written. Others go on while nobody reads it, up to `--patience`."""
         octets = "".join([line + "\n" for line in self.engine.report]).encode()
-        until = time.monotonic() + self.options.patience
+        until = self.until or time.monotonic() + self.options.patience
         try:
             while (octets := write_some(sys.stdout, octets)) and time.monotonic() < until:
                 await asyncio.sleep(0.005)
@@ -449,6 +479,7 @@ async def serve(options: Namespace) -> int:
             bench.stop("interrupted twice")
         else:
             asked.set_result("asked to end")
+            bench.has_to_end()
     for number in (signal.SIGTERM, signal.SIGINT, signal.SIGHUP):
         loop.add_signal_handler(number, ask_to_end)
     try:
@@ -462,6 +493,8 @@ async def serve(options: Namespace) -> int:
         raise
     for place in options.open_to_others:
         notes.say_once(warning_of(place))
+    if options.sender and not options.fecf:
+        notes.say_once(NO_FECF)
     if bench.hub.most < options.connections:
         notes.say_once(warning_of_files(bench.hub.most))
     bench.begin_timers()

@@ -378,7 +378,10 @@ def replay(path: Path, program: Optional[str], senders: Sequence[Sequence[int]] 
         try:
             watches = Watches(senders, judge.ask, lambda text, time: print(f"{time:.6f} s: {text}"))
             judge.write(watches.setup())
-            print("\n".join([run_again(log, [named, *log.words], watches), *watches.texts()]))
+            said = run_again(log, [named, *log.words], watches)
+            if missing := watches.missing():
+                raise Unfit(f"--sender: channel {missing[0]} isn't set up in {path}")
+            print("\n".join([said, *watches.texts()]))
         finally:
             judge.end()
         return 0

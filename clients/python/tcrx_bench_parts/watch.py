@@ -4,6 +4,10 @@ come. Then every packet comes once and in order.
 Nothing is reckoned here. A second `tclive` has a channel whose window is twice the sender's: its half ahead of V(R) is the sender's window where
 V(R) is the first number that the sender doesn't know to be accepted, and its half behind V(R) has the numbers from which a sender learns by a
 report value of V(R). So FARM-1, which is proved, says of a frame by its event whether it may be sent, and of a CLCW whether it says something new.
+Each question is asked once, as the answer to it never changes.
+
+A window says nothing of what frames carry. So the data of accepted frames are kept, and a frame that comes back under an accepted number with other
+data ends the promise, too.
 """
 from __future__ import annotations
 
@@ -15,6 +19,8 @@ from tcrx import Clcw
 
 # A frame of Type-AD has neither flag in its first octet; frames that wait to be judged, before no more go to the receiver.
 FLAGS, MOST_WAITING = 0x30, 1024
+# Of how many accepted numbers the data are kept: those of the half behind V(R). A frame in the other half may have data of its own.
+KEPT = 128
 # The events of a frame that is expected or in the half ahead; and of one that is expected or in the half behind.
 AHEAD, BEHIND = ("E1", "E2", "E3"), ("E1", "E2", "E4")
 # What is asked: the event of a frame with this number where V(R) is the other one. It is sent back.
@@ -30,6 +36,8 @@ class Seen(NamedTuple):
     what: str
     number: int
     time: float
+    is_changed: bool = False
+    """Whether this is a frame with other data than was accepted under its number."""
 
 
 def fewest_read(numbers: List[int], number: int) -> Questions:
@@ -48,16 +56,24 @@ def fewest_read(numbers: List[int], number: int) -> Questions:
 class Watch:  # pylint: disable=too-many-instance-attributes  # what is known of a sender
     """The sender of a channel, with a window of so many frames."""
 
-    def __init__(self, channel: int, window: int, ask: Ask, breaks: Callable[[Watch, Seen], None]) -> None:
+    def __init__(self, channel: int, window: int, ask: Ask, breaks: Callable[[Watch, Seen, bool], None]) -> None:
         self.channel, self.window, self.ask, self.breaks = channel, window, ask, breaks
-        self.frames = self.breaches = 0
+        self.frames = self.breaches = self.changed = self.unjudged = 0
+        self.since: Optional[float] = None
+        """When V(R) was last set, by a Set V(R) or with the channel."""
         self.broken: Optional[Seen] = None
-        """The first frame since V(R) was set that broke the rule."""
+        """The first frame since then after which nothing is promised."""
+        self.was_broken = False
+        """Whether there was such a frame before."""
         self.waiting: Deque[Seen] = deque()
         self.is_asked = self.is_set = False
         """Whether an answer is under way; and whether a Set V(R) came, of which the next CLCW says if it was obeyed."""
         self.numbers: List[int] = []
         """That of the first frame which the sender didn't know to be accepted, and the N(R) of each CLCW that it may have read since."""
+        self.events = bytearray(1 << 16)
+        """The answers so far: the number of the event of a frame, by V(R) and N(S), or 0."""
+        self.data: Dict[int, str] = {}
+        """The data of the last accepted frames, by their numbers."""
 
     def setup(self) -> str:
         """The line that sets up the channel which is asked."""
@@ -71,7 +87,8 @@ class Watch:  # pylint: disable=too-many-instance-attributes  # what is known of
                 self.is_asked = True
                 self._judge(seen, fewest_read(list(self.numbers), seen.number), None)
             elif seen.what == "set":
-                self.numbers, self.broken = [seen.number], None
+                self.was_broken |= self.broken is not None
+                self.numbers, self.broken, self.since = [seen.number], None, seen.time
             elif seen.what == "clcw" and self.numbers[-1:] != [seen.number]:
                 self.numbers.append(seen.number)
 
@@ -79,42 +96,82 @@ class Watch:  # pylint: disable=too-many-instance-attributes  # what is known of
         """Asks on, with the answer to the last question, until all are answered."""
         while True:
             try:
-                expected, number = questions.send(event) if event else next(questions)
+                asked = questions.send(event) if event else next(questions)
             except StopIteration as end:
                 self._judged(seen, end.value)
                 return
+            expected, number = asked
+            if known := self.events[expected << 8 | number]:
+                event = f"E{known}"
+                continue
             octet = f"{self.channel << 2:02x}"
             lines = [f"frame 3000{octet}050000", f"frame 3000{octet}07008200{expected:02x}", f"frame 0000{octet}05{number:02x}00"]
-            answer = self.ask(lines, lambda answer: self._answered(seen, questions, answer))
+            answer = self.ask(lines, partial(self._answered, seen, questions, asked))
             if answer is None:
                 return
-            event = answer.split(" ")[2]
+            event = self._learn(asked, answer)
 
-    def _answered(self, seen: Seen, questions: Questions, answer: str) -> None:
+    def _learn(self, asked: Tuple[int, int], answer: str) -> str:
+        """Keeps the event of an answer, and returns it."""
+        event = answer.split(" ")[2]
+        self.events[asked[0] << 8 | asked[1]] = int(event[1:])
+        return event
+
+    def _answered(self, seen: Seen, questions: Questions, asked: Tuple[int, int], answer: str) -> None:
         """An answer came later."""
-        self._judge(seen, questions, answer.split(" ")[2])
+        self._judge(seen, questions, self._learn(asked, answer))
         self.go_on()
 
     def _judged(self, seen: Seen, found: Optional[Tuple[int, int]]) -> None:
         """A frame was judged."""
         self.is_asked = False
         self.frames += 1
+        self.changed += seen.is_changed
         if found:
             self.numbers[:found[0] + 1] = [found[1]]
         else:
             self.breaches += 1
+        if seen.is_changed or not found:
             self.broken = self.broken or seen
-            self.breaks(self, seen)
+            self.breaks(self, seen, not found)
+
+    def has_other_data(self, number: int, data: str, is_accepted: bool) -> bool:
+        """Whether other data were accepted under the number of a frame. Those of an accepted frame are kept."""
+        if is_accepted:
+            self.data.pop((number + KEPT) % 256, None)
+            self.data[number] = data
+        return self.data.get(number, data) != data
+
+    def leave(self) -> None:
+        """Judges nothing more of what waits, but for the frame of which answers are under way."""
+        self.unjudged += self.count_waiting()
+        self.waiting.clear()
+
+    def count_waiting(self) -> int:
+        """How many frames wait to be judged."""
+        return sum(seen.what == "frame" for seen in self.waiting)
 
     def state(self) -> Dict[str, object]:
         """Returns the report as values of JSON."""
-        return {"channel": self.channel, "window": self.window, "frames": self.frames, "breaches": self.breaches, "in_order": self.broken is None,
-                "broken_by": self.broken and {"number": self.broken.number, "time": round(self.broken.time, 6)}}
+        return {"channel": self.channel, "window": self.window, "frames": self.frames, "breaches": self.breaches, "changed": self.changed,
+                "waiting": self.count_waiting() + self.is_asked, "in_order": self.broken is None,
+                "broken_by": self.broken and {"number": self.broken.number, "time": round(self.broken.time, 6)},
+                "since": None if self.since is None else round(self.since, 6)}
 
     def text(self) -> str:
         """Returns the report as a line."""
-        order = f"no promise since frame {self.broken.number} at {self.broken.time:.6f} s" if self.broken else "every packet once and in order"
-        return f"sender of channel {self.channel}, window {self.window}: {self.frames} frames, {self.breaches} breaches; {order}"
+        if self.since is None:
+            return f"sender of channel {self.channel}, window {self.window}: no such channel was set up"
+        return f"sender of channel {self.channel}, window {self.window}: {self.frames} frames, {self.breaches} breaches; {self._promise(self.since)}"
+
+    def _promise(self, since: float) -> str:
+        """Returns the promise about the packets."""
+        if self.broken:
+            why = ", which came back with other data" if self.broken.is_changed else ""
+            return f"no promise since frame {self.broken.number} at {self.broken.time:.6f} s{why}"
+        if self.unjudged:
+            return f"no promise, as {self.unjudged} more frames weren't judged"
+        return f"every packet once and in order{f' since V(R) was set at {since:.6f} s' if self.was_broken else ''}"
 
 
 class Watches:
@@ -127,14 +184,17 @@ class Watches:
         """The time of what is answered, in seconds since the begin."""
         self.went_on: Callable[[], None] = lambda: None
         """Called after an answer that came later."""
+        self.closed = False
+        """From then on nothing more is judged."""
 
     def setup(self) -> List[str]:
         """The lines that set up the program."""
         return [watch.setup() for watch in self.all.values()]
 
-    def _breaks(self, watch: Watch, seen: Seen) -> None:
-        """Notes a frame that broke the rule."""
-        self.note(f"channel {watch.channel}: frame {seen.number} breaks the window of {watch.window} or the order", seen.time)
+    def _breaks(self, watch: Watch, seen: Seen, is_breach: bool) -> None:
+        """Notes a frame after which nothing is promised: a breach, or one that came back with other data."""
+        what = f"breaks the window of {watch.window} or the order" if is_breach else "came back with other data than was accepted"
+        self.note(f"channel {watch.channel}: frame {seen.number} {what}", seen.time)
 
     def is_behind(self) -> bool:
         """Whether so much waits that the receiver has to."""
@@ -144,9 +204,22 @@ class Watches:
         """Whether all is judged."""
         return not any(watch.is_asked for watch in self.all.values())
 
+    def leave(self) -> int:
+        """Judges nothing more. Returns how many frames wait."""
+        self.closed = True
+        for watch in self.all.values():
+            watch.leave()
+        return sum(watch.unjudged for watch in self.all.values())
+
+    def missing(self) -> List[int]:
+        """The channels that weren't set up."""
+        return [watch.channel for watch in self.all.values() if watch.since is None]
+
     def begin(self, channel: int, first: int) -> None:
         """A channel was set up with its first V(R)."""
-        self._add(channel, Seen("set", first, self.time()))
+        if watch := self.all.get(channel):
+            watch.data.clear()
+            self._add(watch, Seen("set", first, self.time()))
 
     def see(self, line: str, answers: List[str]) -> None:
         """A line that the receiver was given, and its answers."""
@@ -155,18 +228,25 @@ class Watches:
             watch = self.all.get(int(words[1])) if words[0] in ("frame", "clcw") and len(words) > 2 else None
             if watch and words[0] == "clcw":
                 clcw = Clcw(int(words[2], 16))
-                self._add(watch.channel, Seen("set" if watch.is_set and not clcw.lockout else "clcw", clcw.vr, self.time()))
+                is_new = watch.is_set and not clcw.lockout
                 watch.is_set = False
+                if is_new:
+                    watch.data.clear()
+                self._add(watch, Seen("set" if is_new else "clcw", clcw.vr, self.time()))
             elif watch:
-                octets = bytes.fromhex(line.split()[1][:10])
+                digits = line.split(None, 2)[1]
+                octets = bytes.fromhex(digits[:10])
                 watch.is_set = words[2] == "E8"
                 if not octets[0] & FLAGS:
-                    self._add(watch.channel, Seen("frame", octets[4], self.time()))
+                    end = 2 * (((octets[2] & 3) << 8 | octets[3]) + 1)
+                    is_changed = watch.has_other_data(octets[4], digits[10:end], words[2] == "E1")
+                    self._add(watch, Seen("frame", octets[4], self.time(), is_changed))
 
-    def _add(self, channel: int, seen: Seen) -> None:
+    def _add(self, watch: Watch, seen: Seen) -> None:
         """Has something judged."""
-        watch = self.all.get(channel)
-        if watch:
+        if self.closed:
+            watch.unjudged += seen.what == "frame"
+        else:
             watch.waiting.append(seen)
             watch.go_on()
 

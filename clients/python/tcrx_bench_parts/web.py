@@ -60,7 +60,7 @@ class Web:
         """All that is known, with the events after one of this number, and perhaps with who is connected."""
         ports = [{**port.state(), **({"peers": port.peers()} if has_peers and port.server else {})} for port in self.hub.ports]
         return {"program": f"tcrx-bench {__version__}", "receiver": self.receiver, "begun": round(self.begun, 3),
-                "seconds": round(self.craft.now(), 3), **self.craft.state(), "ports": [port.state() for port in self.hub.ports],
+                "seconds": round(self.craft.now(), 3), **self.craft.state(), "ports": ports,
                 "notes": list(self.craft.last_notes), "count_of_events": self.craft.count_of_events,
                 "events": self.craft.events_since(since)}
 
@@ -272,6 +272,8 @@ def all_metrics(state: Dict[str, object]) -> Iterator[Tuple[str, str, Dict[str, 
         about = {"channel": sender["channel"], "window": sender["window"]}
         yield "sender_frames_total", "counter", about, sender["frames"]
         yield "sender_breaches_total", "counter", about, sender["breaches"]
+        yield "sender_changed_total", "counter", about, sender["changed"]
+        yield "sender_waiting", "gauge", about, sender["waiting"]
         yield "sender_in_order", "gauge", about, int(cast(bool, sender["in_order"]))
     for channel in cast(List[Dict[str, object]], state["channels"]):
         yield from channel_metrics(channel)
