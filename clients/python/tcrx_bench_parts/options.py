@@ -15,12 +15,12 @@ from .ports import Network, Place, parse_place
 LISTENS = (
     ("tc-tcp", "raw frames over TCP, one after the other; with --cltu a stream of CLTUs"),
     ("tc-udp", "raw frames over UDP, one in each datagram; with --cltu CLTUs"),
-    ("lines", "lines of tclive over TCP; answers go to the connection that asked"),
+    ("lines", "lines of text, as tclive takes them; each answer goes to the connection that sent the line"),
     ("clcw-tcp", "CLCWs to whoever connects, four octets each"),
     ("packets-tcp", "packets to whoever connects, one after the other"),
     ("units-tcp", "units to whoever connects, each after its channel, MAP and length"),
     ("tm-tcp", "telemetry frames with CLCWs to whoever connects, one after the other"),
-    ("http", "a page with the state; /state has it as JSON, /metrics for Prometheus"),
+    ("http", "a web page that shows the state; /state returns it as JSON, and /metrics its figures for Prometheus"),
 )
 SENDS = (("clcw-udp", "CLCWs to HOST:PORT, one in each datagram"), ("packets-udp", "packets to HOST:PORT, one in each datagram"),
          ("units-udp", "units to HOST:PORT, one in each datagram"), ("tm-udp", "telemetry frames to HOST:PORT, one in each datagram"))
@@ -36,9 +36,9 @@ SHORTEST_WITH_FECF = 13
 LONGEST_SETUP = 1 << 20
 
 # Faults on purpose: the option's name, and of what it is the share.
-FAULTS = (("drop", "of frames that arrive, with --cltu out of CLTUs, the share (0 to 1) that is lost: 0.2 for a fifth"),
-          ("twice", "the share that comes twice"),
-          ("flip", "the share in which a bit is turned"), ("drop-clcw", "of CLCWs and telemetry frames, the share that is lost"))
+FAULTS = (("drop", "lose this share of the frames that arrive, 0 to 1: 0.2 loses a fifth. With --cltu, of the frames out of CLTUs"),
+          ("twice", "let this share of the frames arrive twice"),
+          ("flip", "flip one bit in this share of the frames"), ("drop-clcw", "lose this share of the CLCWs and telemetry frames that are sent"))
 
 
 def number_in(least: int, most: int) -> Any:
@@ -138,20 +138,22 @@ class Lines(argparse.RawDescriptionHelpFormatter):
 def make_parser() -> argparse.ArgumentParser:
     """The parser of the command line."""
     made = argparse.ArgumentParser(prog="tcrx-bench", allow_abbrev=False, formatter_class=Lines, usage="tcrx-bench --scid N [OPTION]...", description=(
-        "One spacecraft's telecommand receiver for many connections: frames, or CLTUs, come in over TCP and UDP and go to one\n"
-        "tclive; CLCWs, packets and telemetry frames go out. PORT is a port of 127.0.0.1, HOST:PORT one of that host; 0 takes a free port."))
+        "Starts one spacecraft's telecommand receiver (tclive) and opens ports to it. Frames or CLTUs come in over TCP and UDP;\n"
+        "CLCWs, packets, units and telemetry frames go out. PORT is a port of 127.0.0.1, or HOST:PORT. Port 0 takes a free port."))
     made.add_argument("-V", "--version", action="version", version=f"tcrx-bench {__version__}")
     made.add_argument("--scid", type=number_in(0, 1023), metavar="<N>", help="the spacecraft identifier, 0 to 1023; with --demo 42 if not given")
     made.add_argument("--fecf", action="store_true", help="each frame ends with its frame error control field")
-    made.add_argument("--setup", type=Path, metavar="<FILE>", help="a file of channel, queue and map lines; without it --lines sets up")
-    made.add_argument("--program", metavar="<FILE>", help="the tclive to start, in place of that of the tree or on the path")
-    made.add_argument("--tcmake", metavar="<FILE>", help="the tcmake to start, likewise, for CLTUs and telemetry frames")
+    made.add_argument("--setup", type=Path, metavar="<FILE>",
+                      help="a file of channel, queue and map lines; without it, lines at the port of --lines set the receiver up")
+    made.add_argument("--program", metavar="<FILE>", help="the tclive to start; without it the one of this tree, or else the one on the path")
+    made.add_argument("--tcmake", metavar="<FILE>",
+                      help="the tcmake to start for CLTUs and telemetry frames; without it the one of this tree, or else the one on the path")
     for name, text in LISTENS:
         made.add_argument(f"--{name}", action=Listen, dest="places", metavar="<PORT>", help=text)
     for name, text in SENDS:
         made.add_argument(f"--{name}", action=Listen, dest="places", metavar="<PORT>", help=text)
     made.add_argument("--allow", action=Allow, dest="last", metavar="<ADDRESS>",
-                      help="ADDRESS or ADDRESS/BITS: who may use the port before it; again for more")
+                      help="let only this address, or this network (ADDRESS/BITS), use the port named before it; may be given several times")
     add_edges(made)
     add_behaviour(made)
     made.set_defaults(places=[], open_to_others=[], last=None)
@@ -161,51 +163,54 @@ def make_parser() -> argparse.ArgumentParser:
 def add_edges(made: argparse.ArgumentParser) -> None:
     """Adds the options of CLTUs and telemetry frames."""
     made.add_argument("--cltu", choices=("correct", "detect"), metavar="<MODE>",
-                      help="frames arrive in CLTUs; correct: one wrong bit of each code block; detect: none. Not with --demo, --fill, --resync")
+                      help="frames arrive in CLTUs. With MODE correct one wrong bit in each code block is corrected, with detect none is. "
+                           "Not with --demo, --fill or --resync")
     made.add_argument("--cltu-frames", type=number_in(1, MOST_FRAMES), metavar="<N>",
-                      help="with --cltu, frames that a CLTU may carry, 1 to 171; 1 if not given")
-    made.add_argument("--randomised", action="store_true", help="with --cltu: the random sequence is on what code blocks carry")
+                      help="how many frames a CLTU may carry with --cltu, 1 to 171; 1 if not given")
+    made.add_argument("--randomised", action="store_true", help="take the random sequence off what CLTUs carry, with --cltu")
     made.add_argument("--tm-length", type=number_in(11, 2048), metavar="<N>",
-                      help="octets of a telemetry frame, 11 to 2048, with --tm-fecf at least 13; 1115 if not given. "
-                           "It and the next four need --tm-tcp or --tm-udp")
+                      help="length of telemetry frames in octets, 11 to 2048, with --tm-fecf at least 13; 1115 if not given. "
+                           "This option and the next four need --tm-tcp or --tm-udp")
     made.add_argument("--tm-rate", type=rate, metavar="<N>", help="telemetry frames a second, 0.001 to 1000; 1 if not given")
     made.add_argument("--tm-vcid", type=number_in(0, 7), metavar="<N>", help="the virtual channel of telemetry frames, 0 to 7; 0 if not given")
     made.add_argument("--tm-fecf", action="store_true", default=None, help="each telemetry frame ends with its frame error control field")
-    made.add_argument("--tm-marker", action="store_true", default=None, help="over TCP the marker 1acffc1d precedes each telemetry frame")
+    made.add_argument("--tm-marker", action="store_true", default=None, help="send the sync marker 1acffc1d before each telemetry frame over TCP")
 
 
 def add_behaviour(made: argparse.ArgumentParser) -> None:
     """Adds the options that say how the bench behaves."""
     made.add_argument("--fill", type=number_in(1, 1024), default=1, metavar="<N>",
-                      help="fill follows each frame up to the next multiple of N octets, 1 to 1024")
-    made.add_argument("--resync", action="store_true", help="look for the next header of this spacecraft instead of closing the connection")
+                      help="each frame is padded with fill to a multiple of N octets, 1 to 1024; 1 if not given")
+    made.add_argument("--resync", action="store_true", help="skip octets that begin no frame, instead of closing the connection")
     made.add_argument("--period", type=seconds, default=1.0, metavar="<SECONDS>",
-                      help="time between CLCWs that follow no frame, of the channels in turn; 1 if not given, 0 for none")
+                      help="send a CLCW of the next channel this often, besides those after frames; 1 if not given, 0 for none")
     made.add_argument("--release", choices=("auto", "manual"), default="auto", metavar="<WHEN>",
-                      help="auto, if not given: release and take what is accepted; manual: by lines")
+                      help="auto releases accepted data and takes packets and units at once; manual leaves that to lines; auto if not given")
     made.add_argument("--release-after", type=seconds, metavar="<SECONDS>",
-                      help="release and take this long after the frame, so the buffer can fill and the CLCW say Wait")
+                      help="release data only this long after its frame came, so that the buffer can fill and the CLCW can show Wait")
     made.add_argument("--link-timeout", type=seconds, metavar="<SECONDS>",
-                      help="set No RF Available and No Bit Lock if no frame came for this long; the next one clears them")
+                      help="set No RF Available and No Bit Lock when no frame came for this long; the next frame clears them")
     made.add_argument("--sender", nargs=2, action="append", default=[], type=number_in(0, 127), metavar=("<VC>", "<K>"),
-                      help="watch the sender of a channel (0 to 63): whether it keeps a window of K frames (1 to 127), and the link the order; "
-                           "again for another")
+                      help="watch whether the sender of channel VC (0 to 63) keeps a window of K frames (1 to 127) and its link keeps the order; "
+                           "may be given once for each channel")
     made.add_argument("--connections", type=number_in(1, 10000), default=32, metavar="<N>",
                       help="how many connections a port takes at a time; 32 if not given")
     made.add_argument("--connections-per-address", type=number_in(1, 10000), default=0, metavar="<N>",
                       help="how many connections a port takes from one address at a time; no such limit if not given")
     made.add_argument("--patience", type=seconds, default=10.0, metavar="<SECONDS>",
-                      help="time for the rest of a frame or request, an answer of tclive or tcmake, and the last answers; 10 if not given")
+                      help="how long the bench waits for the rest of a frame or request, for an answer of tclive or tcmake, and "
+                           "for all that is left when it is asked to end; 10 if not given")
     for name, text in FAULTS:
         made.add_argument(f"--{name}", type=share, default=0.0, metavar="<SHARE>", help=text)
     made.add_argument("--delay", type=seconds, default=0.0, metavar="<SECONDS>",
-                      help="frames that arrive come up to this much later, by chance, so the order changes; 2048 at a time")
-    made.add_argument("--seed", type=number_in(0, 999999999), default=0, metavar="<N>", help="with the same seed chance is the same; 0 if not given")
+                      help="delay each frame by a random time up to this one, so that the order changes; 2048 frames at a time")
+    made.add_argument("--seed", type=number_in(0, 999999999), default=0, metavar="<N>",
+                      help="seed of the random faults: the same seed gives the same faults; 0 if not given")
     made.add_argument("--demo", action="store_true",
-                      help="also start two senders over a link that loses a fifth of the frames, and name the page to look at")
-    made.add_argument("--log", type=Path, metavar="<FILE>", help="write frames, lines and answers there, as a script; the file must be new")
+                      help="also start two senders over a link that loses a fifth of the frames, and print the address of the page")
+    made.add_argument("--log", type=Path, metavar="<FILE>", help="write a log of frames, lines and answers, as a script, to this file, which must be new")
     made.add_argument("--replay", type=Path, metavar="<FILE>",
-                      help="give a log to tclive, compare the answers, and end; with --sender for its senders, too")
+                      help="give a log to tclive, compare its answers, and exit; with --sender, watch senders in the log, too")
 
 
 def read_words(words: Sequence[str]) -> argparse.Namespace:
