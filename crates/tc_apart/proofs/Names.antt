@@ -3,7 +3,7 @@ pub use Rattle.logged_lock.specs.Log.{owned}
 pub use Rattle.std.proofs.lemmas.Bool.{eqb-false, cases_order}
 pub use Rattle.std.specs.Prelude.{if◌then◌else◌, slice_set, ◌==◌, codes}
 pub use Rattle.tc_apart.specs.Apart.{Answered, ArePerformed, HasPerformed, LeadsTo, answers_frame, is_on, is_own, operation_in, operation_of, operations_of, with_answer}
-pub use Rattle.tc_channel.proofs.Names.{Bool, List, Some, [], ap, arith, false, filter, get_or, inl, inr, length, map, option_and_then, refl, slice_get, subst, suc, sym, take, true, zero, ℕ, ◌++◌, ◌+◌, ◌<◌, ◌∙◌, ◌∷◌, ◌≡◌, ◌≢◌, ◌⊎◌, Option, None, append-nil, append_assoc, map-append, length-map}
+pub use Rattle.tc_channel.proofs.Names.{Bool, List, Some, [], ap, arith, false, filter, get_or, inl, inr, length, map, option_and_then, refl, slice_get, subst, suc, sym, take, true, zero, ℕ, ◌++◌, ◌+◌, ◌<◌, ◌∙◌, ◌∷◌, ◌≡◌, ◌≢◌, ◌⊎◌, Option, None, append-nil, append_assoc, map-append, length-append, length-map}
 unfoldable pub use Rattle.tc_channel.proofs.Names.{no_limits, run_within}
 pub use Rattle.tc_cli.proofs.Determined.{AreApart, IsIdKept, all-apart, frame-determined, frame-kept, operation-ids, rack-ids, release-determined, release-kept, same-at, take-determined, take-kept, unit-determined, unit-kept}
 pub use Rattle.tc_cli.proofs.Happened.{IsOneAtMost}

@@ -1,5 +1,5 @@
 -- The text that tcmake writes when lines order a sender's units.
-use Rattle.tc_apart.proofs.Names.{List, Bool, true, false, [], ap, append-nil, append_assoc, arith, get_or, inl, inr, length, map, refl, subst, suc, sym, zero, ℕ, ◌++◌, ◌+◌, ◌<◌, ◌∙◌, ◌∷◌, ◌≡◌, ◌⊎◌, Option, Some, None, flat_map-append, map-append, codes, length-map}
+use Rattle.tc_apart.proofs.Names.{List, Bool, true, false, [], ap, append-nil, append_assoc, arith, get_or, inl, inr, length, map, refl, subst, suc, sym, zero, ℕ, ◌++◌, ◌+◌, ◌<◌, ◌∙◌, ◌∷◌, ◌≡◌, ◌⊎◌, Option, Some, None, flat_map-append, map-append, codes, length-append, length-map}
 use Rattle.std.specs.Prelude.{◌%◌, Result, Ok}
 use Rattle.tc_packet.specs.SpacePacket.{joined}
 use Rattle.tc_lines.specs.Answering.{AreAnswered, IsAnswered, too_long_text}
@@ -9,11 +9,11 @@ use Rattle.tc_make.specs.Ending.{ended, ending_reason_of}
 use Rattle.tc_make.specs.Frames.{frame_reason_of}
 use Rattle.tc_make.specs.Line.{ad_header, maker_line_of}
 use Rattle.tc_make.specs.Parting.{IsFrameAt, parting_reason_of}
-use Rattle.tc_make.specs.Printed.{Unless, bad_text, frames_text, named_text}
+use Rattle.tc_make.specs.Printed.{Unless, bad_text, frames_text, hint_text, named_text, unmade_text}
 use Rattle.tc_make.specs.Serving.{IsMakerAnswered, limit}
 use Rattle.tc_make.specs.declared.ending.Ending.{Ending}
 use Rattle.tc_make.specs.declared.fault.Reason.{Reason}
-use Rattle.tc_make.specs.declared.fault.Reason.TheVariants.{NoMemory}
+use Rattle.tc_make.specs.declared.fault.Reason.TheVariants.{BadHex, NoMemory}
 use Rattle.tc_make.specs.declared.line.Line.{Line}
 use Rattle.tc_make.specs.declared.line.Stream.{Stream}
 use Rattle.tc_make.specs.declared.maker.Maker.{Maker}
@@ -25,6 +25,22 @@ use Rattle.tc_apart.specs.Making.{AreSpelled, AskFor, HasBadLine, frames_needed,
 -- a text that consists of one line `bad` has a bad line, and so has that text with frames before it
 only-bad : (text : List ℕ) (frames : List (List ℕ)) (reason : Reason) → text ≡ frames_text frames ++ bad_text reason → HasBadLine text
 only-bad text frames reason is = record { frames = frames; bad = bad_text reason; rest = []; parts = is ∙ ap (λ (x : List ℕ). frames_text frames ++ x) (sym (append-nil (bad_text reason))); reason = inl (reason, refl) }
+
+-- an empty text has none, because the line `bad` isn't empty
+bad-some : (reason : Reason) → (n : ℕ) × (length (unmade_text reason) ≡ suc n)
+bad-some BadHex = (_, refl)
+bad-some _ = (_, refl)
+
+pub empty-not-bad : HasBadLine [] → ⊥
+empty-not-bad b =
+    let all = ap (λ (x : List ℕ). length x) b.parts in
+    let none : length b.bad ≡ 0 = omega (arith, all, length-append (frames_text b.frames) (b.bad ++ b.rest), length-append b.bad b.rest) in
+    elim b.reason [
+      | inl said ↦
+          let some = bad-some said.0 in
+          absurd (omega (arith, none, ap (λ (x : List ℕ). length x) said.1, length-append (unmade_text said.0) (hint_text said.0), some.1))
+      | inr long ↦ absurd (omega (arith, none, ap (λ (x : List ℕ). length x) long))
+    ]
 
 bad-more : (text more : List ℕ) → HasBadLine text → HasBadLine (text ++ more)
 bad-more text more b = record {

@@ -11,12 +11,13 @@ ghost use Rattle.tc_apart.specs.Making.{AskFor, AreSpelled, HasBadLine};
 
 /// Suppose that lines order a sender's units from `tcmake` in their order, and that `answer_lines` of tc_make answers
 /// them (`AreWritten`). Then `tcmake` writes the frames of `numbered_frames_send_packets` (tc_ends), or reports that a
-/// line is bad (`written`). Two lines that were worked out by hand order a unit, with segment headers (`asked`) and
+/// line is bad (`written`). An empty text has no bad line (`none_bad`). Two lines that were worked out by hand order a unit, with segment headers (`asked`) and
 /// without (`asked_plainly`).
 pub fn tcmake_writes_numbered_frames()
     ensures written { (ending : Ending) (segmented : Bool) (stream : Stream) (units : List UnitSent) (octets : List ℕ) (before after : Option (List ℕ)) → stream.ns < 256
         → AskFor segmented stream units (lines_of octets) → AreWritten ending octets before after
         → Writes before after (λ text. AreSpelled ending segmented stream units text ⊎ HasBadLine text) }
+    ensures none_bad { HasBadLine [] → ⊥ }
     ensures asked { AskFor true (record { scid = 42; vcid = 1; ns = 9 }) example.one_unit (lines_of (codes "segments 42 1 9 0 249 1005c0000000aa\n")) }
     ensures asked_plainly { AskFor false (record { scid = 42; vcid = 1; ns = 9 }) example.one_unit (lines_of (codes "ad 42 1 9 plain 1005c0000000aa\n")) }
 {}

@@ -1,5 +1,9 @@
+use Rattle.tc_apart.proofs.Names.{refl}
 use Rattle.tc_apart.proofs.Scripted.{all-performed, both-performed}
 use Rattle.tc_apart.proofs.laws.channels_of_a_script_do_not_touch_each_other.Goals as goal
+
+pub returns-clause-has : goal.returns-clause-has
+returns-clause-has c = λ scid vcid script rest answers progress channel lines of. (answers, progress, rest, lines, refl, of)
 
 pub returns-clause-performed : goal.returns-clause-performed
 returns-clause-performed c = λ scid script rest answers progress lines. all-performed scid script answers progress rest lines
