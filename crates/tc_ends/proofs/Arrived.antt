@@ -156,7 +156,8 @@ lost-alike end last o octets os later same is = (
   ap (λ (s : Step). s.0) same ∙ is.1,
 )
 
--- what a link may lose: idle octets, a CLTU whose first code block is rejected, and one that carries nothing that passes
+-- what a link may lose: idle octets, a CLTU whose first code block is rejected, and one that carries nothing that
+-- passes
 pub idle-lost : (end : LinkEnd) (last : ℕ) (octets : List ℕ) → HasNoStart end.mode last octets → (later : ℕ) × IsLost end last octets later
 idle-lost end last [] none = (last, (([], refl, refl), refl))
 idle-lost end last (o ∷ os) none =

@@ -100,8 +100,8 @@ abbrev pub events_of : (ℕ → List ℕ) → List Action → List Event
 events_of frames session = flat_map (events_at frames) session
 
 -- Detection lets nothing through that was altered: the inputs come one after the other during these actions, and each
--- brings about exactly the events of the actions during which it comes. So a CLTU that is refused is a loss, octets that
--- bring nothing may come at any time, and frames of one CLTU arrive one directly after the other.
+-- brings about exactly the events of the actions during which it comes. So a CLTU that is refused is a loss, octets
+-- that bring nothing may come at any time, and frames of one CLTU arrive one directly after the other.
 abbrev pub AltersNothing : LinkEnd → (ℕ → List ℕ) → Reception → List Action → List Coming → Type 0
 AltersNothing end frames state session [] = events_of frames session ≡ []
 AltersNothing end frames state session (c ∷ coming) =

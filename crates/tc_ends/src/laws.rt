@@ -167,8 +167,8 @@ pub fn a_link_may_lose_this()
 /// that keep order. Suppose that error detection lets no altered frame through. Detection uses the parity of the code
 /// blocks, the frame's length and, if frames have one, the frame error control field. A frame that is refused is lost,
 /// and the frames of a CLTU with few wrong bits arrive ([`a_cltu_with_few_wrong_bits_brings_its_frames`]). Then takes
-/// gave what [`packets_that_are_sent_are_given`] promises. [`a_link_that_idles_and_loses_alters_nothing`] discharges the
-/// premise about detection.
+/// gave what [`packets_that_are_sent_are_given`] promises. [`a_link_that_idles_and_loses_alters_nothing`] discharges
+/// the premise about detection.
 pub fn packets_in_cltus_are_given()
     ensures { (s : Start) (header : Header) (units : List UnitSent) (frames : List (List ℕ)) (apid : ℕ) (q : Queue) (end : LinkEnd) (state : Reception) (coming : List Coming) (came : List Event)
         → IsStart s → AllByRecursion (CanBeSent s.loop.limits s.loop.settings.segmented) units → AreNumbered s.loop.settings.segmented header units frames → AreFrom (era s).frames frames → SendsOnly (length frames) (era_session s)

@@ -66,8 +66,8 @@ by_bd = 0x20 ∷ 0x2a ∷ 0x04 ∷ 0x06 ∷ 0x00 ∷ 0xc1 ∷ 0x00 ∷ []
 
 -- A start with a Set V(R) to 9, a number that no earlier CLCW has. The sender sends Set V(R) again before it believes
 -- that it was obeyed. This time it is lost, but the first one comes twice and is obeyed twice. Then frame 0 of the era
--- is accepted, a Type-BD frame comes, and the sender hears of frame 0 by a CLCW that comes twice. The data fields of the
--- earlier frame 0 and of this one are released, and the packet is taken.
+-- is accepted, a Type-BD frame comes, and the sender hears of frame 0 by a CLCW that comes twice. The data fields of
+-- the earlier frame 0 and of this one are released, and the packet is taken.
 abbrev pub learnt_by_9 : Start
 learnt_by_9 = record {
   loop = around_set_to 9;

@@ -101,8 +101,8 @@ pub fn calls_go_on_one_after_another()
 /// station, and that of [`StationOf::close_together`](crate::StationOf::close_together) with this operator among the
 /// others, as it was left by the last call that it made.
 ///
-/// - `frames` is about calls of `bring`, `watched` is about calls of `bring_watched`, and `releases`, `takes` and `units`
-///   are about calls of `release`, `take` and `take_unit`.
+/// - `frames` is about calls of `bring`, `watched` is about calls of `bring_watched`, and `releases`, `takes` and
+///   `units` are about calls of `release`, `take` and `take_unit`.
 /// - `words` is about each read of a watcher by `watch` before its `meet`. In between, the watcher may have read on.
 ///
 /// Between the call and the close the operator may have made any other calls. Each of them promises that it has gone on
