@@ -1,5 +1,5 @@
-"""Reads what c/tcrx.h declares, for the tools that derive something from it: its parts with their constants, records and calls, and what
-the comments say about them.
+"""Reads what c/tcrx.h or c/tcrx_lines.h declares, for the tools that derive something from it: its parts with their constants, records
+and calls, and what the comments say about them.
 
 The comments are read as doxygen reads them. These commands are known: @file, @brief, @par, @defgroup with @{ and @}, @param, @return and
 @copydoc. What is between @cond and @endcond is left out. A comment after a field or a constant is about that field or constant.
@@ -87,7 +87,7 @@ def item_of(found: "re.Match[str]", comment: str) -> Item:
 
 def groups_of(header: str) -> Tuple[str, List[Group]]:
     """Returns the text of the file's comment, and the parts of the header. Items that are in no group are in one without a title."""
-    header = re.sub(r"/\*\* @cond \*/.*?/\*\* @endcond \*/|^TCRX_TO_BE_READ\n", "", header, flags=re.M | re.S)
+    header = re.sub(r"/\*\* @cond \*/.*?/\*\* @endcond \*/|^TCRX_TO_BE_READ\s", "", header, flags=re.M | re.S)
     front, groups, comment, end = "", [Group("", "")], "", 0
     for found in re.finditer("|".join((COMMENT, DEFINE, STRUCT, ALIAS, ENUM, CALL)), header, re.M | re.S):
         near = header[end : found.start()].strip() == ""
@@ -136,7 +136,7 @@ class Call(NamedTuple):
 
 
 class Interface(NamedTuple):
-    """The constants, records and calls that the library exports, in the order in which the header describes them."""
+    """The constants, records and calls that the library exports, in the order in which the header describes them. Only tcrx.h has a version."""
 
     version: List[int]
     enumerations: List[Item]
@@ -156,10 +156,11 @@ def parameter_of(text: str) -> Tuple[str, str]:
 
 
 def exported_calls(calls: Dict[str, Item]) -> List[Call]:
-    """Returns the calls that the library exports, from all calls that the header declares. Their texts are octets."""
+    """Returns the calls that the library exports, from all calls that the header declares. Their texts are octets.
+    A declaration that copies the comment of another call isn't one more call."""
     exported = []
     for name, item in calls.items():
-        if item.text.startswith("tcrx_"):
+        if item.text.startswith("tcrx_") and not item.comment.startswith("@copydoc"):
             answer, _, listed = item.text.rstrip(")").partition("(")
             parameters = [parameter_of(each.replace("char *", "uint8_t *")) for each in listed.split(", ")]
             exported.append(Call(name, f"{name}_at" if item.is_inline else name, answer.split()[0], parameters, item.comment))
@@ -170,7 +171,7 @@ def interface_of(header: str) -> Interface:
     """Returns the constants, records and calls that the library exports, from the text of its header."""
     items = [item for group in groups_of(header)[1] for item in group.items]
     macros = {name: value for item in items if item.kind == "macro" for name, value, _ in item.parts}
-    return Interface([int(macros[f"TCRX_API_{part}"]) for part in ("MAJOR", "MINOR", "PATCH")],
+    return Interface([int(macros[f"TCRX_API_{part}"]) for part in ("MAJOR", "MINOR", "PATCH") if f"TCRX_API_{part}" in macros],
                      [item for item in items if item.kind == "constants"],
                      {item.text: item for item in items if item.kind == "record" and item.parts},
                      exported_calls({name_of(item): item for item in items if item.kind == "call"}))

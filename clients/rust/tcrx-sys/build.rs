@@ -2,6 +2,7 @@
 //! the folder `dist` of the repository, by a C compiler and `make`.
 
 use std::env;
+use std::fs;
 use std::path::{Path, PathBuf};
 use std::process::{exit, Command};
 
@@ -28,6 +29,12 @@ fn made() -> Option<PathBuf> {
     ran.success().then_some(folder)
 }
 
+/// Whether a library has the calls of sessions of lines: their names are among its octets.
+fn has_lines(library: &Path) -> bool {
+    let name = b"tcrx_lines_answer_at";
+    fs::read(library).is_ok_and(|octets| octets.windows(name.len()).any(|window| window == name))
+}
+
 fn main() {
     for name in ["TCRX_LIB_DIR", "PKG_CONFIG", "PKG_CONFIG_PATH", "CC", "AR"] {
         println!("cargo:rerun-if-env-changed={name}");
@@ -41,6 +48,11 @@ fn main() {
         if env::var_os("CARGO_FEATURE_SHARED").is_some() { ("dylib", "libtcrx.so") } else { ("static", "libtcrx.a") };
     if !folder.join(file).is_file() {
         eprintln!("tcrx-sys: there is no {file} in {}", folder.display());
+        exit(1);
+    }
+    if env::var_os("CARGO_FEATURE_LINES").is_some() && !has_lines(&folder.join(file)) {
+        eprintln!("tcrx-sys: {file} in {} has no sessions of lines, which are the feature `lines`.", folder.display());
+        eprintln!("The library has them on x86-64 and aarch64, and not in portable C.");
         exit(1);
     }
     println!("cargo:rerun-if-changed={}", folder.join(file).display());

@@ -6,7 +6,8 @@
 //! channel.
 //!
 //! **Memory.** The crate links `libtcrx.a`, and defines its two memory functions over `malloc`. With the feature `own-memory`
-//! the program defines them. With the feature `shared` the crate links `libtcrx.so`, which has its own.
+//! the program defines them. With the feature `shared` the crate links `libtcrx.so`, which has its own. Sessions of lines, which
+//! the feature `lines` declares, need a third function.
 #![no_std]
 
 use core::ffi::c_void;
@@ -46,6 +47,9 @@ macro_rules! records {
         )),*];
     };
 }
+
+#[cfg(feature = "lines")]
+pub mod lines;
 
 // tools/c_interface writes the following lines from c/tcrx.h.
 /// The version of the interface that these declarations are for, in the form of `TCRX_API_VERSION`.

@@ -1,4 +1,5 @@
-//! The memory of channels over `malloc` and `free`: `c/tcrx_memory.c`, for programs that link `libtcrx.a`.
+//! The memory of channels and sessions over `malloc`: `c/tcrx_memory.c` and `c/tcrx_lines_memory.c`, for programs that link
+//! `libtcrx.a`.
 
 use core::ffi::c_void;
 use core::ptr::addr_of_mut;
@@ -6,6 +7,8 @@ use core::ptr::addr_of_mut;
 extern "C" {
     fn malloc(count: usize) -> *mut c_void;
     fn free(at: *mut c_void);
+    #[cfg(feature = "lines")]
+    fn realloc(at: *mut c_void, count: usize) -> *mut c_void;
 }
 
 /// A block, and whether it could be allocated.
@@ -29,11 +32,23 @@ extern "C" fn rattle_alloc(count: usize, alignment: usize) -> Block {
     answer(unsafe { malloc(if count == 0 { alignment } else { count }) })
 }
 
+/// Moves a block to one of `count` octets. If there is none, the block stays as it was.
+///
+/// # Safety
+///
+/// The block must be one that `rattle_alloc` or this function returned, and that hasn't been freed.
+#[cfg(feature = "lines")]
+#[no_mangle]
+unsafe extern "C" fn rattle_realloc(at: *mut c_void, _count_before: usize, count: usize, alignment: usize) -> Block {
+    // SAFETY: the caller promises that the block comes from malloc or realloc.
+    answer(unsafe { realloc(at, if count == 0 { alignment } else { count }) })
+}
+
 /// Frees a block.
 ///
 /// # Safety
 ///
-/// The block must be one that `rattle_alloc` returned and that hasn't been freed.
+/// The block must be one that one of the functions above returned and that hasn't been freed.
 #[no_mangle]
 unsafe extern "C" fn rattle_dealloc(at: *mut c_void) {
     // SAFETY: the caller promises that the block comes from malloc.
