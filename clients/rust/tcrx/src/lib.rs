@@ -24,12 +24,17 @@
 //! ```
 //!
 //! The crate needs neither `std` nor an allocator of Rust's, because packets are taken into slices of the caller's. The crate
-//! `tcrx-sys` describes which library is linked and where it gets its memory. Its features `shared` and `own-memory` are also
-//! features of this crate.
+//! `tcrx-sys` describes which library is linked and where it gets its memory. Its features `shared`, `own-memory` and `lines` are
+//! also features of this crate.
+//!
+//! With the feature `lines` there are also sessions that answer lines of text, as the programs `tclive`, `tcrx` and `tcmake` do. They
+//! need an allocator of Rust's, and a library for x86-64 or aarch64.
 #![no_std]
 
 mod channel;
 mod errors;
+#[cfg(feature = "lines")]
+mod lines;
 mod link;
 
 pub use channel::{Brought, Carried, Channel, Delivery, Limits, Link, Rack, Settings};
@@ -37,6 +42,8 @@ pub use errors::{
     BringError, CandidateError, FarmError, FecfError, FrameError, RackError, ReleaseError, SettingsError, TakeError, TmError,
     WriteError,
 };
+#[cfg(feature = "lines")]
+pub use lines::{LineError, Session, SessionError};
 pub use link::{
     add_fecf, check_fecf, randomise, write_cltu, Arrival, Clcw, Command, Decoder, Event, Farm, Fed, Frame, Header, Kind, Packet,
     PacketHeader, Segments, State, Step, Tm, TmHeader,
