@@ -1,6 +1,6 @@
 /*
- * The memory of channels over malloc, for the checks of the bindings. tcrx_refuse() makes one request of the calling
- * thread fail. Link this in place of tcrx_memory.c, into a program or into a shared library.
+ * The memory of channels and sessions over malloc, for the checks of the bindings. tcrx_refuse() makes one request of the
+ * calling thread fail. Link this in place of tcrx_memory.c and tcrx_lines_memory.c, into a program or a shared library.
  */
 #include <stdbool.h>
 #include <stddef.h>
@@ -12,6 +12,7 @@ typedef struct {
 } rattle_block;
 
 rattle_block rattle_alloc(size_t count, size_t alignment);
+rattle_block rattle_realloc(void *at, size_t count_before, size_t count, size_t alignment);
 void rattle_dealloc(void *at);
 long tcrx_refuse(long growth);
 long tcrx_blocks(void);
@@ -52,6 +53,11 @@ rattle_block rattle_alloc(size_t count, size_t alignment) {
     void *at = is_refused() ? NULL : malloc(count == 0 ? alignment : count);
     blocks += at == NULL ? 0 : 1;
     return answer(at);
+}
+
+rattle_block rattle_realloc(void *at, size_t count_before, size_t count, size_t alignment) {
+    (void)count_before;
+    return answer(is_refused() ? NULL : realloc(at, count == 0 ? alignment : count));
 }
 
 void rattle_dealloc(void *at) {

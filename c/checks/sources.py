@@ -36,12 +36,13 @@ def compiled(compiler: list[str], lines: str, folder: Path, *flags: str) -> str:
 
 
 def versions() -> list[tuple[str, str]]:
-    """Compiles the header in each version of each language, and the header for C++ also as flight software is built."""
+    """Compiles the header in each version of each language, and the headers for C++ also as flight software is built."""
     said = [(compiler[1], compiled(compiler, '#include "tcrx.h"\n', HEADER.parent, *WARNINGS)) for compiler in C + CXX]
     for compiler in CXX[2:]:
         for flags in (("-fexceptions", "-frtti"), ("-fno-exceptions", "-fno-rtti")):
-            found = compiled(compiler, '#include "tcrx.hpp"\n', HEADER.parent, *WARNINGS, *flags)
-            said.append((f"tcrx.hpp, {' '.join([compiler[1], *flags])}", found))
+            for header in ("tcrx.hpp", "tcrx_lines.hpp"):
+                found = compiled(compiler, f'#include "{header}"\n', HEADER.parent, *WARNINGS, *flags)
+                said.append((f"{header}, {' '.join([compiler[1], *flags])}", found))
     return said
 
 
