@@ -22,6 +22,7 @@ import threading
 import time
 from functools import partial
 from pathlib import Path
+from types import ModuleType
 from typing import Any, Callable, Dict, List, Tuple, Type
 
 from comparing import PATIENCE, TOP, close, expect, run
@@ -349,12 +350,17 @@ def check_fork() -> None:
 
 # --- Memory ---
 
-def check_growths(refusing: str) -> None:
-    """Each block of a channel that is made refused in turn. That no other call asks for any is compared by c/checks/growths.c."""
+def refusing_memory(refusing: str) -> ctypes.PyDLL:
+    """The calls of c/checks/refusing_memory.c in a library."""
     memory = ctypes.PyDLL(refusing)
     memory.tcrx_refuse.restype, memory.tcrx_blocks.restype = ctypes.c_long, ctypes.c_long
     memory.tcrx_refuse.argtypes = [ctypes.c_long]
-    refused = 0
+    return memory
+
+
+def check_growths(refusing: str) -> None:
+    """Each block of a channel that is made refused in turn. That no other call asks for any is compared by c/checks/growths.c."""
+    memory, refused = refusing_memory(refusing), 0
 
     def done(call: Callable[[], Any], look: Callable[[], object], what: str) -> Any:
         """What a call answers once it meets no refused growth; each before that changes nothing."""
@@ -392,12 +398,12 @@ def name_in_c(kind: Type[ctypes.Structure]) -> str:
     return "tcrx_" + "_".join(word.lower() for word in re.findall(r"[A-Z][a-z]*", kind.__name__))
 
 
-def check_places() -> None:
-    """Each record's size, and the place and the size of each field, by a C program."""
-    kinds = [kind for kind in vars(tcrx_channel).values() if isinstance(kind, type) and issubclass(kind, ctypes.Structure)
+def check_places(module: ModuleType, header: str, least: int) -> None:
+    """The size of each record that a module declares of a header, and the place and the size of each field, by a C program."""
+    kinds = [kind for kind in vars(module).values() if isinstance(kind, type) and issubclass(kind, ctypes.Structure)
              and kind is not ctypes.Structure]
-    expect(len(kinds) > 10, f"{len(kinds)} records")
-    lines = ['#include "tcrx.h"', "#include <stdio.h>", "int main(void) {"]
+    expect(len(kinds) >= least, f"{len(kinds)} records")
+    lines = [f'#include "{header}"', "#include <stdio.h>", "int main(void) {"]
     wanted: List[str] = []
     for kind in kinds:
         name = name_in_c(kind)
@@ -444,7 +450,7 @@ def main() -> int:
     os.environ["TCRX_LIB_DIR"] = str(Path(library).parent)
     same(tcrx_channel.find_library(), library, "the library that is found")
     same((tcrx.Channel, tcrx.Rack, hasattr(tcrx, "Channel")), (Channel, Rack, True), "the channel and the rack of tcrx")
-    check_places()
+    check_places(tcrx_channel, "tcrx.h", 10)
     check_values()
     check_racks()
     check_chain()

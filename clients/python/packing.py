@@ -24,7 +24,7 @@ from typing import Dict, List, Mapping, Optional
 
 HERE = Path(__file__).resolve().parent
 NAME = "dekorihe"
-MODULES = ("tcrx", "tcrx_c", "tcrx_channel")
+MODULES = ("tcrx", "tcrx_c", "tcrx_channel", "tcrx_lines", "tcrx_lines_c")
 LIBRARY = "libtcrx.so.0"
 DIST = HERE.parent.parent / "dist"
 OWN_FILES = ("pyproject.toml", "packing.py", "py.typed", *(f"{module}.py" for module in MODULES))
@@ -41,7 +41,7 @@ def version() -> str:
 def metadata() -> str:
     """Returns the metadata of the package."""
     return (f"Metadata-Version: 2.1\nName: {NAME}\nVersion: {version()}\n"
-            "Summary: A CCSDS telecommand receiver: a live program's client, and a virtual channel in the process\n"
+            "Summary: A CCSDS telecommand receiver: a live program's client, and a virtual channel and sessions of lines in the process\n"
             "License: Apache-2.0\nRequires-Python: >=3.9\nClassifier: Typing :: Typed\n")
 
 
@@ -50,7 +50,7 @@ def library() -> Optional[bytes]:
     compiler = shlex.split(os.environ.get("CC", "cc"))[0]
     missing = [command for command in (compiler, "make") if not shutil.which(command)] + [DIST / "portable"] * (not (DIST / "portable").is_dir())
     if missing:
-        print(f"packing: there is no {missing[0]}, so the client is packed alone: Channel and Rack look for {LIBRARY} elsewhere", file=sys.stderr)
+        print(f"packing: there is no {missing[0]}, so the client is packed alone: Channel, Rack and Session look for {LIBRARY} elsewhere", file=sys.stderr)
         return None
     with tempfile.TemporaryDirectory() as folder:
         subprocess.run(["make", "-s", "-C", DIST, f"OUT={folder}", f"{folder}/libtcrx.so"], check=True, stdout=sys.stderr)

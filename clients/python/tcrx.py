@@ -10,8 +10,8 @@
     print(receiver.final[1].events)
 
 docs/reference/scripts.md describes the lines and their answers, and docs/howto/bench.md shows how to put a receiver on
-a link. `Channel` is a virtual channel in this process, without a program. It is in tcrx_channel.py, which this file
-doesn't need.
+a link. `Channel` is a virtual channel in this process, without a program, and `Session` answers lines here. They are
+in tcrx_channel.py and tcrx_lines.py, which this file doesn't need.
 
 The proofs reach a caller as far as `tclive` does, whose answers are read here (README.md says what is proved of it).
 Nothing in this file is proved.
@@ -51,6 +51,7 @@ from typing import (TYPE_CHECKING, Callable, Dict, FrozenSet, Iterator, List, Li
 
 if TYPE_CHECKING:
     from tcrx_channel import Channel as Channel, Rack as Rack  # pylint: disable=useless-import-alias  # they are re-exported
+    from tcrx_lines import Session as Session  # pylint: disable=useless-import-alias  # it is re-exported
 
 # The version of the programs, and of the newest heading of CHANGELOG.md.
 __version__ = "0.3.0"
@@ -60,10 +61,13 @@ __all__ = ["BadLine", "Brought", "Clcw", "Delivered", "Delivery", "Ended", "Even
 
 if not TYPE_CHECKING:
     def __getattr__(name: str) -> object:
-        """Returns `Channel` or `Rack`, which are imported from their own file when they are first used."""
+        """Returns `Channel`, `Rack` or `Session`, which are imported from their own files when they are first used."""
         if name in ("Channel", "Rack"):
             import tcrx_channel  # pylint: disable=import-outside-toplevel  # this file is whole without it
             return getattr(tcrx_channel, name)
+        if name == "Session":
+            import tcrx_lines  # pylint: disable=import-outside-toplevel  # this file is whole without it
+            return tcrx_lines.Session
         raise AttributeError(f"module {__name__!r} has no attribute {name!r}")
 
 PROBE, PROBE_ANSWER = "?", "bad unknown command"

@@ -76,7 +76,8 @@ class BadSettings(Fault):
 
 
 class NoMemory(Fault, MemoryError):
-    """There is too little memory for a channel. Once a channel is created, none of its calls requests any."""
+    """There is too little memory for a channel, or for a line of a session, which can then be given again. Once a
+    channel is created, none of its calls requests any."""
 
 
 def find_library() -> str:
