@@ -1,6 +1,6 @@
 -- The types and definitions that most proofs use, imported from one file.
 pub use Rattle.atomic_table.proofs.Fields.{pin_told, token_val}
-pub use Rattle.atomic_table.proofs.Names.{!, Goes-dropped, Is, SProp, Stays, Val, Valss, a_type, agg, alive, alloc_all, and_then, by, emp, enter, fact, fact_i, feq_i, fjoin, fld, fpack, fpick, free_all, fsep, fsplit, fsplit3, get, get_in, inst_fn, keep, layouts, look_at, move, no, no_more, nothing, of_list, of_opd, owns, param, pass_all, peeks, plain, qed, raw, returns, rewrite, sets, shows, split, stay_dropped, stop, sub, tables, types_at, use0, vstruct, walk_of, whole, ‵, ◌$◌, ◌∵◌, ◌⊛◌}
+pub use Rattle.atomic_table.proofs.Names.{ !, Goes-dropped, Is, SProp, Stays, Val, Valss, a_type, agg, alive, alloc_all, and_then, by, emp, enter, fact, fact_i, feq_i, fjoin, fld, fpack, fpick, free_all, fsep, fsplit, fsplit3, get, get_in, inst_fn, keep, layouts, look_at, move, no, no_more, nothing, of_list, of_opd, owns, param, pass_all, peeks, plain, qed, raw, returns, rewrite, sets, shows, split, stay_dropped, stop, sub, tables, types_at, use0, vstruct, walk_of, whole, ‵, ◌$◌, ◌∵◌, ◌⊛◌}
 pub use Rattle.atomic_table.proofs.Walks.{leaves, proved}
 pub use Rattle.logged_lock.specs.Log.{AreBehind, IsBeginning, IsMergeOf, made_by, owned, total_made}
 pub use Rattle.std.proofs.Common.{All, Bool, List, MatchBool, Some, Vec, [], ap, append_assoc, arith, below_more, drop, false, get_or, inl, inr, length, lt_of_not-le, map, min, refl, reverse, rules, set, slice_get, subst, suc, sym, take, true, true≢false, vec_capacity, vec_len, zero, ℕ, ⊎_elim, ◌++◌, ◌+◌, ◌-◌, ◌<◌, ◌^◌, ◌∙◌, ◌∷◌, ◌≡◌, ◌≢◌, ◌≤◌}
