@@ -1,5 +1,5 @@
 -- A decoder whose octets are in a buffer, from one octet to the next.
-use Rattle.tc_c.proofs.Names.{◌≡◌, ℕ, ◌+◌, ◌<◌, ◌≤◌, false, List, ◌∷◌, [], ◌++◌, Option, Some, length, get_or, take, drop, set, refl, ap, sym, ◌∙◌, arith, append_assoc, length-append, ltb, length-drop, length-take-le, take-set-le, drop-set-add, take_more_set, take_at, take-append-drop, take-take, drop-take, decoded, Reception, Decoding, reception_step, after_block, fate_after, fate_of, state_after, frames_of, counted_in, state-append, frames-append, counted-append, reception_of}
+use Rattle.tc_c.proofs.Names.{◌≡◌, ℕ, ◌+◌, ◌<◌, ◌≤◌, false, List, ◌∷◌, [], ◌++◌, Option, Some, length, take, drop, set, refl, ap, sym, ◌∙◌, arith, append_assoc, length-append, ltb, length-drop, length-take-le, take-set-le, drop-set-add, take_more_set, take_at, take-append-drop, take-take, drop-take, decoded, Reception, Decoding, reception_step, after_block, fate_after, fate_of, state_after, frames_of, counted_in, state-append, frames-append, counted-append, reception_of}
 use Rattle.std.proofs.lemmas.Bool.{le-ltb, lt-ltb}
 use Rattle.tc_cltu.specs.declared.block.Mode.{Mode}
 use Rattle.tc_cltu.specs.declared.block.Fate.{Fate}

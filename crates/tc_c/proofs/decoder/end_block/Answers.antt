@@ -1,4 +1,4 @@
-use Rattle.tc_c.proofs.Names.{◌≡◌, ◌+◌, ◌++◌, take, length, Some, refl, ◌∙◌, arith, decoded}
+use Rattle.tc_c.proofs.Names.{◌≡◌, ◌+◌, ◌++◌, take, length, Some, refl, arith, decoded}
 use Rattle.tc_c.proofs.Receiving.{taken-state}
 use Rattle.tc_c.proofs.decoder.end_block.Goals as goal
 

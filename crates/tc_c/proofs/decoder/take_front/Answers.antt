@@ -1,4 +1,4 @@
-use Rattle.tc_c.proofs.Names.{◌≡◌, ℕ, List, Some, length, take, ap, sym, ◌∙◌, length-take-le, decoded, Reception, after_block, fate_after, state_after, frames_of, counted_in, block-state, block-frames, block-counted}
+use Rattle.tc_c.proofs.Names.{ℕ, List, Some, take, ap, sym, ◌∙◌, length-take-le, decoded, Reception, after_block, fate_after, state_after, frames_of, counted_in, block-state, block-frames, block-counted}
 use Rattle.tc_c.proofs.Receiving.{begins, block-quiet}
 use Rattle.tc_c.proofs.decoder.take_front.Goals as goal
 
