@@ -6,8 +6,7 @@ use Rattle.std.specs.Prelude.{codes, IsPermutation}
 use Rattle.std.specs.List.{flat_map}
 use Rattle.std.specs.Io.KnownBytes.{Appends}
 use Rattle.tc_cli.specs.Script.{IsBadLine}
-use Rattle.tc_cli.specs.Written.{AreAnswers, IsLineAnswered, IsScriptReport, IsScriptWritten, answers_text}
-use Rattle.tc_cli.specs.Written.AreAnswers.{at_first, one_more}
+use Rattle.tc_cli.specs.Written.{AreAnswers, IsLineAnswered, IsScriptWritten, answers_text, at_first, one_more}
 use Rattle.tc_live.specs.Check.{IsPassed, FailsCheck}
 use Rattle.tc_live.specs.Printed.{live_text}
 use Rattle.tc_live.specs.Receiver.{Receiving, IsBadScriptLine, IsScriptLineAnswered, new_receiver, script_answer}
@@ -35,8 +34,7 @@ use Rattle.tc_session.specs.Session.{IsEngineEnded, IsEngineSaid, IsScriptLineSa
 use Rattle.tc_session.specs.declared.engine.Engine.{Engine}
 use Rattle.tc_session.specs.declared.engine.Engine.TheVariants.{Script}
 use Rattle.tc_session.specs.declared.session.Said.TheVariants.{Done}
-use Rattle.tc_apart.specs.Sessions.{AreSaid}
-use Rattle.tc_apart.specs.Sessions.AreSaid.{none_said, one_said}
+use Rattle.tc_apart.specs.Sessions.{AreSaid, none_said, one_said}
 
 said-alike : (a : Option Answer) → live_text (script_answer a) ≡ answer_line a
 said-alike None = refl
