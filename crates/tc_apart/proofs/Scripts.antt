@@ -82,7 +82,7 @@ count-more answers a = let more : length (answers ++ a ∷ []) ≡ length answer
 alike-so : (scid : ℕ) (script texts : List ℕ) (engine : Engine) (rest : List ℕ) → AreSaid scid script texts engine rest → Alike scid script texts engine rest
 alike-so scid script _ _ _ none_said =
     record { receiver = new_receiver Nothing scid; answers = []; is = refl; are = at_first; alike = refl; unchecked = refl; same = refl }
-alike-so scid script _ new after (one_said {texts} {text} {rest} {line} {engine = engine} before first said) =
+alike-so scid script _ new after (one_said {texts} {rest} {line} {engine = engine} text before first said) =
     let so = alike-so scid script texts engine rest before in
     let at = subst (λ (e : Engine). IsEngineSaid true e line new text) so.is said in
     let receiver = at.0 in let answer = at.1.0 in let done = line-done so.receiver receiver line answer so.unchecked at.1.1 in

@@ -11,6 +11,6 @@ use Rattle.tc_session.specs.declared.engine.Engine.TheVariants.{Script}
 -- their texts, one after the other, the engine that they left, and the octets behind them.
 pub data AreSaid (scid : ℕ) (script : List ℕ) : List ℕ → Engine → List ℕ → Type 0 where
   none_said : AreSaid scid script [] (Script (new_receiver Nothing scid) 0) script
-  one_said : {texts text rest line after : List ℕ} {engine new : Engine}
+  one_said : {texts rest line after : List ℕ} {engine new : Engine} (text : List ℕ)
       → AreSaid scid script texts engine rest → IsFirstLine rest line after → IsEngineSaid true engine line new text
       → AreSaid scid script (texts ++ text) new after
