@@ -201,9 +201,9 @@ fn a_session_makes_frames_as_tcmake_does(rt: HostRuntime) {
         &rt,
         alloc,
         &mut session,
-        b"hello",
+        b"unlock 42",
         Said::Done,
-        b"bad unknown command\n",
+        b"bad wrong number of words: write unlock SCID VC\n",
     );
     check_end(&rt, alloc, &mut session, Said::Done, b"");
     check_answer(&rt, alloc, &mut session, b"unlock 42 1", Said::Over, b"");
