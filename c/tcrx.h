@@ -1253,9 +1253,9 @@ static inline tcrx_place tcrx_rack_find(tcrx_channel *channels, size_t channel_c
  * returns, and everything that tcrx_storage_with_limits() doesn't count. `parts` is the sum of the macros below that
  * the channel needs for its settings, lists and limits. For several channels, add up their numbers.
  *
- * For example, `TCRX_STORAGE_OF(TCRX_STORAGE_BUFFER(8) + TCRX_STORAGE_SEGMENTED(1024) + TCRX_STORAGE_QUEUES(4, 8, 1024)
- * + TCRX_STORAGE_LIMITS(1))` is for a channel with a buffer for 8 data fields, one listed MAP of 1,024 octets, and four
- * queues for 8 packets of up to 1,024 octets.
+ * For example, a channel with a buffer for 8 data fields, one listed MAP of 1,024 octets, and four queues for 8 packets
+ * of up to 1,024 octets has as `parts` the sum of `TCRX_STORAGE_BUFFER(8)`, `TCRX_STORAGE_SEGMENTED(1024)`,
+ * `TCRX_STORAGE_QUEUES(4, 8, 1024)` and `TCRX_STORAGE_LIMITS(1)`.
  */
 #define TCRX_STORAGE_OF(parts) ((parts) + TCRX_OWN_STORAGE)
 
