@@ -275,6 +275,14 @@ fn session_growth(rt: HostRuntime) {
 }
 
 #[test]
+fn ended_session_growth(rt: HostRuntime) {
+    let alloc = rt.alloc();
+    let mut session = live(&rt, alloc);
+    assert_eq!(rt; ended(&rt, alloc, &mut session), Said::Done);
+    assert_eq!(rt; session.text.len(), 0);
+}
+
+#[test]
 fn maker_session_growth(rt: HostRuntime) {
     let alloc = rt.alloc();
     let engine = match maker_engine(alloc, Ending::ErrorControl) {
