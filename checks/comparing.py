@@ -20,8 +20,8 @@ STORED = ("crates/conformance/data/*", "crates/*/stdin", "crates/*/stdout", "cra
 NAME = Path(sys.argv[0]).stem
 # No check builds.
 os.environ["TCRX_BUILD"] = "no"
-# The folder of programs that stand in for those that are proved and built here, and are compared in their place. What they say of their
-# command line is their own, but for the version, words that aren't UTF-8, and the status.
+# The folder of programs that are compared in place of those that are proved and built here. Their words about a wrong command line may
+# differ. Their version, their fault about a word that isn't UTF-8, and their exit status may not.
 STAND_INS = os.environ.get("TCRX_PROGRAMS", "")
 # Seconds after which something that doesn't end counts as failed: one wait, and one check as a whole.
 PATIENCE, LONGEST = 60, 900

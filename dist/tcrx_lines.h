@@ -4,8 +4,8 @@
  *
  * A session takes one line at a time, and writes the text of its answer into a buffer of yours. The session is a receiver
  * that answers as `tclive` does (tcrx_lines_live()), one that carries out a script as `tcrx run` does
- * (tcrx_lines_script()), or a maker that answers as `tcmake` does (tcrx_lines_make()). The texts are proved to be those
- * that the programs print, octet for octet.
+ * (tcrx_lines_script()), or a maker that answers as `tcmake` does (tcrx_lines_make()). Unless memory runs out, the texts
+ * are proved to be those that the programs print, octet for octet.
  *
  * @par Results, pointers and threads
  * What tcrx.h says of statuses, pointers and threads also holds for a session, as for a channel. In the calls of this

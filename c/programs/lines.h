@@ -1,8 +1,8 @@
 /*
- * What tcrx.c, tclive.c and tcmake.c share: the words of the command line, and a session of the library that answers
- * standard input on standard output. The session's answers are proved to be those of the programs tcrx, tclive and
- * tcmake. This file isn't proved. It reads, looks for line feeds and writes. checks/dist compares it with the proved
- * programs.
+ * This header is the shared part of tcrx.c, tclive.c and tcmake.c. It reads the words of the command line, and has a
+ * session of the library answer standard input on standard output. The session's answers are proved to be those of the
+ * programs tcrx, tclive and tcmake, unless memory runs out. This file isn't proved. It reads, looks for line feeds and
+ * writes. checks/dist_programs compares it with the proved programs.
  */
 #ifndef TCRX_PROGRAMS_LINES_H
 #define TCRX_PROGRAMS_LINES_H
@@ -231,7 +231,7 @@ static inline int answer_all(const char *begin, bool is_strict, const uint8_t *a
     return GO_ON;
 }
 
-/* Answers standard input. What has come at once is answered before any more is read. */
+/* Answers standard input. The lines of one read are answered before the next read. */
 static inline int answer_input(const char *begin, bool is_strict) {
     for (;;) {
         const ssize_t came = read(STDIN_FILENO, chunk, sizeof chunk);

@@ -45,9 +45,9 @@ from tcrx_bench_parts.web import Visitor, Web  # noqa: E402
 LOG_PAUSE, LAST_READ, SLOW_START = 0.2, 1.0, 3.0
 # What is said of a frame whose frame error control field was data.
 TOOK_SUM = "a frame ends with its frame error control field, which is data here; --fecf takes it off"
-# What part of `--patience` what has arrived has at the end to be answered; the rest is for what is under way then, and for the report.
+# The part of `--patience` in which the bench still answers at its end what has arrived. The rest is left for its last answers and the report.
 LAST_ANSWERS = 0.8
-# What is said if senders are watched and frames have no frame error control field.
+# The note at the start if senders are watched and frames have no frame error control field.
 NO_FECF = "--sender without --fecf: a frame whose bits were flipped on the way can look like a breach of its sender"
 
 
@@ -397,7 +397,7 @@ class Bench:  # pylint: disable=too-many-instance-attributes  # it is made of th
         while not (self._is_answered() and self._is_decoded() and self._is_judged()) and time.monotonic() < until:
             await asyncio.sleep(0.005)
         left = self.craft.leave() + (self.decoding.leave() if self.decoding else [])
-        # What the receiver was given is answered in any case; one that doesn't answer is ended.
+        # The receiver answers all frames that it was given. If it doesn't answer, it is ended.
         while not self._is_answered():
             await asyncio.sleep(0.005)
         return left

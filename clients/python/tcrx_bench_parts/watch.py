@@ -19,7 +19,7 @@ from tcrx import Clcw
 
 # A frame of Type-AD has neither flag in its first octet; frames that wait to be judged, before no more go to the receiver.
 FLAGS, MOST_WAITING = 0x30, 1024
-# Of how many accepted numbers the data are kept: those of the half behind V(R). A frame in the other half may have data of its own.
+# The number of accepted frames whose data are kept: those in the half behind V(R). A frame in the other half may carry new data.
 KEPT = 128
 # The events of a frame that is expected or in the half ahead; and of one that is expected or in the half behind.
 AHEAD, BEHIND = ("E1", "E2", "E3"), ("E1", "E2", "E4")

@@ -50,7 +50,7 @@ fn lines_of(script: &[u8]) -> Vec<&[u8]> {
     lines
 }
 
-/// What lines come to: the texts of their answers and of the final report, and why a script ended.
+/// The outcome of lines: the texts of their answers and of the final report, and the reason why a script ended.
 type Come = (String, String);
 
 fn text_of(answer: Result<&str, LineError>, come: &mut Come) -> bool {
