@@ -13,7 +13,7 @@ import tempfile
 from pathlib import Path
 from typing import Sequence, Tuple
 
-from wrong_bodies import Crate, Edit, crates_below, sources_in
+from wrong_bodies import WRONG, Crate, Edit, crates_below, sources_in
 
 HERE = Path(__file__).resolve().parent
 # What decides how an edit is tried, and what counts as a refusal.
@@ -113,8 +113,8 @@ def misplaced() -> list[str]:
             for part in ("src", "proofs"):
                 (crate.folder / part).mkdir(parents=True)
                 (crate.folder / part / "file").write_text(name, encoding="ascii")
-        edit = Edit("high", "made_up", "wrong", [("src/file", "high", "low")])
-        other = Edit("high", "made_up", "wrong", [("src/file", "high", "lower")])
+        edit = Edit("high", "made_up", WRONG, [("src/file", "high", "low")])
+        other = Edit("high", "made_up", WRONG, [("src/file", "high", "lower")])
         high, proof = crates["high"], crates["low"].folder / "proofs" / "file"
 
         def looks(kit: str = "kit") -> Kept:

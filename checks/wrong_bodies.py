@@ -1,4 +1,4 @@
-"""The crates of the repository with the edits of their must-fail/ and wrong/, and what a copy of a crate has in it that tries
+"""The crates of the repository with the edits of their must-fail/ and wrong.edits, and what a copy of a crate has in it that tries
 some of them.
 
 A wrong body is added to such a copy next to the right one, as a function of its own, or replaces it; the right bodies that no
@@ -24,14 +24,15 @@ CALL = re.compile(r"\b([a-z_]\w*)(?:::<[^>]*>)?\(|::([a-z_]\w*)\b")
 # What keeps a function from a body that calls what ensures the false: a const one can't, one of a cycle of calls has a measure of
 # its own in its proofs, and one whose type is known by its body has none without it.
 KEEPS_ITS_BODY = re.compile(r"\bconst fn\b|#\[(?:cycle|measure)\b|-> [^{]*\bimpl\b")
-# The folders of a crate with edits: those that `rt ci` tries one by one, and those that are tried many at once.
-MUST_FAIL, WRONG = "must-fail", "wrong"
-# The line of an edit that names the clause of its function that it turns, and what it names where it turns none: the invariant of a
-# type or of a loop, or what a call requires. Then the wrong body is tried without any clause.
-TURNS = "# turns: "
+# Where a crate has its edits: those that `rt ci` tries one by one are files in a folder, in the kit's form, and those that are tried many
+# at once are in one file. Each of these begins with its name and stands below the path of the file that it edits.
+MUST_FAIL, WRONG = "must-fail", "wrong.edits"
+# In must-fail, the line that names the clause that an edit turns, and the line below a 'new:' line that has its exits and the right value.
+TURNS, ALIKE = "# turns: ", "# alike: "
+# The first line of an edit in wrong.edits: its name, and the clause that it turns.
+NAMED = re.compile(r"(\w+)(?: \((\w+)\))?")
+# What an edit names if it turns no clause: the invariant of a type or of a loop, or what a call requires. It is tried without any clause.
 NO_CLAUSE = ("invariant", "requires")
-# The line below a 'new:' line that has the same exits and the right value.
-ALIKE = "# alike: "
 # What makes a path of its own through a body: a `?`, a branch, an arm of a match, a jump.
 EXIT = re.compile(r"\?(?=[;,.)\]}\s]|$)|\b(?:return|if|else|break|continue|matches)\b|=>|&&|\|\|")
 CLAUSE = re.compile(r"^ +(?:requires|ensures|ghost)\*?(?: (\w+))? \{|^ +ghost ")
@@ -67,11 +68,11 @@ def fault_of_alike(old: str, new: str, alike: str) -> str:
     """Why a text is no control for an edit, or nothing: it is to have the exits of the new text, which the old one hasn't, and another
     value."""
     if alike == new:
-        return "is the 'new:' text itself"
+        return "is the new text itself"
     if exits_of(alike) == exits_of(old):
-        return "has the exits of the 'old:' text"
+        return "has the exits of the old text"
     if exits_of(alike) != exits_of(new):
-        return "hasn't the exits of the 'new:' text"
+        return "hasn't the exits of the new text"
     return ""
 
 
@@ -139,7 +140,7 @@ class Function:
 
 @dataclass
 class Edit:
-    """An edit of must-fail/ or wrong/: what it puts in place of which texts, each of which is in its file just once; what has the
+    """An edit of must-fail/ or wrong.edits: what it puts in place of which texts, each of which is in its file just once; what has the
     same exits and the right value, by the place of the text, if it says so; the function whose body is all that it changes, where
     it is one; and the clause of the function that it turns, if it says so. Or what must not be refused in the form of an edit:
     the `right` body, or the one that is `alike`."""
@@ -328,18 +329,44 @@ class Crate:
     @property
     def has_edits(self) -> bool:
         """Whether it has edits."""
-        return any((self.folder / it).is_dir() for it in (MUST_FAIL, WRONG))
+        return any((self.folder / it).exists() for it in (MUST_FAIL, WRONG))
 
     def edits(self) -> list[Edit]:
         """Reads its edits."""
-        folders = [self.folder / it for it in (MUST_FAIL, WRONG) if (self.folder / it).is_dir()]
-        return [self.read_edit(path) for it in folders for path in sorted(it.iterdir()) if path.suffix != ".md"]
+        must_fail, wrong = self.folder / MUST_FAIL, self.folder / WRONG
+        found = [self.read_must_fail(it) for it in sorted(must_fail.iterdir())] if must_fail.is_dir() else []
+        found += self.read_wrong(wrong.read_text(encoding="utf-8")) if wrong.is_file() else []
+        if twice := [name for name, count in Counter(it.name for it in found).items() if count > 1]:
+            raise Fault(f"{twice[0]}: two edits have this name")
+        for it in found:
+            self.look_at(it)
+        return found
 
-    def read_edit(self, path: Path) -> Edit:
-        """Reads an edit."""
+    def read_wrong(self, text: str) -> list[Edit]:
+        """Reads the edits of wrong.edits: a line with `-` has the old text and the one below it, with `+`, the new one. A line with `~`
+        below these has what is alike."""
+        edits: list[Edit] = []
+        file = old = ""
+        for line in text.splitlines():
+            if line.startswith("src/"):
+                file = line
+            elif line.startswith("- "):
+                old = line.removeprefix("- ")
+            elif line.startswith("+") and edits:
+                edits[-1].changes.append((file, old, line.removeprefix("+").removeprefix(" ")))
+            elif line.startswith("~ ") and edits and edits[-1].changes:
+                edits[-1].alikes[len(edits[-1].changes) - 1] = line.removeprefix("~ ")
+            elif named := NAMED.fullmatch(line):
+                edits.append(Edit(self.name, named[1], WRONG, turned=named[2] or ""))
+            elif line and not line.startswith("# "):
+                raise Fault(f"{WRONG}: a line that can't be read: {line}")
+        return edits
+
+    def read_must_fail(self, path: Path) -> Edit:
+        """Reads an edit of must-fail."""
         if path.suffix != ".edit" or not path.is_file():
             raise Fault(f"{path.name}: its name doesn't end in .edit")
-        edit, file, old = Edit(self.name, path.stem, path.parent.name), "", ""
+        edit, file, old = Edit(self.name, path.stem, MUST_FAIL), "", ""
         for line in path.read_text(encoding="utf-8").split("\n"):
             if line.startswith("file: "):
                 file = line.removeprefix("file: ").strip()
@@ -351,19 +378,22 @@ class Crate:
                 edit.changes.append((file, old, line.removeprefix("new:").removeprefix(" ")))
             elif line.startswith(ALIKE) and edit.changes:
                 edit.alikes[len(edit.changes) - 1] = line.removeprefix(ALIKE)
+        return edit
+
+    def look_at(self, edit: Edit) -> None:
+        """Notes the function that the edit changes. It is a fault if an edit can't be applied, or names what isn't there."""
         for file, old, _ in edit.changes:
             if (found := self.texts.get(file, "").count(old)) != 1:
-                raise Fault(f"{path.name}: an 'old:' text stands in {file} {found} times, and not once")
+                raise Fault(f"{edit.name}: an old text stands in {file} {found} times, and not once")
         if not edit.changes:
-            raise Fault(f"{path.name}: it changes nothing")
+            raise Fault(f"{edit.name}: it changes nothing")
         faults = [fault_of_alike(*edit.changes[at][1:], alike) for at, alike in edit.alikes.items()]
         if any(faults):
-            raise Fault(f"{path.name}: its '{ALIKE.strip()}' text {max(faults)}")
+            raise Fault(f"{edit.name}: the text that is alike {max(faults)}")
         edit.function = self.edited_function(edit)
         clauses = self.clauses_of(edit.function) if edit.function else []
         if edit.turned and clauses is not None and edit.turned not in (*clauses, *NO_CLAUSE):
-            raise Fault(f"{path.name}: its function has no clause '{edit.turned}'")
-        return edit
+            raise Fault(f"{edit.name}: its function has no clause '{edit.turned}'")
 
     def clauses_of(self, function: Function) -> list[str] | None:
         """The names of the clauses that a function ensures, with its body or in the trait that it is of; None where the trait is
