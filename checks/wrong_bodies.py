@@ -262,6 +262,46 @@ def of_one_clause(answers: str, clause: str) -> str:
     return re.sub(rf"\b(returns[\w-]*)-clause-{clause}\b(?!-)", r"\1", "\n".join(kept))
 
 
+def read_wrong(crate: str, text: str) -> list[Edit]:
+    """Reads the edits of a crate's wrong.edits: a line with `-` has the old text and the one below it, with `+`, the new one. A line with `~`
+    below these has what is alike."""
+    edits: list[Edit] = []
+    file = old = ""
+    for line in text.splitlines():
+        if line.startswith("src/"):
+            file = line
+        elif line.startswith("- "):
+            old = line.removeprefix("- ")
+        elif line.startswith("+") and edits:
+            edits[-1].changes.append((file, old, line.removeprefix("+").removeprefix(" ")))
+        elif line.startswith("~ ") and edits and edits[-1].changes:
+            edits[-1].alikes[len(edits[-1].changes) - 1] = line.removeprefix("~ ")
+        elif named := NAMED.fullmatch(line):
+            edits.append(Edit(crate, named[1], WRONG, turned=named[2] or ""))
+        elif line and not line.startswith("# "):
+            raise Fault(f"{WRONG}: a line that can't be read: {line}")
+    return edits
+
+
+def read_must_fail(crate: str, path: Path) -> Edit:
+    """Reads an edit of a crate's must-fail."""
+    if path.suffix != ".edit" or not path.is_file():
+        raise Fault(f"{path.name}: its name doesn't end in .edit")
+    edit, file, old = Edit(crate, path.stem, MUST_FAIL), "", ""
+    for line in path.read_text(encoding="utf-8").split("\n"):
+        if line.startswith("file: "):
+            file = line.removeprefix("file: ").strip()
+        elif line.startswith(TURNS):
+            edit.turned = line.removeprefix(TURNS).strip()
+        elif line.startswith("old: "):
+            old = line.removeprefix("old: ")
+        elif line.startswith("new:"):
+            edit.changes.append((file, old, line.removeprefix("new:").removeprefix(" ")))
+        elif line.startswith(ALIKE) and edit.changes:
+            edit.alikes[len(edit.changes) - 1] = line.removeprefix(ALIKE)
+    return edit
+
+
 def sources_in(folder: Path) -> dict[str, bytes]:
     """The sources of a crate as they are now, by their paths in its folder."""
     files = sorted(it for part in SOURCES for it in (folder / part).rglob("*") if it.is_file())
@@ -334,51 +374,13 @@ class Crate:
     def edits(self) -> list[Edit]:
         """Reads its edits."""
         must_fail, wrong = self.folder / MUST_FAIL, self.folder / WRONG
-        found = [self.read_must_fail(it) for it in sorted(must_fail.iterdir())] if must_fail.is_dir() else []
-        found += self.read_wrong(wrong.read_text(encoding="utf-8")) if wrong.is_file() else []
+        found = [read_must_fail(self.name, it) for it in sorted(must_fail.iterdir())] if must_fail.is_dir() else []
+        found += read_wrong(self.name, wrong.read_text(encoding="utf-8")) if wrong.is_file() else []
         if twice := [name for name, count in Counter(it.name for it in found).items() if count > 1]:
             raise Fault(f"{twice[0]}: two edits have this name")
         for it in found:
             self.look_at(it)
         return found
-
-    def read_wrong(self, text: str) -> list[Edit]:
-        """Reads the edits of wrong.edits: a line with `-` has the old text and the one below it, with `+`, the new one. A line with `~`
-        below these has what is alike."""
-        edits: list[Edit] = []
-        file = old = ""
-        for line in text.splitlines():
-            if line.startswith("src/"):
-                file = line
-            elif line.startswith("- "):
-                old = line.removeprefix("- ")
-            elif line.startswith("+") and edits:
-                edits[-1].changes.append((file, old, line.removeprefix("+").removeprefix(" ")))
-            elif line.startswith("~ ") and edits and edits[-1].changes:
-                edits[-1].alikes[len(edits[-1].changes) - 1] = line.removeprefix("~ ")
-            elif named := NAMED.fullmatch(line):
-                edits.append(Edit(self.name, named[1], WRONG, turned=named[2] or ""))
-            elif line and not line.startswith("# "):
-                raise Fault(f"{WRONG}: a line that can't be read: {line}")
-        return edits
-
-    def read_must_fail(self, path: Path) -> Edit:
-        """Reads an edit of must-fail."""
-        if path.suffix != ".edit" or not path.is_file():
-            raise Fault(f"{path.name}: its name doesn't end in .edit")
-        edit, file, old = Edit(self.name, path.stem, MUST_FAIL), "", ""
-        for line in path.read_text(encoding="utf-8").split("\n"):
-            if line.startswith("file: "):
-                file = line.removeprefix("file: ").strip()
-            elif line.startswith(TURNS):
-                edit.turned = line.removeprefix(TURNS).strip()
-            elif line.startswith("old: "):
-                old = line.removeprefix("old: ")
-            elif line.startswith("new:"):
-                edit.changes.append((file, old, line.removeprefix("new:").removeprefix(" ")))
-            elif line.startswith(ALIKE) and edit.changes:
-                edit.alikes[len(edit.changes) - 1] = line.removeprefix(ALIKE)
-        return edit
 
     def look_at(self, edit: Edit) -> None:
         """Notes the function that the edit changes. It is a fault if an edit can't be applied, or names what isn't there."""
