@@ -34,7 +34,7 @@ from tcrx import (Brought, Channel, Clcw, Delivery, Ended, Event, Final, NotSetU
 from tcrx_channel import (BadSettings, Decoder, Frame, NoMemory, NotRead, NotWritten, Rack, Tm, add_fecf, check_fecf, randomise, read_frame,
                           read_tm, storage, write_cltu, write_frame, write_packet, write_segments, write_set_vr, write_tm, write_unlock)
 
-HEADER = TOP / "c/tcrx.h"
+HEADER = TOP / "dist/tcrx.h"
 SETTINGS: Dict[str, Any] = {"width": 10, "buffer": 4, "first": 0, "queues": {5: 4, 9: 2}, "maps": {2: 3}}
 
 

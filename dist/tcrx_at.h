@@ -2,7 +2,7 @@
  * @file tcrx_at.h
  * @brief The layouts of the records of tcrx.h, and the calls that the library exports.
  *
- * tools/c_interface writes this file from c/tcrx.h, which includes it after its records. Include tcrx.h in your program.
+ * tools/c_interface writes this file from dist/tcrx.h, which includes it after its records. Include tcrx.h in your program.
  */
 #ifndef TCRX_AT_H
 #define TCRX_AT_H

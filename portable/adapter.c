@@ -88,7 +88,7 @@ u32 EXPORT(module_room_back)(void *at) {
     return TCRX_DONE;
 }
 
-/* tools/c_interface writes the following lines from c/tcrx.h. */
+/* tools/c_interface writes the following lines from dist/tcrx.h. */
 static tcrx_header header_given(void) {
     const tcrx_header given = {(uint16_t)numbers[0], (uint8_t)numbers[1], (uint8_t)numbers[2], (uint8_t)numbers[3],
                                (uint8_t)numbers[4]};

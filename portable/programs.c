@@ -3,7 +3,7 @@
  * them. They give the words of the command line and the number of the last error, and allocate, grow and free memory.
  * tools/target links this with the programs. It isn't proved.
  */
-#include "../c/tcrx_memory.c"
+#include "../dist/tcrx_memory.c"
 
 #include <errno.h>
 #include <string.h>

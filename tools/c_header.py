@@ -1,4 +1,4 @@
-"""Reads what c/tcrx.h or c/tcrx_lines.h declares, for the tools that derive something from it: its parts with their constants, records
+"""Reads what dist/tcrx.h or dist/tcrx_lines.h declares, for the tools that derive something from it: its parts with their constants, records
 and calls, and what the comments say about them.
 
 The comments are read as doxygen reads them. These commands are known: @file, @brief, @par, @defgroup with @{ and @}, @param, @return and

@@ -1,5 +1,5 @@
 /* The calls of channel.h over the library for C, so that rounds.c brings the same loads to it. */
-#include "../../c/tcrx.h"
+#include "../../dist/tcrx.h"
 #include "channel.h"
 
 #include <stdlib.h>

@@ -6,7 +6,7 @@
  * a block must not.
  */
 #define _POSIX_C_SOURCE 200809L
-#include "../tcrx.h"
+#include "../../dist/tcrx.h"
 #include "expecting.h"
 
 #include <signal.h>

@@ -2,7 +2,7 @@
 // final report in the words of the program tcrx, for checks/bindings.
 //
 //    cases SCID    for the spacecraft with this id
-#include "../tcrx.hpp"
+#include "../../dist/tcrx.hpp"
 
 #include <cstdint>
 #include <cstdio>

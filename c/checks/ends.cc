@@ -2,7 +2,7 @@
 // each request for memory refused in turn, two channels in two threads, views of nothing, each field of what is read
 // and reported, by the rows of fields.h, and settings that are rejected. The program is linked with
 // c/checks/refusing_memory.c. The last line of the output is the number of checks that passed.
-#include "../tcrx.hpp"
+#include "../../dist/tcrx.hpp"
 #include "fields.h"
 
 #include <algorithm>

@@ -6,7 +6,7 @@
 #ifndef FARM_H
 #define FARM_H
 
-#include "../tcrx.h"
+#include "../../dist/tcrx.h"
 
 #include <inttypes.h>
 #include <stdbool.h>

@@ -9,7 +9,7 @@
 #ifndef FIELDS_H
 #define FIELDS_H
 
-#include "../tcrx.h"
+#include "../../dist/tcrx.h"
 
 enum { MOST_OCTETS = 308, OF_FRAME = 8, OF_CLCW = 9, OF_PACKET = 6, OF_FARM = 7 };
 

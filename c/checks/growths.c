@@ -9,7 +9,7 @@
  * The memory is that of tcrx_memory.c, which is linked with this program. Its calls of malloc are refused, which the
  * linker leads here by --wrap=malloc and --wrap=free. The last line of the output is the number of refused blocks.
  */
-#include "../tcrx.h"
+#include "../../dist/tcrx.h"
 
 #include <stdbool.h>
 #include <stdio.h>

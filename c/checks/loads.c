@@ -12,7 +12,7 @@
  * runs, lets some go, and fills it again in other sizes. The load `comb` puts small packets between large ones, and
  * lets the large ones go.
  */
-#include "../tcrx.h"
+#include "../../dist/tcrx.h"
 #include "expecting.h"
 
 #include <stdlib.h>

@@ -3,7 +3,7 @@
  * pointer in each place, and each call of a channel is made without a channel. The record that is returned must have
  * the right status and nothing else, and no buffer may change.
  */
-#include "../tcrx.h"
+#include "../../dist/tcrx.h"
 #include "expecting.h"
 
 #include <string.h>

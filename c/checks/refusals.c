@@ -8,7 +8,7 @@
  * If this is compiled with LIMITED, channels without limits have units of 16 octets, for slow machines. If it is
  * compiled with STATIC, it uses an array of that many bytes.
  */
-#include "../tcrx.h"
+#include "../../dist/tcrx.h"
 #include "expecting.h"
 
 #include <stdlib.h>

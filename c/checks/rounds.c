@@ -5,7 +5,7 @@
  *
  *   rounds COUNT
  */
-#include "../tcrx.h"
+#include "../../dist/tcrx.h"
 
 #include <stdio.h>
 #include <stdlib.h>

@@ -1,7 +1,7 @@
 // Makes the rounds of c/checks/rounds.c on a channel of tcrx.hpp. The output is the number of packets that were taken.
 //
 //    rounds COUNT
-#include "../tcrx.hpp"
+#include "../../dist/tcrx.hpp"
 
 #include <array>
 #include <cstdint>

@@ -4,7 +4,7 @@
 // The last line of the output is the number of checks that passed.
 //
 //    sessions CRATES    the folder of the crates, which has the cases
-#include "../tcrx_lines.hpp"
+#include "../../dist/tcrx_lines.hpp"
 
 #include <cstdint>
 #include <cstdio>

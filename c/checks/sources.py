@@ -19,7 +19,7 @@ import tempfile
 from pathlib import Path
 
 TOP = Path(__file__).resolve().parent.parent.parent
-HEADER = TOP / "c" / "tcrx.h"
+HEADER = TOP / "dist" / "tcrx.h"
 WARNINGS = ["-Wall", "-Wextra", "-Werror", "-pedantic"]
 C = [["cc", f"-std={version}", "-x", "c"] for version in ("c99", "c11", "c17")]
 CXX = [["c++", f"-std={version}", "-x", "c++"] for version in ("c++11", "c++14", "c++17", "c++20")]

@@ -9,7 +9,7 @@
  * The memory is that of tcrx_memory.c, whose calls of malloc and free the linker leads here by --wrap=malloc and
  * --wrap=free.
  */
-#include "../tcrx.h"
+#include "../../dist/tcrx.h"
 #include "expecting.h"
 
 enum { MOST_QUEUES = 2047, MOST_MAPS = 64, LARGEST = 65542, OWN = 296, MADE = 2000000 };

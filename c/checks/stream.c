@@ -6,7 +6,7 @@
  *   stream COUNT MODE WRONG      MODE is detect or correct; WRONG is how many of the 147 code blocks of each CLTU have a wrong bit
  *   stream COUNT sum
  */
-#include "../tcrx.h"
+#include "../../dist/tcrx.h"
 
 #include <stdio.h>
 #include <stdlib.h>

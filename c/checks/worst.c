@@ -6,7 +6,7 @@
  *
  *   worst CALL QUEUES
  */
-#include "../tcrx.h"
+#include "../../dist/tcrx.h"
 
 #include <stdio.h>
 #include <stdlib.h>

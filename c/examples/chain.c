@@ -4,7 +4,7 @@
  * and then CLTUs with 1 to 4 frames. Each CLTU comes in pieces and with one wrong bit. The program prints how many
  * frames didn't come through whole, and then what becomes of a CLTU that carries more than the receiver takes.
  */
-#include "../tcrx.h"
+#include <tcrx.h>
 
 #include <stdio.h>
 #include <string.h>

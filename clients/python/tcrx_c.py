@@ -1,4 +1,4 @@
-"""The numbers, records and calls of libtcrx.so.0 for ctypes. tools/c_interface writes this module from c/tcrx.h, which describes them."""
+"""The numbers, records and calls of libtcrx.so.0 for ctypes. tools/c_interface writes this module from dist/tcrx.h, which describes them."""
 from ctypes import POINTER, Structure, c_char_p, c_size_t, c_uint8, c_uint16, c_uint32, c_uint64, c_void_p
 from typing import Any, Dict, List, Tuple
 

@@ -1,5 +1,5 @@
 """The numbers, records and calls of sessions of lines in libtcrx.so.0 for ctypes. tools/c_interface writes this module from
-c/tcrx_lines.h, which describes them."""
+dist/tcrx_lines.h, which describes them."""
 from ctypes import POINTER, Structure, c_char_p, c_size_t, c_uint8, c_uint16, c_uint32, c_void_p
 from typing import Any, Dict, List, Tuple
 

@@ -32,7 +32,7 @@ namespace tcrx {
 
 /** The outcome of a call: the statuses of tcrx.h, which describes each. */
 enum class Status : tcrx_status {
-    // tools/c_interface writes the following lines from c/tcrx.h.
+    // tools/c_interface writes the following lines from dist/tcrx.h.
     done = TCRX_DONE,
     too_short = TCRX_SHORT,
     bad_version = TCRX_BAD_VERSION,

@@ -92,7 +92,7 @@ tcrx_decoded tcrx_cltu_octets_at(tcrx_decoder decoder, const uint8_t *octets, si
     return answer;
 }
 
-/* tools/c_interface writes the following lines from c/tcrx.h. */
+/* tools/c_interface writes the following lines from dist/tcrx.h. */
 tcrx_written tcrx_text_at(tcrx_status status, uint8_t *text, size_t room) {
     tcrx_instance *at = tcrx_instance_shared();
     const tcrx_status done = Z_tcrxZ_module_text(&at->module, status, at->written, least(room, TCRX_MODULE_FRAME));

@@ -73,9 +73,9 @@ pub fn each_fault_has_a_status_of_its_own()
     ensures limits { (one other : LimitsFault) → limits_status one ≡ limits_status other → one ≡ other }
 {}
 
-/// The numbers of statuses are those of `c/tcrx.h`, in its order. First come the statuses for frames that are read,
+/// The numbers of statuses are those of `dist/tcrx.h`, in its order. First come the statuses for frames that are read,
 /// then for octets that are written, then for FARM-1, CLCWs, packets and buffers, then for channels, their settings and
-/// their limits, and then for CLTUs and telemetry frames. The last ones are for sessions, in `c/tcrx_lines.h`.
+/// their limits, and then for CLTUs and telemetry frames. The last ones are for sessions, in `dist/tcrx_lines.h`.
 pub fn statuses_have_these_numbers()
     ensures frames { map code_of (st.Done ∷ st.Short ∷ st.Version ∷ st.Spare ∷ st.LengthSmall ∷ st.Truncated ∷ st.Fill ∷ st.NoFecf ∷ st.WrongFecf ∷ []) ≡ 0 ∷ 1 ∷ 2 ∷ 3 ∷ 4 ∷ 5 ∷ 6 ∷ 7 ∷ 8 ∷ [] }
     ensures writing { map code_of (st.BadField ∷ st.EmptyData ∷ st.TooLong ∷ st.NoMemory ∷ st.LongPacket ∷ st.LongUnit ∷ st.LongFrame ∷ st.BadSize ∷ st.NoSegment ∷ st.BadCommand ∷ []) ≡ 10 ∷ 11 ∷ 12 ∷ 13 ∷ 14 ∷ 15 ∷ 16 ∷ 17 ∷ 18 ∷ 19 ∷ [] }

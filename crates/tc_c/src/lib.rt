@@ -3,7 +3,7 @@
 //! the caller's memory holds, or on many channels in an array of seats.
 //!
 //! Each call returns a status, alone or as the first field of a record. No call keeps a pointer that is passed to it.
-//! The header `c/tcrx.h` documents these calls for callers in C.
+//! The header `dist/tcrx.h` documents these calls for callers in C.
 #![tactic(auto)]
 
 mod buffer;

@@ -3,7 +3,7 @@
 //! `tcmake`.
 //!
 //! Each call returns a status, alone or as the first field of a record. No call keeps a pointer that is passed to it.
-//! The header `c/tcrx_lines.h` documents these calls for callers in C.
+//! The header `dist/tcrx_lines.h` documents these calls for callers in C.
 #![tactic(auto)]
 
 mod calls;

@@ -51,7 +51,7 @@ macro_rules! records {
 #[cfg(feature = "lines")]
 pub mod lines;
 
-// tools/c_interface writes the following lines from c/tcrx.h.
+// tools/c_interface writes the following lines from dist/tcrx.h.
 /// The version of the interface that these declarations are for, in the form of `TCRX_API_VERSION`.
 pub const API_VERSION: u32 = 0x0000_0300;
 

@@ -7,7 +7,7 @@ use core::ffi::c_void;
 /// The initial value of a [`Lines`], `TCRX_HOLDS_NONE`.
 pub const HOLDS_NONE: Lines = Lines { held: 0, place: core::ptr::null_mut() };
 
-// tools/c_interface writes the following lines from c/tcrx_lines.h.
+// tools/c_interface writes the following lines from dist/tcrx_lines.h.
 numbers! {
     /// No session is held.
     NO_SESSION: Status = 100;

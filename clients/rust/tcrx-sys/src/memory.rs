@@ -1,4 +1,4 @@
-//! The memory of channels and sessions over `malloc`: `c/tcrx_memory.c` and `c/tcrx_lines_memory.c`, for programs that link
+//! The memory of channels and sessions over `malloc`: `dist/tcrx_memory.c` and `dist/tcrx_lines_memory.c`, for programs that link
 //! `libtcrx.a`.
 
 use core::ffi::c_void;

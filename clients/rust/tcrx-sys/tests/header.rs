@@ -8,7 +8,7 @@ use std::{env, fs};
 use tcrx_sys::{API_VERSION, HOLDS_NONE, LAYOUTS, NUMBERS};
 
 fn folder_of_header() -> PathBuf {
-    PathBuf::from(env!("CARGO_MANIFEST_DIR")).join("../../../c")
+    PathBuf::from(env!("CARGO_MANIFEST_DIR")).join("../../../dist")
 }
 
 type Layouts = [(&'static str, usize, &'static [(&'static str, usize, usize)])];

@@ -61,7 +61,7 @@ macro_rules! refusals {
     };
 }
 
-// tools/c_interface writes the following lines from c/tcrx.h.
+// tools/c_interface writes the following lines from dist/tcrx.h.
 refusals! {
     /// The reason why octets don't begin with a frame.
     FrameError {
