@@ -30,12 +30,11 @@ counts-made e now vcids desks place vcid there next is inside at own =
     ∙ (ap (λ x. set (counts_of desks) place x) (ap count_of own ∙ (count-made e now there.own ∙ ap raised (sym here)))
     ∙ ap (λ (o : Option ℕ). raised_at o (counts_of desks)) (sym at))
 
--- there are as many desks as ids
 pub as-many : (vcids : List ℕ) (desks : List AtLock) → vcids_of (settings_of_desks desks) ≡ vcids → length desks ≡ length vcids
 as-many vcids desks ids =
     sym (length-map desks (λ (o : AtLock). o.own.seen.head.settings)) ∙ (sym (length-map (settings_of_desks desks) (λ (s : Settings). s.vcid)) ∙ ap (length {A = ℕ}) ids)
 
--- if a channel has this place, the channel of the desk at the place has the channel's id
+-- if an id has a place among the ids, there is a desk at this place, and the channel of the desk has the id
 pub id-of : (vcids : List ℕ) (desks : List AtLock) (place vcid : ℕ) (there : AtLock) → vcids_of (settings_of_desks desks) ≡ vcids → there ≡ get_or desks place there → position (λ v. v == vcid) vcids ≡ Some place
     → (place < length desks) × (there.own.seen.head.settings.vcid ≡ vcid)
 id-of vcids desks place vcid there ids is at =
@@ -78,7 +77,7 @@ module _ {R F : Type 0} (e : Event) (ok : Moment → R → Type 0) (err : Moment
       let was = ap (λ (x : AtStation). slice_get x.desks place) (sym view) ∙ slice_get_read desks (length desks) place there refl inside is in
       on-by-one place o changed there next was (ap (λ (x : AtStation). set x.desks place next) view) (longer e ok err there next r c)
 
--- a call at the operator's desk of a place, which is that of a channel
+-- a call at the operator's desk at the place of a channel
 module _ {R F : Type 0} (e : Event) (ok : Moment → R → Type 0) (err : Moment → F → Type 0) (station : Roster) (o : AtStation) (vcids : List ℕ) (desks : List AtLock) (place vcid : ℕ) (there next : AtLock) (r : Result R F)
     (view : at_station vcids desks ≡ o) (ids : vcids_of (settings_of_desks desks) ≡ vcids) (ours : IsOurs station o) (place_is : IsPlace station vcid place)
     (is : there ≡ get_or desks place there) (c : IsCall e ok err there r next) where
@@ -147,7 +146,7 @@ answered-so place vcid e ok err ok2 err2 before after r r2 c answer = record {
   vcids = c.vcids;
 }
 
--- if the answer of a call implies another statement about the answer, the call can be stated with the other statement
+-- if `ok2` holds for `b` wherever `ok` holds for the call's answer `a`, the call can be stated with `ok2` and `b`
 pub ok-call : {R F S G : Type 0} (place vcid : ℕ) (e : Event) (ok : Moment → R → Type 0) (err : Moment → F → Type 0) (ok2 : Moment → S → Type 0) (err2 : Moment → G → Type 0) (before after : AtStation) (r : Result R F) (a : R) (b : S)
     → IsCallAt place vcid e ok err before r after → r ≡ Ok a → ((m : Moment) → ok m a → ok2 m b) → IsCallAt place vcid e ok2 err2 before (Ok b) after
 ok-call place vcid e ok err ok2 err2 before after r a b c is weaker =

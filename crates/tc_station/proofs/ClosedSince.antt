@@ -21,7 +21,7 @@ account-there (p ∷ ops) place zero o d at there =
     ap (λ (x : AtStation). some (slice_index_or x.desks place nobody).own) (same_Some p o at) ∙ ap (λ (x : AtLock). some x.own) (get_or_from_slice_get o.desks place d nobody there)
 account-there (p ∷ ops) place (suc k) o d at there = account-there ops place k o d at there
 
--- the moment that an operator had seen of a desk is a beginning of the journal that was returned
+-- the moment that an operator had seen at a desk is a beginning of the journal that was returned
 seen-in-closed : (station : Roster) (place : ℕ) (o : AtStation) (channel : History) (there : AtLock) → slice_get o.desks place ≡ Some there → IsClosedSince station place o channel
     → (head : Identity) × (head.settings ≡ channel.settings) × IsBeginning there.own.seen (record { head = head; entries = channel.journal })
 seen-in-closed station place o channel there at since =

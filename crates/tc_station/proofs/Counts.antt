@@ -65,7 +65,6 @@ for-nobody station octets UnknownChannel v there fault =
     let other : ((header_of octets).vcid == v) ≡ false = ne_eqb _ _ (λ e. fault.2 (subst (Contains station.vcids) (sym e ∙ ap (λ x. x.vcid) h) there)) in
     and-false (is_none (fault_of octets)) _ (and-false ((header_of octets).scid == station.scid) _ other)
 
--- raising a count once raises it by one
 pub raised-is : (c : ℕ) → raised c ≡ raised_by 1 c
 raised-is c = grind (arith, nat_tests)
 

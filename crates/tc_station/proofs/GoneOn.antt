@@ -1,10 +1,10 @@
--- Each call of an operator goes on from what it had seen at each of its desks, and so do several calls.
+-- An operator goes on at each of its desks, in each call and in several calls together.
 use Rattle.tc_station.proofs.Names.{◌≡◌, ◌≢◌, ℕ, zero, suc, List, ◌∷◌, [], Result, Ok, Err, Some, refl, sym, ap, subst, ◌∙◌, eqb_tells, append-nil, inl, inr, slice_get, slice_set, same_Some, Event, Moment, AtLock, Own, IsCall, AtStation, HasGoneOn, HasGoneOnAtEach, IsBeginning}
 use Rattle.logged_lock.specs.Log.{with_entry}
 use Rattle.logged_lock.proofs.Steps.{beginning-trans}
 use Rattle.tc_station.proofs.ClosedSince.{set-there}
 
--- what the operator has seen at the desk of its call goes on
+-- a call continues the moment that the operator had seen at the desk of the call
 pub longer : {R F : Type 0} (e : Event) (ok : Moment → R → Type 0) (err : Moment → F → Type 0) (there next : AtLock) (r : Result R F) → IsCall e ok err there r next → IsBeginning there.own.seen next.own.seen
 longer e ok err there next (Ok a) c =
     subst (λ (o : Own). IsBeginning there.own.seen o.seen) (sym c.answer.1) (beginning-trans there.own.seen c.now (with_entry c.now e) c.later (refl, (e ∷ [], refl)))
@@ -18,7 +18,7 @@ set-elsewhere (z ∷ xs) zero zero y apart = absurd (apart refl)
 set-elsewhere (z ∷ xs) (suc k) (suc j) y apart = set-elsewhere xs k j y (λ e. apart (ap suc e))
 set-elsewhere _ _ _ y apart = refl
 
--- one desk of the operator goes on, and the others stay
+-- if one desk of an operator goes on and the others stay, the operator has gone on at each desk
 pub on-by-one : (place : ℕ) (o p : AtStation) (there next : AtLock) → slice_get o.desks place ≡ Some there → p.desks ≡ slice_set o.desks place next → IsBeginning there.own.seen next.own.seen → HasGoneOnAtEach o p
 on-by-one place o p there next was others longer = record {
   each = λ other d at. elim (eqb_tells other place) [
@@ -33,11 +33,9 @@ on-by-one place o p there next was others longer = record {
   ];
 }
 
--- an operator that did nothing
 pub on_by_nothing : (o : AtStation) → HasGoneOnAtEach o o
 on_by_nothing o = record { each = λ place d at. stays place o o d at at }
 
--- one call after another
 pub on_by_both : (a b c : AtStation) → HasGoneOnAtEach a b → HasGoneOnAtEach b c → HasGoneOnAtEach a c
 on_by_both a b c one two = record {
   each = λ place d at.

@@ -35,7 +35,7 @@ at-place station place vcid w at (head, (p, here, of), board, settings) =
     let same : p ≡ place = same_Some p place (sym here ∙ at) in
     (head, ap (λ (k : ℕ). slice_get station.heads k) (sym same) ∙ of, board, settings)
 
--- a watcher that has met the desk still belongs to its channel
+-- a watcher that has met the desk is still a watcher at the desk's place
 pub watcher-kept : (station : Roster) (place : ℕ) (there next : AtLock) (late : Watching) → slice_get station.heads place ≡ Some there.own.seen.head → next.own.seen.head ≡ there.own.seen.head → HasMet next.own.seen late
     → IsWatcherAt station place late
 watcher-kept station place there next late known head met =

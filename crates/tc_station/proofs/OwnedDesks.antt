@@ -57,7 +57,7 @@ have-end n owned_desks next p is have one =
     All-same (λ (i : ℕ). i ≡ n) (issued_of next) (issued_of owned_desks ++ p.own.issued ∷ []) (ap issued_of is ∙ map_push (λ (o : AtLock). o.own.issued) owned_desks p)
     (All-push (λ (i : ℕ). i ≡ n) (issued_of owned_desks) p.own.issued have one)
 
--- the first `n` owned desks have issued one more operator
+-- the owned desks after each of the first `n` has issued one more operator
 abbrev pub issued_below : ℕ → List AtLock → List AtLock
 issued_below n owned_desks = map with_one_issued (take n owned_desks) ++ drop n owned_desks
 
@@ -132,7 +132,7 @@ desk-of station owned_desks place vcid owned_desk ids heads is at =
     let here = slice_get_read (heads_of owned_desks) (length (heads_of owned_desks)) place (head owned_desk) refl inside read in
     (id.1, (place, at, ap (λ (l : List Identity). slice_get l place) (sym heads) ∙ here))
 
--- if operators are issued from a slice over all owned desks, the list has the desks as the slice leaves them
+-- if operators are issued from a slice over all owned desks, the whole list then has the desks of the slice
 pub written-owned_desks : (n k : ℕ) (old new : List AtLock) → new ≡ issued_more k old → n ≡ length old → take n (new ++ drop (length new) old) ≡ issued_more k old
 written-owned_desks n k old new is long = take_at new (drop (length new) old) n (ap (length {A = AtLock}) is ∙ (length-map old _ ∙ sym long)) ∙ is
 
@@ -153,7 +153,7 @@ settings-each _ _ long each = absurd (omega arith)
 pub closed-settings : (owned_desks : List AtLock) (operator_lists : List (List AtLock)) (closed : List History) → AreClosed owned_desks operator_lists closed → map (λ (h : History). h.settings) closed ≡ settings_of_desks owned_desks
 closed-settings owned_desks operator_lists closed are = settings-each owned_desks closed are.as_many (λ place owned_desk channel at there. (are.each place owned_desk channel at there).settings)
 
--- a cause of imbalance at one desk is a cause at the station
+-- if all owned desks have issued `n` operators, the desk at each place has issued `n`
 all-at : (n : ℕ) (owned_desks : List AtLock) (place : ℕ) (owned_desk : AtLock) → HaveIssued n owned_desks → slice_get owned_desks place ≡ Some owned_desk → owned_desk.own.issued ≡ n
 all-at n owned_desks place owned_desk have at =
     let inside = slice_get_within owned_desks place owned_desk at in

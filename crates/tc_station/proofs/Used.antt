@@ -1,5 +1,4 @@
--- The calls of a station promise what the statement requires: an answered call is in the journal that the close
--- returns.
+-- The event of an answered call is in the journal that the station's close returns.
 use Rattle.tc_station.proofs.Names.{◌≡◌, ◌<◌, ℕ, Bool, List, length, get_or, take, Result, Ok, Err, Some, sym, ap, subst, ◌∙◌, arith, length-map, slice_get, slice_get-get_or, slice_get_within, Event, History, Settings, Moment, TableId, AtLock, locks_of, Roster, AtStation, IsPlace, IsBringCall, IsReplied, IsNotBrought, IsOurs, inl, inr, IsCallAt, IsCallOn, IsMetAt, Watching, slice_set, Frame, frame_reply, Link, no_history, IsLocated, IsClosedSince, HasGoneOnAtEach, IsGivenOut, IsAnsweredAmong, IsWordRead, IsShownIn, AreClosedTogether}
 use Rattle.tc_status.specs.Board as board
 use Rattle.tc_station.specs.Call.{IsRepliedWatched, IsNotBroughtWatched}
@@ -12,8 +11,8 @@ abbrev is-ok : {R F : Type 0} → Result R F → Type 0
 is-ok (Ok r) = Unit {0}
 is-ok (Err f) = ⊥
 
--- the channel at whose desk an operator made a call is returned, if the operator is among those with which the station
--- is closed, after any further calls
+-- An operator makes a call at the desk of a channel, and then any further calls. If the station is closed with this
+-- operator among others, the channel is returned.
 given-out : (station : Roster) (place : ℕ) (before after last : AtStation) (there next : AtLock) (operators : List AtStation) (closed : List History) (number : ℕ)
     → IsOurs station before → slice_get before.desks place ≡ Some there → after.desks ≡ slice_set before.desks place next
     → HasGoneOnAtEach after last → slice_get operators number ≡ Some last → AreClosedTogether station operators closed
@@ -31,7 +30,7 @@ given-out station place before after last there next operators closed number our
     let at : slice_get after.desks place ≡ Some next = ap (λ (l : List AtLock). slice_get l place) others ∙ set-there before.desks place there next was in
     (channel, out, record { operators = operators; closed = closed; together = together; out = out; number = number; last = last; among = among; on = on.each place next at })
 
--- a call at a desk that was answered
+-- if a call at a desk was answered, its event is in the journal that the close returns
 called-among : {R F : Type 0} → Stands → (station : Roster) (place vcid : ℕ) (e : Event) (ok : Moment → R → Type 0) (err : Moment → F → Type 0) (before after last : AtStation) (r : R) (operators : List AtStation) (closed : List History) (number : ℕ)
     (Answers : Settings → List Event → Type 0) → ((m : Moment) → ok m r → Answers m.head.settings m.entries) → IsOurs station before → IsPlace station vcid place → IsCallAt place vcid e ok err before (Ok r) after
     → HasGoneOnAtEach after last → slice_get operators number ≡ Some last → AreClosedTogether station operators closed → IsAnsweredAmong station vcid after closed e Answers
@@ -42,7 +41,7 @@ called-among stands station place vcid e ok err before after last r operators cl
     let there : Moment = record { head = is.0; entries = take is.1 channel.journal } in
     (place, channel, (at, out.1), (is.1, is.3, subst (λ (s : Settings). Answers s (take is.1 channel.journal)) is.2 (says there is.4), is.5))
 
--- an answered call that names the channel
+-- if a call that names its channel was answered, its event is in the journal that the close returns
 pub call-among : {R F : Type 0} → Stands → (station : Roster) (vcid : ℕ) (e : Event) (ok : Moment → R → Type 0) (err : Moment → F → Type 0) (unknown : F) (before after last : AtStation) (r : R) (operators : List AtStation) (closed : List History) (number : ℕ)
     (Answers : Settings → List Event → Type 0) → ((m : Moment) → ok m r → Answers m.head.settings m.entries) → IsOurs station before → IsCallOn station vcid e ok err unknown before (Ok r) after
     → HasGoneOnAtEach after last → slice_get operators number ≡ Some last → AreClosedTogether station operators closed → IsAnsweredAmong station vcid after closed e Answers
@@ -50,7 +49,7 @@ call-among stands station vcid e ok err unknown before after last r operators cl
     called-among stands station place vcid e ok err before after last r operators closed number Answers says ours at call on among together
 call-among {R = R} {F = F} stands station vcid e ok err unknown before after last r operators closed number Answers says ours (inr (none, wrong, same)) on among together = absurd (subst (is-ok {R = R} {F = F}) wrong tt)
 
--- an answered call whose frame names the channel
+-- if octets were brought to a channel, their frame is in the journal that the close returns
 brought-among : {R : Type 0} → Stands → (station : Roster) (octets : List ℕ) (ok : ℕ → List ℕ → Moment → R → Type 0) (err : List ℕ → Moment → BringFault → Type 0) (said : R → Brought)
     (before after last : AtStation) (answer : R) (operators : List AtStation) (closed : List History) (number : ℕ)
     → ((vcid : ℕ) (frame : List ℕ) (m : Moment) → ok vcid frame m answer → ((said answer).vcid ≡ vcid) × ((said answer).reply ≡ frame_reply m.head.settings m.entries frame))
@@ -75,7 +74,7 @@ pub watched-among : Stands → (station : Roster) (octets : List ℕ) (before af
 watched-among stands station octets before after last answer operators closed number =
     brought-among stands station octets IsRepliedWatched IsNotBroughtWatched (λ (a : Brought × Watching). a.0) before after last answer operators closed number (λ vcid frame m p. (p.0, p.1.0))
 
--- a CLCW that was read before a meeting
+-- a CLCW that was read before a meeting is the CLCW at a place in a journal that the close returns
 pub word-among : (station : Roster) (vcid : ℕ) (link : Link) (early mid late met : Watching) (word : ℕ) (before after last : AtStation) (operators : List AtStation) (closed : List History) (number : ℕ)
     → IsOurs station before → IsWordRead link early word mid → board.IsEarlier mid.seen late.seen → ((place : ℕ) × IsPlace station vcid place × IsMetAt place vcid late before met after)
     → HasGoneOnAtEach after last → slice_get operators number ≡ Some last → AreClosedTogether station operators closed

@@ -5,7 +5,7 @@ use Rattle.std.proofs.lemmas.Map.Made.{IsDistinct-from_AllPairs}
 use Rattle.std.proofs.lemmas.Map.Steps.{length-le_from_distinct_below}
 use Rattle.tc_station.specs.VcidTable.{IsVcidTable, entry_place}
 
--- the entries of the first `n` ids have the places of these ids, and no other entry has a place
+-- The table has the place of each of the first `n` ids. Its entry for any other number stands for no place.
 pub record HaveEntries (ids : List ℕ) (n : ℕ) (table : List ℕ) : Type 0 where
   pub size : length table ≡ 64
   pub here : (k : ℕ) → k < n → get_or table (get_or ids k 0) 64 ≡ k
@@ -25,7 +25,7 @@ none-entered ids table is = record {
 entry-place : (k : ℕ) → k ≢ 64 → entry_place k ≡ Some k
 entry-place k some = grind (arith, some)
 
--- if all ids have entries, the table is the one of these ids
+-- a table with the places of all ids is the table of these ids
 pub table-of : (ids table : List ℕ) → length ids ≤ 64 → HaveEntries ids (length ids) table → IsVcidTable ids table
 table-of ids table few t v = by (ltb n (length ids)) refl where
   n : ℕ

@@ -98,7 +98,7 @@ other-step station u v place a f at = elim (eqb_tells u v) [
 is-there : (station : Roster) (v place : ℕ) → IsPlace station v place → Contains station.vcids v
 is-there station v place at = let s = position-Some (λ w. w == v) station.vcids place v at in (place, s.0, eqb-true (get_or station.vcids place v) v s.1)
 
--- a job in a list for the channel `own` may raise the count of the channel `v` from the first number to the second
+-- a job in a list for the channel `own` may raise the count of the channel `v` from `c` to `d`
 abbrev JobRaises : Roster → ℕ → ℕ → Order → ℕ → ℕ → Type 0
 JobRaises station own v order c d = Between (cond (brings_to station v order) 1 0) (cond (is_other own v order) 1 0) c d
 
@@ -194,7 +194,7 @@ work-ours station lists line os ps w =
     let each = All-weaker (IsShift station) (λ (s : Shift). IsOurs station s.after) (λ s x. x.kept) w.0 (All-from_recursion (IsShift station) w.0 w.4) in
     subst (All (IsOurs station)) w.3 (All-map (IsOurs station) (λ (s : Shift). s.after) w.0 each)
 
--- what holds of each operator after its shift holds of the operator at each place
+-- if each shift relates its operator before and after by `P`, then `P` relates the operators at each place
 shifts-hold : (station : Roster) (P : AtStation → AtStation → Type 0) (shifts : List Shift) → ((s : Shift) → IsShift station s → P s.before s.after) → AllByRecursion (IsShift station) shifts → (k : ℕ) (o : AtStation) → k < length shifts
     → P (get_or (map (λ (s : Shift). s.before) shifts) k o) (get_or (map (λ (s : Shift). s.after) shifts) k o)
 shifts-hold station P [] each all k o lt = absurd (omega arith)

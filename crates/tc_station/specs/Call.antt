@@ -21,7 +21,8 @@ use Rattle.tc_station.specs.declared.faults.TakeRefused.{TakeRefused}
 use Rattle.tc_station.specs.declared.faults.TakeUnitRefused.{TakeUnitRefused}
 use Rattle.tc_station.specs.declared.station.Brought.{Brought}
 
--- The operator made this call at its desk at this place, whose channel has this id. Its other desks are as they were.
+-- The operator made this call at its desk at `place`, whose channel has the id `vcid`. The operator's other desks are
+-- as they were.
 pub record IsCallAt {R F : Type 0} (place vcid : ℕ) (e : Event) (ok : Moment → R → Type 0) (err : Moment → F → Type 0) (before : AtStation) (result : Result R F) (after : AtStation) : Type 0 where
   pub there : AtLock
   pub next : AtLock
@@ -31,8 +32,8 @@ pub record IsCallAt {R F : Type 0} (place vcid : ℕ) (e : Event) (ok : Moment �
   pub others : after.desks ≡ slice_set before.desks place next
   pub vcids : after.vcids ≡ before.vcids
 
--- The operator made this call, and it was counted for that channel if it was answered. The operator stays the
--- station's, knows its desks as before, and has gone on at each of them.
+-- The operator made this call, which was counted for the channel `vcid` if it was answered. The operator still belongs
+-- to the station, knows its desks as before, and has gone on at each of them.
 pub record IsCounted {R F : Type 0} (station : Roster) (place vcid : ℕ) (e : Event) (ok : Moment → R → Type 0) (err : Moment → F → Type 0) (before : AtStation) (result : Result R F) (after : AtStation) : Type 0 where
   pub call : IsCallAt place vcid e ok err before result after
   pub counted : OnOk result (tally after ≡ tallied vcid (tally before))
@@ -65,8 +66,8 @@ IsCallOn {R = R} {F = F} station vcid e ok err unknown before result after =
     ((place : ℕ) × IsPlace station vcid place × IsCallAt place vcid e ok err before result after)
     ⊎ (¬ Contains station.vcids vcid × (result ≡ Err unknown) × (after ≡ before))
 
--- The operator brought the frame at the front of the octets to the desk of the channel that the frame names. Otherwise
--- there is no such frame or channel, the answer gives the reason, and nothing happened.
+-- The operator brought the frame at the front of the octets to the desk of the channel that the frame names. If there
+-- is no such frame or channel, the answer is the reason, and nothing happened.
 abbrev pub IsBringCall : {R : Type 0} → Roster → List ℕ → (ℕ → List ℕ → Moment → R → Type 0) → (List ℕ → Moment → BringFault → Type 0) → AtStation → Result R BringFault → AtStation → Type 0
 IsBringCall {R = R} station octets ok err before result after =
     ((place vcid : ℕ) × (frame : List ℕ) × IsPlaced station octets place vcid frame × IsCallAt place vcid (Frame frame) (ok vcid frame) (err frame) before result after)
@@ -76,7 +77,8 @@ IsBringCall {R = R} station octets ok err before result after =
 abbrev pub IsReplied : ℕ → List ℕ → Moment → Brought → Type 0
 IsReplied vcid frame m brought = (brought.vcid ≡ vcid) × IsFramed frame m brought.reply
 
--- the frame was brought, with this reply, and a watcher of the desk's board has seen the channel process it
+-- the frame was brought to the channel with this id and got this reply, and a watcher of the desk's board has seen the
+-- channel process the frame
 abbrev pub IsRepliedWatched : ℕ → List ℕ → Moment → Brought × Watching → Type 0
 IsRepliedWatched vcid frame m answer = (answer.0.vcid ≡ vcid) × IsFramedWatched frame m (answer.0.reply, answer.1)
 
@@ -88,7 +90,7 @@ IsNotBrought grows frame m fault = (fault ≡ NoMemory) × (grows ≡ false → 
 abbrev pub IsNotBroughtWatched : List ℕ → Moment → BringFault → Type 0
 IsNotBroughtWatched frame m fault = fault ≡ NoMemory
 
--- the desk refused, and this is the station's refusal for the desk's fault
+-- the desk refused the release, and this is the station's refusal for the desk's fault
 abbrev pub IsNotReleased : Moment → ReleaseRefused → Type 0
 IsNotReleased m refused = (fault : ReleaseFault) × (refused ≡ release_refused fault) × IsReleaseFault m fault
 

@@ -68,8 +68,7 @@ IsCloseFault station operators (NoMemory s os) = (station.issued ≤ length oper
 IsCloseFault station operators (Unbalanced channels os) =
     (station.issued ≤ length operators) × (os.items ≡ operators) × (length channels.items ≡ length station.vcids) × ¬ AreInBalance station.vcids operators channels.items
 
--- this is the reason why a counting station, whose channels report the numbers of their events, wasn't closed: the
--- first of the faults below that applies
+-- this is the reason why a counting station wasn't closed: the first of the faults below that applies
 abbrev pub IsCountingCloseFault : Roster → List AtStation → CountingCloseFault → Type 0
 IsCountingCloseFault station operators (counting.Missing s os) = (length operators < station.issued) × (s ≡ station) × (os.items ≡ operators)
 IsCountingCloseFault station operators (counting.NoMemory s os) = (station.issued ≤ length operators) × (s ≡ station) × (os.items ≡ operators)

@@ -1,4 +1,4 @@
--- The channel of a station that octets are for.
+-- The location of octets: the channel of a station that the frame at their front names.
 use Rattle.std.specs.Prelude.{◌≡◌, ◌≢◌, ℕ, List, Contains, position, ◌==◌, Some}
 use Rattle.tc_link.specs.Frame.{BeginsWith, header_of, fault_of}
 use Rattle.tc_station.specs.Roster.{Roster}
@@ -7,7 +7,7 @@ use Rattle.tc_link.specs.declared.location.LocateFault.TheVariants.{Frame, Other
 use Rattle.tc_station.specs.declared.faults.BringFault.{BringFault}
 use Rattle.tc_station.specs.declared.faults.BringFault.TheVariants.{Locate, NoMemory}
 
--- the octets begin with a frame of the station's spacecraft
+-- the octets begin with this frame, which names the station's spacecraft
 abbrev pub IsOurs : Roster → List ℕ → List ℕ → Type 0
 IsOurs station octets frame = BeginsWith octets frame × ((header_of frame).scid ≡ station.scid)
 

@@ -19,13 +19,13 @@ use Rattle.tc_station.specs.Location.{IsLocated}
 abbrev pub AtSomeMomentOf : ℕ → (Settings → List Event → Type 0) → Type 0
 AtSomeMomentOf vcid P = (s : Settings) × (journal : List Event) × IsAllowed s × IsLawful s journal × (s.vcid ≡ vcid) × P s journal
 
--- the octets were for this channel, and this is the reply to their frame
+-- the octets begin with a frame for this channel, and this is the reply to the frame
 abbrev pub IsBrought : Roster → List ℕ → ℕ → FrameReply → Type 0
 IsBrought station octets vcid reply =
     (frame : List ℕ) × IsLocated station octets vcid frame × AtSomeMomentOf vcid (λ s journal. reply ≡ frame_reply s journal frame)
 
--- the octets were for this channel, this is the reply to their frame, and a watcher has seen the journal with the frame
--- at its end
+-- the octets begin with a frame for this channel, this is the reply to the frame, and a watcher has seen the journal
+-- with the frame at its end
 abbrev pub IsBroughtWatched : Roster → List ℕ → ℕ → FrameReply → History → Type 0
 IsBroughtWatched station octets vcid reply seen =
     (frame : List ℕ) × IsLocated station octets vcid frame
@@ -46,14 +46,14 @@ abbrev pub IsUnitTakenAtStation : Roster → ℕ → ℕ → List ℕ → Type 0
 IsUnitTakenAtStation station vcid map_id unit =
     Contains station.vcids vcid × AtSomeMomentOf vcid (λ s journal. unit_reply s journal map_id ≡ Some unit)
 
--- the watcher has seen a moment of a channel
+-- the station has a channel with this id, and the watcher has seen a moment of a channel with this id
 abbrev pub IsWatched : Roster → ℕ → History → Type 0
 IsWatched station vcid seen = Contains station.vcids vcid × (seen.settings.vcid ≡ vcid) × IsAllowed seen.settings × IsLawful seen.settings seen.journal
 
--- the watcher reads the board of the desk at this place, and has seen a moment of a channel with its settings
+-- the watcher reads the board of the desk at this place, and has seen a moment of a channel with the desk's settings
 abbrev pub IsWatcherAt : Roster → ℕ → Watching → Type 0
 IsWatcherAt station place watcher = (head : Identity) × (slice_get station.heads place ≡ Some head) × (watcher.board ≡ head.board) × (watcher.seen.settings ≡ head.settings)
 
--- the watcher reads the board of this very channel, and has seen a moment of a channel with its settings
+-- the watcher reads the board of this very channel, and has seen a moment of a channel with these settings
 abbrev pub IsWatcherOf : Roster → ℕ → Watching → Type 0
 IsWatcherOf station vcid watcher = (head : Identity) × IsDeskOf station vcid head × (watcher.board ≡ head.board) × (watcher.seen.settings ≡ head.settings)

@@ -22,15 +22,15 @@ tally o = record { vcids = o.vcids; counts = o.counts }
 abbrev pub tallies : List AtStation → List Tally
 tallies operators = map tally operators
 
--- the number of events that were made at each of these desks, or 2^64 - 1 if there are more
+-- the number of events that the operator has made at each desk, but at most 2^64 - 1
 abbrev pub counts_of : List AtLock → List ℕ
 counts_of desks = map (λ (d : AtLock). count_of d.own) desks
 
--- an operator at these desks, whose counts follow from the events that were made there
+-- an operator at these desks, with the counts of the events that it has made there
 abbrev pub at_station : List ℕ → List AtLock → AtStation
 at_station vcids desks = record { vcids = vcids; counts = counts_of desks; desks = desks }
 
--- a new operator at a desk, which has made no event, and has seen what the desk's owner has seen
+-- a new operator at a desk, which has made no event, and has seen the moment that the desk's owner has seen
 abbrev pub arrival : AtLock → AtLock
 arrival owned_desk = record { lock = owned_desk.lock; own = record { seen = owned_desk.own.seen; made = []; issued = 0 } }
 
@@ -54,7 +54,7 @@ KnowsDesks station o = heads_of o.desks ≡ station.heads
 abbrev pub KnowsTheSame : AtStation → AtStation → Type 0
 KnowsTheSame before after = heads_of after.desks ≡ heads_of before.desks
 
--- the moment that an operator has seen at the desk of this place continues the one that it had seen there before
+-- the moment that the operator has seen at the desk at this place continues the moment that it had seen there before
 pub record HasGoneOn (place : ℕ) (early late : AtStation) : Type 0 where
   pub before : AtLock
   pub after : AtLock
@@ -73,7 +73,7 @@ HasMadeNothing o = All (λ (d : AtLock). d.own.made ≡ []) o.desks
 abbrev pub fresh : List ℕ → Tally
 fresh vcids = record { vcids = vcids; counts = replicate (length vcids) 0 }
 
--- the count of a channel, or none if the station has no such channel
+-- the count of a channel, or `None` if the station has no such channel
 abbrev pub count_in : ℕ → Tally → Option ℕ
 count_in vcid t = option_map (slice_index t.counts) (position (λ v. v == vcid) t.vcids)
 

@@ -40,20 +40,20 @@ IsAnsweredIn place operator channel e Answers = (n : ℕ) × (slice_get channel.
 abbrev pub IsGivenOut : Roster → ℕ → List History → ℕ → History → Type 0
 IsGivenOut station vcid closed place channel = IsPlace station vcid place × (slice_get closed place ≡ Some channel)
 
--- This channel was returned. The event has a place in its journal, with this answer there, and is the last event that
--- the operator has made.
+-- The close returned the channel with this id. The event has a place in the channel's journal, its answer is the one
+-- that the earlier events give, and it is the last event that the operator has made.
 abbrev pub IsAnsweredAmong : Roster → ℕ → AtStation → List History → Event → (Settings → List Event → Type 0) → Type 0
 IsAnsweredAmong station vcid operator closed e Answers =
     (place : ℕ) × (channel : History) × IsGivenOut station vcid closed place channel × IsAnsweredIn place operator channel e (Answers channel.settings)
 
--- the octets begin with a frame for the channel that the answer names, the frame has a place in that channel's journal
--- with this reply there, and it is the last event that the operator has made
+-- The octets begin with a frame for the channel that the answer names. The frame has a place in the journal of this
+-- channel, and the answer's reply is the one at that place. The frame is the last event that the operator has made.
 abbrev pub IsBroughtAmong : Roster → List ℕ → Brought → AtStation → List History → Type 0
 IsBroughtAmong station octets brought operator closed =
     (frame : List ℕ) × IsLocated station octets brought.vcid frame × IsAnsweredAmong station brought.vcid operator closed (Frame frame) (λ s journal. brought.reply ≡ frame_reply s journal frame)
 
--- the watcher read this CLCW, with these flags of the link, of the history that it has then seen, which continues what
--- it had seen before
+-- The history that the watcher has seen after the read continues the one that it had seen before. The word is the CLCW
+-- of the later history, with these flags of the link.
 abbrev pub IsWordRead : Link → Watching → ℕ → Watching → Type 0
 IsWordRead link early word late = board.IsEarlier early.seen late.seen × (word ≡ clcw late.seen.settings late.seen.journal link)
 

@@ -39,7 +39,7 @@ abbrev pub IsTriedOn : Roster → ℕ → Event → AtStation → AtStation → 
 IsTriedOn station vcid e before after =
     ((place : ℕ) × IsPlace station vcid place × IsTriedAt place vcid e before after) ⊎ (¬ Contains station.vcids vcid × (after ≡ before))
 
--- this is the effect at the desks of a job in this channel's list for which memory didn't run out
+-- this is the effect at the desks of a job in this channel's list, if memory didn't run out
 abbrev pub IsJobMade : Roster → ℕ → Order → AtStation → AtStation → Type 0
 IsJobMade station vcid (orders.Bring octets) before after =
     ((place v : ℕ) × (frame : List ℕ) × IsPlaced station octets place v frame × IsTriedAt place v (events.Frame frame) before after)
@@ -57,8 +57,8 @@ AreMade station vcid (job ∷ jobs) before after = (mid : AtStation) × IsJobMad
 abbrev pub HasMadeTheSame : AtStation → AtStation → Type 0
 HasMadeTheSame before after = map (λ (d : AtLock). d.own.made) after.desks ≡ map (λ (d : AtLock). d.own.made) before.desks
 
--- all jobs of the list were made, or the jobs before the one of this line were made, and this job was refused because
--- memory ran out and made no event
+-- If there is no line, all jobs of the list were made. Otherwise all jobs before the one of this line were made. The
+-- job of this line was refused because memory ran out, and made no event.
 abbrev pub IsListMade : Roster → WorkList → Option ℕ → AtStation → AtStation → Type 0
 IsListMade station list None before after = AreMade station list.vcid list.jobs before after
 IsListMade station list (Some line) before after =

@@ -19,7 +19,7 @@ use Rattle.tc_station.specs.declared.work.WorkList.{WorkList}
 abbrev pub IsTried : ℕ → Tally → Tally → Type 0
 IsTried vcid before after = (after ≡ tallied vcid before) ⊎ (after ≡ before)
 
--- this is the effect on the counts of a job in this channel's list for which memory didn't run out
+-- this is the effect on the counts of a job in this channel's list, if memory didn't run out
 abbrev pub IsDone : Roster → ℕ → Order → Tally → Tally → Type 0
 IsDone station vcid (Bring octets) before after =
     ((v : ℕ) × (frame : List ℕ) × IsLocated station octets v frame × (after ≡ tallied v before))
@@ -41,8 +41,8 @@ MayWantMemory station vcid Release = Contains station.vcids vcid
 MayWantMemory station vcid (Take apid) = Contains station.vcids vcid
 MayWantMemory station vcid (TakeUnit map_id) = Contains station.vcids vcid
 
--- all jobs of the list were done, or the jobs before the one of this line were done, and this job was refused because
--- memory ran out
+-- If there is no line, all jobs of the list were done. Otherwise all jobs before the one of this line were done, and
+-- this job was refused because memory ran out.
 abbrev pub IsWorked : Roster → WorkList → Option ℕ → Tally → Tally → Type 0
 IsWorked station list None before after = AreDone station list.vcid list.jobs before after
 IsWorked station list (Some line) before after =
@@ -109,8 +109,8 @@ abbrev pub raised_by : ℕ → ℕ → ℕ
 raised_by n count = max count (min (count + n) 18446744073709551615)
 
 -- The count of each channel rose by at least the number of jobs that bring a frame to the channel. The count of the
--- list's channel rose by at most the number of these jobs and of the releases and takes. The count of any other channel
--- rose by at most the number of jobs that bring a frame to it.
+-- list's channel rose by at most that number plus the number of releases and takes. The count of any other channel rose
+-- by at most the number of jobs that bring a frame to it.
 abbrev pub IsRaised : Roster → WorkList → Tally → Tally → Type 0
 IsRaised station list before after =
     (vcid place : ℕ) → position (λ v. v == vcid) station.vcids ≡ Some place →

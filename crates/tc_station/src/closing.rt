@@ -1,5 +1,5 @@
-//! Comparisons of the operators' counts with the journals of a closed station, or with the numbers of events that its
-//! channels report.
+//! Comparisons of the operators' counts with the channels of a closed station: with their journals, or with the numbers
+//! of events that they report.
 
 ghost use Rattle.std.specs.Prelude.{◌≡◌, ◌<◌, ◌↔◌, length, IsTrue, All};
 ghost use Rattle.tc_station.specs.Balance.{counted_by_all, IsInBalance, AreInBalance, AreInReportedBalance};
@@ -8,7 +8,7 @@ ghost use Rattle.tc_channel.specs.Journal.{IsNumberReported};
 use crate::operator::Operator;
 use tc_channel::{Channel, CountingChannel};
 
-// Returns the number of operations that all operators together have counted for the channel at a place.
+// Returns the number of operations that all operators together have counted for the channel at `place`.
 fn count_of_all(operators: &[Operator], place: usize) -> u128
     requires { All (λ o. place < length o.vcids) operators.now }
     ensures { result ≡ counted_by_all place operators.now }
@@ -44,8 +44,8 @@ pub(crate) fn are_in_balance(vcids: &[u8], operators: &[Operator], channels: &[C
     true
 }
 
-// Returns whether a channel is in balance and reports the true number of its events. The largest number of 64 bits
-// isn't taken for the true number, since it may stand for more.
+// Returns whether a channel is in balance and reports the exact number of its events. The largest 64-bit number is
+// rejected, since a channel reports it for that many events or more.
 fn is_in_reported_balance(
     vcids: &[u8],
     operators: &[Operator],
@@ -62,7 +62,7 @@ fn is_in_reported_balance(
         && u128::from(events) == count_of_all(operators, place)
 }
 
-/// Returns whether each channel reports the number of its events, and all channels are in balance.
+/// Returns whether each channel reports the exact number of its events, and all channels are in balance.
 pub(crate) fn are_in_reported_balance(
     vcids: &[u8],
     operators: &[Operator],

@@ -98,7 +98,7 @@ pub enum WorkFault {
     NoMemory { line: u32 },
 }
 
-/// The reason why a station was not closed in balance, with the values that are returned.
+/// The reason why a station wasn't closed in balance, with the station or its channels, and the operators.
 #[derive(Drop, Error)]
 pub enum CloseFault {
     /// There are fewer operators than the station issued.
@@ -106,8 +106,8 @@ pub enum CloseFault {
     Missing(Station, Vec<Operator>),
     #[error("no memory")]
     NoMemory(Station, Vec<Operator>),
-    /// The channels were taken out of their locks. The virtual channel id of one of them isn't that of its place, or
-    /// its number of events isn't the one that the operators counted for it.
+    /// The channels were taken out of their locks. At least one of them has a virtual channel id other than that of its
+    /// place, or a number of events other than the one that the operators counted for it.
     #[error("the operators' counts and the journals differ")]
     Unbalanced(Vec<Channel>, Vec<Operator>),
 }
@@ -122,7 +122,7 @@ impl Debug for CloseFault {
     }
 }
 
-/// The reason why a counting station was not closed in balance, with the values that are returned.
+/// The reason why a counting station wasn't closed in balance, with the station or its channels, and the operators.
 #[derive(Drop, Error)]
 pub enum CountingCloseFault {
     /// There are fewer operators than the station issued.
@@ -130,8 +130,8 @@ pub enum CountingCloseFault {
     Missing(CountingStation, Vec<Operator>),
     #[error("no memory")]
     NoMemory(CountingStation, Vec<Operator>),
-    /// The channels were taken out of their locks. The virtual channel id of one of them isn't that of its place, or
-    /// its number of events isn't the one that the operators counted for it, or it has 2^64 - 1 events or more.
+    /// The channels were taken out of their locks. At least one of them has a virtual channel id other than that of its
+    /// place, a number of events other than the one that the operators counted for it, or 2^64 - 1 events or more.
     #[error("the operators' counts and the numbers of events differ")]
     Unbalanced(Vec<CountingChannel>, Vec<Operator>),
 }

@@ -17,7 +17,7 @@ use tc_desk::{DeskOperator, OperatorList, OwnedDesk};
 #[derive(Drop)]
 pub struct Operator {
     vcids: Vec<u8>,
-    // The station runs operations through these operators.
+    // An operator at the desk of each channel, through which the station runs operations.
     pub(crate) desks: Vec<DeskOperator>,
 }
 
@@ -47,7 +47,7 @@ impl OperatorList for Operator {
     }
 }
 
-/// Returns the place of a virtual channel id among others.
+/// Returns the place of `vcid` in `vcids`, or `None` if it isn't among them.
 pub(crate) fn place_of(vcids: &[u8], vcid: u8) -> Option<usize>
     ensures place { result ≡ position (λ v. v == vcid) vcids.now }
     ensures found { MatchOption result (¬ Contains vcids.now vcid) (λ k. (k < length vcids.now) × (slice_index vcids.now k ≡ vcid)) }
@@ -73,7 +73,8 @@ impl Room {
     }
 }
 
-// Creates an operator at each of these desks, in a list with room for them. The operators have made no event.
+// Creates an operator at each of these desks, and appends it to `operators`, which has room for all of them. A new
+// operator has made no event.
 fn desk_operators<J: Journal>(
     mut operators: Vec<DeskOperator>,
     owned_desks: &mut [OwnedDesk<J>],
@@ -90,7 +91,8 @@ fn desk_operators<J: Journal>(
 }
 
 impl Operator {
-    /// Creates an operator that has made no event, and has seen what the owners of these desks have seen.
+    /// Creates an operator that has made no event. At each of these desks, it has seen the moment that the desk's owner
+    /// has seen.
     pub(crate) fn new<J: Journal>(room: Room, owned_desks: &mut [OwnedDesk<J>]) -> Operator
         requires room { IsRoomFor (vcids_of (settings_of_desks owned_desks.old)) room }
         ensures issued { owned_desks.new ≡ map with_one_issued owned_desks.old }
@@ -117,7 +119,7 @@ impl Operator {
         let _ = self.desks.len();
     }
 
-    /// Returns the count of the channel at a place.
+    /// Returns the count of the channel at `place`.
     pub(crate) fn count_at(&self, place: usize) -> u64
         requires { place < length self.now.vcids }
         ensures { result ≡ slice_index self.now.counts place }

@@ -47,7 +47,7 @@ pub struct Located<'a> {
     pub frame: Frame<'a>,
 }
 
-/// The result of bringing octets.
+/// The result of bringing octets to a channel.
 #[derive(Clone, Copy, Debug, PartialEq, Eq)]
 pub struct Brought {
     /// The virtual channel id that the frame names.
@@ -55,7 +55,7 @@ pub struct Brought {
     pub reply: FrameReply,
 }
 
-/// The virtual channels of one spacecraft, each behind a lock of its own, with nothing else on the cache lines of the lock.
+/// The virtual channels of one spacecraft, each behind a lock of its own. Nothing else is on the cache lines of a lock.
 #[derive(Drop)]
 pub struct StationOf<J: Journal> {
     alloc: Global,
@@ -68,11 +68,12 @@ pub struct StationOf<J: Journal> {
 /// A station whose channels keep their journals in memory, and return them when it is closed.
 pub type Station = StationOf<Recorded>;
 
-/// A station whose channels' journals take no memory, for flight software and long simulations. It does what
-/// [`Station`] does, by the same proof, except for its close, which compares the numbers of events.
+/// A station whose channels' journals take no memory, for flight software and long simulations. Its calls are those of
+/// [`Station`], with the same proofs, except for `close`, which compares the numbers of events.
 pub type CountingStation = StationOf<Unrecorded>;
 
-/// A station whose channels weren't closed together. It is returned with the operators, and work can go on.
+/// A station that couldn't be closed together with its operators, these operators, and the reason. Work can go on with
+/// them.
 #[derive(Drop)]
 pub struct StillOpen<J: Journal> {
     pub station: StationOf<J>,
@@ -101,8 +102,8 @@ impl<J: Journal> StationOf<J> {
     ghost use Rattle.tc_desk.specs.Log.{Moment};
     ghost use Rattle.tc_desk.specs.Call.{IsMoment};
 
-    /// Creates a station with a new channel for each of the settings. It allocates two lists, and the memory of each
-    /// channel, its board and its lock. If it fails, the settings are dropped.
+    /// Creates a station with a new channel for each of the settings. The call allocates two lists, and the memory of
+    /// each channel, its board and its lock. If the call fails, the settings are dropped.
     pub fn new(alloc: Global, scid: u16, list: Vec<Settings>) -> Result<StationOf<J>, StationFault>
         ensures made { IfOk result (λ station. (station.scid ≡ scid) × (station.vcids ≡ vcids_of list.items) × (station.issued ≡ 0)) }
         ensures settings { IfOk result (λ station. settings_in station ≡ list.items) }
@@ -115,7 +116,8 @@ impl<J: Journal> StationOf<J> {
         Ok(station)
     }
 
-    /// Returns the frame at the front of the octets, and the channel that it is for. It takes no lock.
+    /// Returns the frame at the front of the octets, and the id of the channel that the frame is for. The call takes no
+    /// lock.
     pub fn locate<'a>(&self, octets: &'a [u8]) -> Result<Located<'a>, LocateFault>
         ensures { MatchResult result (λ located. IsLocated self.now octets.now located.vcid located.frame) (IsLocateFault self.now octets.now) }
     {
@@ -169,8 +171,8 @@ impl<J: Journal> StationOf<J> {
     }
 
     /// Brings the frame at the front of the octets to its channel, under the channel's lock. This call, `release`,
-    /// `take` and `take_unit` allocate only the memory that the channel's own call allocates. So on a counting station
-    /// this call runs out of memory only for a frame of Type-BD, and a take never does.
+    /// `take` and `take_unit` allocate only the memory that the channel's own call allocates. On a counting station,
+    /// this call can run out of memory only for a Type-BD frame, and `take` and `take_unit` never run out of memory.
     pub fn bring(
         &self,
         rt: &impl Wait,
@@ -301,8 +303,9 @@ impl<J: Journal> StationOf<J> {
         watcher.read() + u32::from(link.no_rf) * (1 << 15) + u32::from(link.no_bit_lock) * (1 << 14)
     }
 
-    /// Brings the frame at the front of the octets to its channel, and creates a watcher that has seen the channel
-    /// process it, under one hold of the channel's lock. So each read of the watcher shows that moment or a later one.
+    /// Brings the frame at the front of the octets to its channel, and creates a watcher of the channel, under one hold
+    /// of the channel's lock. The watcher has seen the channel process the frame, so each of its reads shows that
+    /// moment or a later one.
     pub fn bring_watched(
         &self,
         rt: &impl Wait,
@@ -329,9 +332,9 @@ impl<J: Journal> StationOf<J> {
         Ok((Brought { vcid, reply }, watcher))
     }
 
-    /// Runs the operation on the channel at this place. The channel's watcher meets the channel before and after the
-    /// operation, and the channel's lock is held from the first meeting to the second. So the watcher had seen no more
-    /// than the journal before the operation, and afterwards it has seen all that the operator has.
+    /// Runs the operation on the channel at `place`. The watcher meets the channel before and after the operation,
+    /// under one hold of the channel's lock. Before the operation, the watcher had seen no more than the channel's
+    /// journal. Afterwards it has seen all that the operator has.
     pub fn operate_met<O: Operation<J>, R: Wait>(
         &self,
         rt: &R,
@@ -375,7 +378,7 @@ impl<J: Journal> StationOf<J> {
         operator.desks[place].meet(owned_desk.desk(), rt, watcher);
     }
 
-    // Runs the operation at the desk at this place, whose channel has this id, on behalf of the operator.
+    // Runs the operation at the desk at `place`, whose channel has the id `vcid`, on behalf of the operator.
     fn operate<O: Operation<J>, R: Wait>(
         &self,
         rt: &R,
@@ -392,7 +395,7 @@ impl<J: Journal> StationOf<J> {
         operator.desks[place].operate(desk, rt, operation)
     }
 
-    // Returns the answer of the channel at this place, which has this id, for a thread that has no operator.
+    // Returns the answer to a question about the channel at `place`, whose id is `vcid`. No operator is needed.
     fn ask<Q: Question<J>, R: Wait>(
         &self,
         rt: &R,
@@ -406,7 +409,7 @@ impl<J: Journal> StationOf<J> {
         self.desks[place].desk().ask_as_guest(rt, question)
     }
 
-    /// Passes the gate once, under the lock of the channel with this id, if there is such a channel.
+    /// Passes the gate once. If the station has a channel with this id, its lock is held meanwhile.
     pub(crate) fn pass<G: Gate, R: Wait>(&self, rt: &R, gate: &G, vcid: u8) {
         match self.vcids.place_of(vcid) {
             None => gate.pass(vcid),
@@ -416,7 +419,7 @@ impl<J: Journal> StationOf<J> {
         }
     }
 
-    // Returns the ids and the channels, which are taken out of their locks. Returns the whole station if memory runs
+    // Takes the channels out of their locks, and returns them with their ids. Returns the whole station if memory runs
     // out for the lists, or if a lock isn't free.
     fn into_channels(self) -> Result<(Vec<u8>, Vec<ChannelWith<J>>), StationOf<J>>
         ensures vcids { IfOk result (λ parts. parts.0.items ≡ self.vcids) }
@@ -442,12 +445,12 @@ impl<J: Journal> StationOf<J> {
         }
     }
 
-    /// Closes the station, and takes the channels out of their locks, if these operators have made all events of the
-    /// channels' journals. They have if all operators that the station issued are given, and together they have made
-    /// fewer than 2^64 - 1 events of each channel. The journal of each channel is then a merge of the events that the
-    /// operators made, and the history that each operator had seen is a beginning of it. Two lists are allocated before
-    /// any lock is taken. The law [`from_a_sender_to_packets`](crate::from_a_sender_to_packets) states the consequences
-    /// for a sender.
+    /// Closes the station, and takes the channels out of their locks, if `operators` have made all events of the
+    /// channels' journals. This condition holds if all operators that the station issued are given, and if together
+    /// they have made fewer than 2^64 - 1 events of each channel. The journal of each channel is then a merge of the
+    /// events that the operators made. The history that each operator had seen is a beginning of this journal. Two
+    /// lists are allocated before any lock is taken. The law
+    /// [`from_a_sender_to_packets`](crate::from_a_sender_to_packets) states the consequences for a sender.
     pub fn close_together(
         self,
         operators: Vec<Operator>,
@@ -498,8 +501,8 @@ impl StationOf<Recorded> {
     /// Closes the station, takes the channels out of their locks, and compares their journals with the operators'
     /// counts. Two lists are allocated before any lock is taken. Any operators with counts for these channels may be
     /// given, including those of another station. For this station's own operators, [`StationOf::close_together`]
-    /// promises more. A lock that isn't free would be reported as [`CloseFault::NoMemory`], but the owner of the
-    /// station never sees that.
+    /// promises more. A lock that isn't free would be reported as [`CloseFault::NoMemory`], but no lock of a station
+    /// can be held when its owner calls this.
     pub fn close(self, operators: Vec<Operator>) -> Result<Vec<Channel>, CloseFault>
         requires ours { All (λ o. o.vcids ≡ self.vcids) operators.items }
         ensures all { IfOk result (λ _. self.issued ≤ vec_len operators) }
@@ -553,7 +556,7 @@ impl StationOf<Unrecorded> {
     }
 }
 
-// Returns whether a channel has this id.
+// Returns whether one of the settings has this id.
 fn has_vcid(list: &[Settings], vcid: u8) -> bool
     ensures { IsTrue result ↔ Any (λ s. s.vcid ≡ vcid) list.now }
 {
@@ -644,7 +647,7 @@ fn rooms(alloc: Global, vcids: &[u8], n: u16) -> Result<Vec<Room>, AllocError>
     Ok(rooms)
 }
 
-// Issues `n` operators that have made nothing. If memory runs out, it issues none.
+// Issues `n` operators that have made no event, or none if memory runs out.
 fn issue<J: Journal>(
     alloc: Global,
     vcids: &[u8],

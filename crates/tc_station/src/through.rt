@@ -30,17 +30,18 @@ ghost use Rattle.tc_station.specs.Together.{AreClosedTogether, operator_lists_of
 use tc_channel::{what_was_passed_on_is_admitted_in_order, what_was_sent_is_given_in_order};
 use tc_desk::each_event_stands_at_its_place;
 
-/// If threads work at the channels of a station, each with an operator of its own, in any order, and the station is
-/// then closed together with these operators, the following holds for the channels that the close returns.
+/// Suppose that threads work at the channels of a station in any order, each with an operator of its own, and that the
+/// station is then closed together with these operators. The following holds for the channels that the close returns.
 ///
 /// - `merge`: The journal of each channel is a merge of the events that its operators made. Each event occurs once, and
 ///   each operator's events keep their order.
 /// - `frames`, `releases`, `takes`, `units`: Each call that was answered is an event of that journal, and its answer is
-///   the one that the model gives at the journal before the event. The event, with its number, is the last that the
-///   operator has made at that time. So one thread could have made all calls, in the journal's order, and got the same
-///   answers.
-/// - `words`: Each CLCW that a watcher read before a meeting, even if it read again in between, is the CLCW at a place
-///   in that journal. The part of the journal that the watcher had seen doesn't go beyond this place.
+///   the one that the model gives at the journal before the event. Right after the call, the event, with its number, is
+///   the last that the operator has made. Therefore one thread could have made all calls in the journal's order, with
+///   the same answers.
+/// - `words`: Suppose that a watcher reads a CLCW, perhaps reads again, and then meets the channel. The CLCW is then
+///   the one at a place in that journal. The part of the journal that the watcher had seen before the first read
+///   doesn't go beyond this place.
 /// - `sent`: An era is the part of the journal since a Set V(R) was last obeyed, or the whole journal if none was.
 ///   Suppose that the Type-AD frames of an era are those of one sender, numbered from the V(R) at the start of the era,
 ///   and that none came 256 or more numbers early or late. Then the Type-AD data fields of the era that were released
@@ -89,24 +90,26 @@ pub fn from_a_sender_to_packets()
     what_was_sent_is_given_in_order();
 }
 
-/// An operator that made no call has gone on at each of its desks (`none`), and if it has gone on in one part of its
-/// calls and then in another, it has gone on in both together (`both`).
+/// Any operator has gone on at each of its desks, even without a call (`none`). If an operator has gone on from one
+/// state to a second, and from there to a third, it has gone on from the first to the third (`both`).
 pub fn calls_go_on_one_after_another()
     ensures none { (operator : AtStation) → HasGoneOnAtEach operator operator }
     ensures both { (before between after : AtStation) → HasGoneOnAtEach before between → HasGoneOnAtEach between after → HasGoneOnAtEach before after }
 {}
 
-/// Answered calls promise what [`from_a_sender_to_packets`] requires: each is in the closed journal of its channel,
-/// with its answer there. The premises are contracts and nothing else: the contract of the call by an operator of the
-/// station, and that of [`StationOf::close_together`](crate::StationOf::close_together) with this operator among the
-/// others, as it was left by the last call that it made.
+/// Answered calls meet the premises of [`from_a_sender_to_packets`]: the event of each call is in the closed journal of
+/// its channel, and the answer is the one at its place. The premises of this law are two contracts alone. One is that
+/// of the call by an operator of the station. The other is that of
+/// [`StationOf::close_together`](crate::StationOf::close_together), which is given this operator, as its last call left
+/// it, among others.
 ///
 /// - `frames` is about calls of `bring`, `watched` is about calls of `bring_watched`, and `releases`, `takes` and
 ///   `units` are about calls of `release`, `take` and `take_unit`.
-/// - `words` is about each read of a watcher by `watch` before its `meet`. In between, the watcher may have read on.
+/// - `words` is about each `watch` by a watcher before a `meet`. Between the two, the watcher may have read again.
 ///
-/// Between the call and the close the operator may have made any other calls. Each of them promises that it has gone on
-/// (`later` of [`StationOf`](crate::StationOf)'s calls), and [`calls_go_on_one_after_another`] joins them.
+/// Between the call and the close the operator may have made any other calls. Each of these promises that the operator
+/// has gone on (`later` of [`StationOf`](crate::StationOf)'s calls), and [`calls_go_on_one_after_another`] joins the
+/// promises.
 pub fn what_calls_answered_stands_in_the_closed_journals()
     ensures frames { (station : Roster) (octets : List ℕ) (grows : Bool) (before after last : AtStation) (brought : Brought) (operators : List AtStation) (closed : List History) (number : ℕ)
         → IsOurs station before → IsBringCall station octets IsReplied (IsNotBrought grows) before (Ok brought) after

@@ -57,7 +57,7 @@ impl Vcids {
         ids
     }
 
-    /// Returns the place of an id.
+    /// Returns the place of `vcid`, or `None` if it isn't among the ids.
     pub(crate) fn place_of(&self, vcid: u8) -> Option<usize>
         ensures place { result ≡ position (λ v. v == vcid) self.now }
         ensures found { MatchOption result (¬ Contains self.now vcid) (λ k. (k < length self.now) × (slice_index self.now k ≡ vcid)) }

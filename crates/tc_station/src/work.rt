@@ -12,7 +12,8 @@ use std::sync::Wait;
 use std::thread::{Threads, join_mut};
 use tc_channel::{Items, Journal, NoMemory, Octets};
 
-/// A gate that each worker passes once, under the lock of its list's channel, before it carries out its jobs.
+/// A gate that each worker passes once, before its first job. The lock of the channel of the worker's list is held
+/// meanwhile, if the station has this channel.
 pub trait Gate {
     fn pass(&self, vcid: u8);
 }
@@ -61,11 +62,10 @@ where
     ghost use Rattle.tc_station.specs.Tried.{IsListMade, IsJobMade, HasMadeTheSame};
     ghost use Rattle.tc_station.specs.Work.{IsDone, MayWantMemory, IsWorked, AreStaffed, AreWorked, IsTallyOf, NoCountFalls, IsRaised, line_of_fault};
 
-    /// Carries out each list of jobs in a thread of its own, with the operator at the list's place. A refusal for any
-    /// reason other than lack of memory is passed over. The rest of a list is left out after the first job that is
-    /// refused because memory ran out. The other lists are carried out in full, and the lowest line of such a job is
-    /// reported. If no further thread starts, the running thread carries out the remaining lists, one by one. Only the
-    /// operations themselves request memory.
+    /// Carries out each list of jobs in a thread of its own, with the operator at the list's place. A job that is
+    /// refused because memory ran out ends its own list, but no other list. The lowest line of such a job is reported.
+    /// Any other refusal is passed over. If no further thread starts, the running thread carries out the remaining
+    /// lists, one by one. Only the operations themselves request memory.
     pub fn work<G: Gate + Sync, R: Threads + Wait + Sync>(
         &self,
         rt: &R,
@@ -112,7 +112,7 @@ where
         self.work_halves(rt, gate, front_lists, back_lists, front, back)
     }
 
-    // Carries out each half of the lists, in two threads if another one can be started.
+    // Carries out both halves of the lists, in two threads if another one can be started.
     #[cycle(work)]
     fn work_halves<G: Gate + Sync, R: Threads + Wait + Sync>(
         &self,
