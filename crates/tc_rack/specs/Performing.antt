@@ -29,7 +29,7 @@ abbrev pub IsOperated : {O : Type 0} → (List Settings → O → Type 0) → (O
 IsOperated {O} IsNew Answers operation old answer new =
     (found after : O) × IsFound IsNew old found × Answers operation found answer after × (new ≡ Operating after)
 
--- the answer to an operation is one that this relation allows between the stage before and the stage after
+-- the operation has an answer, which this relation allows between the stage before and the stage after
 abbrev pub IsDoneSo : {O : Type 0} → (Operation → Stage O → Answer → Stage O → Type 0) → Operation → Stage O → Option Answer → Stage O → Type 0
 IsDoneSo Operates operation old answer new = (a : Answer) × Operates operation old a new × (answer ≡ Some a)
 

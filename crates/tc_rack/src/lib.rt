@@ -1,9 +1,9 @@
 //! The channels of one spacecraft for one thread, which needs no lock. The crate also has operations, their answers and
-//! the final report, which are also used for channels that threads share. A [`Stage`] has the set-up of a script, and
-//! later the channels that operate.
+//! the final report, which are also used for channels that threads share. A [`Stage`] is the progress of a script: the
+//! set-up at first, and later the channels in operation.
 //!
-//! A contract sees each channel of a [`Rack`] with its journal and the flags of its link. So the contract of an
-//! operation is an equation: the answer is the reply that the channel of the operation gives after its journal.
+//! A contract sees each channel of a [`Rack`] with its journal and the flags of its link. The contract of an operation
+//! is therefore an equation: the answer is the reply that the channel of the operation gives after its journal.
 #![tactic(auto)]
 
 mod answer;

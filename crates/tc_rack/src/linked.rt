@@ -65,7 +65,7 @@ impl LinkedChannel {
         self.channel.settings().vcid
     }
 
-    /// Takes a frame in.
+    /// Processes a frame, and returns the answer to it.
     pub(crate) fn frame(&mut self, frame: &Frame) -> Result<Answer, NoMemory>
         ensures answer { IfOk result (λ answer. IsFrameAnswered frame.now self.old answer self.new) }
         ensures settings { self.new.history.settings ≡ self.old.history.settings }

@@ -83,9 +83,9 @@ impl Backend for RackBackend {
     }
 }
 
-/// Performs a line. Only an operation has an answer. A line that is refused leaves everything as it is. If memory runs
-/// out at an operation, the channels are left as the backend promises. If it was the first operation, the channels may
-/// have been created.
+/// Performs a line. Only an operation has an answer. A line that is refused leaves everything as it is, unless memory
+/// runs out at an operation. The channels are then left as the backend promises. If it was the first operation, the
+/// channels may have been created.
 pub fn perform<F: Backend>(
     backend: &F,
     alloc: Global,
@@ -158,7 +158,7 @@ pub fn begin<F: Backend>(
     }
 }
 
-// Creates the channels as `begin` does. It is kept apart from the code that runs for each line.
+// Creates the channels as `begin` does. This function is kept apart from the code that runs for each line.
 #[cold]
 #[inline(never)]
 fn begin_anew<F: Backend>(

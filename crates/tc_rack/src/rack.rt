@@ -21,7 +21,7 @@ use tc_setup::Configuration;
 /// The channels of one spacecraft, in the order in which they were set up, each with the flags of its link. They belong
 /// to one thread. A call that is refused leaves everything as it was.
 ///
-/// A contract sees the settings, the journal and the flags of each channel.
+/// A contract sees the settings and the journal of each channel, and the flags of its link.
 #[derive(Drop)]
 pub struct Rack {
     scid: u16,
@@ -151,7 +151,7 @@ impl Rack {
         }
     }
 
-    /// Sets the flags of the link that the CLCWs of a channel report from now on, and returns whether there is such a
+    /// Sets the flags of a channel's link, which its CLCWs report from then on. Returns whether there is such a
     /// channel.
     pub fn link(&mut self, vcid: u8, link: Link) -> bool
         ensures { IsLinkSet self.old vcid link result self.new }

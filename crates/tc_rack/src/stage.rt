@@ -9,12 +9,12 @@ use tc_channel::Settings;
 use tc_setup::{Addition, Configuration, Instruction};
 use tc_text::Reason;
 
-/// The progress of a script. At the first operation the channels are created, from all that are set up by then.
+/// The progress of a script. The channels are created at the first operation, from the set-up so far.
 #[derive(Drop)]
 pub enum Stage<O> {
     /// The channels that are set up so far.
     SettingUp(Configuration),
-    /// The channels in operation, once the first operation has come.
+    /// The channels in operation, from the first operation on.
     Operating(O),
 }
 

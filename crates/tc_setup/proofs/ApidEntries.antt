@@ -14,7 +14,7 @@ no-queue apids is = record {
   reported = λ apid small. ap (λ (t : List Bool). get_or t apid false) is ∙ all-alike 2047 apid;
 }
 
--- an entry is set if and only if a queue has the APID
+-- if an entry is set, a queue has its APID
 pub there : (queues : List QueueSetting) (apids : List Bool) (apid : ℕ) → apid ≤ 2046 → AreApidsOf queues apids → get_or apids apid false ≡ true → Any (λ (q : QueueSetting). q.apid ≡ apid) queues
 there queues apids apid small a is =
     let (i, d, lt, e, same) = Any-from_list_any (λ (q : QueueSetting). eqb q.apid apid) queues (sym (a.reported apid small) ∙ is) in

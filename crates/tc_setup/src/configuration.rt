@@ -133,7 +133,7 @@ impl Configuration {
     }
 }
 
-// Returns the place of the settings with this id.
+// Returns the place of the settings with this id, if there are any.
 fn place_of(list: &[Settings], vcid: u8) -> Option<usize>
     ensures { MatchOption result (¬ HasSettings list.now vcid) (λ place. (s : Settings) × IsAt list.now vcid place s) }
 {

@@ -30,12 +30,12 @@ three_of (first ∷ second ∷ []) = Err WordCount
 three_of (first ∷ second ∷ third ∷ []) = Ok (first, second, third)
 three_of (first ∷ second ∷ third ∷ more ∷ rest) = Err WordCount
 
--- the result of `next` for the number that a word spells, if it is within its bound
+-- the result of `next` for the number that a word spells, or an error if the word isn't a number of at most `most`
 abbrev pub with_number : ℕ → List ℕ → (ℕ → Result Line Reason) → Result Line Reason
 with_number most word next = elim (word_number most word) [ None ↦ Err BadNumber | Some number ↦ next number ]
 
--- Whether data fields begin with a segment header. They do if the line has no option, and don't if the option is
--- `plain`.
+-- The flag for data fields that begin with a segment header. It is set if the line has no option, and clear if the
+-- option is `plain`.
 abbrev pub segmented_of : Option (List ℕ) → Result Bool Reason
 segmented_of None = Ok true
 segmented_of (Some option) = if is option (codes "plain") then Ok false else Err BadOption

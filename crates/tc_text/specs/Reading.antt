@@ -11,7 +11,7 @@ pub record IsFirstLine (octets line after : List ℕ) : Type 0 where
   pub parts : (octets ≡ line ++ 10 ∷ after) ⊎ ((octets ≡ line) × (after ≡ []))
   pub shorter : length after < length octets
 
--- the number of octets that a script may have
+-- the largest number of octets that a script may have
 abbrev pub script_limit : ℕ
 script_limit = 1048576
 

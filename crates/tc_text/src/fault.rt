@@ -13,7 +13,7 @@ use tc_queues::SettingsFault;
 /// `BadOption` comes right before `TooLate`, and `NoMemory` is reported as soon as memory runs out.
 #[derive(Clone, Copy, Debug, PartialEq, Eq)]
 pub enum Reason {
-    /// The first word is no command.
+    /// The first word isn't a command.
     UnknownCommand,
     /// The line has more or fewer words than its command takes.
     WordCount,
@@ -56,7 +56,7 @@ pub enum Reason {
 }
 
 impl Reason {
-    /// Returns the words of the reason.
+    /// Returns the words that report the reason.
     pub fn as_str(&self) -> &'static str
         ensures { result.now ≡ reason_text self.now }
     {
@@ -128,9 +128,9 @@ impl From<SettingsFault> for Reason {
 /// A fault that ended a script early. Lines are numbered from 1, and the number 0 is for the whole script.
 #[derive(Clone, Copy, Debug, PartialEq, Eq)]
 pub enum ScriptFault {
-    /// The line is bad and had no effect, or memory ran out at it. If memory ran out while the script was read, the
-    /// number is 0. If it ran out at the end of the script, the number is that of the last line. `run_script` has
-    /// answered the lines before this one, and `parallel_script` has written nothing.
+    /// The line is bad and had no effect, or memory ran out while it was carried out. If memory ran out while the
+    /// script was read, the number is 0. If it ran out at the end of the script, the number is that of the last line.
+    /// `run_script` has answered the lines before this one, and `parallel_script` has written nothing.
     Line { line: u32, reason: Reason },
     /// The reader failed. No line was carried out.
     Read,

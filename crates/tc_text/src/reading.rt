@@ -8,7 +8,7 @@ use memchr::memchr;
 use std::alloc::Global;
 use std::io::Read;
 
-/// The number of octets that a script may have.
+/// The largest number of octets that a script may have.
 pub const MAX_OCTETS: usize = 1_048_576;
 
 const CHUNK: usize = 8192;
@@ -40,7 +40,8 @@ pub fn read_whole<R: Read>(alloc: Global, reader: &mut R) -> Result<Vec<u8>, Scr
     Err(ScriptFault::TooLong)
 }
 
-/// Returns the first line, and the octets after its line feed. Octets after the last line feed are a line, too.
+/// Returns the first line, and the octets after its line feed. Octets after the last line feed are a line, too. Returns
+/// `None` if there are no octets.
 pub fn next_line(octets: &[u8]) -> Option<(&[u8], &[u8])>
     ensures { MatchOption result (octets.now ≡ []) (λ parts. IsFirstLine octets.now parts.0.now parts.1.now) }
 {

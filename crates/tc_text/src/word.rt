@@ -19,7 +19,7 @@ pub(crate) fn next_argument(octets: &[u8]) -> Result<(&[u8], &[u8]), Reason>
     }
 }
 
-/// Returns the last word of a command, or `None` if no word is left.
+/// Returns the last word of a command, or `None` if no word is left. The call fails if more than one word is left.
 pub(crate) fn last_argument(octets: &[u8]) -> Result<Option<&[u8]>, Reason>
     ensures { MatchResult result
         (λ last. last_of (words octets.now) ≡ Ok (option_map (λ word. word.now) last))
@@ -70,8 +70,8 @@ pub(crate) fn no_more(octets: &[u8]) -> Result<(), Reason>
     }
 }
 
-/// Returns whether a word is this text. The comparison stops at the first octet that differs, since most of the
-/// commands that a word is compared with differ from it in their first octet.
+/// Returns whether a word is this text. The comparison stops at the first octet that differs. That is mostly the first
+/// octet, since most commands begin with different letters.
 #[inline(always)]
 pub(crate) fn is_text(word: &[u8], text: &[u8]) -> bool
     ensures { result ≡ is word.now text.now }
