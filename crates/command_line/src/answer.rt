@@ -15,8 +15,8 @@ use strsim::{jaro, osa_distance};
 /// The exit status of a bad command line.
 pub(crate) const BAD_COMMAND_LINE: u8 = 2;
 
-/// Returns the words with which a program was started, its name first. If the words can't be used, the reason goes to
-/// standard error.
+/// Returns the words with which a program was started, its name first. If the words can't be used, prints the reason to
+/// standard error, and returns the exit status.
 pub(crate) fn words_of<R: Env + AllocGlobal + Eprint>(
     rt: &R,
     program: &str,

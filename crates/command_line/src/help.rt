@@ -1,7 +1,7 @@
 //! The texts that help prints besides the commands and options.
 
-/// The version of each program, which is that of the newest heading in CHANGELOG.md. `checks/launcher` compares all
-/// places that name it.
+/// The version of each program, which is that of the newest numbered heading in CHANGELOG.md. `checks/launcher`
+/// compares all places that name the version.
 pub(crate) const VERSION: &str = "0.3.0";
 
 /// The end of the help of `tcrx`: the lines of a script with their limits, the exit statuses, and an example.
@@ -28,7 +28,7 @@ Example:
   printf 'channel 1 10 1 0\\nframe 002a040c00c01005c0000000aa\\n' | tcrx run --scid 42
 ";
 
-/// A pointer to the list of the lines of a script.
+/// The text that points to the list of the lines of a script.
 pub(crate) const POINTER: &str =
     "The script comes on standard input. tcrx --help lists the lines of a script.";
 

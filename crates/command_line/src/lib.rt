@@ -1,7 +1,7 @@
 //! The command lines of the programs: the words with which they are started, and the meaning of these words.
 //!
 //! Each program calls the function that has its name. If the words request help or the version, or are refused, this
-//! function prints the text and returns an exit status, with which the program then exits.
+//! function prints a text and returns an exit status, with which the program then exits.
 #![tactic(auto)]
 
 mod answer;

@@ -1,4 +1,4 @@
-//! The meaning of the words with which a program is started, by a table of the words that it takes.
+//! The meaning of the words with which a program is started, as the table of the program's words gives it.
 
 ghost use Rattle.std.specs.Prelude.{◌≡◌, ◌≤◌, IfOk, IfErr};
 ghost use Rattle.std.specs.Process.{exit_status};
@@ -29,13 +29,13 @@ pub(crate) struct Program {
     pub(crate) about: &'static str,
     /// The text with which help ends.
     pub(crate) end: &'static str,
-    /// A flag that is set if `--scid` names the spacecraft.
+    /// A flag that is set if the program itself, rather than each of its commands, has the option `--scid`.
     pub(crate) scid: bool,
     /// The help on `--fecf`, if it is an option of the program.
     pub(crate) fecf: Option<&'static str>,
     /// The help on `--strict`, if it is an option of the program.
     pub(crate) strict: Option<&'static str>,
-    /// The commands, each of which runs a script for a spacecraft, with the help on each.
+    /// The commands, with the help on each. Each command runs a script for a spacecraft.
     pub(crate) commands: &'static [(&'static str, &'static str)],
 }
 
@@ -63,7 +63,7 @@ pub(crate) fn ask<R: Env + AllocGlobal + Print + Eprint>(
     }
 }
 
-/// Returns the spacecraft id among the words. Each program that calls this requires one.
+/// Returns the spacecraft id among the words. Each program that calls this function requires an id.
 pub(crate) fn spacecraft_of<R: Eprint>(rt: &R, asked: Asked) -> Result<u16, ExitCode>
     ensures id { IfOk result (λ scid. scid ≤ MAX_SCID) }
     ensures status { IfErr result (λ status. exit_status status ≡ BAD_COMMAND_LINE) }

@@ -56,23 +56,23 @@ pub struct ScriptRun {
     pub way: Way,
 }
 
-/// The spacecraft whose frames are received, and whether each frame must end with its frame error control field.
+/// The spacecraft whose frames are received, with a flag that is set if each frame must end with its frame error
+/// control field.
 #[derive(Clone, Copy, Debug, PartialEq, Eq)]
 pub struct Reception {
     pub scid: u16,
     pub fecf: bool,
 }
 
-/// The way in which frames are made: whether each ends with its frame error control field, and whether the program
-/// exits after the first bad line.
+/// The way in which frames are made. `fecf` is set if each frame ends with its frame error control field, and `strict`
+/// is set if the program exits after the first bad line.
 #[derive(Clone, Copy, Debug, PartialEq, Eq)]
 pub struct Making {
     pub fecf: bool,
     pub strict: bool,
 }
 
-/// Returns the run that the words of `tcrx` request, or the exit status if help, the version or a fault was printed
-/// instead.
+/// Parses the command line of `tcrx`. If help, the version or a fault was printed instead, returns the exit status.
 pub fn asked_of_tcrx<R: Env + AllocGlobal + Print + Eprint>(rt: &R) -> Result<ScriptRun, ExitCode>
     ensures spacecraft { IfOk result (λ run. run.scid ≤ 1023) }
     ensures status { IfErr result (λ status. exit_status status ≤ 2) }
@@ -83,8 +83,7 @@ pub fn asked_of_tcrx<R: Env + AllocGlobal + Print + Eprint>(rt: &R) -> Result<Sc
     Ok(ScriptRun { scid, way })
 }
 
-/// Returns the reception that the words of `tclive` request, or the exit status if help, the version or a fault was
-/// printed instead.
+/// Parses the command line of `tclive`. If help, the version or a fault was printed instead, returns the exit status.
 pub fn asked_of_tclive<R: Env + AllocGlobal + Print + Eprint>(rt: &R) -> Result<Reception, ExitCode>
     ensures spacecraft { IfOk result (λ reception. reception.scid ≤ 1023) }
     ensures status { IfErr result (λ status. exit_status status ≤ 2) }
@@ -95,8 +94,7 @@ pub fn asked_of_tclive<R: Env + AllocGlobal + Print + Eprint>(rt: &R) -> Result<
     Ok(Reception { scid, fecf })
 }
 
-/// Returns the way of making frames that the words of `tcmake` request, or the exit status if help, the version or a
-/// fault was printed instead.
+/// Parses the command line of `tcmake`. If help, the version or a fault was printed instead, returns the exit status.
 pub fn asked_of_tcmake<R: Env + AllocGlobal + Print + Eprint>(rt: &R) -> Result<Making, ExitCode>
     ensures { IfErr result (λ status. exit_status status ≤ 2) }
 {

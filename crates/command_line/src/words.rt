@@ -34,7 +34,7 @@ pub(crate) fn read_words<R: Env + AllocGlobal>(rt: &R) -> Result<Vec<String>, Wo
     Ok(words)
 }
 
-// The number of octets that a word has room for at first.
+// The number of octets for which a word has room at first.
 const FIRST_ROOM: usize = 256;
 
 // Returns the octets of the word at a place, if there is one.

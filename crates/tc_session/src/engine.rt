@@ -15,7 +15,7 @@ use tc_live::{FrameCheck, MAX_LINE as LONGEST_LIVE_LINE, Receiver};
 use tc_make::{Ending, MAX_LINE as LONGEST_MAKER_LINE, Maker};
 use tc_text::{ScriptFault, SpacecraftId};
 
-/// The engine of a session: what answers its lines, and what they have led to so far.
+/// The engine of a session: the receiver or the maker that answers its lines, in its state after the lines so far.
 #[derive(Drop)]
 pub enum Engine {
     /// A receiver that answers as `tclive` does.
@@ -24,7 +24,7 @@ pub enum Engine {
     Script { receiver: Receiver, lines: u32 },
     /// A maker that answers as `tcmake` does.
     Make(Maker),
-    /// The lines have ended, and no more are answered.
+    /// The state after the lines have ended, in which no more lines are answered.
     Ended,
 }
 
@@ -45,8 +45,8 @@ pub fn script_engine(alloc: Global, spacecraft: SpacecraftId) -> Engine
     }
 }
 
-/// Creates the engine that answers as `tcmake` does, from a maker that has made nothing. If memory runs out, there is
-/// none.
+/// Creates the engine that answers as `tcmake` does, from a maker that has made nothing. Returns `None` if memory runs
+/// out.
 pub fn maker_engine(alloc: Global, ending: Ending) -> Option<Engine>
     ensures { IfSome result (λ engine. engine ≡ Engine.Make (new_maker ending)) }
 {
@@ -73,7 +73,7 @@ impl Engine {
     }
 
     /// Carries out a line, which is given without its line feed, and writes its answer. If a script ends at the line,
-    /// the answer is the reason, and the result is false.
+    /// the answer is the reason, and the call returns false.
     pub(crate) fn answer<W: Write>(
         &mut self,
         alloc: Global,
@@ -118,7 +118,7 @@ fn answer_within<A: LineAnswerer, W: Write>(
 }
 
 // Carries out the line of a script with this number, and writes its answer. If the script ends at the line, the answer
-// is the reason, and the result is false.
+// is the reason, and the call returns false.
 fn answer_in_script<W: Write>(
     alloc: Global,
     receiver: &mut Receiver,

@@ -1,5 +1,5 @@
-//! A session takes lines, one at a time, and gives the texts of their answers. It has no reader and no writer, so that
-//! any program can stand on it. It answers as `tclive`, as `tcrx run` or as `tcmake` does.
+//! A session takes lines, one at a time, and keeps the text of each answer. It has no reader and no writer, so any
+//! program can use it. It answers as `tclive`, as `tcrx run` or as `tcmake` does.
 //!
 //! [`Session::answer`] carries out a line and keeps the text of its answer, and [`Session::end`] keeps the final
 //! report.

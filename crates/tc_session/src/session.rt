@@ -11,8 +11,8 @@ use std::mem::replace;
 use tc_live::{FrameEnds, Receiver, ServingFault};
 use tc_text::{Reason, ScriptFault};
 
-// The number of octets that are reserved for a text before its line is carried out. With these, no answer requests
-// memory, apart from the answers of a line that hands on more than fits, and of a line that makes more frames than fit.
+// The number of bytes that are reserved for a text before its line is carried out. An answer requests more memory only
+// if its line hands on more items than fit, or makes more frames than fit.
 const ROOM: usize = 147_456;
 
 /// The outcome of a line, or of the end of the lines.
@@ -26,7 +26,7 @@ pub enum Said {
     NoMemory,
     /// Memory ran out at the answer, which is lost. No more lines are answered.
     Lost,
-    /// The lines have ended before, so nothing was done.
+    /// The lines had already ended, so nothing was done.
     Over,
 }
 
@@ -35,9 +35,10 @@ pub enum Said {
 pub struct Session {
     pub engine: Engine,
     pub text: Vec<u8>,
-    /// The outcome for which the text stands, if the text still waits for a reader.
+    /// The outcome that the text belongs to, if the text hasn't been given out yet.
     pub waits: Option<Said>,
-    /// The ends of the frames of a receiver, once its lines were ended.
+    /// The record of whether the receiver's frames ended with a frame error control field, kept once the lines have
+    /// ended.
     pub ends: FrameEnds,
 }
 
@@ -82,7 +83,7 @@ impl Session {
     }
 
     /// Ends the lines, and keeps the text of the final report, or the reason why there is none. The report of a maker
-    /// has no octets.
+    /// is empty.
     pub fn end(&mut self, alloc: Global) -> Said
         ensures ended { IsEnded result self.old.engine self.new.engine self.new.text.items }
         ensures ends { ends_of self.new ≡ ends_of self.old }
@@ -104,7 +105,8 @@ impl Session {
         }
     }
 
-    // Closes a receiver, which has carried out a script of so many lines, or lines of `tclive`.
+    // Closes a receiver. `lines` is the number of lines of its script, or `None` if the receiver answered as `tclive`
+    // does.
     fn close(&mut self, alloc: Global, receiver: Receiver, lines: Option<u32>) -> Said
         requires { self.old.text.items ≡ [] }
         ensures closed { IsClosed result receiver lines self.new.text.items }
@@ -117,7 +119,7 @@ impl Session {
         }
     }
 
-    // Keeps the reason why there is no report, as the program for these lines writes it.
+    // Keeps the reason why there is no final report, in the words of `tcrx run` or of `tclive`.
     fn say(&mut self, fault: ServingFault, lines: Option<u32>) -> Said
         requires { self.old.text.items ≡ [] }
         ensures said { (result ≡ said.Lost) ⊎ ((result ≡ said.Bad) × (self.new.text.items ≡ closing_text lines fault)) }
@@ -136,7 +138,8 @@ impl Session {
         }
     }
 
-    /// Returns the ends of the frames of all lines so far, if nothing checks them.
+    /// Returns the record of whether the frames of all lines so far ended with a frame error control field. It is kept
+    /// only if frames aren't checked.
     pub fn ends(&self) -> FrameEnds
         ensures { result ≡ ends_of self.now }
     {
@@ -149,7 +152,7 @@ impl Session {
     }
 }
 
-// Returns the fault of a script of so many lines for a fault at its end.
+// Returns the fault of a script of `line` lines that stands for a fault at its end.
 fn script_fault(fault: ServingFault, line: u32) -> ScriptFault
     ensures { result ≡ script_fault line fault }
 {

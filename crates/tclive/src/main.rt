@@ -11,8 +11,8 @@ fn main(rt: HostRuntime) -> ExitCode {
     start(&rt)
 }
 
-/// Runs `tclive`, and returns its exit status. It isn't private because portable/programs.rt.in joins the three
-/// programs into one, in which this file is a module.
+/// Runs `tclive`, and returns its exit status. The function isn't private because portable/programs.rt.in joins the
+/// three programs into one, in which this file is a module.
 pub(crate) fn start<R: Env + AllocGlobal + Input + Print + Eprint>(rt: &R) -> ExitCode {
     match asked_of_tclive(rt) {
         Ok(asked) => {
@@ -31,8 +31,8 @@ fn check_of(asked: Reception) -> FrameCheck {
     }
 }
 
-// Reports on standard error why no more lines were answered, and returns the exit status. If all lines were answered,
-// and each frame ended with its frame error control field, a hint says so. No answer depends on that.
+// Reports on standard error why no more lines were answered, and returns the exit status. If all lines were answered
+// and each frame ended with its frame error control field, prints a hint. The hint changes no answer.
 fn report<R: Eprint>(rt: &R, served: Result<FrameEnds, ServingFault>) -> ExitCode {
     match served {
         Ok(ends) => {

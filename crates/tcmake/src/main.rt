@@ -10,8 +10,8 @@ fn main(rt: HostRuntime) -> ExitCode {
     start(&rt)
 }
 
-/// Runs `tcmake`, and returns its exit status. It isn't private because portable/programs.rt.in joins the three
-/// programs into one, in which this file is a module.
+/// Runs `tcmake`, and returns its exit status. The function isn't private because portable/programs.rt.in joins the
+/// three programs into one, in which this file is a module.
 pub(crate) fn start<R: Env + AllocGlobal + Input + Print + Eprint>(rt: &R) -> ExitCode {
     match asked_of_tcmake(rt) {
         Ok(asked) => report(rt, serve(rt, ending_of(asked), asked.strict)),

@@ -14,8 +14,8 @@ fn main(rt: HostRuntime) -> ExitCode {
     start(&rt)
 }
 
-/// Runs `tcrx`, and returns its exit status. It isn't private because portable/programs.rt.in joins the three programs
-/// into one, in which this file is a module.
+/// Runs `tcrx`, and returns its exit status. The function isn't private because portable/programs.rt.in joins the three
+/// programs into one, in which this file is a module.
 pub(crate) fn start<R: Env + AllocGlobal + Input + Print + Eprint + Threads + Wait + Sync>(
     rt: &R,
 ) -> ExitCode {
@@ -37,8 +37,8 @@ fn obey<R: AllocGlobal + Input + Print + Threads + Wait + Sync>(
     }
 }
 
-// Reports on standard error why a script ended early, and returns the exit status. If it didn't end early, and each of
-// its frames ends with a frame error control field, a hint says so. No answer depends on that.
+// Reports on standard error why a script ended early, and returns the exit status. If the script ran to its end and
+// each of its frames ends with a frame error control field, prints a hint. The hint changes no answer.
 fn report<R: Eprint>(rt: &R, done: Result<bool, ScriptFault>) -> ExitCode {
     match done {
         Ok(has_fields) => {
