@@ -9,7 +9,8 @@ use Rattle.tc_cltu.specs.declared.block.Mode.{Mode}
 use Rattle.tc_make.specs.Decoders.{IsFed, IsPieceSaid, candidates_text, blocks_text}
 use Rattle.tc_make.proofs.Written.{joined}
 
--- all candidate frames are those that were written so far, followed by those that end in the remaining octets
+-- the candidate frames that were written so far, followed by those that end in the remaining octets, are all candidate
+-- frames
 abbrev pub IsSoFar : Mode → List ℕ → List ℕ → Reception → Reception → Option (List ℕ) → Option (List ℕ) → Type 0
 IsSoFar mode rest os first state a b =
     (given : List (List ℕ)) × Appends a b (candidates_text given) × (given ++ frames_of mode 1029 state rest ≡ frames_of mode 1029 first os)

@@ -27,7 +27,7 @@ use Rattle.std.specs.Prelude.{true, false}
 pub joined : (a b c : Option (List ℕ)) (xs ys : List ℕ) → Appends a b xs → Appends b c ys → Appends a c (xs ++ ys)
 joined a b c xs ys p q = Appends-trans a b c xs ys p q
 
--- if something can be made, and the text that follows from it is written, this text is the answer
+-- if something can be made, and the text for it is written, this text is the answer
 pub made-on : (a b : Option (List ℕ)) (o : Option Reason) (Is : List ℕ → Type 0) (Then : List ℕ → List ℕ → Type 0) (made : List ℕ)
     → o ≡ None → Is made → Writes a b (OrNoMemory (Then made)) → Writes a b (OrNoMemory (Unless o (λ text. (x : List ℕ) × Is x × Then x text)))
 made-on a b o Is Then made none is (text, inl p, w) =
@@ -91,7 +91,7 @@ frames-more : (frames : List (List ℕ)) (sent : List ℕ) → frames_text (fram
 frames-more frames sent =
     flat_map-append (named_text (codes "frame")) frames (sent ∷ []) ∙ ap (λ t. frames_text frames ++ t) (append-nil (named_text (codes "frame") sent))
 
--- exactly the lines of the frames before this place were written
+-- the lines of all frames before this place were written, and no more
 abbrev pub Before : Ending → Parting → ℕ → Option (List ℕ) → Option (List ℕ) → Type 0
 Before ending p place a b = (frames : List (List ℕ)) × AreSent ending p 0 frames × (length frames ≡ place) × Appends a b (frames_text frames)
 
@@ -126,7 +126,7 @@ pub frames-stop : (made : Bool) (ending : Ending) (p : Parting) (place : ℕ) (a
 frames-stop made ending p place a b c e below before now =
     frames-stopped ending p place a b c below before (subst (λ m. Writes b c (IsPartSaid m ending p place)) e now)
 
--- if a unit is divided into segments, its frames are the answer, and otherwise the reason is the answer
+-- if a unit is divided into segments and its frames are written, they are the answer to the line
 pub unit-parted : (ending : Ending) (stream : Stream) (sizing : Sizing) (unit : List ℕ) (p : Parting) (a b : Option (List ℕ)) → IsPartingOf stream sizing unit p
     → parting_reason_of p ≡ None → Writes a b (IsFramesSaid ending p) → Writes a b (OrNoMemory (IsUnitSaid ending stream sizing unit))
 unit-parted ending stream sizing unit p a b is none (text, said, w) =

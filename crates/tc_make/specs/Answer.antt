@@ -38,7 +38,7 @@ abbrev pub IsMadePacketSaid : ℕ → ℕ → List ℕ → List ℕ → Type 0
 IsMadePacketSaid apid count octets =
     Unless (packet_reason_of apid count octets) (λ text. (packet : List ℕ) × IsMadePacket packet apid count octets × (text ≡ named_text (codes "packet") packet))
 
--- the text is the line of the frame with this ending, or gives the reason why the frame can't have it
+-- the text is the line of the frame after its ending is added, or gives the reason why the frame can't have this ending
 abbrev pub IsEnded : Ending → List ℕ → List ℕ → Type 0
 IsEnded ending frame = Unless (ending_reason_of ending frame) (λ text. text ≡ named_text (codes "frame") (ended ending frame))
 
@@ -58,12 +58,12 @@ IsSentAt ending p place sent = (frame : List ℕ) × IsFrameAt p place frame × 
 abbrev pub IsStopAt : Ending → Parting → ℕ → Reason → Type 0
 IsStopAt ending p place reason = (reason ≡ NoMemory) ⊎ ((frame : List ℕ) × IsFrameAt p place frame × (ending_reason_of ending frame ≡ Some reason))
 
--- these are frames of a unit from a place on, in order, with this ending
+-- these are the frames of a unit from a place on, in order, with this ending
 abbrev pub AreSent : Ending → Parting → ℕ → List (List ℕ) → Type 0
 AreSent ending p place [] = Unit {0}
 AreSent ending p place (sent ∷ later) = IsSentAt ending p place sent × AreSent ending p (suc place) later
 
--- the text is the line of one frame, or gives the reason why the frame isn't made
+-- If the flag is set, the text is the line of one frame. Otherwise it gives the reason why the frame isn't made.
 abbrev pub IsPartSaid : Bool → Ending → Parting → ℕ → List ℕ → Type 0
 IsPartSaid true ending p place text = (sent : List ℕ) × IsSentAt ending p place sent × (text ≡ named_text (codes "frame") sent)
 IsPartSaid false ending p place text = (reason : Reason) × IsStopAt ending p place reason × (text ≡ bad_text reason)
@@ -95,7 +95,7 @@ IsUnitSaid ending stream sizing unit text = (p : Parting) × IsPartingOf stream 
 abbrev pub IsWholeSaid : List ℕ → List ℕ → List ℕ → Type 0
 IsWholeSaid frame rest text = (e : Explanation) × Explains frame rest e × (text ≡ explanation_text e)
 
--- the text that is written if no frame error control field can be taken off
+-- the text that is written if no frame error control field can be removed
 abbrev pub field_fault_text : FieldFault → List ℕ
 field_fault_text (fields.NoFrame fault) = refused_text (frame_fault_text fault)
 field_fault_text fields.Fill = refused_text (codes "fill")
@@ -104,8 +104,8 @@ field_fault_text fields.TooShort = refused_text (codes "check")
 field_fault_text fields.WrongSum = refused_text (codes "check")
 field_fault_text fields.NoMemory = bad_text NoMemory
 
--- The text explains a frame with this ending, without its frame error control field if it has one. If this field is
--- wrong, the text gives the reason.
+-- The text explains a frame with this ending. A frame error control field is removed first. If it is wrong, the text
+-- gives the reason.
 abbrev pub IsEndedSaid : Ending → List ℕ → List ℕ → List ℕ → Type 0
 IsEndedSaid DataField frame rest text = IsWholeSaid frame rest text
 IsEndedSaid ErrorControl frame rest text =
@@ -123,15 +123,16 @@ abbrev pub AreFramesSaid : ℕ → List ℕ → List ℕ → Type 0
 AreFramesSaid most octets text =
     (frames : List (List ℕ)) × (rest : List ℕ) × AreDelimited most octets frames rest × (text ≡ frames_text frames ++ rest_text rest)
 
--- the text explains a word as a CLCW, or refuses it if it isn't a CLCW
+-- the text explains a word as a CLCW, or reports that the word isn't a CLCW
 abbrev pub IsWordSaid : ℕ → List ℕ → Type 0
 IsWordSaid word text = (IsClcw word × (text ≡ clcw_text (fields_of word))) ⊎ ((IsClcw word → ⊥) × (text ≡ refused_text (codes "clcw")))
 
--- The text explains octets as a CLCW. There must be four octets, which are a word, the most significant first.
+-- The text explains octets as a CLCW. There must be four octets, which are the word of the CLCW with its most
+-- significant octet first.
 abbrev pub IsClcwSaid : List ℕ → List ℕ → Type 0
 IsClcwSaid octets = Unless (if length octets == 4 then None else Some BadClcw) (IsWordSaid (from_be_bytes w32 octets))
 
--- this parsed line has this answer, and this effect on the counts and the decoders
+-- this parsed line has this answer, with these counts and decoders afterwards
 abbrev pub IsSaid : Maker → Line → Maker → List ℕ → Type 0
 IsSaid old Blank new = OrNoMemory (λ text. text ≡ [])
 IsSaid old (Packet apid count octets) new = OrNoMemory (IsMadePacketSaid apid count octets)
@@ -158,7 +159,7 @@ IsKept old (Piece id octets) new = new ≡ record old { decoders = new.decoders 
 IsKept old (Search id) new = new ≡ record old { decoders = new.decoders }
 IsKept old line new = new ≡ old
 
--- this is the answer to a line, whether it can be parsed or not
+-- This is the answer to a line. It is the reason if the line can't be parsed.
 abbrev pub IsReadingSaid : Maker → Result Line Reason → Maker → List ℕ → Type 0
 IsReadingSaid old (Ok line) new text = IsSaid old line new text × IsKept old line new
 IsReadingSaid old (Err reason) new text = (text ≡ bad_text reason) × (new ≡ old)

@@ -13,7 +13,7 @@ no_decoders = replicate 256 None
 abbrev pub new_decoder : Mode → Receiver
 new_decoder mode = record { mode = mode; state = Searching 0; carried = [] }
 
--- the decoders after a stream was given a new one
+-- the decoders after a stream is given a new one
 abbrev pub with_new_decoder : List (Option Receiver) → ℕ → Mode → List (Option Receiver)
 with_new_decoder decoders id mode = slice_set decoders id (Some (new_decoder mode))
 
@@ -21,8 +21,8 @@ with_new_decoder decoders id mode = slice_set decoders id (Some (new_decoder mod
 abbrev pub candidates_text : List (List ℕ) → List ℕ
 candidates_text frames = flat_map (named_text (codes "frame")) frames
 
--- the line `blocks ..`, with the numbers of code blocks that were corrected and rejected, and of CLTUs that were too
--- long
+-- the line `blocks ..`, with the numbers of code blocks that were corrected and rejected, and of CLTUs that carried too
+-- many octets
 abbrev pub blocks_text : ℕ → ℕ → ℕ → List ℕ
 blocks_text corrected rejected overlong =
     codes "blocks corrected " ++ decimal corrected ++ codes " rejected " ++ decimal rejected ++ codes " overlong " ++ decimal overlong ++ codes "\n"
@@ -33,7 +33,7 @@ fed_text d octets =
     candidates_text (frames_of d.mode most_octets d.state octets) ++ blocks_text (corrected_in d.mode most_octets d.state octets) (rejected_in d.mode most_octets d.state octets)
     (overlong_in d.mode most_octets d.state octets)
 
--- either a decoder was given octets and this is the answer, or there is no decoder and the answer reports that
+-- a decoder was given octets and this is the answer, or there is no decoder and the answer reports that
 abbrev pub IsFed : Option Receiver → List ℕ → Option Receiver → List ℕ → Type 0
 IsFed None octets new text = (new ≡ None) × (text ≡ bad_text NoDecoder)
 IsFed (Some old) octets new text =
@@ -51,7 +51,7 @@ IsDecoderSaid old id mode new text = ((text ≡ []) × (new ≡ with_new_decoder
 abbrev pub search_text : Bool → List ℕ
 search_text cut = codes "search cut " ++ flag_text cut ++ codes "\n"
 
--- either a decoder looks for a start sequence again, or there is no decoder and the answer reports that
+-- a decoder looks for a start sequence again, or there is no decoder and the answer reports that
 abbrev pub IsSearching : Option Receiver → Option Receiver → List ℕ → Type 0
 IsSearching None new text = (new ≡ None) × (text ≡ bad_text NoDecoder)
 IsSearching (Some old) new text =

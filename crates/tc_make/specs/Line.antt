@@ -31,8 +31,8 @@ abbrev pub alone_of : Form → Words → Result (List ℕ) Reason
 alone_of form (word ∷ []) = elim (decode_of word) [ Ok octets ↦ Ok octets | Err fault ↦ Err BadHex ]
 alone_of form _ = Err (WordCount form)
 
--- The result of `says` for one word, or an error if there are more or fewer words. The definitions that follow do this
--- for two to six words.
+-- The result of `says` for one word, or an error if the number of words isn't one. The next definitions do this for two
+-- to six words.
 abbrev pub with_one : Form → Words → (List ℕ → Said) → Said
 with_one form (a ∷ []) says = says a
 with_one form _ says = Err (WordCount form)
@@ -57,7 +57,7 @@ abbrev pub with_six : Form → Words → (List ℕ → List ℕ → List ℕ →
 with_six form (a ∷ b ∷ c ∷ d ∷ e ∷ f ∷ []) says = says a b c d e f
 with_six form _ says = Err (WordCount form)
 
--- the result of `next` for the number that a word spells, if it is within its bound
+-- the result of `next` for the number that a word spells, or an error if the word isn't a number of at most `most`
 abbrev pub if_number : Number → ℕ → List ℕ → (ℕ → Said) → Said
 if_number name most word next = elim (word_number most word) [ None ↦ Err (BadNumber name) | Some number ↦ next number ]
 
@@ -171,7 +171,7 @@ decoder_of words = with_two forms.Decoder words (λ i m. if_number numbers.Id 25
 abbrev pub piece_of : Words → Said
 piece_of words = with_two forms.Octets words (λ i o. if_number numbers.Id 255 i (λ id. with_octets o (λ octets. Ok (Piece id octets))))
 
--- whether the word begins with the byte order mark of UTF-8 or UTF-16
+-- the flag that is set if the word begins with the byte order mark of UTF-8 or UTF-16
 abbrev pub is_marked : List ℕ → Bool
 is_marked word =
     (slice_index word 0 == 239 && slice_index word 1 == 187 && slice_index word 2 == 191)
@@ -184,7 +184,7 @@ search_of words = with_one forms.Search words (λ i. if_number numbers.Id 255 i 
 abbrev pub frames_of : Words → Said
 frames_of words = with_two forms.Frames words (λ m o. if_number numbers.Most 255 m (λ most. with_octets o (λ octets. Ok (Frames most octets))))
 
--- the meaning of a line about the link, that is, about CLTUs or telemetry frames
+-- the meaning of a line about CLTUs or telemetry frames
 unfoldable pub link_line_of : List ℕ → Words → Said
 link_line_of command arguments =
     if is command (codes "cltu") then cltu_of arguments

@@ -46,8 +46,8 @@ tm_reason_of ending order =
     else if nat_lt order.size (least_length (telemetry_ending ending)) || nat_lt most_length order.size then Some BadSize
     else None
 
--- Either the next frame of a virtual channel is counted, and the text is its line, or the text gives the reason why the
--- frame isn't made, and the counts stay.
+-- Either the next frame of a virtual channel is counted and the text is the frame's line, or the counts stay the same
+-- and the text gives the reason why the frame isn't made.
 abbrev pub IsTmSaid : Ending → Counted → TmOrder → Counted → List ℕ → Type 0
 IsTmSaid ending old order new text =
     ((tm_reason_of ending order ≡ None) × (new ≡ frame_counted old order.scid order.vcid)

@@ -48,7 +48,7 @@ unmade_text TooMuchData = codes "bad too much data"
 unmade_text NoDecoder = codes "bad no decoder"
 unmade_text NoMemory = codes "bad no memory"
 
--- a command and the names of its words
+-- the name of a command and the names of its words
 abbrev pub form_text : Form → List ℕ
 form_text forms.Packet = codes "packet APID COUNT HEX"
 form_text forms.Ad = codes "ad SCID VC NS MAP HEX"
@@ -67,7 +67,8 @@ form_text forms.Octets = codes "octets ID HEX"
 form_text forms.Search = codes "search ID"
 form_text forms.Frames = codes "frames MOST HEX"
 
--- The note on the octets that a form ends with. It is empty for the four forms that don't end with octets.
+-- The note on the octets that the last word of a form spells. It is empty for the four forms whose last word spells
+-- none.
 abbrev pub note_text : Form → List ℕ
 note_text forms.Unlock = []
 note_text forms.SetVr = []
@@ -75,7 +76,7 @@ note_text forms.Decoder = []
 note_text forms.Search = []
 note_text form = codes ", octets without spaces"
 
--- the name of a number in forms, and the bounds of the number
+-- the name that forms use for a number, and the bounds of the number
 abbrev pub bounds_text : Number → List ℕ
 bounds_text numbers.Scid = codes "SCID is 0 to 1023"
 bounds_text numbers.Vcid = codes "VC is 0 to 63, for tm 0 to 7"
@@ -92,7 +93,7 @@ bounds_text numbers.Most = codes "MOST is 0 to 255"
 abbrev pub within_text : Number → List ℕ
 within_text number = codes ": " ++ bounds_text number ++ codes "\n"
 
--- the text that follows a reason: a hint on what to write, if one is known, and the end of the line
+-- the text that follows a reason: a hint on how to mend the line, if one is known, and the end of the line
 abbrev pub hint_text : Reason → List ℕ
 hint_text UnknownCommand = codes ": use packet, ad, bd, unlock, setvr, segments, explain, clcw, cltu, random, tm, telemetry, decoder, octets, search or frames\n"
 hint_text Marked = codes ": the line begins with a byte order mark; save the file without it\n"
@@ -191,7 +192,7 @@ packet_text octets =
 abbrev pub unit_packets_text : List ℕ → List ℕ
 unit_packets_text unit = flat_map packet_text (packets_of unit) ++ some_text (codes "rest") (rest_of unit)
 
--- the lines of the octets after a segment header: a whole unit, or a part of one
+-- the lines of the octets after a segment header, which are a whole unit or a part of one
 abbrev pub body_text : Part → List ℕ → List ℕ
 body_text First body = some_text (codes "body") body
 body_text Continuing body = some_text (codes "body") body
@@ -229,7 +230,7 @@ frames_text frames = flat_map (named_text (codes "frame")) frames
 abbrev pub fill_text : ℕ → List ℕ
 fill_text n = codes "fill " ++ decimal n ++ codes "\n"
 
--- the line of the octets that follow the frames of a CLTU, which are fill or anything else
+-- the line of the octets that follow the frames of a CLTU, which says whether they are fill
 unfoldable pub rest_text : List ℕ → List ℕ
 rest_text rest = if is_fill rest then fill_text (length rest) else named_text (codes "more") rest
 
@@ -275,11 +276,11 @@ tm_end_text f = codes " pointer " ++ decimal f.pointer ++ codes " " ++ control_t
 abbrev pub tm_text : TmFields → List ℕ
 tm_text f = tm_front_text f ++ tm_end_text f
 
--- the text is of this kind, or is the answer that memory ran out
+-- the text satisfies `Is`, or is the answer that memory ran out
 abbrev pub OrNoMemory : (List ℕ → Type 0) → List ℕ → Type 0
 OrNoMemory Is text = Is text ⊎ (text ≡ bad_text NoMemory)
 
--- the text gives the reason why nothing is made, if there is one, and otherwise is of this kind
+-- If there is a reason why nothing is made, the text gives this reason. Otherwise the text satisfies `Is`.
 abbrev pub Unless : Option Reason → (List ℕ → Type 0) → List ℕ → Type 0
 Unless (Some reason) Is text = text ≡ bad_text reason
 Unless None Is text = Is text

@@ -9,11 +9,11 @@ use Rattle.tc_make.specs.Making.{new_maker}
 use Rattle.tc_make.specs.declared.ending.Ending.{Ending}
 use Rattle.tc_make.specs.declared.maker.Maker.{Maker}
 
--- the number of octets that a line may have, without its line feed
+-- the largest number of octets that a line may have, without its line feed
 abbrev pub limit : ℕ
 limit = 262143
 
--- a line is answered, and its effect on the counts and the decoders is kept for the next line
+-- the line has this answer, and the next line finds the counts and the decoders that this one leaves
 abbrev pub IsMakerAnswered : Maker → List ℕ → Maker → List ℕ → Type 0
 IsMakerAnswered old line new text = IsAnswer old (maker_line_of (words line)) new text
 

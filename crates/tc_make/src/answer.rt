@@ -28,8 +28,8 @@ use tc_cltu::Mode;
 use tc_link::{Command, Header};
 use tc_packet::Segment;
 
-/// Carries out a line, which is given without its line feed, and writes its answer, which may have no line, one line or
-/// several.
+/// Carries out a line, which is given without its line feed, and writes its answer. The answer has no line of text, one
+/// line, or several.
 ///
 /// If nothing can be made from a line, the answer is `bad` and the reason. If memory runs out, `bad no memory` takes
 /// the place of the rest of the answer. By then, some frames of a unit may have been written.
@@ -87,7 +87,7 @@ fn answer<W: Write>(alloc: Global, maker: &mut Maker, line: &Line, writer: &mut 
     }
 }
 
-// Gives a stream a new decoder. There is no answer unless memory runs out.
+// Gives a stream a new decoder. Nothing is written unless memory runs out.
 fn begin<W: Write>(
     alloc: Global,
     decoders: &mut Decoders,
@@ -150,7 +150,7 @@ fn write_command<W: Write>(
     }
 }
 
-// Writes a frame with this ending, or the reason why it can't be made.
+// Writes the frame after its ending is added, or the reason why the frame can't have this ending.
 fn write_ended<W: Write>(
     alloc: Global,
     ending: Ending,
@@ -190,7 +190,7 @@ fn write_segments<W: Write>(
     }
 }
 
-// Writes the frames of a unit, up to the first that can't be made. All but the last have the same length.
+// Writes the frames of a unit, up to the first that can't be made. All frames but the last have the same length.
 fn write_parts<W: Write>(
     alloc: Global,
     ending: Ending,
@@ -210,7 +210,7 @@ fn write_parts<W: Write>(
     Ok(())
 }
 
-// Writes the frame at a place, or the reason why it can't be made, and returns whether it was made.
+// Writes the frame at `place`, or the reason why it can't be made. Returns whether the frame was made.
 fn write_part<W: Write>(
     alloc: Global,
     ending: Ending,

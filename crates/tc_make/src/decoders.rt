@@ -15,7 +15,7 @@ use std::io::Write;
 use std::marker::Model;
 use tc_cltu::{Blocks, Decoder, Mode};
 
-// The number of streams that there may be at a time, since a stream's id is an octet.
+// The largest number of streams at a time, since the id of a stream is one octet.
 const STREAMS: usize = 256;
 
 /// A table of the decoders of streams, in which a stream's id, 0 to 255, is the place of its decoder.
@@ -52,8 +52,8 @@ impl Decoders {
         Ok(Decoders { slots })
     }
 
-    /// Gives a stream a new decoder, which looks for a start sequence, in place of any that it had. The decoder is
-    /// allocated.
+    /// Gives a stream a new decoder, which looks for a start sequence. It takes the place of any decoder that the
+    /// stream had. The new decoder is allocated.
     pub fn begin(&mut self, alloc: Global, id: u8, mode: Mode) -> Result<(), AllocError>
         ensures begun { OnOk result (self.new ≡ with_new_decoder self.old id mode) }
         ensures unchanged { OnErr result (self.new ≡ self.old) }
@@ -64,8 +64,8 @@ impl Decoders {
     }
 
     /// Gives the decoder of a stream its next octets. Writes the candidate frames that end in them, the numbers of code
-    /// blocks that were corrected and rejected, and the number of CLTUs that carried too much. This requests no memory.
-    /// If the result is `Err`, the decoder has taken only some of the octets, from the first one on.
+    /// blocks that were corrected and rejected, and the number of CLTUs that carried too many octets. The call requests
+    /// no memory. If it fails, the decoder has taken only some of the octets, from the first one on.
     pub fn write_piece<W: Write>(&mut self, id: u8, octets: &[u8], writer: &mut W) -> io::Result<()>
         ensures { OnOk result (Writes (W.contents writer.old) (W.contents writer.new) (IsPieceSaid self.old id octets.now self.new)) }
     {
@@ -73,8 +73,8 @@ impl Decoders {
         feed(slot, octets, writer)
     }
 
-    /// Makes the decoder of a stream look for a start sequence again, as after a loss of bit lock, and writes whether
-    /// this cut a CLTU short.
+    /// Makes the decoder of a stream look for a start sequence again, as after a loss of bit lock. Writes whether the
+    /// search cut a CLTU short.
     pub fn write_search<W: Write>(&mut self, id: u8, writer: &mut W) -> io::Result<()>
         ensures { OnOk result (Writes (W.contents writer.old) (W.contents writer.new) (IsSearchSaid self.old id self.new)) }
     {
@@ -142,7 +142,7 @@ fn write_blocks<W: Write>(blocks: Blocks, writer: &mut W) -> io::Result<()>
     )
 }
 
-// Writes the candidate frame, if the last octet ended one.
+// Writes the candidate frame, if `ended` is set because the last octet ended one.
 fn write_ended<W: Write>(decoder: &Decoder, ended: bool, writer: &mut W) -> io::Result<()>
     ensures { OnOk result (Appends (W.contents writer.old) (W.contents writer.new) (candidates_text (if ended then decoder.now.carried ∷ [] else []))) }
 {

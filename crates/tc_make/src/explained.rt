@@ -23,7 +23,7 @@ use tc_link::{
 use tc_packet::{Packet, Part, Segment, next_packet, read_segment};
 
 /// Writes the explanation of the frame at the front of the octets, which is as long as its length field says, and of
-/// the octets that follow it. If frames end with a frame error control field, this field is taken off first.
+/// the octets that follow it. If frames end with a frame error control field, this field is removed first.
 pub(crate) fn write_explained<W: Write>(
     alloc: Global,
     ending: Ending,
@@ -58,7 +58,7 @@ fn write_ended<W: Write>(
     }
 }
 
-// Writes the reason why no frame error control field can be taken off.
+// Writes the reason why no frame error control field can be removed.
 fn write_field_fault<W: Write>(fault: FieldFault, writer: &mut W) -> io::Result<()>
     ensures { OnOk result (Appends (W.contents writer.old) (W.contents writer.new) (field_fault_text fault)) }
 {
@@ -86,7 +86,7 @@ fn read_whole(octets: &[u8]) -> Frame<'_>
     requires { IsWhole octets.now }
     ensures { result ≡ octets.now }
 {
-    // Octets begin with at most one frame, so `read_frame` returns all of these octets.
+    // `read_frame` can return only these octets as a whole, since octets begin with at most one frame.
     each_input_begins_with_one_frame_at_most();
     match read_frame(octets) {
         Ok(frame) => frame,
@@ -138,7 +138,8 @@ fn write_more<W: Write>(rest: &[u8], writer: &mut W) -> io::Result<()>
     write_named("more", rest, writer)
 }
 
-/// Writes the frames that a CLTU carried, one after the other and at most `most`, and the octets that follow them.
+/// Writes the frames that a CLTU carried, at most `most` of them, one after the other. Then writes the octets that
+/// follow them.
 pub(crate) fn write_frames<W: Write>(most: u8, octets: &[u8], writer: &mut W) -> io::Result<()>
     ensures { OnOk result (Writes (W.contents writer.old) (W.contents writer.new) (AreFramesSaid most octets.now)) }
 {

@@ -17,7 +17,7 @@ pub struct Explanation<'a> {
     pub rest: &'a [u8],
 }
 
-/// Explains a frame that is followed by the octets `rest`. This allocates nothing.
+/// Explains a frame that is followed by the octets `rest`. The call allocates nothing.
 pub fn explain<'a>(frame: &Frame<'a>, rest: &'a [u8]) -> Explanation<'a>
     ensures { Explains frame.now rest.now result }
 {

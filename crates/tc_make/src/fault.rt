@@ -49,7 +49,7 @@ pub enum Reason {
 }
 
 impl Reason {
-    /// Returns the words of the reason, with which the answer begins.
+    /// Returns the words that report the reason, with which the answer begins.
     pub fn as_str(&self) -> &'static str
         ensures { result.now ≡ unmade_text self.now }
     {

@@ -25,7 +25,7 @@ pub enum Form {
 }
 
 impl Form {
-    /// Returns the command and the names of its words, as `tcmake --help` lists them.
+    /// Returns the name of the command and the names of its words, as `tcmake --help` lists them.
     pub fn as_str(&self) -> &'static str
         ensures { result.now ≡ form_text self.now }
     {
@@ -49,8 +49,8 @@ impl Form {
         }
     }
 
-    /// Returns the note that follows the form, on the octets that are its last word. The note is empty if the form
-    /// doesn't end with octets.
+    /// Returns the note that follows the form. It is about the octets that the last word of the form spells, and is
+    /// empty if the last word spells none.
     pub(crate) fn note(&self) -> &'static str
         ensures { result.now ≡ note_text self.now }
     {
@@ -80,7 +80,7 @@ pub enum Number {
 }
 
 impl Number {
-    /// Returns the name of the number in forms, and its bounds.
+    /// Returns the name that forms use for the number, and the bounds of the number.
     pub fn as_str(&self) -> &'static str
         ensures { result.now ≡ bounds_text self.now }
     {

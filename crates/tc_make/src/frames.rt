@@ -11,10 +11,10 @@ use tc_link::{Command, Header, WriteFault, write_frame};
 use tc_packet::Segment;
 use tc_write::segment_octet;
 
-/// Makes the frame with this header. Its data field carries the octets, after a segment header if one is given
-/// (CCSDS 232.0-B, 4.1.2 and 4.1.3).
+/// Makes the frame with this header. Its data field carries the octets. If a segment header is given, the data field
+/// begins with it (CCSDS 232.0-B, 4.1.2 and 4.1.3).
 ///
-/// The data field, including the segment header, needs to have 1 to 1,019 octets. Only the data field and the frame are
+/// The data field, including the segment header, must have 1 to 1,019 octets. Only the data field and the frame are
 /// allocated.
 pub fn make_frame(
     alloc: Global,

@@ -1,9 +1,9 @@
-//! Frames and packets of your own for the bench. Each line of text describes something to make or to explain, and is
-//! answered by lines of text.
+//! Frames and packets made by hand, for tests on the bench. Each line of text describes something to make or to
+//! explain, and is answered by lines of text.
 //!
-//! [`serve`] answers the lines of standard input, [`answer_lines`] the lines of any reader, and [`answer_line`] one
-//! line. [`parse_line`] parses a line. [`make_packet`], [`make_frame`], [`make_command`], [`Parting::frame`] and
-//! [`Ending::end`] make packets and frames, and [`explain`] reads a frame.
+//! [`serve`] answers the lines of standard input, [`answer_lines`] answers the lines of any reader, and [`answer_line`]
+//! answers one line. [`parse_line`] parses a line. [`make_packet`], [`make_frame`], [`make_command`],
+//! [`Parting::frame`] and [`Ending::end`] make packets and frames, and [`explain`] reads a frame.
 #![tactic(auto)]
 
 mod answer;

@@ -52,19 +52,20 @@ pub enum Line {
         count: u16,
         octets: Octets,
     },
-    /// A Type-AD or Type-BD frame that carries the octets, after a segment header if one is given.
+    /// A Type-AD or Type-BD frame that carries the octets. Its data field begins with the segment header, if one is
+    /// given.
     Frame {
         header: Header,
         segment: Option<Segment>,
         octets: Octets,
     },
-    /// A Type-BC frame for a virtual channel.
+    /// A Type-BC frame with a control command for a virtual channel.
     Command {
         scid: u16,
         vcid: u8,
         command: Command,
     },
-    /// A unit that is sent in segments, in Type-AD frames.
+    /// A unit that is divided into segments, which Type-AD frames carry.
     Segments {
         stream: Stream,
         sizing: Sizing,
@@ -134,7 +135,7 @@ pub fn parse_line(alloc: Global, octets: &[u8]) -> Result<Line, Reason>
     }
 }
 
-// Parses a line about the link, that is, about CLTUs or telemetry frames.
+// Parses a line about CLTUs or telemetry frames.
 #[tactic(auto, unfolding(crate::specs::Line::link_line_of))]
 fn link_line(alloc: Global, command: &[u8], arguments: &[&[u8]]) -> Result<Line, Reason>
     ensures line { IfOk result (λ line. link_line_of command.now (map (λ word. word.now) arguments.now) ≡ Ok line) }
@@ -297,7 +298,7 @@ fn frame(
     })
 }
 
-// Returns the line for a unit in segments, which go to this MAP and have this size. `digits` spells the unit.
+// Returns the line for a unit in segments of this MAP and this size. `digits` spells the unit.
 fn sized(
     alloc: Global,
     stream: Stream,
@@ -442,7 +443,8 @@ fn read_sizing(map: &[u8], size: &[u8]) -> Result<Sizing, Reason>
     })
 }
 
-// Returns the segment header that a word names: none, or an unsegmented one with a MAP id.
+// Returns the segment header that a word names. The word `plain` names none, and a number names an unsegmented one with
+// this MAP id.
 fn segment(word: &[u8]) -> Result<Option<Segment>, Reason>
     ensures { MatchResult result
         (λ segment. segment_word word.now ≡ Ok segment)

@@ -1,12 +1,12 @@
-//! The state on which answers to lines depend.
+//! The state of `tcmake`.
 
 use crate::decoders::Decoders;
 use crate::ending::Ending;
 use std::alloc::{AllocError, Global};
 use tc_tm::Counts;
 
-/// The state on which answers to lines depend: the ending of frames, the counts of telemetry frames, and the decoders
-/// of streams.
+/// The state that the answers to lines depend on: the ending of frames, the counts of telemetry frames, and the
+/// decoders of streams.
 #[derive(Drop)]
 pub struct Maker {
     pub ending: Ending,
@@ -18,7 +18,7 @@ impl Maker {
     ghost use Rattle.std.specs.Prelude.{◌≡◌, IfOk};
     ghost use Rattle.tc_make.specs.Making.{new_maker};
 
-    /// Creates the state in which no telemetry frame was made and no stream has a decoder. This requests memory.
+    /// Creates the state in which no telemetry frame was made and no stream has a decoder. The call requests memory.
     pub fn new(alloc: Global, ending: Ending) -> Result<Maker, AllocError>
         ensures { IfOk result (λ maker. maker ≡ new_maker ending) }
     {

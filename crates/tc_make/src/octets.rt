@@ -2,7 +2,7 @@
 
 use std::marker::Model;
 
-/// A `Vec` of octets. Contracts see nothing of it but the octets, so that a line is plain data in a clause.
+/// A `Vec` of octets. Contracts see only the octets, so that a line is plain data in a clause.
 #[derive(Debug, Drop)]
 pub struct Octets {
     items: Vec<u8>,

@@ -10,8 +10,8 @@ use tc_write::{PacketHeader, packet_front};
 /// Makes the telecommand packet of this application with this sequence count and packet data field (CCSDS 133.0-B,
 /// 4.1).
 ///
-/// It is unsegmented, and its secondary header flag is 0. The data field needs to have 1 to 65,536 octets. Only the
-/// packet itself is allocated.
+/// The packet is unsegmented, and its secondary header flag is 0. Its packet data field must have 1 to 65,536 octets.
+/// Only the packet itself is allocated.
 pub fn make_packet(alloc: Global, apid: u16, count: u16, octets: &[u8]) -> Result<Vec<u8>, Reason>
     ensures packet { IfOk result (λ packet. IsMadePacket packet.items apid count octets.now) }
     ensures made { OnOk result (packet_reason_of apid count octets.now ≡ None) }

@@ -10,7 +10,7 @@ use std::io;
 use std::io::Write;
 use tc_lines::Digits;
 
-/// Writes the reason why a line is bad, and what to write instead, if a hint is known.
+/// Writes the reason why a line is bad. If a hint is known, also writes how to mend the line.
 pub(crate) fn write_bad<W: Write>(reason: Reason, writer: &mut W) -> io::Result<()>
     ensures { OnOk result (Appends (W.contents writer.old) (W.contents writer.new) (bad_text reason)) }
 {
@@ -59,7 +59,7 @@ pub(crate) fn write_refused<W: Write>(why: &str, writer: &mut W) -> io::Result<(
     writeln!(writer, "refused {why}")
 }
 
-/// Writes this word, and the octets after it.
+/// Writes `word`, and the octets after it.
 pub(crate) fn write_named<W: Write>(word: &str, octets: &[u8], writer: &mut W) -> io::Result<()>
     ensures { OnOk result (Appends (W.contents writer.old) (W.contents writer.new) (named_text word.now octets.now)) }
 {
@@ -67,7 +67,7 @@ pub(crate) fn write_named<W: Write>(word: &str, octets: &[u8], writer: &mut W) -
     writeln!(writer, "{word} {digits}")
 }
 
-/// Writes this word and the octets after it, or nothing if there are no octets.
+/// Writes `word` and the octets after it, or nothing if there are no octets.
 pub(crate) fn write_some<W: Write>(word: &str, octets: &[u8], writer: &mut W) -> io::Result<()>
     ensures { OnOk result (Appends (W.contents writer.old) (W.contents writer.new) (some_text word.now octets.now)) }
 {

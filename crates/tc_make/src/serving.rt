@@ -13,8 +13,8 @@ use std::io::{BufRead, BufReader, BufWriter, Write};
 use tc_lines::{LineAnswerer, ServingFault};
 use thiserror::Error;
 
-/// The number of octets that a line may have, including its line feed. The longest line that can be carried out, which
-/// has a unit of 65,542 octets, fits.
+/// The largest number of octets that a line may have, including its line feed. The longest line that can be carried out
+/// has a unit of 65,542 octets, and fits.
 pub const MAX_LINE: usize = 262_144;
 
 impl LineAnswerer for Maker {
@@ -34,9 +34,9 @@ impl LineAnswerer for Maker {
 
 /// Answers lines until there are no more, and flushes after each answer.
 ///
-/// The answer to a line that is longer than a line may be is `bad too long`. Octets after the last line feed are a
-/// line. If the octets of the reader are known, the answers to all its lines are written, or to those that it gave
-/// before it failed.
+/// The answer to a line with more octets than [`MAX_LINE`] is `bad too long`. Octets after the last line feed are a
+/// line. If the octets of the reader are known, the answers to all lines are written. If the reader fails, the answers
+/// to the lines before are written.
 pub fn answer_lines<R: BufRead, W: Write>(
     alloc: Global,
     ending: Ending,

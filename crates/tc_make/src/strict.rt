@@ -6,11 +6,11 @@ use std::io::{ErrorKind, Write};
 // The text with which the answer to a bad line begins.
 const BAD: &[u8] = b"bad ";
 
-/// A writer that passes answers on, and fails once an answer that begins with `bad` was flushed.
+/// A writer that passes answers on to `writer`, and fails once an answer that begins with `bad` was flushed.
 #[derive(Drop)]
 pub(crate) struct Strict<W: Write + Drop> {
     writer: W,
-    // The number of octets of the line so far, if `BAD` begins with them, and otherwise `None`.
+    // The number of octets of the line so far if they are the first octets of `BAD`, and otherwise `None`.
     alike: Option<usize>,
     has_bad: bool,
 }
