@@ -1,4 +1,5 @@
--- A candidate that carries more than a frame and its fill changes nothing, and any other is carried out as its frame.
+-- A candidate in which more than fill follows the frame changes nothing. Any other candidate is carried out as a frame
+-- line.
 use Rattle.tc_live.proofs.Names.{◌≡◌, ◌⊎◌, ℕ, Bool, true, false, List, Option, Some, inl, inr, refl, sym, subst, ap, ◌∙◌, arith, IsTrue, ◌↔◌, not, MatchOption, true≢false, Racked, Stage, instruction_of, IsBad, phase_of, Receiving, IsCandidateDone, IsPassedDone, IsBadCandidate, LiveAnswer, FrameCheck, FrameEnds}
 use Rattle.tc_fecf.specs.Candidate.{IsDelimited, is_fill}
 use Rattle.tc_fecf.proofs.Delimiting.{one-frame}
@@ -20,7 +21,8 @@ carried r octets frame rest found e = (
   λ other. is-more r rest e (ap is_fill (one-frame frame other.0 rest other.1 found.whole other.2.whole (sym found.parts ∙ other.2.parts)).1 ∙ other.3),
 )
 
--- a candidate that carries no more than a frame and its fill is carried out as the line that the check returns for it
+-- if no more than fill follows the frame of a candidate, the candidate is carried out as the line that the check
+-- returns
 pub passed-done : (old new : Receiving) (check : FrameCheck) (ends : FrameEnds) (scid : ℕ) (stage : Stage Racked) (octets shown : List ℕ) (r : Bool) (o : Option Line) (passed : Line) (answer : LiveAnswer)
     → ◌≡◌ {A = Receiving} (record { check = check; ends = ends; scid = scid; stage = stage }) old → shown ≡ octets → IsTrue r ↔ CarriesMore shown → r ≡ false
     → MatchOption o (FailsCandidate check octets) (IsCandidatePassed check octets) → o ≡ Some passed → IsPassedDone old passed new answer → IsCandidateDone old octets new answer

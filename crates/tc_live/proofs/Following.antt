@@ -4,7 +4,7 @@ use Rattle.tc_lines.specs.Answering.{Writes}
 use Rattle.tc_text.specs.declared.live.LiveLine.{LiveLine}
 use Rattle.tc_rack.specs.declared.answer.Answer.TheVariants.{Frame, Release, Take, Unit as UnitOf, Clcw, Refused}
 
--- If a delivery or a collection was begun, it can be ended. Any other answer is ready, too.
+-- After a line with this answer, the channels are in operation if the answer begins a delivery or a collection.
 line-ready : (old new : Receiving) (said : LiveLine) (answer : LiveAnswer) → IsLineDone old said new answer → IsReady answer new
 line-ready old new (Script line) answer (inl (passed, passes, (between, ((None, answered, is, same), done), noted))) = rw is tt
 line-ready old new (Script line) answer (inl (passed, passes, (between, ((Some a, answered, is, same), done), noted))) = rw is tt

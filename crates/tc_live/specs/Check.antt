@@ -8,7 +8,7 @@ use Rattle.tc_text.specs.declared.line.Line.TheVariants.{Frame}
 use Rattle.tc_live.specs.declared.check.FrameCheck.{FrameCheck}
 use Rattle.tc_live.specs.declared.check.FrameCheck.TheVariants.{Nothing, ErrorControl}
 
--- this is the line of the frame that becomes these octets when its field is appended
+-- the octets are a frame with its frame error control field, and this is the line of the frame without the field
 abbrev pub IsFieldOff : List ℕ → Line → Type 0
 IsFieldOff octets passed = (plain : List ℕ) × IsWhole plain × (octets ≡ frame_with_field plain) × (passed ≡ Frame plain)
 
@@ -32,8 +32,8 @@ abbrev pub CarriesMore : List ℕ → Type 0
 CarriesMore octets = (frame : List ℕ) × (rest : List ℕ) × IsDelimited octets frame rest × (is_fill rest ≡ false)
 
 -- This is the line that is carried out if a candidate passes the check. If frames have a field, the line has the frame
--- at the front of the octets, which is as long as its length field says, without its frame error control field.
--- Otherwise the line has all octets, since a channel ignores the octets after a frame.
+-- at the front of the octets, without its frame error control field. The length field of the frame says how long it is.
+-- If frames have no field, the line has all octets, since a channel ignores the octets after a frame.
 abbrev pub IsCandidatePassed : FrameCheck → List ℕ → Line → Type 0
 IsCandidatePassed Nothing octets passed = passed ≡ Frame octets
 IsCandidatePassed ErrorControl octets passed = (frame : List ℕ) × (rest : List ℕ) × IsDelimited octets frame rest × IsFieldOff frame passed

@@ -8,11 +8,11 @@ use Rattle.tc_live.specs.declared.check.FrameCheck.TheVariants.{Nothing}
 use Rattle.tc_live.specs.declared.ends.FrameEnds.{FrameEnds}
 use Rattle.tc_live.specs.declared.ends.FrameEnds.TheVariants.{EachWithField, OneWithout}
 
--- whether octets are one frame with the right field at its end
+-- the flag that is set if the octets are one frame with the right field at its end
 abbrev pub has_field : List ℕ → Bool
 has_field octets = elim (taking_fault_of octets) [ None ↦ true | Some fault ↦ false ]
 
--- The record after one more frame. Once a frame had no field, the record stays `OneWithout`.
+-- The record after one more frame. Once a frame ended without the field, the record stays `OneWithout`.
 abbrev pub ends_after : FrameEnds → List ℕ → FrameEnds
 ends_after OneWithout octets = OneWithout
 ends_after _ octets = if has_field octets then EachWithField else OneWithout

@@ -21,7 +21,7 @@ bad_word_text BadMap = []
 bad_word_text BadUnits = []
 bad_word_text _ = codes "bad "
 
--- whether the word begins with the byte order mark of UTF-8 or UTF-16
+-- the flag that is set if the word begins with the byte order mark of UTF-8 or UTF-16
 abbrev pub is_marked : List ℕ → Bool
 is_marked word =
     (slice_index word 0 == 239 && slice_index word 1 == 187 && slice_index word 2 == 191)
@@ -31,7 +31,7 @@ is_marked word =
 abbrev pub commands_text : List ℕ
 commands_text = codes ": use channel, queue, map, frame, release, take, unit, clcw, link, report, deliver, collect or candidate"
 
--- the list of the commands, or a note that a byte order mark hides the command of the line
+-- the list of the commands, or a note that the line begins with a byte order mark
 abbrev pub unknown_text : List (List ℕ) → List ℕ
 unknown_text [] = commands_text
 unknown_text (command ∷ arguments) =
@@ -68,7 +68,7 @@ bounds_text Map = codes ": MAP is 0 to 63"
 bounds_text NoRf = codes ": RF is 0 or 1"
 bounds_text NoBitLock = codes ": BL is 0 or 1"
 
--- the largest value with which a line can be parsed
+-- the largest value that the parser accepts for a number
 abbrev pub most_of : Number → ℕ
 most_of Apid = 65535
 most_of Capacity = 65535
@@ -76,7 +76,7 @@ most_of NoRf = 1
 most_of NoBitLock = 1
 most_of _ = 255
 
--- whether the line can be parsed with this word in the place of the number
+-- the flag that is set if the parser accepts this word for the number
 abbrev pub takes_word : Number → List ℕ → Bool
 takes_word number word = elim (word_number 65535 word) [ None ↦ false | Some n ↦ nat_le n (most_of number) ]
 
@@ -106,8 +106,8 @@ abbrev pub number_hint_text : List (List ℕ) → List ℕ
 number_hint_text [] = []
 number_hint_text (command ∷ arguments) = misfit_text (first_misfit (numbers_behind command) arguments)
 
--- The text of what to write instead. It lists the commands, shows the form of the line's command, or gives the bounds
--- or the form of the wrong word. The text is empty for any other reason.
+-- The hint on how to mend a line. It lists the commands, shows the form of the line's command, or gives the bounds or
+-- the form of the wrong word. It is empty if the reason has no hint.
 abbrev pub line_hint_text : List (List ℕ) → Reason → List ℕ
 line_hint_text line UnknownCommand = unknown_text line
 line_hint_text line WordCount = command_form_text line

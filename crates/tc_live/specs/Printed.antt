@@ -70,7 +70,7 @@ live_text (LinkOf vcid link) = link_text vcid link
 live_text (Report vcid holding) = holding_text vcid holding
 live_text UnknownChannel = codes "refused channel\n"
 
--- the answer to a bad line of these words: the reason, and what to write instead
+-- the answer to a bad line of these words: the reason, and a hint on how to mend the line
 abbrev pub bad_line_text : List (List ℕ) → Reason → List ℕ
 bad_line_text line reason = bad_word_text reason ++ reason_text reason ++ line_hint_text line reason ++ codes "\n"
 

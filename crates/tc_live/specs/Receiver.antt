@@ -56,7 +56,7 @@ with_rack rack receiver = record receiver { stage = Operating rack }
 abbrev pub begun : Receiving → Receiving
 begun receiver = with_rack (rack_at receiver) receiver
 
--- the report of an operation's answer, or no text if there is no answer
+-- an operation's answer as the answer to a line, or no text if there is no answer
 abbrev pub script_answer : Option Answer → LiveAnswer
 script_answer None = reported.Nothing
 script_answer (Some answer) = reported.Operation answer
@@ -73,18 +73,19 @@ abbrev pub IsPassedDone : Receiving → Line → Receiving → LiveAnswer → Ty
 IsPassedDone old passed new answer =
     IsInstructed old (instruction_of passed) new answer × Does (phase_of old.stage) (instruction_of passed) (phase_of new.stage)
 
--- a line that passes is carried out, and the end of its frame is noted
+-- a line that passed the check is carried out, and the record of the ends of frames is continued
 abbrev pub IsNoted : Receiving → Line → Line → Receiving → LiveAnswer → Type 0
 IsNoted old line passed new answer =
     (done : Receiving) × IsPassedDone old passed done answer × (new ≡ record done { ends = ends_behind old.check old.ends line })
 
--- a line that passes is carried out, and one that doesn't pass changes nothing
+-- Either the line passes the check and is carried out, or it doesn't pass and nothing changes.
 abbrev pub IsScriptDone : Receiving → Line → Receiving → LiveAnswer → Type 0
 IsScriptDone old line new answer =
     ((passed : Line) × IsPassed old.check line passed × IsNoted old line passed new answer)
     ⊎ (FailsCheck old.check line × (answer ≡ reported.Unchecked) × (new ≡ old))
 
--- a candidate that carries more than one frame and its fill changes nothing, and any other is carried out if it passes
+-- A candidate in which more than fill follows the frame changes nothing. Any other candidate is carried out if it
+-- passes the check.
 abbrev pub IsCandidateDone : Receiving → List ℕ → Receiving → LiveAnswer → Type 0
 IsCandidateDone old octets new answer =
     (CarriesMore octets × (answer ≡ reported.More) × (new ≡ old))
@@ -131,7 +132,7 @@ abbrev pub IsCollectionBegun : Receiving → ℕ → Receiving → LiveAnswer �
 IsCollectionBegun old vcid new answer =
     (a : Answer) × IsClcwAnswer vcid (rack_at old) a × (answer ≡ collection_answer vcid a) × (new ≡ begun old)
 
--- all items that wait in the channel are handed on, and these are the answers
+-- all items that wait in the channel are handed on, with these answers
 abbrev pub IsDeliveryDone : Receiving → ℕ → Receiving → List Answer → Type 0
 IsDeliveryDone old vcid new answers = (rack : Racked) × IsDeliveryEnded vcid (rack_at old) answers rack × (new ≡ with_rack rack old)
 
@@ -144,7 +145,7 @@ IsLineDone old (Deliver vcid) new answer = IsDeliveryBegun old vcid new answer �
 IsLineDone old (Collect vcid) new answer = IsCollectionBegun old vcid new answer × Operates (phase_of old.stage) (phase_of new.stage)
 IsLineDone old (Candidate octets) new answer = IsCandidateDone old octets new answer
 
--- a line that can be parsed has this effect and this answer
+-- the line can be parsed, and has this effect and this answer
 abbrev pub IsLiveLineAnswered : Receiving → List ℕ → Receiving → LiveAnswer → Type 0
 IsLiveLineAnswered old octets new answer = (said : LiveLine) × (live_line_of (words octets) ≡ Ok said) × IsLineDone old said new answer
 
@@ -166,17 +167,18 @@ abbrev pub IsBadLiveLine : Receiving → List ℕ → Reason → Type 0
 IsBadLiveLine old octets reason =
     (live_line_of (words octets) ≡ Err reason) ⊎ ((said : LiveLine) × (live_line_of (words octets) ≡ Ok said) × IsBadSaying old said reason)
 
--- a delivery or a collection that was begun can be ended, since the channels are in operation
+-- a delivery or a collection that was begun can be ended, because the channels are in operation
 abbrev pub IsReady : LiveAnswer → Receiving → Type 0
 IsReady (reported.Delivery vcid a) receiver = phase_of receiver.stage ≡ InOperation
 IsReady (reported.Collection vcid) receiver = phase_of receiver.stage ≡ InOperation
 IsReady _ receiver = Unit {0}
 
--- what the answer is to a line of a script, and what the line does
+-- the line can be parsed as a line of a script, and has this effect and this answer
 abbrev pub IsScriptLineAnswered : Receiving → List ℕ → Receiving → LiveAnswer → Type 0
 IsScriptLineAnswered old octets new answer = (said : Line) × (line_of (words octets) ≡ Ok said) × IsScriptDone old said new answer
 
--- why a line of a script is bad, by its words or by what they ask for, memory aside
+-- This is a reason, other than lack of memory, why a line of a script is bad. The line can't be parsed, or can't be
+-- carried out.
 abbrev pub IsBadScriptLine : Receiving → List ℕ → Reason → Type 0
 IsBadScriptLine old octets reason =
     (line_of (words octets) ≡ Err reason) ⊎ ((said : Line) × (line_of (words octets) ≡ Ok said) × IsBadScript old said reason)

@@ -1,4 +1,4 @@
--- The text that is written for lines and at the end, and the faults after which a live receiver ends without a report.
+-- The text that is written for lines and at the end, and the faults after which a live receiver stops without a report.
 use Rattle.std.specs.Prelude.{◌≡◌, ◌⊎◌, ◌++◌, ℕ, List, [], Option, All, IsPermutation}
 use Rattle.std.specs.Io.KnownBytes.{Appends, Keeps}
 use Rattle.tc_lines.specs.Answering as lines
@@ -45,7 +45,7 @@ abbrev pub IsAnswerSaid : Receiving → List ℕ → Receiving → List ℕ → 
 IsAnswerSaid old octets new text =
     (answer : LiveAnswer) × (between : Receiving) × IsLiveLineAnswered old octets between answer × IsReported answer between new text
 
--- a line is refused, and answered with the reason and what to write instead
+-- a line is refused, and answered with the reason and a hint on how to mend the line
 abbrev pub IsReasonSaid : Receiving → List ℕ → Receiving → List ℕ → Type 0
 IsReasonSaid old octets new text =
     (reason : Reason) × ((reason ≡ reasons.NoMemory) ⊎ IsBadLiveLine old octets reason) × IsReceiverLeft reason old new
@@ -64,7 +64,7 @@ IsFinalReport receiver text =
 abbrev pub IsReportWritten : Receiving → Option (List ℕ) → Option (List ℕ) → Type 0
 IsReportWritten receiver before after = lines.Writes before after (IsFinalReport receiver)
 
--- the number of octets that a line may have, without its line feed
+-- the largest number of octets that a line may have, without its line feed
 abbrev pub line_limit : ℕ
 line_limit = 8192
 
@@ -87,7 +87,7 @@ IsReceptionCutShort receiver octets before after NoMemory = Keeps before after �
 IsReceptionCutShort receiver octets before after Unbalanced =
     (last : Receiving) × lines.AreAllWritten line_limit IsLineSaid receiver octets last before after × IsNumberUnreported last
 
--- the receiver's fault for a fault that occurred while lines were answered
+-- the receiver's fault that stands for a fault while lines were answered
 abbrev pub fault_at_lines : AnsweringFault → ServingFault
 fault_at_lines answering.Read = Read
 fault_at_lines answering.Write = Write

@@ -13,7 +13,7 @@ use tc_rack::Answer;
 /// The answer to a good line.
 #[derive(Debug, Drop)]
 pub enum LiveAnswer {
-    /// No text, since the line sets something up, has no words, or is a comment.
+    /// No text. The line sets something up, has no words, or is a comment.
     Nothing,
     /// The answer to an operation of a script.
     Operation(Answer),
@@ -24,9 +24,9 @@ pub enum LiveAnswer {
     Collection { vcid: u8 },
     /// A refusal of octets that aren't a frame with the right frame error control field.
     Unchecked,
-    /// A refusal of a candidate that carries more than a frame and its fill.
+    /// A refusal of a candidate in which more than fill follows the frame.
     More,
-    /// The flags of the link that a channel's CLCWs report from now on.
+    /// The flags of the link that a channel's CLCWs report from this line on.
     Link { vcid: u8, link: Link },
     /// The state of a channel and of its queues.
     Report { vcid: u8, holding: Holding },
@@ -56,7 +56,7 @@ impl LiveAnswer {
         }
     }
 
-    /// Returns the answer with the flags of the link of a channel, or a refusal if the channel isn't known.
+    /// Returns the answer with the flags of the link of a channel, or a refusal if `known` is false.
     pub(crate) fn of_link(known: bool, vcid: u8, link: Link) -> LiveAnswer
         ensures { result ≡ link_answer known vcid link }
     {

@@ -14,13 +14,13 @@ pub enum FrameCheck {
     /// No check, since frames have no frame error control field. All octets are brought to their channels.
     Nothing,
     /// A check of the frame error control field at the end of each frame (CCSDS 232.0-B, 4.1.4). Octets that aren't one
-    /// whole frame with the right field are no event.
+    /// whole frame with the right field are refused, and no channel sees them.
     ErrorControl,
 }
 
 impl FrameCheck {
-    /// Returns the line to carry out, or `None` if the line doesn't pass the check. A frame is copied without its field
-    /// to a new list, and any other line is returned as it is.
+    /// Returns the line to carry out, or `None` if the line doesn't pass the check. If frames are checked, a frame is
+    /// copied to a new list without its field. Any other line is returned as it is.
     pub fn pass(self, alloc: Global, line: Line) -> Result<Option<Line>, Reason>
         ensures passed { IfOk result (λ passed. MatchOption passed (FailsCheck self line) (IsPassed self line)) }
         ensures reason { IfErr result (λ reason. reason ≡ Reason.NoMemory) }
@@ -35,8 +35,8 @@ impl FrameCheck {
     }
 
     /// Returns the line to carry out for the octets that a CLTU carried, or `None` if they don't pass the check. If
-    /// frames are checked, the frame is as long as its length field says, and is copied without its frame error control
-    /// field to a new list.
+    /// frames are checked, the frame ends where its length field says. It is copied to a new list without its frame
+    /// error control field.
     pub fn pass_candidate(self, alloc: Global, octets: Octets) -> Result<Option<Line>, Reason>
         ensures passed { IfOk result (λ passed. MatchOption passed (FailsCandidate self octets) (IsCandidatePassed self octets)) }
         ensures reason { IfErr result (λ reason. reason ≡ Reason.NoMemory) }
@@ -48,7 +48,7 @@ impl FrameCheck {
     }
 }
 
-/// Returns whether the octets that a CLTU carried begin with a frame that is followed by more than fill. This allocates
+/// Returns whether the octets that a CLTU carried begin with a frame, and more than fill follows it. The call allocates
 /// nothing.
 pub fn carries_more(octets: &[u8]) -> bool
     ensures { IsTrue result ↔ CarriesMore octets.now }
@@ -59,8 +59,8 @@ pub fn carries_more(octets: &[u8]) -> bool
     }
 }
 
-// Returns a line with the frame at the front of the octets, without its frame error control field. Returns `None` if
-// that field is wrong, or if no such frame is there.
+// Returns the line of the frame at the front of the octets, without the frame error control field. Returns `None` if
+// this field is wrong, or if the octets don't begin with a frame.
 fn take_frame_off(alloc: Global, octets: &[u8]) -> Result<Option<Line>, Reason>
     ensures passed { IfOk result (λ passed. MatchOption passed (FailsCandidate FrameCheck.ErrorControl octets.now) (IsCandidatePassed FrameCheck.ErrorControl octets.now)) }
     ensures reason { IfErr result (λ reason. reason ≡ Reason.NoMemory) }
@@ -71,7 +71,8 @@ fn take_frame_off(alloc: Global, octets: &[u8]) -> Result<Option<Line>, Reason>
     }
 }
 
-// Returns a line with the frame without its frame error control field, or `None` if that field is wrong.
+// Returns the line of the frame that these octets are, without the frame error control field. Returns `None` if this
+// field is wrong.
 fn take_field_off(alloc: Global, octets: &[u8]) -> Result<Option<Line>, Reason>
     ensures passed { IfOk result (λ passed. MatchOption passed (HasWrongField octets.now) (IsFieldOff octets.now)) }
     ensures reason { IfErr result (λ reason. reason ≡ Reason.NoMemory) }

@@ -6,8 +6,8 @@ ghost use Rattle.tc_live.specs.Ends.{ends_after, has_field};
 use tc_fecf::passes;
 use tc_link::read_frame;
 
-/// A record of whether each frame of a `frame` line so far ended with a frame error control field. It is kept if frames
-/// aren't checked, and a hint to the user depends on it.
+/// A record of whether each frame so far in a `frame` line ended with a frame error control field. The record is kept
+/// only if frames aren't checked, and serves for a hint to the user.
 #[derive(Clone, Copy, Debug, PartialEq, Eq)]
 pub enum FrameEnds {
     /// No frame has come yet.
@@ -19,8 +19,8 @@ pub enum FrameEnds {
 }
 
 impl FrameEnds {
-    // Returns the record after one more frame, which consists of these octets. Once a frame had no field, no later
-    // frame is looked at.
+    // Returns the record after one more frame, which consists of these octets. Once a frame ended without the field, no
+    // later frame is examined.
     pub(crate) fn after(self, octets: &[u8]) -> FrameEnds
         ensures { result ≡ ends_after self octets.now }
     {

@@ -1,4 +1,4 @@
-//! The answers to bad lines: the reason, and what to write instead.
+//! The answers to bad lines: the reason, and a hint on how to mend the line.
 
 ghost use Rattle.std.specs.Prelude.{◌≡◌};
 ghost use Rattle.tc_lines.specs.Word.{words};
@@ -26,8 +26,8 @@ pub(crate) fn word_before(reason: Reason) -> &'static str
     }
 }
 
-/// Returns the text of what to write instead. It lists the commands, shows the form of the line's command, or gives the
-/// bounds or the form of the wrong word. The text is empty for any other reason.
+/// Returns the hint on how to mend the line. It lists the commands, shows the form of the line's command, or gives the
+/// bounds or the form of the wrong word. It is empty if the reason has no hint.
 pub(crate) fn hint_for(octets: &[u8], reason: Reason) -> &'static str
     ensures { result.now ≡ line_hint_text (words octets.now) reason }
 {
@@ -48,7 +48,7 @@ pub(crate) fn hint_for(octets: &[u8], reason: Reason) -> &'static str
     }
 }
 
-// Returns the list of the commands, or a note that a byte order mark hides the command of the line.
+// Returns the list of the commands, or a note that the line begins with a byte order mark.
 fn unknown(octets: &[u8]) -> &'static str
     ensures { result.now ≡ unknown_text (words octets.now) }
 {
@@ -143,7 +143,7 @@ impl Number {
         }
     }
 
-    // Returns the largest value with which the line can be parsed. The bounds in the hint may be narrower.
+    // Returns the largest value that the parser accepts for the number. The bounds in the hint may be narrower.
     fn most(self) -> u16
         ensures { result ≡ most_of self }
     {
@@ -156,7 +156,7 @@ impl Number {
         }
     }
 
-    // Returns whether the line can be parsed with this word in the place of the number.
+    // Returns whether the parser accepts this word for the number.
     fn takes(self, word: &[u8]) -> bool
         ensures { result ≡ takes_word self word.now }
     {
@@ -167,7 +167,7 @@ impl Number {
     }
 }
 
-// Returns the bounds of the first number whose word can't be parsed, or an empty text if there is none.
+// Returns the bounds of the first number whose word can't be parsed, or an empty text if all words can be parsed.
 fn number_hint(octets: &[u8]) -> &'static str
     ensures { result.now ≡ number_hint_text (words octets.now) }
 {

@@ -27,10 +27,10 @@ use tc_rack::{Operation, Rack, RackBackend, Stage, begin, perform, write_report}
 use tc_setup::{Configuration, Instruction};
 use tc_text::{Line, LiveLine, Reason, SpacecraftId, parse_line, parse_live_line};
 
-/// The channels of a spacecraft, set up so far or in operation, and the check that octets must pass before they are
-/// brought to one of the channels.
+/// The channels of a spacecraft, which are set up so far or in operation, and the check that octets must pass before
+/// they are brought to one of the channels.
 ///
-/// A contract sees all of it, with each channel's journal and the flags of its link.
+/// A contract sees all fields, and of each channel its journal and the flags of its link.
 #[derive(Drop)]
 pub struct Receiver {
     check: FrameCheck,
@@ -61,9 +61,9 @@ impl Receiver {
     }
 
     /// Carries out a line, which is given without its line feed, and returns its answer. A bad line leaves the receiver
-    /// as it is. If memory runs out, the line can be tried again. If that line was the first operation, the channels
-    /// may already have been created. A delivery or a collection is only begun, and [`hand_on`](Receiver::hand_on) ends
-    /// it.
+    /// as it is. If memory runs out, the line can be tried again. If this line was the first operation, the channels
+    /// may already have been created. For a delivery or a collection, the call only begins it, and
+    /// [`hand_on`](Receiver::hand_on) ends it.
     pub fn do_line(&mut self, alloc: Global, octets: &[u8]) -> Result<LiveAnswer, Reason>
         ensures answer { IfOk result (IsLiveLineAnswered self.old octets.now self.new) }
         ensures reason { IfErr result (λ reason. (reason ≡ Reason.NoMemory) ⊎ IsBadLiveLine self.old octets.now reason) }
@@ -79,8 +79,8 @@ impl Receiver {
         }
     }
 
-    /// Carries out a line of a script, as [`do_line`](Receiver::do_line) does, and returns its answer. The lines that only
-    /// a live receiver answers are bad lines here.
+    /// Carries out a line of a script, as [`do_line`](Receiver::do_line) does, and returns its answer. A line that
+    /// isn't one of a script, such as `link`, is bad for this call.
     pub fn do_script_line(&mut self, alloc: Global, octets: &[u8]) -> Result<LiveAnswer, Reason>
         ensures answer { IfOk result (IsScriptLineAnswered self.old octets.now self.new) }
         ensures reason { IfErr result (λ reason. (reason ≡ Reason.NoMemory) ⊎ IsBadScriptLine self.old octets.now reason) }
@@ -106,8 +106,8 @@ impl Receiver {
         }
     }
 
-    // Takes the frame out of a candidate, and brings it to its channel. If more than fill follows the frame, nothing is
-    // done.
+    // Removes the fill from a candidate, and brings its frame to the frame's channel. If more than fill follows the
+    // frame, nothing changes.
     fn candidate(&mut self, alloc: Global, octets: Octets) -> Result<LiveAnswer, Reason>
         ensures answer { IfOk result (IsCandidateDone self.old octets self.new) }
         ensures reason { IfErr result (λ reason. (reason ≡ Reason.NoMemory) ⊎ IsBadCandidate self.old octets reason) }
@@ -122,7 +122,7 @@ impl Receiver {
         }
     }
 
-    // Returns the record of the ends of frames after a line.
+    // Returns the record of the ends of frames after this line.
     fn ends_behind(&self, line: &Line) -> FrameEnds
         ensures { result ≡ ends_behind self.now.check self.now.ends line.now }
     {
@@ -132,7 +132,7 @@ impl Receiver {
         }
     }
 
-    /// Returns the record of the ends of frames, which is kept if frames aren't checked.
+    /// Returns the record of the ends of frames. It is kept only if frames aren't checked.
     pub fn ends(&self) -> FrameEnds
         ensures { result ≡ self.now.ends }
     {
@@ -209,7 +209,7 @@ impl Receiver {
         }
     }
 
-    // Begins a collection. The channel's CLCW is requested to see whether there is such a channel.
+    // Begins a collection. A request for the channel's CLCW shows whether there is such a channel.
     fn begin_collection(&mut self, alloc: Global, vcid: u8) -> Result<LiveAnswer, Reason>
         ensures done { OnOk result (Operates (phase_of self.old.stage) (phase_of self.new.stage)) }
         ensures answer { IfOk result (IsCollectionBegun self.old vcid self.new) }
@@ -240,7 +240,7 @@ impl Receiver {
     }
 
     // Creates the channels from a copy of the configuration, if no operation came before. If memory runs out, the
-    // configuration stays.
+    // configuration stays as it was.
     fn begin(&mut self, alloc: Global) -> Result<(), Reason>
         ensures begun { OnOk result (self.new ≡ begun self.old) }
         ensures some { OnOk result (phase_of self.old.stage ≢ Setup []) }
@@ -269,7 +269,7 @@ impl Receiver {
         write_report(&channels, writer).map_err(|_| ServingFault::Write)
     }
 
-    // Returns the channels in rising order of their ids, as an operation would find them.
+    // Returns the channels in rising order of their ids. They are the channels that an operation would find.
     fn into_channels(self, alloc: Global) -> Result<Vec<CountingChannel>, ServingFault>
         ensures channels { IfOk result (λ channels. IsPermutation (histories (rack_at self)) channels.items) }
         ensures rising { IfOk result (λ channels. AreRising channels.items) }
@@ -307,7 +307,7 @@ impl Receiver {
     }
 }
 
-// Returns whether each channel reports the true number of its events.
+// Returns whether each channel reports the exact number of its events.
 fn are_reported(channels: &[CountingChannel]) -> bool
     ensures { IsTrue result ↔ All IsNumberReported channels.now }
 {

@@ -21,8 +21,8 @@ use std::{fmt, io};
 use tc_lines::LineAnswerer;
 use tc_text::{Reason, SpacecraftId};
 
-/// The number of octets that a line may have, without its line feed. The digits of a frame of 1,024 octets take a
-/// quarter of it.
+/// The largest number of octets that a line may have, without its line feed. The digits of a frame of 1,024 octets are
+/// a quarter of them.
 pub const MAX_LINE: usize = 8_192;
 
 /// A fault after which lines are no longer answered.
@@ -54,7 +54,7 @@ impl fmt::Display for ServingFault {
 impl Error for ServingFault {}
 
 impl ServingFault {
-    // Returns the receiver's fault for a fault that occurred while lines were answered.
+    // Returns the fault of the receiver that stands for a fault while lines were answered.
     fn of(fault: tc_lines::ServingFault) -> ServingFault
         ensures { result ≡ fault_at_lines fault }
     {
@@ -98,13 +98,13 @@ pub fn serve<R: AllocGlobal + Input + Print>(
     answer_lines(rt.alloc(), receiver, &mut reader, &mut writer)
 }
 
-/// Answers lines until there are no more, and flushes after each answer. Then it writes the final report, and returns
-/// whether the frames ended with a frame error control field, if they weren't checked.
+/// Answers lines until there are no more, and flushes after each answer. Then writes the final report, and returns the
+/// record of whether the frames ended with a frame error control field.
 ///
-/// The answer to a bad line is `bad` and the reason, and, if that helps, a colon and what to write instead. The answer
-/// to a line that is longer than a line may be is `bad too long`, and the line isn't kept. Octets after the last line
-/// feed are a line. If the octets of the reader are known, the answers to all its lines are written, or to those that
-/// it gave before it failed.
+/// The answer to a bad line is `bad` and the reason. If there is a hint on how to mend the line, it follows after a
+/// colon. The answer to a line with more octets than [`MAX_LINE`] is `bad too long`, and the line isn't kept. Octets
+/// after the last line feed are a line. If the octets of the reader are known, the answers to all lines are written. If
+/// the reader fails, the answers to the lines before are written.
 pub fn answer_lines<R: BufRead, W: Write>(
     alloc: Global,
     receiver: Receiver,
@@ -121,8 +121,8 @@ pub fn answer_lines<R: BufRead, W: Write>(
     }
 }
 
-// Carries out a line, and writes exactly the text of its answer and of the answers that follow it, or `bad`, the
-// reason, and what to write instead.
+// Carries out a line, and writes exactly the text of its answer and of the answers that follow it. For a bad line,
+// writes the reason and a hint instead.
 fn answer_line<W: Write>(
     alloc: Global,
     receiver: &mut Receiver,
