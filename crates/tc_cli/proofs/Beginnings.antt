@@ -1,4 +1,4 @@
--- Lemmas about histories that are beginnings of each other, and about lists of desks with the histories that their
+-- Lemmas about histories of which one is a beginning of another, and about lists of desks with the histories that their
 -- watchers have seen.
 use Rattle.std.proofs.Common.{◌≡◌, ℕ, List, [], ◌∷◌, ◌++◌, Some, length, inl, inr, refl, sym, ap, ◌∙◌, subst, arith, slice_get, slice_set}
 use Rattle.tc_cli.proofs.Names.{AtLock, Event, HasMadeAll, History, IsEarlier, Own, Watching, eqb_tells, history_of, length-append, nil_from_length, same_Some}

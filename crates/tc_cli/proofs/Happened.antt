@@ -54,7 +54,7 @@ one-more-happens scid vcid s (first ∷ jobs) job old mid new (next, happens, re
 not-both : (e : Event) (m : Moment) → CanBeMade e m → CannotBeMade e m → ⊥
 not-both e m can cannot = grind arith
 
--- whether an event can be made depends on the settings and the journal alone
+-- an event can be made at all moments with the same settings and the same journal, or at none of them
 moved-can : (e : Event) (m : Moment) (s : Settings) (j : List Event) → m.head.settings ≡ s → m.entries ≡ j → CanBeMade e m → CanBeMade e (moment s j)
 moved-can (events.Frame octets) m s j p q can = tt
 moved-can e m s j p q can = subst (λ (x : Settings × List Event). CanBeMade e (moment x.0 x.1)) (λ i. (p i, q i)) can
@@ -92,8 +92,8 @@ abbrev pub HasSeen : Settings → List Event → AtLock → Type 0
 HasSeen s journal d = (d.own.seen.head.settings ≡ s) × (d.own.seen.entries ≡ journal)
 
 -- These are a worker's accounts of a desk before and after jobs. Suppose that the worker has made all events that it
--- has seen after the jobs. Then it had also made all events that it had seen before them. And if it had seen the old
--- journal before the jobs, it has seen the new journal after them.
+-- has seen after the jobs. Then it had also made all events that it had seen before the jobs. If it had then seen the
+-- old journal, it has seen the new journal after the jobs.
 abbrev IsMadeOf : Settings → List Event → List Event → AtLock → AtLock → Type 0
 IsMadeOf s old new before after =
     HasSeenItsOwn before.own → HasSeenItsOwn after.own × (HasMadeAll after.own → HasMadeAll before.own × (HasSeen s old before → HasSeen s new after))

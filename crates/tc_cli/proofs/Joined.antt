@@ -26,7 +26,7 @@ first-place (x ∷ vs) (suc k) v at apart =
     ap (λ (b : Bool). cond (not b) (1 + position_or_len (λ y. y == v) vs) 0) e
     ∙ omega (arith, first-place vs k v at (λ j lt. apart (suc j) (omega (arith, lt))))
 
--- if no two ids are the same, an id has the place at which it occurs
+-- if all ids differ, the place of an id is the one at which it occurs
 pub place-of : (station : Roster) (k v : ℕ) → AllPairs (λ (a b : ℕ). a ≢ b) station.vcids → slice_get station.vcids k ≡ Some v → IsPlace station v k
 place-of station k v distinct at =
     let vs = station.vcids in
@@ -75,7 +75,7 @@ desk-settings [] k s at = absurd (none-some s at)
 desk-settings (d ∷ desks) zero s at = same_Some d.own.seen.head.settings s at
 desk-settings (d ∷ desks) (suc k) s at = desk-settings desks k s at
 
--- an operator that has made nothing has made nothing at any desk
+-- if an operator has made no event at all, it has made none at any one desk
 nothing-at : (o : AtStation) (place : ℕ) → HasMadeNothing o → (desk_at place o).own.made ≡ []
 nothing-at o place nothing = elim (cases_lt place (length o.desks)) [
   | inl inside ↦ nothing place nobody inside

@@ -1,4 +1,4 @@
--- Jobs have the numbers of lines of their script, so if memory runs out for one of them, its line was reached.
+-- The number of a job is that of its line in the script. If memory runs out for a job, its line was reached.
 use Rattle.std.proofs.Common.{◌≡◌, ◌≤◌, ℕ, suc, ◌+◌, List, [], ◌∷◌, ◌⊎◌, Option, None, Some, map, length, inl, inr, refl, sym, ap, ◌∙◌, subst, arith, Any, slice_get, slice_set}
 use Rattle.tc_cli.proofs.Names.{Add, AreParted, ArePartedFor, AtStation, Channel, Clcw, Does, Frame, GivesToFound, Instruction, IsFrameGiven, IsGiven, IsJobLine, IsParted, IsScriptFault, Job, Nothing, Operating, Parted, Plan, Release, Roster, ScriptFault, SettingUp, Settings, Take, TakeUnit, WorkList, empty_list, eqb_tells, instruction_of, lower, none-some, none_parted, one_parted, phase_of, same_Some, script_limit, with_job}
 use Rattle.std.specs.List.{AllByRecursion}
@@ -37,7 +37,7 @@ refused-line station lists line n befores afters (shifts, are, before, after, al
 
 -- ---- the numbers of jobs
 
--- no job of these lists has a greater number
+-- no job of these lists has a line number above `count`
 abbrev AreNumbered : ℕ → List WorkList → Type 0
 AreNumbered count lists = (place n : ℕ) (l : WorkList) (job : Job) → slice_get lists place ≡ Some l → slice_get l.jobs n ≡ Some job → job.line ≤ count
 

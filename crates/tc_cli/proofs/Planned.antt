@@ -48,7 +48,7 @@ as-many-lists : (parted : Parted) (rack : Racked) → IsPlanned parted rack → 
 as-many-lists parted rack planned =
     sym (length-map rack.channels vcid_of) ∙ (ap (length {A = ℕ}) (planned.ids ∙ sym planned.lists) ∙ length-map parted.lists (λ (l : WorkList). l.vcid))
 
--- a new plan has no job, and its channels have no event
+-- a new plan, which has no job, fits new channels, which have no event
 new-planned : (scid : ℕ) (list : List Settings) (found : Parted) → IsNewlyParted scid list found → IsPlanned found (new_rack scid list)
 new-planned scid list found new =
     let vcids = new.0.vcids in

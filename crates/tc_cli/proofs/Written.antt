@@ -13,14 +13,14 @@ use Rattle.tc_cli.specs.Written.{IsSessionReportWritten, IsScriptUnreported, IsS
 use Rattle.tc_cli.proofs.Alone.{AloneLaws}
 use Rattle.tc_cli.proofs.Sessions.{progress_of, reported-alone}
 
--- if one result is `Ok` exactly when another is, a fact that holds if the one is `Ok` also holds if the other is `Ok`
+-- if two results are `Ok` in the same cases, a fact that holds if the first is `Ok` also holds if the second is `Ok`
 pub on-ok-same : {T U E F : Type 0} (r : Result T E) (s : Result U F) (A : Type 0) → is_ok s ≡ is_ok r → OnOk r A → OnOk s A
 on-ok-same (Ok x) (Ok y) A same holds = holds
 on-ok-same (Ok x) (Err f) A same holds = tt
 on-ok-same (Err e) (Ok y) A same holds = let no : ⊥ = cc in absurd no
 on-ok-same (Err e) (Err f) A same holds = tt
 
--- if a fact follows from two others that hold if a result is `Ok`, it also holds if the result is `Ok`
+-- if `A` and `B` hold whenever a result is `Ok`, and `C` follows from both, `C` holds whenever the result is `Ok`
 pub on-ok-both : {T E : Type 0} (r : Result T E) (A B C : Type 0) → (A → B → C) → OnOk r A → OnOk r B → OnOk r C
 on-ok-both (Ok x) A B C follows a b = follows a b
 on-ok-both (Err e) A B C follows a b = tt
@@ -58,7 +58,7 @@ one-more-so-far scid script count session new rest line after answer a b c (answ
   subst (Appends a c) (flat_map_more answer_line [] answers answer) (Appends-trans a b c _ _ text more),
 )
 
--- if memory runs out at the next line or this line is bad, the script is cut short at it
+-- if memory runs out at the next line or this line is bad, the script is cut short at this line
 pub cut-short : (scid : ℕ) (script : List ℕ) (count : ℕ) (session : Session) (rest line after : List ℕ) (reason : Reason) (a b : Option (List ℕ))
     → (reason ≡ NoMemory) ⊎ IsBadLine (phase_of session) line reason → IsSoFar scid script count session rest a b → IsFirstLine rest line after
     → IsScriptCutShort scid script a b (Line (count + 1) reason)

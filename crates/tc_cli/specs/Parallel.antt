@@ -32,8 +32,8 @@ Begins scid old new = (found : Parted) × ArePartedFor scid old found × (new �
 abbrev pub GivesToFound : ℕ → (Parted → Parted → Type 0) → Plan → Plan → Type 0
 GivesToFound scid Gives old new = (found parted : Parted) × ArePartedFor scid old found × Gives found parted × (new ≡ Operating parted)
 
--- The job of a line is given to its channel. A blank line or a CLCW has no job. Nothing is stated about a line that
--- sets up, because the phase determines its effect.
+-- The job of a line is appended to the list of its channel. A blank line or a request for a CLCW has no job. Nothing is
+-- stated about a line that sets something up, because the phase determines its effect.
 abbrev pub IsParted : ℕ → ℕ → Plan → Instruction → Plan → Type 0
 IsParted scid line old Nothing new = new ≡ old
 IsParted scid line old (Channel settings) new = Unit {0}
@@ -44,15 +44,15 @@ IsParted scid line old (Take vcid apid) new = GivesToFound scid (IsGiven vcid (r
 IsParted scid line old (TakeUnit vcid map_id) new = GivesToFound scid (IsGiven vcid (record { line = line; order = orders.TakeUnit map_id })) old new
 IsParted scid line old (Clcw vcid) new = GivesToFound scid (λ before after. after ≡ before) old new
 
--- the line with this number is good and leads from the first plan to the second, and its job is given to the line's
--- channel
+-- the line with this number is good and leads from the first plan to the second, and its job is appended to the list of
+-- the line's channel
 abbrev pub IsLineParted : ℕ → ℕ → Plan → List ℕ → Plan → Type 0
 IsLineParted scid number plan line new =
     (said : Said) × (line_of (words line) ≡ Ok said) × Does (phase_of plan) (instruction_of said) (phase_of new)
     × IsParted scid number plan (instruction_of said) new
 
--- The script begins with this number of good lines. Each job of these lines was given to its channel, with the number
--- of its line. The lines lead to this plan, and leave these octets of the script.
+-- The script begins with this number of good lines. The job of each of them was appended to the list of its channel,
+-- with the number of the line. The lines lead to this plan, and leave these octets of the script.
 pub data AreParted (scid : ℕ) (script : List ℕ) : ℕ → Plan → List ℕ → Type 0 where
   none_parted : AreParted scid script 0 (SettingUp []) script
   one_parted : {count : ℕ} {plan new : Plan} {rest line after : List ℕ}

@@ -55,7 +55,7 @@ IsGiven vcid job old new =
     ((place : ℕ) × (l : WorkList) × IsListAt old.lists vcid place l × (new ≡ record old { lists = slice_set old.lists place (with_job l job) }))
     ⊎ (¬ HasWorkList old.lists vcid × (new ≡ old))
 
--- the octets are given to the channel that they are for, if there is one
+-- a job with the octets is appended to the list of the channel that they are for, if there is one
 abbrev pub IsFrameGiven : ℕ → List ℕ → Parted → Parted → Type 0
 IsFrameGiven line octets old new =
     ((vcid : ℕ) × (frame : List ℕ) × IsLocated old.station octets vcid frame × IsGiven vcid (record { line = line; order = Bring octets }) old new)
@@ -78,7 +78,7 @@ abbrev pub IsJobLine : List WorkList → ℕ → Type 0
 IsJobLine lists line = Any (λ (l : WorkList). Any (λ (job : Job). job.line ≡ line) l.jobs) lists
 
 -- The station has issued an operator for each list. Before the first job the operators had made no event. They did all
--- jobs, and there is a cause for which the station is out of balance.
+-- jobs, and there is a cause of the station's imbalance.
 abbrev pub IsWorkedUnbalanced : Parted → Type 0
 IsWorkedUnbalanced parted =
     (station : Roster) × (befores operators : List AtStation) × (station ≡ record parted.station { issued = length parted.lists })

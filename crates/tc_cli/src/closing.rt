@@ -11,7 +11,7 @@ use tc_station::{CountingStation, Operator, Refusal};
 use tc_text::{Reason, ScriptFault};
 
 /// Closes the station of a script with `lines` lines, together with its operators, and returns the channels in rising
-/// order of their ids. Each channel reports the true number of its events.
+/// order of their ids. Each channel reports the exact number of its events.
 pub(crate) fn close(
     station: CountingStation,
     operators: Vec<Operator>,

@@ -1,4 +1,4 @@
-//! Checks whether the frames of a script end with frame error control fields.
+//! The check whether the frames of a script end with frame error control fields.
 
 ghost use Rattle.std.specs.Prelude.{◌≤◌, length};
 
@@ -8,7 +8,7 @@ use tc_fecf::without_field;
 use tc_text::{Line, next_line, parse_line};
 
 /// Returns whether a script that was carried out has a frame, and each of its frames is whole and ends with its field.
-/// If memory runs out, the result is `false`. It is a hint for the user, on which no contract depends.
+/// Returns false if memory runs out. The result only decides on a hint for the user, and no contract depends on it.
 pub(crate) fn each_frame_has_its_field(alloc: Global, script: &[u8]) -> bool {
     let mut has_frame = false;
     let mut rest = from_next_frame(script);
@@ -23,7 +23,7 @@ pub(crate) fn each_frame_has_its_field(alloc: Global, script: &[u8]) -> bool {
     has_frame
 }
 
-// Returns the lines from the next one on that has an `f`. The lines before it can't be frame lines.
+// Returns the lines from the first one on that has an `f`. No line before it can be a frame line.
 fn from_next_frame(lines: &[u8]) -> &[u8]
     ensures { length result.now ≤ length lines.now }
 {

@@ -1,9 +1,9 @@
 //! Scripts for a telecommand receiver: lines of text are read, checked and answered.
 //!
-//! `run_script` reads a script from a reader, carries out its lines in order, and writes an answer for each
-//! operation and then a report. `parallel_script` has the operations of each channel carried out by a worker of
-//! its own, and writes the report alone. `run_and_give_back` and `parallel_and_give_back` also return the script.
-//! `run_input` and `parallel_input` run the script of standard input. `parse_line` parses one line.
+//! `run_script` reads a script from a reader, carries out its lines in order, and writes an answer for each operation
+//! and then a report. `parallel_script` has the operations of each channel carried out by a worker of its own, and
+//! writes only the report. `run_and_give_back` and `parallel_and_give_back` also return the script. `run_input` and
+//! `parallel_input` run the script of standard input. `parse_line` parses one line.
 #![tactic(auto)]
 
 mod closing;

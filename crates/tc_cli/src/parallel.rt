@@ -26,12 +26,12 @@ use tc_station::{Gate, Job, Order};
 use tc_text::{Reason, ScriptFault, next_line, parse_line, read_whole};
 
 /// Reads a script and checks each of its lines. Then one worker for each channel carries out the frames, releases and
-/// takes of this channel, and only the final report is written. It is the report that `run_script` writes for the
-/// script. The script is read whole, and all its jobs are kept before the first one is carried out.
+/// takes of this channel. Only the final report is written, and it is the one that `run_script` writes for the script.
+/// The script is read whole, and all its jobs are kept before the first one is carried out.
 ///
 /// Each worker passes the gate once, while it holds its channel's lock. If the octets of the reader are known, nothing
-/// is carried out unless each line is good, and a bad line that is reported is the first one. If the script ends early,
-/// nothing is written, unless a write failed. `Unbalanced` is returned only if there is a cause.
+/// is carried out unless each line is good, and only the first bad line is reported. If the script ends early, nothing
+/// is written unless a write failed. `Unbalanced` is returned only if the station has a cause of imbalance.
 pub fn parallel_script<T: Threads + Wait + Sync, G: Gate + Sync, R: Read, W: Write>(
     rt: &T,
     alloc: Global,
@@ -53,7 +53,8 @@ pub fn parallel_script<T: Threads + Wait + Sync, G: Gate + Sync, R: Read, W: Wri
     }
 }
 
-/// Runs a script as [`parallel_script`] does, and returns it, as it was read, if all of it was carried out.
+/// Runs a script as [`parallel_script`] does. If the whole script was carried out, returns its octets as they were
+/// read.
 pub fn parallel_and_give_back<T: Threads + Wait + Sync, G: Gate + Sync, R: Read, W: Write>(
     rt: &T,
     alloc: Global,
@@ -153,7 +154,7 @@ fn part_line(
     part(plan, alloc, scid, line, Instruction::of(alloc, said))
 }
 
-// Adds the job of a line to the list of the line's channel, or carries out the set-up of the line. A line that is
+// Appends the job of a line to the list of the line's channel, or carries out the set-up of the line. A line that is
 // refused leaves the plan as it is, unless memory ran out before the first operation.
 fn part(
     plan: &mut Plan,
@@ -194,7 +195,7 @@ fn part(
     }
 }
 
-// Gives the octets of a line to the channel that they are for.
+// Appends the job of a frame line to the list of the channel that the octets are for.
 fn give_frame(
     plan: &mut Plan,
     alloc: Global,
@@ -215,7 +216,7 @@ fn give_frame(
     }
 }
 
-// Gives the order of a line to a channel.
+// Appends the order of a line to the list of a channel.
 fn give_order(
     plan: &mut Plan,
     alloc: Global,
@@ -252,7 +253,7 @@ fn begin(plan: &mut Plan, alloc: Global, scid: u16) -> Result<(), Reason>
     }
 }
 
-// Creates the station and its lists. This is compiled apart from the code that runs for each line.
+// Creates the station and its lists. This function is compiled apart from the code that runs for each line.
 #[cold]
 #[inline(never)]
 fn begin_anew(plan: &mut Plan, alloc: Global, scid: u16) -> Result<(), Reason>

@@ -36,7 +36,7 @@ impl Model for Parted {
 }
 
 impl Parted {
-    /// Creates a station with these channels, and no job yet.
+    /// Creates a station with these channels, and an empty list of jobs for each of them.
     // This runs once for a script, so its code isn't inlined into the code that runs for each line.
     #[cold]
     #[inline(never)]
@@ -55,7 +55,7 @@ impl Parted {
         Ok(Parted { station, lists })
     }
 
-    /// Gives the octets of a line to the channel that their frame names.
+    /// Appends the job of a frame line to the list of the channel that the octets are for, if there is one.
     pub(crate) fn give_frame(
         &mut self,
         alloc: Global,
@@ -74,7 +74,7 @@ impl Parted {
         self.give(alloc, vcid, Job { line, order })
     }
 
-    /// Gives a job to a channel, if there is such a channel.
+    /// Appends a job to the list of a channel, if there is such a channel.
     pub(crate) fn give(&mut self, alloc: Global, vcid: u8, job: Job) -> Result<(), Reason>
         ensures given { OnOk result (IsGiven vcid job self.old self.new) }
         ensures reason { IfErr result (λ reason. reason ≡ Reason.NoMemory) }
@@ -112,7 +112,7 @@ impl Parted {
     }
 }
 
-// Returns the place of the list of this channel.
+// Returns the place of the list of the channel with this id, if there is one.
 fn place_of(lists: &[WorkList], vcid: u8) -> Option<usize>
     ensures { MatchOption result (¬ HasWorkList lists.now vcid) (λ place. (l : WorkList) × IsListAt lists.now vcid place l) }
 {

@@ -24,12 +24,12 @@ use tc_text::{Reason, ScriptFault, next_line, parse_line, read_whole};
 
 /// Reads a script, carries out its lines in order, and writes their answers and then the final report.
 ///
-/// The script, of 1,048,576 octets at most, is read whole and kept before the first line is carried out. If the octets
-/// of the reader are known, a script is carried out to its end only if each line is good, and a bad line that ends it
-/// is the first one. Each answer, and the report, then follows from the lines before it. This holds for a CLCW, too,
-/// although it is read without its channel's lock: the watcher that reads it meets the channel at each operation on the
-/// channel, and once more before the report. If the script ends early, only the answers to the lines before that point
-/// are written, unless a write failed.
+/// The script may have up to 1,048,576 octets. It is read whole, and kept, before the first line is carried out. If the
+/// octets of the reader are known, a script is carried out to its end only if each line is good. A bad line that ends
+/// the script is its first bad line. Each answer, and the report, follows from the lines before it. This includes each
+/// CLCW, although a CLCW is read without its channel's lock: the watcher that reads it meets the channel at each
+/// operation on the channel, and once more before the report. If the script ends early, only the answers to the lines
+/// before that point are written, unless a write failed.
 pub fn run_script<T: Wait, R: Read, W: Write>(
     rt: &T,
     alloc: Global,
@@ -49,7 +49,7 @@ pub fn run_script<T: Wait, R: Read, W: Write>(
     }
 }
 
-/// Runs a script as [`run_script`] does, and returns it, as it was read, if all of it was carried out.
+/// Runs a script as [`run_script`] does. If the whole script was carried out, returns its octets as they were read.
 pub fn run_and_give_back<T: Wait, R: Read, W: Write>(
     rt: &T,
     alloc: Global,
@@ -152,7 +152,7 @@ fn write_answer<W: Write>(answer: Option<Answer>, writer: &mut W) -> Result<(), 
     }
 }
 
-// Writes the report at the end of a script with `lines` lines. If no channel was set up, there is none.
+// Writes the report at the end of a script with `lines` lines. Writes nothing if no channel was set up.
 fn report<W: Write>(
     rt: &impl Wait,
     alloc: Global,

@@ -102,8 +102,8 @@ impl StaffedStation {
         self.station.meet(rt, &mut self.operator, watcher, vcid);
     }
 
-    // Carries out the operation on the channel at this place, which has this id. The channel's watcher meets the
-    // channel before and after the operation.
+    // Carries out the operation on the channel at `place`, whose id is `vcid`. The channel's watcher meets the channel
+    // before and after the operation.
     fn operate_met<O: DeskOperation<Unrecorded>>(
         &mut self,
         rt: &impl Wait,

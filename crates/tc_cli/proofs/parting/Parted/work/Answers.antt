@@ -7,8 +7,8 @@ use Rattle.tc_cli.specs.Parting.{IsWorkFault}
 use Rattle.tc_cli.proofs.Numbered.{refused-line}
 use Rattle.tc_cli.proofs.parting.Parted.work.Goals as goal
 
--- if `n` operators, all that the station has issued, did the jobs, and the station was closed together with them, the
--- jobs are worked out
+-- Suppose that the station has issued `n` operators, that these did the jobs, and that the station was closed together
+-- with them. Then the jobs are worked out.
 worked-out : (station after : Roster) (lists given : List WorkList) (n : ℕ) (line : Option ℕ) (befores operators : List AtStation) (channels : List History)
     → station.issued ≡ 0 → n ≡ length lists → given ≡ lists → after ≡ record station { issued = station.issued + n } → All HasMadeNothing befores → All (KnowsDesks after) befores → line ≡ None
     → AreWorked after given line befores operators → IsClosedReport after operators channels → IsWorkedOut (record { station = station; lists = lists }) channels
@@ -17,8 +17,8 @@ worked-out station after lists given n line befores operators channels none coun
     let each = subst (λ (x : List WorkList × Option ℕ). AreWorked after x.0 x.1 befores operators) (λ i. (same i, all i)) worked in
     record { station = after; befores = befores; operators = operators; issued = so-many; nothing = nothing; knows = knows; worked = each; closed = closed }
 
--- if `n` operators, all that the station has issued, did the jobs, a fault in closing the station together with them is
--- a fault of the work
+-- Suppose that the station has issued `n` operators, and that these did the jobs. Then a fault in closing the station
+-- together with them is a fault of the work.
 not-closed : (station after : Roster) (lists given : List WorkList) (n lines : ℕ) (line : Option ℕ) (befores operators : List AtStation) (fault : ScriptFault)
     → station.issued ≡ 0 → n ≡ length lists → given ≡ lists → after ≡ record station { issued = station.issued + n } → All HasMadeNothing befores → line ≡ None
     → AreWorked after given line befores operators → IsScriptCloseFault after operators lines fault → IsWorkFault lines (record { station = station; lists = lists }) fault
