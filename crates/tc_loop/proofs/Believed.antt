@@ -61,7 +61,8 @@ module _ (s : Start) (first window : ℕ) (frames : ℕ → List ℕ) (own : (i 
     long : length (session_before s) ≡ s.obeyed
     long = length-map (take s.obeyed s.session) (action_before s) ∙ length-take-le s.obeyed s.session (omega (arith, slice_get_within s.session s.obeyed (Arrive s.directive obeyed.0) obeyed.1))
 
-    -- a CLCW that the sender hears shows no fewer frames than the sender knew when it sent Set V(R)
+    -- if the sender hears the CLCW before Set V(R) is obeyed, the CLCW shows no fewer frames than the sender knew when
+    -- it sent Set V(R)
     early : asked ≤ s.believed → s.believed < s.obeyed → known o (session_before s) asked ≤ accepted o (take made (session_before s))
     early since low =
         let at : slice_get (session_before s) s.believed ≡ Some (Hear made) = slice_get-map (action_before s) (take s.obeyed s.session) s.believed ∙ ap (option_map (action_before s)) (get-within s.session s.obeyed s.believed (Hear made) here low) in

@@ -14,7 +14,7 @@ vr-now l session k = subst (λ xs. (receiver l xs).report.vr ≡ (l.first + acce
 count-same : (l : Loop) (xs ys : List Action) → receiver l ys ≡ receiver l xs → accepted l ys ≡ accepted l xs
 count-same l xs ys same = ever-same l xs ys (ap (λ (b : ChannelState). b.accepted) same)
 
--- a release
+-- ---- releases
 
 buffer-length : (b : ChannelState) → length (buffer b) ≡ length b.accepted - b.released
 buffer-length b = omega (arith, length-map {A = Accepted} {B = List ℕ}, length-drop {A = Accepted})
@@ -44,7 +44,7 @@ emptied l (suc n) session k e =
     let (kept, empty, all, many) = emptied l n one loop left in
     subst (IsEmptied l session (suc n)) (append_assoc session (Other Release ∷ []) (releases n)) (kept, empty, all ∙ count, omega (arith, length_push session (Other Release)))
 
--- the sender hears a CLCW that was made right now
+-- ---- a CLCW that the sender hears right after it was made
 
 heard-next : (l : Loop) (session : List Action) → IsLoop l session → IsNext l session (Hear (length session))
 heard-next l session k = (omega arith, λ t n here. omega (arith, k.possible.links.hears t n here, slice_get_within session t (Hear n) here))
@@ -70,12 +70,12 @@ learnt l session k =
     let decoded : known l later (suc n) ≡ accepted l session = last ∙ ap (heard l.first l.window (known l later n)) nr ∙ ap (λ a. heard l.first l.window a ((l.first + accepted l session) % 256)) before ∙ heard-right l (known l session n) (accepted l session) k.window low high in
     (loop, same, count-same l session later same, long, ap (known l later) long ∙ decoded)
 
--- the sender sends the next frame
+-- ---- the next frame that the sender sends
 
 sent-next : (l : Loop) (session : List Action) → 1 ≤ l.window → known l session (length session) ≡ accepted l session → IsNext l session (Send (accepted l session))
 sent-next l session some is = (omega arith, omega arith)
 
--- the frame arrives
+-- ---- the arrival of this frame
 
 expected-row : (width vr ns : ℕ) (bypass control room : Bool) (field : List ℕ) → bypass ≡ false → control ≡ false → room ≡ true → ns ≡ vr → frame_row width vr (kind_by bypass control ns field) room ≡ E1
 expected-row width vr ns false false true field b c r e = rw (eq-eqb ns vr e) refl
@@ -120,7 +120,7 @@ arrived l session s k from last free empty =
       ever-more l session (session ++ action ∷ []) (record { ns = h.ns; field = drop 5 octets }) (ap (λ (c : ChannelState). c.accepted) is ∙ takes (row_of l.settings b octets) octets b row state),
     )
 
--- one round of actions, by which one more frame is accepted
+-- ---- one round of actions, in which one more frame is accepted
 
 four-more : (xs : List Action) (a b c d : Action) → (((xs ++ a ∷ []) ++ b ∷ []) ++ c ∷ []) ++ d ∷ [] ≡ xs ++ (a ∷ b ∷ c ∷ d ∷ [])
 four-more [] a b c d = refl

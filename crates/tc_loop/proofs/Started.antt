@@ -3,8 +3,8 @@ use Rattle.tc_loop.proofs.Names.{Action, Arrive, Bc, Bool, ChannelState, E1, E10
 use Rattle.tc_loop.proofs.Actions.{known-append, take-some, take-none}
 use Rattle.tc_loop.proofs.Counted.{journal-append, known-step, one-at, clcw-shows}
 
--- The action of the session that became this action of the era's loop. If the era's action is `Other`, it was the same
--- event in the session, or it was the arrival of an earlier frame or of Set V(R).
+-- This was the action of the session that is this action of the era's loop. If the era's action is `Other`, the session
+-- had the same event, or an earlier frame or Set V(R) arrived.
 abbrev WasSuch : Start → ℕ → Action → Action → Type 0
 WasSuch s t a (Send i) = a ≡ Send (s.directive + 1 + i)
 WasSuch s t a (Arrive i r) = (s.again < t) × (a ≡ Arrive (s.directive + 1 + i) r)
@@ -42,7 +42,7 @@ take-seen s xs n zero = refl
 take-seen s [] n (suc t) = refl
 take-seen s (x ∷ xs) n (suc t) = ap (λ ys. era_action s n x ∷ ys) (take-seen s xs (suc n) t)
 
--- the events of the era are those that come after the last time that Set V(R) is obeyed
+-- ---- the events of the era: those after the last moment at which Set V(R) is obeyed
 
 late-event : (s : Start) (t : ℕ) (x : Action) → s.again < t → events_at (era s).frames (era_action s t x) ≡ events_at s.loop.frames x
 late-event s t (Arrive j r) later = grind (arith, nat_tests)
@@ -58,7 +58,7 @@ late-events : (s : Start) (xs : List Action) (n : ℕ) → s.again < n → event
 late-events s [] n later = refl
 late-events s (x ∷ xs) n later = rw (late-event s n x later, late-events s xs (suc n) (omega arith)) refl
 
--- if the first d actions come before the era, the events of the era are those of the actions after them
+-- if the era begins with action d of a list, the era's events are those of the actions from there on
 early-events : (s : Start) (d : ℕ) (xs : List Action) (n : ℕ) → n + d ≡ suc s.again → events (era s) (era_actions s n xs) ≡ events s.loop (drop d xs)
 early-events s zero xs n e = late-events s xs n (omega arith)
 early-events s (suc d) [] n e = refl
@@ -88,7 +88,7 @@ journal-early s t early =
     ∙ ap (λ es. journal s.loop (take n s.session) ++ es) (era-events s xs ∙ ap (events s.loop) none)
     ∙ append-nil (journal s.loop (take n s.session))
 
--- from the first time that Set V(R) is obeyed to the last, V(R) is the number that the command names
+-- ---- V(R) from the first moment at which Set V(R) is obeyed to the last: the number that Set V(R) names
 
 set-vr : (row : Row) (st : State) (r : Report) (x : ℕ) → row ≡ E8 x → (set_at row st ≡ Some x) ⊎ (r.vr ≡ x) → (unwrap_or (entry_at row st r) r).vr ≡ x
 set-vr (E8 y) S3 r x e (inl is) = absurd cc
@@ -172,7 +172,7 @@ module _ (s : Start) (k : IsStart s) where
   lawful-at t = lawful-before s.loop.limits s.loop.settings (journal s.loop (take t s.session)) (events s.loop (drop t s.session))
       (subst (IsLawfulWithin s.loop.limits s.loop.settings) (ap (journal s.loop) (sym (take-append-drop t s.session)) ∙ journal-append s.loop (take t s.session) (drop t s.session)) k.lawful)
 
-  -- once the sender believes that Set V(R) was obeyed, each CLCW that it hears was made after that
+  -- each CLCW that the sender hears from the moment `believed` on was made after Set V(R) was obeyed
   made-later : (t m : ℕ) → s.believed ≤ t → slice_get s.session t ≡ Some (Hear m) → s.obeyed < m
   made-later t m since here =
       let made = k.believes in
@@ -184,7 +184,8 @@ module _ (s : Start) (k : IsStart s) where
         | inr other ↦ let behind = k.links.reports_in_order s.believed t made.0 m (omega arith) made.1 here in omega arith
       ]
 
-  -- the report value of a CLCW that the sender hears then is the same in the era's loop
+  -- a CLCW that the sender hears from the moment `believed` on has the same report value in the session as in the era's
+  -- loop
   same-report : (t m : ℕ) → s.believed ≤ t → slice_get s.session t ≡ Some (Hear m) → reported (era s) (era_session s) m ≡ reported s.loop s.session m
   same-report t m since here = elim (cases_lt s.again m) [
     | inl late ↦ ap (λ es. (fields_of (clcw_within s.loop.limits s.loop.settings es (s.loop.links m))).vr) (journal-late s m late)
@@ -197,15 +198,15 @@ module _ (s : Start) (k : IsStart s) where
         ∙ sym (clcw-shows s.loop (take m s.session) (s.loop.links m) (subst (λ n. n < 256) (sym here) small) ∙ here)
   ]
 
-  -- other actions don't change the frames that the sender knows to be accepted
+  -- in the era's loop, an action changes the known frames only if a CLCW is heard from the moment `believed` on
   untaught : (x : Action) (n a : ℕ) → ((m : ℕ) → x ≡ Hear m → n < s.believed) → known_from (era s) (era_session s) a (era_action s n x ∷ []) ≡ a
   untaught (Hear m) n a early = let low = early m refl in grind (arith, nat_tests)
   untaught (Send j) n a early = grind (arith, nat_tests)
   untaught (Arrive j r) n a early = grind (arith, nat_tests)
   untaught _ n a early = grind (arith, nat_tests)
 
-  -- The frames of the era that the sender knows in the session are those that it knows in the era's loop. Before it
-  -- believes that Set V(R) was obeyed, it knows none.
+  -- In the session and in the era's loop, the sender knows the same frames of the era to be accepted. Before the moment
+  -- `believed`, it knows none.
   pub known-in-era : (t : ℕ) → known (era s) (era_session s) t ≡ known_since s t
   known-in-era zero = ap (known_from s.loop s.session 0) (sym (drop_all {X = Action} s.believed [] (omega arith)))
   known-in-era (suc t) = by (slice_get s.session t) refl (known-in-era t) where
@@ -271,7 +272,7 @@ module _ (s : Start) (k : IsStart s) where
         let kind = subst (λ n. kind_of (header_of (s.loop.frames n)) (field_of (s.loop.frames n)) ≡ Bc (SetVr s.loop.first)) (sym same) k.directive in
         subst IsOther (sym old.4) (directive-other (s.loop.frames j) s.loop.first kind)
 
-  -- the whole journal of the era is the session's
+  -- the whole journal of the era's loop is that of the session
   pub journal-whole : journal (era s) (era_session s) ≡ journal s.loop s.session
   journal-whole =
       let n = length s.session in

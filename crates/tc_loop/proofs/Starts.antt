@@ -1,10 +1,10 @@
--- The starts that were worked out by hand, one of which meets each premise.
+-- The starts that were worked out by hand. One of them meets each premise.
 use Rattle.tc_loop.proofs.Names.{Action, All, Arrive, Bool, ChannelState, Frame, Hear, Idle, IsAllowed, IsLawfulWithin, IsLoop, IsNumbered, IsOctets, IsOther, IsStart, IsWhole, KeepOrder, List, NamesAnother, None, NoneSetsWithin, Other, QueueSetting, Release, Send, Some, Take, [], arith, around, begun, clcw_within, drop, era, era_before, events, false, header_of, inl, inr, journal, known, acknowledged, by_bd, known_since, learnt_by_9, nat_lt, nat_tests, no_limits, octets-append, octets-cons, passed_on, receiver, refl, run_within, session_before, set_by, slice_get, smallest, some_of_first, subst, suc, take, trap, true, zero, ℕ, ◌%◌, ◌&&◌, ◌+◌, ◌<◌, ◌∷◌, ◌≡◌, ◌≤◌, ◌⊎◌, All-cons, All-nil}
 use Rattle.tc_channel.specs.Examples as example
 use Rattle.tc_loop.proofs.Begun.{smallest-whole}
 use Rattle.tc_loop.proofs.Actions.{so-at}
 
--- whether all numbers are octets
+-- the flag that is set if all numbers are octets
 abbrev pub small : List ℕ → Bool
 small [] = true
 small (x ∷ xs) = nat_lt x 256 && small xs
@@ -129,7 +129,7 @@ each-premise = record {
   others = λ t e h. let p = at t (Other e) h in (p.0, p.1 (receiver learnt_by_9.loop (take t learnt_by_9.session)));
 }
 
--- the earlier session was a loop, and none of its CLCWs can have the number 9
+-- ---- the earlier session: it is one of a loop, and none of its CLCWs can have the number 9
 
 abbrev IsBefore : ℕ → Action → Type 0
 IsBefore t (Send i) = (t ≡ 0) × (i ≡ 0)
@@ -178,7 +178,7 @@ before-loop = record {
 pub another : NamesAnother learnt_by_9 0 5 (smallest 0) 2
 another a low high e = let one : begun (session_before learnt_by_9) 4 ≡ 1 = refl in absurd (omega arith)
 
--- the number of a frame that is known to be accepted may be named, and that of the next frame may not
+-- Set V(R) may name the number of a frame that is known to be accepted, but not the number of the next frame.
 pub known-named : NamesAnother (acknowledged 0) 0 5 (smallest 0) 3
 unfolding run_within some_of_first clcw_within
 known-named a low high e =

@@ -18,7 +18,7 @@ frame-takes c b octets E1 S1 e s =
 frame-takes c b octets E1 st e s = inl (accepted-kept E1 (accepts E1 b.report) octets b (only_S1 E1 b.report.state (λ _ q. cc (s, q))))
 frame-takes c b octets row st e s = inl (accepted-kept row (accepts row b.report) octets b (only_S1 row b.report.state (λ q. absurd cc)))
 
--- the event adds nothing, or it is a frame that is taken
+-- the event adds no accepted frame, or it is a frame that is accepted
 pub step-takes : (c : Settings) (b : ChannelState) (e : Event) → ((step c b e).accepted ≡ b.accepted) ⊎ ((octets : List ℕ) × (e ≡ Frame octets) × IsTaken octets b (step c b e))
 unfolding passed_on
 step-takes c b (Frame octets) = elim (frame-takes c b octets (row_of c b octets) b.report.state refl refl) [

@@ -49,7 +49,8 @@ hears-so window first known report room least most fits =
       by (under from to is) = rw is (λ yes. omega arith, λ within. refl)
       by (off from to is) = rw is (λ yes. absurd cc, λ within. absurd (omega arith))
 
--- from N(R) the sender learns that the frames before it are accepted, or learns nothing
+-- if N(R) is within the window, the sender learns that the frames before N(R) are accepted, and otherwise it learns
+-- nothing
 heard-learnt : (window first known report : ℕ) → report < 256 → above first known report ≤ window → (first + heard first window known report) % 256 ≡ report
 heard-learnt window first known report fits within = grind (arith, nat_tests)
 

@@ -19,7 +19,7 @@ one_lost = Send 0 ∷ Send 1 ∷ Arrive 1 1 ∷ Hear 3 ∷ Send 0 ∷ Arrive 0 4
 abbrev pub with_window : ℕ → Loop
 with_window window = new_loop no_limits (example.buffer_of 300) (λ m. example.link_up) window
 
--- this number of frames, from frame i on and from moment t on: each is sent, and arrives before the next one is sent
+-- A number of frames, from frame i and moment t on. Each frame is sent, and arrives before the next one is sent.
 abbrev pub one_by_one : ℕ → ℕ → ℕ → List Action
 one_by_one t i zero = []
 one_by_one t i (suc n) = Send i ∷ Arrive i t ∷ one_by_one (t + 2) (i + 1) n
@@ -37,8 +37,8 @@ overtaken = one_by_one 0 0 255 ++ Hear 510 ∷ Send 255 ∷ Arrive 255 511 ∷ A
 abbrev pub old_report : List Action
 old_report = Send 0 ∷ Arrive 0 0 ∷ Hear 2 ∷ Hear 0 ∷ []
 
--- Frame 0 is an earlier one. Then come a Set V(R) to x, and frames that are numbered from x on, each with a packet of
--- application 5.
+-- The frames of a start. Frame 0 is an earlier one, and frame 1 is Set V(R) to x. The later frames are numbered from x
+-- on, and each of them carries a packet of application 5.
 abbrev pub around : ℕ → ℕ → List ℕ
 around x zero = smallest 0 0
 around x (suc zero) = 0x30 ∷ 0x2a ∷ 0x04 ∷ 0x07 ∷ 0x00 ∷ 0x82 ∷ 0x00 ∷ x ∷ []
@@ -47,9 +47,9 @@ around x (suc (suc i)) = example.packet_octets ((x + i) % 256)
 abbrev pub around_set_to : ℕ → Loop
 around_set_to x = record (new_loop no_limits (example.buffer_of 2) (λ m. example.link_up) 5) { first = x; frames = around x }
 
--- V(R) was 0, and then 1. A Set V(R) to 0 is obeyed. Then the two earlier CLCWs come, and the sender believes the first
--- one, because it has the number 0. The sender's frame 0 is lost, but the second CLCW makes the sender take it for
--- accepted.
+-- V(R) was 0, and then 1. A Set V(R) to 0 is obeyed. Then the two earlier CLCWs come. The sender takes the first one
+-- for a sign that Set V(R) was obeyed, because it has the number 0. The sender's frame 0 is lost, but the second CLCW
+-- makes the sender take it for accepted.
 abbrev pub trap : Start
 trap = record {
   loop = around_set_to 0;

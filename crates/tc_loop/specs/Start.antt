@@ -1,6 +1,6 @@
 -- The start of an era. A sender sends Set V(R) itself, while earlier frames and CLCWs are still on their way. It
--- numbers its frames anew once it believes that Set V(R) was obeyed (CCSDS 232.1-B, FOP-1: initiation of the AD service
--- with Set V(R)).
+-- numbers its frames anew once it takes Set V(R) for obeyed (CCSDS 232.1-B, FOP-1: initiation of the AD service with
+-- Set V(R)).
 use Rattle.std.specs.Prelude.{◌≡◌, ℕ, suc, ◌+◌, ◌-◌, ◌%◌, ◌≢◌, ◌<◌, ◌≤◌, List, [], ◌∷◌, drop, take, map, slice_get, Some, None, nat_le, nat_lt, if◌then◌else◌}
 use Rattle.tc_link.specs.Frame.{header_of}
 use Rattle.tc_link.specs.Command.{kind_of}
@@ -19,8 +19,8 @@ pub record Start : Type 0 where
   pub loop : Loop
   pub directive : ℕ
   pub session : List Action
-  -- A moment at which Set V(R) was obeyed, the last such moment, and the moment at which the sender hears the CLCW by
-  -- which it believes that Set V(R) was obeyed.
+  -- `obeyed` is a moment at which Set V(R) was obeyed, and `again` is the last such moment. At the moment `believed`,
+  -- the sender hears the CLCW by which it learns that Set V(R) was obeyed.
   pub obeyed : ℕ
   pub again : ℕ
   pub believed : ℕ
@@ -30,8 +30,8 @@ abbrev pub IsObeyed : Start → ℕ → Type 0
 IsObeyed s t = (sent : ℕ) × (slice_get s.session t ≡ Some (Arrive s.directive sent))
     × (set_by s.loop.settings (receiver s.loop (take t s.session)) (Frame (s.loop.frames s.directive)) ≡ Some s.loop.first)
 
--- the number of frames of the era that the sender knows to be accepted at a moment (CLCWs that it heard before it
--- believed that Set V(R) was obeyed don't count)
+-- the number of frames of the era that the sender knows to be accepted at a moment, from the CLCWs that it has heard
+-- from the moment `believed` on
 abbrev pub known_since : Start → ℕ → ℕ
 known_since s t = known_from s.loop s.session 0 (drop s.believed (take t s.session))
 
@@ -54,7 +54,7 @@ era_actions s t (action ∷ rest) = era_action s t action ∷ era_actions s (suc
 abbrev pub era_session : Start → List Action
 era_session s = era_actions s 0 s.session
 
--- a start by FOP-1's rules, in which the sender believes that Set V(R) was obeyed only when this is true
+-- The start follows FOP-1's rules. The sender takes Set V(R) for obeyed only after it was obeyed.
 pub record IsStart (s : Start) : Type 0 where
   pub window : s.loop.window < 256
   pub directive : kind_of (header_of (s.loop.frames s.directive)) (field_of (s.loop.frames s.directive)) ≡ Bc (SetVr s.loop.first)
@@ -64,10 +64,10 @@ pub record IsStart (s : Start) : Type 0 where
   pub obeyed : IsObeyed s s.obeyed
   pub again : (s.obeyed ≤ s.again) × IsObeyed s s.again
   pub last : NoneSetsWithin s.loop.limits s.loop.settings (journal s.loop (take (suc s.again) s.session)) (events s.loop (drop (suc s.again) s.session))
-  -- Set V(R) was obeyed before the receiver made the CLCW by which the sender believes this.
+  -- Set V(R) was obeyed before the receiver made the CLCW by which the sender learns of that.
   pub believes : (made : ℕ) × (slice_get s.session s.believed ≡ Some (Hear made)) × (s.obeyed < made)
-  -- From the directive on, the sender sends no earlier frame. Once it believes that Set V(R) was obeyed, it no longer
-  -- sends the directive, and it sends the era's frames by its window.
+  -- From the directive on, the sender sends no earlier frame. Once it takes Set V(R) for obeyed, it no longer sends the
+  -- directive, and sends the era's frames by its window.
   pub stops : (t u j : ℕ) → slice_get s.session t ≡ Some (Send j) → j < s.directive → slice_get s.session u ≡ Some (Send s.directive) → t < u
   pub asks : (t : ℕ) → slice_get s.session t ≡ Some (Send s.directive) → t < s.believed
   pub sends : (t i : ℕ) → slice_get s.session t ≡ Some (Send (s.directive + 1 + i)) → (s.believed < t) × (known_since s t ≤ i) × (i < known_since s t + s.loop.window)
@@ -75,11 +75,11 @@ pub record IsStart (s : Start) : Type 0 where
   -- No other event sets V(R).
   pub others : (t : ℕ) (e : Event) → slice_get s.session t ≡ Some (Other e) → IsOther e × (set_by s.loop.settings (receiver s.loop (take t s.session)) e ≡ None)
 
--- the earlier era as a loop, with its first number, its window and its frames (which the session may have sent or not)
+-- the earlier era as a loop, with its first number, its window and its frames, whether the session sends them or not
 abbrev pub era_before : Start → ℕ → ℕ → (ℕ → List ℕ) → Loop
 era_before s first window frames = record s.loop { first = first; window = window; frames = frames }
 
--- an action of the session as an action of the earlier loop (in which Set V(R) isn't one of the sender's frames)
+-- an action of the session as an action of the earlier loop, whose sender doesn't send Set V(R) as one of its frames
 abbrev pub action_before : Start → Action → Action
 action_before s (Send j) = if nat_lt j s.directive then Send j else Idle
 action_before s (Arrive j r) = if nat_lt j s.directive then Arrive j r else Other (Frame (s.loop.frames j))
@@ -91,8 +91,9 @@ action_before s Idle = Idle
 abbrev pub session_before : Start → List Action
 session_before s = map (action_before s) (take s.obeyed s.session)
 
--- Set V(R) is first sent at moment `asked`. Consider the numbers from that of the first frame that the sender doesn't
--- know to be accepted at that moment to the one after the last frame that it sent. Set V(R) names none of these.
+-- Set V(R) is first sent at moment `asked`. Consider the numbers of the earlier frames, from the first one that the
+-- sender doesn't know to be accepted at that moment to the one after the last one that it sent. Set V(R) names none of
+-- these numbers.
 abbrev pub NamesAnother : Start → ℕ → ℕ → (ℕ → List ℕ) → ℕ → Type 0
 NamesAnother s first window frames asked =
     (a : ℕ) → known (era_before s first window frames) (session_before s) asked ≤ a → a ≤ begun (session_before s) s.obeyed → (first + a) % 256 ≢ s.loop.first

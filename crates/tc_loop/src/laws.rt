@@ -30,14 +30,15 @@ pub fn a_loop_accepts_what_was_sent_once_and_in_order()
 {}
 
 /// The data fields that a loop passes on to reassembly are the first that were sent, and their number is the number of
-/// released fields. For every journal, `what_was_sent_is_given_in_order` of tc_channel tells which items takes then
-/// give.
+/// released fields. The law `what_was_sent_is_given_in_order` of tc_channel states, for any journal, which items the
+/// takes return.
 pub fn a_loop_passes_on_what_was_sent_in_order()
     ensures { (l : Loop) (session : List Action) → IsLoop l session
         → passed_since l.limits l.settings l.before (receiver l session).passed ≡ sent_from (sent l) 0 (released_since l.limits l.settings l.before (journal l session)) }
 {}
 
-/// At each moment, each frame that the sender of a loop takes for accepted is accepted.
+/// At each moment, each frame that the sender of a loop takes for accepted is accepted. Each accepted frame was sent.
+/// At most K frames were sent beyond those that the sender takes for accepted.
 pub fn a_sender_knows_what_is_accepted()
     ensures { (l : Loop) (session : List Action) (t : ℕ) → IsLoop l session → IsKnownSo l session t }
 {}
@@ -57,9 +58,10 @@ pub fn a_wider_window_can_lock_out()
     ensures { (limits : ℕ → ℕ) (s : Settings) (links : ℕ → Link) → IsAllowed s → LocksOut (new_loop limits s links (s.width / 2 + 1)) (last_of (s.width / 2)) }
 {}
 
-/// If the sender's window is no wider than half the receiver's, a loop is never stuck. Whatever was lost and whatever
-/// waits, one round in which nothing is lost is enough, without a command: after it one more frame is accepted, and the
-/// sender knows it.
+/// If the sender's window is no wider than half the receiver's, a loop is never stuck. The window must be at least 1,
+/// and the receiver must not be locked out at first. Whatever was lost before, one round without a loss is enough, and
+/// no command is needed: after the round one more frame is accepted, and the sender knows this (`round`). After `n`
+/// rounds, `n` more frames are accepted (`any`).
 pub fn a_loop_can_always_go_on()
     ensures round { (l : Loop) (session : List Action) → IsLoop l session → 1 ≤ l.window → l.window ≤ l.settings.width / 2
         → (receiver l []).report.state ≢ S3 → GoesOn l session (session ++ round l session) }
@@ -67,36 +69,38 @@ pub fn a_loop_can_always_go_on()
         → (receiver l []).report.state ≢ S3 → GoesOnBy l n session }
 {}
 
-/// Each allowed receiver that starts can be in a loop, and the sender's window can be any below 256.
+/// Each new receiver with allowed settings can be in a loop, with any sender's window below 256. A new receiver isn't
+/// locked out.
 pub fn each_receiver_can_be_in_a_loop()
     ensures begins { (limits : ℕ → ℕ) (s : Settings) (links : ℕ → Link) (window : ℕ) → IsAllowed s → window < 256 → IsLoop (new_loop limits s links window) [] }
     ensures state { (limits : ℕ → ℕ) (s : Settings) (links : ℕ → Link) (window : ℕ) → (receiver (new_loop limits s links window) []).report.state ≢ S3 }
 {}
 
-/// The era that a sender's own Set V(R) starts is a loop, too, whatever earlier frames and CLCWs are still on their
-/// way. The condition is that Set V(R) was obeyed before the receiver made the CLCW by which the sender believes this.
-/// The loop has the receiver and the journal of the session, and the frames that the sender knows in it are those of
-/// which it heard after it believed that Set V(R) was obeyed.
+/// The era that a sender's own Set V(R) starts is a loop, too, even if earlier frames and CLCWs are still on their way.
+/// The receiver must have obeyed Set V(R) before it made the CLCW by which the sender learns of that. The loop has the
+/// journal of the session (`journal`). Its sender knows those frames to be accepted that CLCWs have shown since that
+/// CLCW (`known`).
 pub fn an_era_that_set_v_r_starts_is_a_loop()
     ensures loop_again { (s : Start) → IsStart s → IsLoop (era s) (era_session s) }
     ensures journal { (s : Start) → IsStart s → journal (era s) (era_session s) ≡ journal s.loop s.session }
     ensures known { (s : Start) (t : ℕ) → IsStart s → known (era s) (era_session s) t ≡ known_since s t }
 {}
 
-/// The sender can make sure that a CLCW was made after its Set V(R) was obeyed. Consider the numbers from that of the
-/// first frame that it doesn't know to be accepted to the one after the last frame that it sent. If Set V(R) names none
-/// of these, any CLCW with Set V(R)'s number that the sender hears from then on was made after Set V(R) was obeyed.
+/// A sender can make sure that a CLCW was made after its Set V(R) was obeyed. Consider the numbers of its frames, from
+/// the first one that it doesn't know to be accepted to the one after the last one that it sent. Suppose that Set V(R)
+/// names none of these numbers. Then each CLCW with Set V(R)'s number that the sender hears after it sends Set V(R) was
+/// made after Set V(R) was obeyed.
 pub fn a_number_of_its_own_shows_that_set_v_r_was_obeyed()
     ensures { (s : Start) (first window : ℕ) (frames : ℕ → List ℕ) (asked made : ℕ) → ((i : ℕ) → i < s.directive → frames i ≡ s.loop.frames i)
         → IsLoop (era_before s first window frames) (session_before s) → KeepOrder s.session → IsObeyed s s.obeyed → asked ≤ s.obeyed → asked ≤ s.believed
         → NamesAnother s first window frames asked → slice_get s.session s.believed ≡ Some (Hear made) → reported s.loop s.session made ≡ s.loop.first → s.obeyed < made }
 {}
 
-/// These starts come to the results that were worked out by hand. FOP-1's rule alone, by which a sender believes a CLCW
-/// with the number that Set V(R) names, isn't enough (`trap`): an earlier CLCW has the number 0, too, and the sender
-/// takes its lost frame for accepted. A Set V(R) to 9 meets each premise of both laws (`met`, `before_met`,
-/// `another_met`), although it is obeyed twice. It may also name a number whose frame is known to be accepted
-/// (`known_named`), but not that of the next frame (`next_not_named`).
+/// These starts come to the results that were worked out by hand. By FOP-1's rule alone, a sender takes Set V(R) for
+/// obeyed if a CLCW has the number that Set V(R) names. This rule isn't enough (`trap`): an earlier CLCW has the number
+/// 0, too, and the sender takes a lost frame for accepted. A Set V(R) to 9 meets each premise of both laws (`met`,
+/// `before_met`, `another_met`), although it is obeyed twice. A Set V(R) may also name the number of a frame that is
+/// known to be accepted (`known_named`), but not that of the next frame (`next_not_named`).
 pub fn starts_come_to_this()
     ensures trap_says { reported example.trap.loop example.trap.session 0 ≡ example.trap.loop.first }
     ensures trap_known { known_since example.trap 7 ≡ 1 }
@@ -134,11 +138,11 @@ pub fn report_values_are_read_so()
     ensures widest { heard 0 255 255 254 ≡ 510 }
 {}
 
-/// FARM-1 in a channel with a window of 2 K can track a sender with a window of K frames. Take the sender's first frame
-/// that it doesn't know to be accepted. If V(R) is the number of this frame, another frame is expected or in the half
-/// ahead exactly when the sender may send it (`may_send`). If V(R) is an N(R) that the sender reads, this frame is
-/// expected or in the half behind exactly when the sender then knows the frames before N(R) to be accepted
-/// (`known_after`).
+/// FARM-1 in a channel with a window of 2 K can track a sender with a window of K frames. Consider the first frame that
+/// the sender doesn't know to be accepted. If V(R) is the number of this frame, a frame is expected or in the positive
+/// part of the window if and only if the sender may send it (`may_send`). If V(R) is an N(R) that the sender reads, the
+/// first unknown frame is expected or in the negative part of the window if and only if the sender then knows the
+/// frames before N(R) to be accepted (`known_after`).
 pub fn a_window_twice_as_wide_shows_a_sender()
     ensures sends { (window first known index : ℕ) (room : Bool) → 1 ≤ window → window ≤ 127 → known ≤ index → index < known + 256
         → IsTrue (is_here_or_ahead (event_at window ((first + known) % 256) ((first + index) % 256) room)) ↔ (index < known + window) }
@@ -149,9 +153,9 @@ pub fn a_window_twice_as_wide_shows_a_sender()
 {}
 
 /// Each premise on the window and on links is needed. If the window is 256, the sender's first 256 frames may be
-/// accepted without the sender knowing of any, so that it sends frame 0 again: 257 frames are accepted, but 256 were
-/// sent. If a frame arrives after one that was sent later, this can also happen with a window of 255. If a CLCW is
-/// heard after one that was made later, the sender takes 256 frames for accepted when one is.
+/// accepted while it knows of none. It may then send frame 0 again, so that 257 frames are accepted, although only 256
+/// were sent. If a frame arrives after one that was sent later, this can also happen with a window of 255. If a CLCW is
+/// heard after one that was made later, the sender takes 256 frames for accepted when only one is.
 pub fn each_premise_is_needed()
     ensures window_accepted { accepted (example.with_window 256) example.sent_again ≡ 257 }
     ensures window_begun { begun example.sent_again (length example.sent_again) ≡ 256 }

@@ -1,10 +1,10 @@
 //! A loop of a sender and a receiver. A sender numbers its frames and keeps a sliding window, as FOP-1 does (the frame
 //! operation procedure, CCSDS 232.1-B). The receiver runs FARM-1 and replies with CLCWs. Both links may lose, repeat
-//! and delay frames and CLCWs, but keep their order. Then the two conditions of
-//! `what_was_sent_is_accepted_once_and_in_order` of tc_channel hold.
+//! and delay frames and CLCWs, but keep their order. The two conditions of
+//! `what_was_sent_is_accepted_once_and_in_order` of tc_channel hold in each loop.
 //!
 //! [`known_after`] returns the number of frames that a sender knows to be accepted after a CLCW, and [`may_send`]
-//! checks its window. All other functions are laws, which have an empty body.
+//! checks the window of a sender. All other functions are laws, which have an empty body.
 #![tactic(auto)]
 
 mod hearing;
