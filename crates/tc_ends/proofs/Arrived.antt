@@ -6,17 +6,17 @@ use Rattle.tc_ends.proofs.Names.{if◌then◌else◌, Action, AllByRecursion, Al
 abbrev Both : Mode → ℕ → Reception → List ℕ → Step
 Both mode room state octets = (state_after mode room state octets, frames_of mode room state octets)
 
--- the state after octets, and the candidate frames that they end together with those of an earlier step
+-- the state after octets, and the candidate frames of an earlier step, followed by those that the octets end
 abbrev behind : Mode → ℕ → Step → List ℕ → Step
 behind mode room step octets = (state_after mode room step.0 octets, step.1 ++ frames_of mode room step.0 octets)
 
--- eight octets are taken as a block
+-- the decoder takes eight octets as a code block
 block : (mode : Mode) (room : ℕ) (frame own : List ℕ) (last : ℕ) (rest : List ℕ) → length own ≡ 7
     → Both mode room (Decoding frame []) ((own ++ last ∷ []) ++ rest) ≡ behind mode room (after_block room frame (decoded mode (own ++ last ∷ []))) rest
 block mode room frame (a ∷ b ∷ c ∷ d ∷ e ∷ f ∷ g ∷ []) last rest seven = refl
 block mode room frame _ last rest seven = absurd (omega arith)
 
--- the blocks are taken as they were sent
+-- code blocks with few wrong bits are decoded to the octets that were sent
 near-taken : (mode : Mode) (room : ℕ) (os frame blocks more : List ℕ) → AreNearBlocks mode os blocks → length frame + length os ≤ room
     → Both mode room (Decoding frame []) (blocks ++ more) ≡ Both mode room (Decoding (frame ++ os) []) more
 near-taken mode room [] frame blocks more near fits =
@@ -66,7 +66,7 @@ near-both mode last frame octets rest fault n =
     ∙ near-taken mode most_octets (filled frame) [] n.blocks (end ++ rest) n.near (let fits = filled-fits frame fault in omega arith)
     ∙ tail-ends mode most_octets (filled frame) n.tail n.end rest (filled-some frame some) n.long n.rejected
 
--- octets of this length can be carried by a CLTU
+-- a CLTU can carry octets of this length
 no-fault : (octets : List ℕ) → 1 ≤ length octets → length octets ≤ most_octets → cltu_fault_of octets ≡ None
 no-fault octets least most = grind (arith, nat_tests)
 
@@ -78,7 +78,7 @@ enclosed-alike : (field : Bool) (one other : List ℕ) → IsWhole one → IsWho
 enclosed-alike true one other w v same = frame_with_field-alike one other w v same
 enclosed-alike false one other w v same = same
 
--- an input brings about one list of events and no other
+-- one input brings about only one list of events
 taken-alike : (several : Bool) (carried : List ℕ) (one other : List (List ℕ)) → AreTakenOut several carried one → AreTakenOut several carried other → one ≡ other
 taken-alike true carried one other a b = (only-frames (length carried) carried a.0 b.0 one other a.1 b.1).0
 taken-alike false carried one other (inl a) (inl b) =
@@ -109,7 +109,7 @@ events-alike end state (Octets octets) one other a b =
     a.2 ∙ ap (map Frame) (brought-alike end.several end.field (frames_of end.mode most_octets state octets) a.0 b.0 a.1 b.1) ∙ sym b.2
 events-alike end state (Asks e) one other a b = a ∙ sym b
 
--- the frames that a CLTU carries are taken out of it, and pass
+-- frames with their frame error control fields pass the check
 all-passed : (field : Bool) (frames : List (List ℕ)) → AllByRecursion IsWhole frames → ArePassed field (map (enclosed field) frames) frames
 all-passed field [] all = refl
 all-passed field (f ∷ fs) all = inl (f, fs, all.0, refl, refl, all-passed field fs all.1)
@@ -135,7 +135,7 @@ near-now : (mode : Mode) (last : ℕ) (carried octets : List ℕ) → cltu_fault
 near-now mode last carried octets fault near =
     ap (Both mode most_octets (Searching last)) (sym (append-nil octets)) ∙ near-both mode last carried octets [] fault near
 
--- frames that octets carry well come, and the receiver searches again
+-- if octets carry frames well, these frames arrive, and the receiver searches again
 pub well-come : (end : LinkEnd) (last : ℕ) (frames : List (List ℕ)) (octets : List ℕ) → CarriesWell end last frames octets
     → (state_behind end (Searching last) (Octets octets) ≡ Searching 0) × AreEventsAt end (Searching last) (Octets octets) (map Frame frames)
 well-come end last frames octets w =
@@ -149,15 +149,15 @@ well-come end last frames octets w =
     let one : AreBrought end.several end.field (filled all ∷ []) frames = (xs, frames, [], taken, all-passed end.field frames w.whole, sym (append-nil frames), refl) in
     (ap (λ (s : Step). s.0) now, (frames, subst (λ cs. AreBrought end.several end.field cs frames) (sym (ap (λ (s : Step). s.1) now)) one, refl))
 
--- octets that step by step do as others do from another state are lost, too
+-- if octets have the same effect as other octets from another state, and the others are lost, they are lost, too
 lost-alike : (end : LinkEnd) (last o : ℕ) (octets os : List ℕ) (later : ℕ) → Both end.mode most_octets (Searching last) octets ≡ Both end.mode most_octets (Searching o) os → IsLost end o os later → IsLost end last octets later
 lost-alike end last o octets os later same is = (
   (is.0.0, subst (λ cs. AreBrought end.several end.field cs is.0.0) (sym (ap (λ (s : Step). s.1) same)) is.0.1, is.0.2),
   ap (λ (s : Step). s.0) same ∙ is.1,
 )
 
--- what a link may lose: idle octets, a CLTU whose first code block is rejected, and one that carries nothing that
--- passes
+-- idle octets are lost, and so is a CLTU whose first code block is rejected, or which carries nothing that passes the
+-- check
 pub idle-lost : (end : LinkEnd) (last : ℕ) (octets : List ℕ) → HasNoStart end.mode last octets → (later : ℕ) × IsLost end last octets later
 idle-lost end last [] none = (last, (([], refl, refl), refl))
 idle-lost end last (o ∷ os) none =
@@ -183,7 +183,7 @@ pub refused-lost : (end : LinkEnd) (last : ℕ) (carried octets : List ℕ) → 
     → AreBrought end.several end.field (filled carried ∷ []) [] → IsLost end last octets 0
 refused-lost end last carried octets fault near none = none-lost end last octets (filled carried ∷ []) (near-now end.mode last carried octets fault near) none
 
--- an input that carries events brings about just these, and the receiver searches again
+-- an input that carries events brings about exactly these events, and the receiver searches again
 step : (end : LinkEnd) (last later : ℕ) (es : List Event) (c : Coming) → IsCarriedOrLost end last es c later → (state_behind end (Searching last) c ≡ Searching later) × AreEventsAt end (Searching last) c es
 step end last later es (Asks e) is = (ap Searching (sym is.1), is.0)
 step end last later es (Octets octets) (inl is) = (is.1.1, subst (AreEventsAt end (Searching last) (Octets octets)) (sym is.0) is.1.0)

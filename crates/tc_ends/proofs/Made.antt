@@ -29,7 +29,7 @@ pub same-self : (service : Service) (n : ℕ) → (same_service service service 
 same-self Ad n = grind (arith)
 same-self Bd n = grind (arith)
 
--- packets of one stream
+-- packets, each with this stream
 abbrev tagged : Service → ℕ → List (List ℕ) → List OnStream
 tagged service map_id packets = map {B = OnStream} (λ packet. record { service = service; map_id = map_id; packet = packet }) packets
 

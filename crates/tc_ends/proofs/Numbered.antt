@@ -65,7 +65,7 @@ numbered-sends limits b header units frames sent can numbered is = record {
   packets = λ id. (sendable limits b units can id).1;
 }
 
--- the N(S) of the frames counts on
+-- N(S) counts on from one unit's frames to the next unit's
 ns-on : (n a b : ℕ) → ((n + a) % 256 + b) % 256 ≡ (n + (a + b)) % 256
 ns-on n a b = omega arith
 

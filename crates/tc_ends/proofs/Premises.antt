@@ -1,4 +1,4 @@
--- The session that meets all premises at once: that of `learnt_by_9`, with its frames in CLTUs.
+-- The session that meets all premises at once: `learnt_by_9` of tc_loop, with its frames in CLTUs.
 use Rattle.tc_ends.proofs.Names.{AreGivenOf, AreTakenOut, ap, checksum_of, frame_with_field-passes, journal, of_wrong, packets_made, passed_before, released_since, units_on, with_wrong_field, IsInformation, times_x, Action, AllByRecursion, AreCarriedOrLost, AreFrom, AreNearBlocks, AreNumbered, Arrive, CanBeSent, CarriesWell, Correct, Frame, Hear, IsLost, IsMadeFrame, IsNearCltu, IsPacket, IsWhole, List, Other, Queue, Release, Send, SendsOnly, Some, Take, [], all_enclosed, append-nil, arith, around, block_times_x, by_bd, correcting, decoded, enclosed, enclosing, era, era_session, errors, events, filled, first-far, first_frame, first_header, first_state_within, frame_with_field, frame_with_field-frame, get_or, header_later, idle, idle-far, in_cltus, in_small_segments, inl, inr, learnt_by_9, length, no_limits, octet_bits, octets-by, octets_before_field, of_before, of_both, of_nothing, of_set_v_r, one_unit, packet, packets_given, passed_on, piece_at, queue_of, receiver, refl, run_within, segment_at, small, so-at, some_of_first, start-far, start-same, subst, suc, sym, true, whole-0, whole-1, whole-2, whole-bd, zero, ℕ, ◌++◌, ◌<◌, ◌∙◌, ◌∷◌, ◌≡◌, ◌≤◌}
 use Rattle.tc_channel.specs.Lossless.{DropsNone}
 use Rattle.tc_ends.proofs.Arrived.{cut-lost, idle-lost, refused-lost}
@@ -34,7 +34,7 @@ IsFirst t _ = Unit {0}
 pub only-first : SendsOnly 1 (era_session learnt_by_9)
 only-first t i e = so-at IsFirst (era_session learnt_by_9) t (Send i) (tt, (tt, (tt, (tt, (tt, (tt, (tt, (omega arith, (tt, (tt, (tt, (tt, (tt, (tt, (tt, (tt, tt)))))))))))))))) e
 
--- the CLTUs
+-- ---- the CLTUs
 
 near-cltu : (last : ℕ) (carried blocks : List ℕ) → AreNearBlocks Correct (filled carried) blocks → IsNearCltu Correct last carried (enclosing blocks)
 unfolding decoded block_times_x octet_bits
@@ -58,7 +58,7 @@ few block information n is less = subst (λ m. m ≤ 1) (sym is) less
 seven : (xs : List ℕ) → small xs ≡ true → length xs ≡ 7 → IsInformation xs
 seven xs each long = record { each = octets-by xs each; seven = long }
 
--- the frames with their fields
+-- the frames of the session are these octets once their frame error control fields are appended
 pub with-fields : (enclosed true (around 9 0) ≡ 0x00 ∷ 0x00 ∷ 0x00 ∷ 0x07 ∷ 0x00 ∷ 0x00 ∷ 0x8b ∷ 0x80 ∷ [])
     × (enclosed true (around 9 1) ≡ 0x30 ∷ 0x2a ∷ 0x04 ∷ 0x09 ∷ 0x00 ∷ 0x82 ∷ 0x00 ∷ 0x09 ∷ 0x80 ∷ 0x94 ∷ [])
     × (enclosed true first_frame ≡ 0x00 ∷ 0x2a ∷ 0x04 ∷ 0x0e ∷ 0x09 ∷ 0xc0 ∷ 0x10 ∷ 0x05 ∷ 0xc0 ∷ 0x00 ∷ 0x00 ∷ 0x00 ∷ 0xaa ∷ 0xa9 ∷ 0xb2 ∷ [])
@@ -69,7 +69,8 @@ with-fields = (refl, refl, refl, refl)
 fits : (frame : List ℕ) → IsWhole frame → length frame ≤ 1022 → IsWhole (enclosed true frame)
 fits frame whole most = (frame_with_field-frame frame whole most).whole
 
--- the octets of one frame, or two, and what carries them
+-- if code blocks have few wrong bits against the octets of one frame or of two, a CLTU of these blocks carries the
+-- frames well
 one-carried : (last : ℕ) (frame sent blocks : List ℕ) → IsWhole frame → length frame ≤ 1022 → enclosed true frame ≡ sent → length sent ≤ 1029 → AreNearBlocks Correct (filled sent) blocks → CarriesWell correcting last (frame ∷ []) (enclosing blocks)
 one-carried last frame sent blocks whole most is short near =
     let all : all_enclosed true (frame ∷ []) ≡ sent = append-nil (enclosed true frame) ∙ is in
@@ -127,7 +128,7 @@ nothing-lost : (last : ℕ) → IsLost correcting last of_nothing 0
 unfolding decoded block_times_x octet_bits
 nothing-lost last = cut-lost correcting last 0xEB 0x90 (0x33 ∷ 0x2a ∷ 0x04 ∷ 0x09 ∷ 0x00 ∷ 0x82 ∷ 0x00 ∷ []) 0xda (start-far Correct last 0xEB first-far) (start-same Correct) refl refl
 
--- no frame with its field is these octets, over which the check sum isn't 0
+-- `with_wrong_field` isn't a frame with its frame error control field, since the check sum over it isn't 0
 refused : (frame : List ℕ) → IsWhole frame → with_wrong_field ≡ enclosed true frame → ⊥
 unfolding octet_bits times_x
 refused frame whole e =
@@ -226,7 +227,7 @@ pub drops_none : DropsNone learnt_by_9.loop.settings (first_state_within learnt_
 unfolding passed_on some_of_first no_limits
 drops_none = (refl, (refl, (refl, (refl, (refl, (refl, (refl, (refl, tt))))))))
 
--- if the packets of the session are given as the law says, none is left out
+-- the law's conclusion for this session
 abbrev IsGivenHere : Type 0
 IsGivenHere = AreGivenOf learnt_by_9.loop.limits learnt_by_9.loop.settings 5 (era learnt_by_9).before (journal learnt_by_9.loop learnt_by_9.session) 1 (units_on one_unit)
 

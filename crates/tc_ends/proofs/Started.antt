@@ -1,4 +1,4 @@
--- The way from a sender's packets to the packets that takes give, over the start of an era.
+-- The way from a sender's packets to the packets that are taken, over the start of an era.
 use Rattle.tc_ends.proofs.Names.{Action, AllByRecursion, AltersNothing, AreEventsOf, AreFrom, AreGivenOf, AreNumbered, CanBeSent, Coming, Event, Header, IsLoop, IsStart, LinkEnd, List, Loop, Queue, Reception, SendsOnly, Some, Start, UnitSent, [], accepted, ap, arith, begins, begun, comes, era, era_session, field_of, inl, inr, is-loop, journal, journal-whole, known-so, length, length-drop, map, queue_of, receiver, refl, released-within, released_since, run_within, sent, sent_from, subst, suc, sym, units_on, whole, zero, ℕ, ◌++◌, ◌∙◌, ◌∷◌, ◌≡◌, ◌≤◌}
 use Rattle.tc_ends.proofs.Arrived.{events-came}
 use Rattle.tc_ends.proofs.Numbered.{numbered-sends}
@@ -15,7 +15,7 @@ fields-of frames [] are = refl
 fields-of frames (f ∷ fs) are =
     rw (are 0 f refl) (ap (λ (x : List (List ℕ)). field_of f ∷ x) (shift (λ i. field_of (frames i)) 0 (length fs) ∙ fields-of (λ i. frames (suc i)) fs (λ i frame e. are (suc i) frame e)))
 
--- no more frames are begun than there are
+-- if a sender sends only its first n frames, it begins no more than n frames
 begun-within : (session : List Action) (n : ℕ) → SendsOnly n session → (t : ℕ) → begun session t ≤ n
 begun-within session n only zero = omega arith
 begun-within session n only (suc t) = let before = begun-within session n only t in elim (begins session t) [
@@ -23,7 +23,7 @@ begun-within session n only (suc t) = let before = begun-within session n only t
   | inr one ↦ let low = only t one.0 one.1 in let e = one.2 in omega arith
 ]
 
--- no more data fields are released than there are frames
+-- if a sender sends only its first n frames, no more than n data fields are released
 released-few : (l : Loop) (session : List Action) (n : ℕ) → IsLoop l session → SendsOnly n session → released_since l.limits l.settings l.before (journal l session) ≤ n
 released-few l session n k only =
     let so = subst (λ xs. accepted l xs ≤ begun session (length session)) (whole session) (known-so l session (length session) k).among in

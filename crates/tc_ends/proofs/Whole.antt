@@ -29,7 +29,7 @@ sent-more sent j (suc a) b =
     let f : suc a + b ≡ suc (a + b) = omega arith in
     rw (e, f) (ap (λ (x : List (List ℕ)). sent j ∷ x) (sent-more sent (suc j) a b))
 
--- these data fields, passed on by Type-AD
+-- data fields that Type-AD passes on
 abbrev by_ad : List (List ℕ) → List Passed
 by_ad fields = map {B = Passed} (λ field. record { service = Ad; field = field }) fields
 
@@ -135,7 +135,8 @@ module _ (limits : ℕ → ℕ) (s : Settings) (journal before : List Event) (se
           ap (λ (x : List (List ℕ)). unless_chosen s id (packets_for apid x))
           (made-append (stream_unit limits s Bd id) old new rest ∙ ap (λ (x : List (List ℕ)). bd ++ x) (none-by-bd s.segmented limits s id (sent_from sent (released_since limits s before journal) (n - released_since limits s before journal)) (old ++ new)) ∙ append-nil bd)
 
-  -- the units of a chosen MAP that were taken are units that were sent on it
+  -- the units of a chosen MAP that were taken are units that earlier fields made, and then units that were sent on the
+  -- MAP
   pub units-of-sent : Makes → (later : List Event) (x : ℕ) (units : List (List ℕ)) (map_id : ℕ) (q : Queue)
       → IsLawfulWithin limits s journal → IsEraWithin limits s journal before later x → ComesFromWithin limits s before later x sent
       → s.segmented ≡ true → is_chosen_map s map_id ≡ true → CarryUnits true map_id units (on_map true map_id (sent_from sent 0 n)) → AllByRecursion (IsSendable limits true map_id) units

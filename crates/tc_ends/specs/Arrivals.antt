@@ -13,8 +13,8 @@ use Rattle.tc_channel.specs.declared.event.Event.{Event}
 use Rattle.tc_channel.specs.declared.event.Event.TheVariants.{Frame}
 use Rattle.tc_loop.specs.Loop.{Action, events_at}
 
--- the code blocks that come when these octets were sent, seven octets to a block, if no block has more wrong bits than
--- the mode tolerates
+-- These code blocks are received when these octets are sent, seven octets to a block. No block has more wrong bits than
+-- the mode tolerates.
 abbrev pub AreNearBlocks : Mode → List ℕ → List ℕ → Type 0
 AreNearBlocks mode [] blocks = blocks ≡ []
 AreNearBlocks mode (a ∷ b ∷ c ∷ d ∷ e ∷ f ∷ g ∷ rest) blocks =
@@ -22,8 +22,8 @@ AreNearBlocks mode (a ∷ b ∷ c ∷ d ∷ e ∷ f ∷ g ∷ rest) blocks =
     × IsInformation (a ∷ b ∷ c ∷ d ∷ e ∷ f ∷ g ∷ []) × (errors (own ++ last ∷ []) (a ∷ b ∷ c ∷ d ∷ e ∷ f ∷ g ∷ []) ≤ most_errors mode) × AreNearBlocks mode rest later
 AreNearBlocks mode _ blocks = ⊥
 
--- the octets that come when the CLTU of a frame was sent: two octets that count as its start sequence, code blocks with
--- few wrong bits, and eight octets that are rejected as a code block
+-- These octets are received when the CLTU of a frame is sent: two octets that count as its start sequence, code blocks
+-- with few wrong bits, and eight octets that are rejected as a code block.
 pub record IsNearCltu (mode : Mode) (last : ℕ) (frame octets : List ℕ) : Type 0 where
   pub one : ℕ
   pub two : ℕ
@@ -42,24 +42,25 @@ abbrev pub enclosed : Bool → List ℕ → List ℕ
 enclosed true frame = frame_with_field frame
 enclosed false frame = frame
 
--- The whole frames that a receiver takes out of the octets that a CLTU carried, with their frame error control fields
--- if frames have one. A receiver of several frames takes one after the other, as a program does that calls
--- tcrx_rack_candidate() again while frames may follow. Any other takes one frame, if at most fill follows it, as tclive
--- does with `candidate`, and else none.
+-- These are the whole frames that a receiver takes out of the octets that a CLTU carried, with their frame error
+-- control fields if frames have one. A receiver of several frames takes one after the other, as a program does that
+-- calls tcrx_rack_candidate() again while frames may follow. Any other receiver takes one frame if at most fill follows
+-- it, and otherwise none, as tclive does with `candidate`.
 abbrev pub AreTakenOut : Bool → List ℕ → List (List ℕ) → Type 0
 AreTakenOut true carried taken = (rest : List ℕ) × AreDelimited (length carried) carried taken rest
 AreTakenOut false carried taken =
     ((frame rest : List ℕ) × IsDelimited carried frame rest × (is_fill rest ≡ true) × (taken ≡ frame ∷ []))
     ⊎ (((frame rest : List ℕ) → IsDelimited carried frame rest → is_fill rest ≡ true → ⊥) × (taken ≡ []))
 
--- These are the frames that pass the check, without their fields. A frame with a wrong field is refused.
+-- These are the frames that pass the check, without their frame error control fields. A frame with a wrong field is
+-- refused.
 abbrev pub ArePassed : Bool → List (List ℕ) → List (List ℕ) → Type 0
 ArePassed field [] frames = frames ≡ []
 ArePassed field (one ∷ taken) frames =
     ((frame : List ℕ) × (later : List (List ℕ)) × IsWhole frame × (one ≡ enclosed field frame) × (frames ≡ frame ∷ later) × ArePassed field taken later)
     ⊎ (((frame : List ℕ) → IsWhole frame → one ≡ enclosed field frame → ⊥) × ArePassed field taken frames)
 
--- These are the frames that candidate frames bring. A candidate frame that brings none is refused.
+-- These are the frames that the candidate frames bring. A candidate frame that brings no frame is refused.
 abbrev pub AreBrought : Bool → Bool → List (List ℕ) → List (List ℕ) → Type 0
 AreBrought several field [] frames = frames ≡ []
 AreBrought several field (carried ∷ candidates) frames =
@@ -78,7 +79,7 @@ pub record LinkEnd : Type 0 where
   pub several : Bool
   pub field : Bool
 
--- the events that this input brings about at the receiver, whose decoder is in this state
+-- this input brings about these events at the receiver, whose decoder is in this state
 abbrev pub AreEventsAt : LinkEnd → Reception → Coming → List Event → Type 0
 AreEventsAt end state (Octets octets) events =
     (frames : List (List ℕ)) × AreBrought end.several end.field (frames_of end.mode most_octets state octets) frames × (events ≡ map Frame frames)
@@ -89,7 +90,7 @@ abbrev pub state_behind : LinkEnd → Reception → Coming → Reception
 state_behind end state (Octets octets) = state_after end.mode most_octets state octets
 state_behind end state (Asks e) = state
 
--- the events of the receiver for all these inputs
+-- all these inputs, one after the other, bring about these events at the receiver
 abbrev pub AreEventsOf : LinkEnd → Reception → List Coming → List Event → Type 0
 AreEventsOf end state [] events = events ≡ []
 AreEventsOf end state (c ∷ coming) events =
@@ -99,20 +100,21 @@ AreEventsOf end state (c ∷ coming) events =
 abbrev pub events_of : (ℕ → List ℕ) → List Action → List Event
 events_of frames session = flat_map (events_at frames) session
 
--- Detection lets nothing through that was altered: the inputs come one after the other during these actions, and each
--- brings about exactly the events of the actions during which it comes. So a CLTU that is refused is a loss, octets
--- that bring nothing may come at any time, and frames of one CLTU arrive one directly after the other.
+-- Detection lets nothing through that was altered. The inputs come one after the other during these actions, and each
+-- brings about exactly the events of the actions during which it comes. A CLTU that is refused is a loss. Octets that
+-- bring nothing may come at any time. The frames of one CLTU arrive one directly after the other.
 abbrev pub AltersNothing : LinkEnd → (ℕ → List ℕ) → Reception → List Action → List Coming → Type 0
 AltersNothing end frames state session [] = events_of frames session ≡ []
 AltersNothing end frames state session (c ∷ coming) =
     (now : List Action) × (later : List Action) × (session ≡ now ++ later) × ((es : List Event) → AreEventsAt end state c es → es ≡ events_of frames now)
     × AltersNothing end frames (state_behind end state c) later coming
 
--- frames, each with its frame error control field if frames have one, one after the other
+-- the octets of these frames one after the other, each with its frame error control field if frames have one
 abbrev pub all_enclosed : Bool → List (List ℕ) → List ℕ
 all_enclosed field frames = concat (map (enclosed field) frames)
 
--- octets that carry these frames well: a CLTU with few wrong bits, in which the frames stand one after the other
+-- The octets carry these frames well. They are a CLTU with few wrong bits, in which the frames stand one after the
+-- other.
 pub record CarriesWell (end : LinkEnd) (last : ℕ) (frames : List (List ℕ)) (octets : List ℕ) : Type 0 where
   pub whole : AllByRecursion IsWhole frames
   pub fitting : AllByRecursion IsWhole (map (enclosed end.field) frames)
@@ -121,12 +123,13 @@ pub record CarriesWell (end : LinkEnd) (last : ℕ) (frames : List (List ℕ)) (
   pub few : length (all_enclosed end.field frames) ≤ most_octets
   pub near : IsNearCltu end.mode last (all_enclosed end.field frames) octets
 
--- Octets that bring nothing to a receiver that searches, behind which it searches again: idle octets, or a CLTU that is
--- refused. The receiver's last octets are then `last` and `later`.
+-- These octets bring nothing to a receiver that searches, and it searches again after them. They are idle octets, or a
+-- CLTU that is refused. The search remembers the last octet that came, which is `last` before these octets and `later`
+-- after them.
 abbrev pub IsLost : LinkEnd → ℕ → List ℕ → ℕ → Type 0
 IsLost end last octets later = AreEventsAt end (Searching last) (Octets octets) [] × (state_after end.mode most_octets (Searching last) octets ≡ Searching later)
 
--- the input carries these events: octets carry all of them well, or none and are lost
+-- The input carries these events. Octets carry all of them well, or there are no events and the octets are lost.
 abbrev pub IsCarriedOrLost : LinkEnd → ℕ → List Event → Coming → ℕ → Type 0
 IsCarriedOrLost end last events (Octets octets) later =
     ((events ≡ []) × IsLost end last octets later) ⊎ ((frames : List (List ℕ)) × (events ≡ map Frame frames) × CarriesWell end last frames octets × (later ≡ 0))

@@ -9,8 +9,7 @@ use Rattle.tc_channel.specs.declared.event.Event.TheVariants.{Release, Take}
 use Rattle.tc_ends.specs.Arrivals.{Coming, LinkEnd, Octets, Asks}
 use Rattle.tc_ends.specs.Ends.{UnitSent}
 
--- the packet that the first frame of the era carries, on MAP 0, in one unit and one segment, and this frame with its
--- header
+-- the packet that the first frame of the era carries, on MAP 0, as a unit in one segment
 abbrev pub packet : List ℕ
 packet = 0x10 ∷ 0x05 ∷ 0xc0 ∷ 0x00 ∷ 0x00 ∷ 0x00 ∷ 0xaa ∷ []
 
@@ -52,14 +51,15 @@ of_both = enclosing (0x00 ∷ 0x2b ∷ 0x04 ∷ 0x0e ∷ 0x09 ∷ 0xc0 ∷ 0x10 
 abbrev pub of_nothing : List ℕ
 of_nothing = start_sequence ++ 0x33 ∷ 0x2a ∷ 0x04 ∷ 0x09 ∷ 0x00 ∷ 0x82 ∷ 0x00 ∷ 0xda ∷ []
 
--- the CLTU of Set V(R) with another field, which is wrong
+-- the octets of Set V(R) with a wrong frame error control field, and the CLTU that carries them
 abbrev pub with_wrong_field : List ℕ
 with_wrong_field = 0x30 ∷ 0x2a ∷ 0x04 ∷ 0x09 ∷ 0x00 ∷ 0x82 ∷ 0x00 ∷ 0x09 ∷ 0x80 ∷ 0x95 ∷ []
 
 abbrev pub of_wrong : List ℕ
 of_wrong = enclosing (0x30 ∷ 0x2a ∷ 0x04 ∷ 0x09 ∷ 0x00 ∷ 0x82 ∷ 0x00 ∷ 0xda ∷ 0x09 ∷ 0x80 ∷ 0x95 ∷ 0x55 ∷ 0x55 ∷ 0x55 ∷ 0x55 ∷ 0xcc ∷ [])
 
--- a receiver whose decoder corrects, which takes several frames out of a CLTU, and checks their fields
+-- the link end of a receiver that takes several frames out of a CLTU, with a decoder that corrects errors and frames
+-- that have a frame error control field
 abbrev pub correcting : LinkEnd
 correcting = record { mode = Correct; several = true; field = true }
 

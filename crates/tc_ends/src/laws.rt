@@ -32,8 +32,8 @@ ghost use Rattle.tc_ends.specs.Examples as example;
 
 use tc_write::the_segments_of_a_unit_make_the_unit;
 
-/// After any earlier fields of their stream, the segments of a unit end this unit at the last segment, and end no unit
-/// before it.
+/// Whatever fields came before on their stream, the last segment of a unit ends this unit, and no segment before it
+/// ends a unit.
 pub fn the_segments_of_a_unit_end_it_once()
     ensures { (map size : ℕ) (unit : List ℕ) (before fields : List (List ℕ)) → 1 ≤ size → 1 ≤ length unit → length unit ≤ 65542
         → AreSegments map size unit fields → EndAtLast before fields unit }
@@ -46,9 +46,10 @@ pub fn joined_packets_are_cut_into_them()
     ensures { (packets : List (List ℕ)) → AllByRecursion IsPacket packets → (packets_of (joined packets) ≡ packets) × (rest_of (joined packets) ≡ []) }
 {}
 
-/// A sender sends packets for an application in units, which are cut into segments, or are whole on a channel without
-/// segment headers. The packets that the data fields make for the application are exactly these packets. The packets of
-/// each stream come in their order, whatever data fields came before, and however the streams are merged.
+/// Suppose that a sender sends packets in units, which are divided into segments, or which are whole on a channel
+/// without segment headers. Then the packets that the data fields make for an application are exactly those that were
+/// sent for it on MAPs that aren't chosen. The packets of each stream keep their order, whatever data fields came
+/// before, and however the streams are merged.
 pub fn packets_that_are_sent_are_made()
     ensures { (limits : ℕ → ℕ) (s : Settings) (apid : ℕ) (sent : PacketsSent) (before passed : List Passed) → HasMapsByHeaders s
         → ((service : Service) (map_id : ℕ) → AreAllPackets (sent service map_id)) → CarrySent limits s.segmented (joined_on sent) passed
@@ -63,8 +64,8 @@ pub fn packets_of_one_stream_are_its_own()
         → ((other : Service) (id : ℕ) → is_same_stream service map_id other id ≡ false → on other id ≡ []) → packets ≡ on service map_id }
 {}
 
-/// The units that the data fields make of a chosen MAP are exactly the units that a sender sends on the MAP, in their
-/// order.
+/// If only one service brings units on a chosen MAP, the units that the data fields make of the MAP are exactly those
+/// that the sender sends on it, in their order.
 pub fn units_that_are_sent_are_made()
     ensures { (limits : ℕ → ℕ) (s : Settings) (service : Service) (map_id : ℕ) (sent : Sent) (before passed : List Passed)
         → s.segmented ≡ true → is_chosen_map s map_id ≡ true → CarrySent limits true sent passed
@@ -74,8 +75,8 @@ pub fn units_that_are_sent_are_made()
     the_segments_of_a_unit_make_the_unit();
 }
 
-/// On a channel without segment headers, if each data field consists of joined packets, the data fields make exactly
-/// those of these packets that are for the application.
+/// Suppose that each data field on a channel without segment headers consists of joined packets. Then the packets that
+/// the data fields make for an application are exactly those of these packets that are for it.
 pub fn packets_that_are_sent_plainly_are_made()
     ensures { (limits : ℕ → ℕ) (s : Settings) (apid : ℕ) (units : List (List (List ℕ))) (before passed : List Passed)
         → s.segmented ≡ false → s.maps ≡ [] → AreAllPackets units → fields_in_order passed ≡ all_joined units
@@ -91,10 +92,10 @@ pub fn written_frames_carry_the_segments()
 
 /// This law leads from a sender's packets to the packets that are taken. Suppose that the first n data fields of a
 /// sender carry units of packets in segments, for each MAP in order. On a channel without segment headers, each field
-/// is a unit, and all units are one stream, that of MAP 0. Then all packets that were ever taken for an application
-/// come, in order, first from the data fields before the era, and then from a merge of the packets that were sent on
-/// each MAP and those that Type-BD brought. If the era is the whole journal, there are none before it (`start`). Some
-/// packets may be left out, such as those dropped at a full queue (`given`).
+/// is a unit, and all units are one stream, that of MAP 0. All packets that were ever taken for an application then
+/// come, in order, first from the data fields before the era, and then from a merge. The merge consists of the packets
+/// that were sent on each MAP and those that Type-BD brought. If the era is the whole journal, there are no data fields
+/// before it (`start`). Some packets may be left out, such as those dropped at a full queue (`given`).
 pub fn packets_that_are_sent_are_given()
     ensures start { (limits : ℕ → ℕ) (s : Settings) (journal : List Event) → passed_before limits s [] journal ≡ [] }
     ensures given { (limits : ℕ → ℕ) (s : Settings) (journal before later : List Event) (x : ℕ) (sent : ℕ → List ℕ) (apid n : ℕ) (units : ℕ → List (List (List ℕ))) (q : Queue)
@@ -104,7 +105,9 @@ pub fn packets_that_are_sent_are_given()
     the_segments_of_a_unit_make_the_unit();
 }
 
-/// The units of a chosen MAP that were taken are, in order, units that were sent on the MAP. Some may be left out.
+/// The units of a chosen MAP that were taken are, in order, units that the data fields before the era made, and then
+/// units that were sent on the MAP. Some may be left out. The condition is that no Type-BD data field of the era makes
+/// a unit of this MAP.
 pub fn units_that_are_sent_are_given()
     ensures { (limits : ℕ → ℕ) (s : Settings) (journal before later : List Event) (x : ℕ) (sent : ℕ → List ℕ) (n : ℕ) (units : List (List ℕ)) (map_id : ℕ) (q : Queue)
         → IsLawfulWithin limits s journal → IsEraWithin limits s journal before later x → ComesFromWithin limits s before later x sent
@@ -117,8 +120,8 @@ pub fn units_that_are_sent_are_given()
 }
 
 /// Suppose that a sender writes its units one after the other, on any MAPs, and that N(S) counts on over all of them.
-/// Then it sends the packets of each MAP in order (`sends`), and the frame at each place has the N(S) of its place, as
-/// a loop requires (`numbers`).
+/// Then the sender sends the packets of each MAP in order (`sends`). The N(S) of each frame is that of the first frame
+/// plus the frame's place, modulo 256, as a loop requires (`numbers`).
 pub fn numbered_frames_send_packets()
     ensures sends { (limits : ℕ → ℕ) (segmented : Bool) (header : Header) (units : List UnitSent) (frames : List (List ℕ)) (sent : ℕ → List ℕ) → AllByRecursion (CanBeSent limits segmented) units → AreNumbered segmented header units frames
         → sent_from sent 0 (length frames) ≡ map field_of frames → SendsPackets limits segmented sent (length frames) (units_on units) }
@@ -126,11 +129,10 @@ pub fn numbered_frames_send_packets()
         → (k : ℕ) → k < length frames → (header_of (slice_index_or frames k [])).ns ≡ (header.ns + k) % 256 }
 {}
 
-/// This law leads from a ground system's packets to the packets that are taken, over the start of an era and over
-/// links that lose, repeat and delay frames, but keep their order. The sender sends Set V(R) and then its packets, in
-/// units on any MAPs. It numbers the frames, sends them by its window, and sends no others. When it believes that Set
-/// V(R) was obeyed, this is true. Then the packets that were taken are those that [`packets_that_are_sent_are_given`]
-/// promises.
+/// This law leads from a ground system's packets to the packets that are taken, over the start of an era and over links
+/// that lose, repeat and delay frames, but keep their order. The sender sends Set V(R) and then its packets, in units
+/// on any MAPs. It numbers the frames, sends them by its window, and sends no others. It takes Set V(R) for obeyed only
+/// after it was obeyed. The packets that were taken are then those that [`packets_that_are_sent_are_given`] promises.
 pub fn packets_from_a_start_are_given()
     ensures { (s : Start) (header : Header) (units : List UnitSent) (frames : List (List ℕ)) (apid : ℕ) (q : Queue) → IsStart s
         → AllByRecursion (CanBeSent s.loop.limits s.loop.settings.segmented) units → AreNumbered s.loop.settings.segmented header units frames → AreFrom (era s).frames frames → SendsOnly (length frames) (era_session s)
@@ -140,20 +142,19 @@ pub fn packets_from_a_start_are_given()
     the_segments_of_a_unit_make_the_unit();
 }
 
-/// Suppose that a CLTU carries whole frames one after the other, that it has no more wrong bits in any code block than
-/// the mode tolerates, and that its tail, as it comes, is rejected as a code block. Then these frames arrive
-/// (`arrives`), each with its frame error control field if frames have one, and the receiver searches for a start
-/// sequence again (`searches`). An input never brings about other events than those that it does (`alone`).
+/// Suppose that a CLTU carries whole frames one after the other, each with its frame error control field if frames have
+/// one. Suppose also that no code block has more wrong bits than the mode tolerates, and that the tail, as it is
+/// received, is rejected as a code block. Then these frames arrive (`arrives`), and the receiver searches for a start
+/// sequence again (`searches`). For an input in a state of the decoder, there is only one list of events (`alone`).
 pub fn a_cltu_with_few_wrong_bits_brings_its_frames()
     ensures arrives { (end : LinkEnd) (last : ℕ) (frames : List (List ℕ)) (octets : List ℕ) → CarriesWell end last frames octets → AreEventsAt end (Searching last) (Octets octets) (map Frame frames) }
     ensures searches { (end : LinkEnd) (last : ℕ) (frames : List (List ℕ)) (octets : List ℕ) → CarriesWell end last frames octets → state_behind end (Searching last) (Octets octets) ≡ Searching 0 }
     ensures alone { (end : LinkEnd) (state : Reception) (c : Coming) (one other : List Event) → AreEventsAt end state c one → AreEventsAt end state c other → one ≡ other }
 {}
 
-/// Octets bring nothing, and the receiver searches again behind them, if nothing in them counts as a start sequence
-/// (`idle`), if the first code block after a start sequence is rejected (`cut`), or if a CLTU carries octets that bring
-/// nothing (`refused`): they don't begin with a frame, as those in front of a rejected code block, or the check sum is
-/// wrong.
+/// Octets bring nothing, and the receiver searches again after them, in three cases. Nothing in them counts as a start
+/// sequence (`idle`). The first code block after a start sequence is rejected (`cut`). A CLTU carries octets that bring
+/// nothing (`refused`), because they don't begin with a frame, or because the frame error control field is wrong.
 pub fn a_link_may_lose_this()
     ensures idle { (end : LinkEnd) (last : ℕ) (octets : List ℕ) → HasNoStart end.mode last octets → (later : ℕ) × IsLost end last octets later }
     ensures cut { (end : LinkEnd) (last one two : ℕ) (block : List ℕ) (parity : ℕ) → is_start end.mode last one ≡ false → is_start end.mode one two ≡ true → length block ≡ 7
@@ -166,9 +167,9 @@ pub fn a_link_may_lose_this()
 /// [`packets_from_a_start_are_given`]. Its frames come in CLTUs, as octets in which any bits may be flipped, over links
 /// that keep order. Suppose that error detection lets no altered frame through. Detection uses the parity of the code
 /// blocks, the frame's length and, if frames have one, the frame error control field. A frame that is refused is lost,
-/// and the frames of a CLTU with few wrong bits arrive ([`a_cltu_with_few_wrong_bits_brings_its_frames`]). Then takes
-/// gave what [`packets_that_are_sent_are_given`] promises. [`a_link_that_idles_and_loses_alters_nothing`] discharges
-/// the premise about detection.
+/// and the frames of a CLTU with few wrong bits arrive ([`a_cltu_with_few_wrong_bits_brings_its_frames`]). The packets
+/// that were taken are then those that [`packets_that_are_sent_are_given`] promises.
+/// [`a_link_that_idles_and_loses_alters_nothing`] discharges the premise about detection.
 pub fn packets_in_cltus_are_given()
     ensures { (s : Start) (header : Header) (units : List UnitSent) (frames : List (List ℕ)) (apid : ℕ) (q : Queue) (end : LinkEnd) (state : Reception) (coming : List Coming) (came : List Event)
         → IsStart s → AllByRecursion (CanBeSent s.loop.limits s.loop.settings.segmented) units → AreNumbered s.loop.settings.segmented header units frames → AreFrom (era s).frames frames → SendsOnly (length frames) (era_session s)
@@ -179,9 +180,10 @@ pub fn packets_in_cltus_are_given()
     the_segments_of_a_unit_make_the_unit();
 }
 
-/// Suppose that each frame that arrives comes in a CLTU with few wrong bits, alone or with those that arrive directly
-/// after it, and that all other octets are lost ([`a_link_may_lose_this`]). Then nothing is altered (`unaltered`), and
-/// the events of the receiver are those of the session (`events`).
+/// Suppose that each frame that arrives comes in a CLTU with few wrong bits. A CLTU may carry several frames if they
+/// arrive one directly after the other. Suppose also that all other octets are lost ([`a_link_may_lose_this`]). Then
+/// error detection lets no altered frame through (`unaltered`), and the events of the receiver are those of the session
+/// (`events`).
 pub fn a_link_that_idles_and_loses_alters_nothing()
     ensures unaltered { (end : LinkEnd) (frames : ℕ → List ℕ) (last : ℕ) (session : List Action) (coming : List Coming) → AreCarriedOrLost end frames last session coming
         → AltersNothing end frames (Searching last) session coming }
@@ -189,12 +191,12 @@ pub fn a_link_that_idles_and_loses_alters_nothing()
         → AreEventsOf end (Searching last) coming (events_of frames session) }
 {}
 
-/// One session that was worked out by hand meets each premise of [`packets_in_cltus_are_given`], and so of
-/// [`packets_from_a_start_are_given`]. It is that of `learnt_by_9` of tc_loop, in CLTUs with wrong bits in three code
-/// blocks, with check sums (`fields`), two frames in one CLTU, idle octets, and two CLTUs that are refused. The law's
-/// conclusion then says that the fields make all packets that were sent (`whole`), and that none is left out (`all`),
-/// and the take gave the packet that was sent (`given`). A unit may also hold two packets, on the last MAP and in
-/// segments of one octet (`can_be_in_small_segments`).
+/// A session that was worked out by hand meets all premises of [`packets_in_cltus_are_given`] and of
+/// [`packets_from_a_start_are_given`]. It is the session `learnt_by_9` of tc_loop, with its frames in CLTUs. Three code
+/// blocks have wrong bits. Each frame has a frame error control field (`fields`). One CLTU carries two frames, idle
+/// octets come first, and two CLTUs are refused. By the law's conclusion, the fields make all packets that were sent
+/// (`whole`), and none is left out (`all`). The take returned the packet that was sent (`given`). A unit may also hold
+/// two packets, and be sent on the last MAP in segments of one octet (`can_be_in_small_segments`).
 pub fn all_premises_are_met_at_once()
     ensures begins { IsStart start.learnt_by_9 }
     ensures can_be_sent { AllByRecursion (CanBeSent start.learnt_by_9.loop.limits true) example.one_unit }
