@@ -1,11 +1,11 @@
--- A journal is determined by the events that each owner has made of it, with their places.
+-- A journal is determined by the events that each owner has made, with their places.
 use Rattle.tc_apart.proofs.Names.{AreClosedTogether, AtStation, Bool, Event, History, IsMergeOf, List, Own, Roster, Some, [], accounts_of, ap, arith, column, false, if◌then◌else◌, length, made_by, operator_lists_of, owned, refl, settings_in, slice_get, subst, suc, sym, true, zero, ℕ, ◌+◌, ◌==◌, ◌∙◌, ◌∷◌, ◌≡◌}
 use Rattle.tc_apart.proofs.GivenOut.{given-out}
 
 same-self : (k : ℕ) → (k == k) ≡ true
 same-self k = grind arith
 
--- each event of the journal is among its owner's events, with its place
+-- this event, with this place, is in the list
 abbrev IsIn : ℕ → Event → List (ℕ × Event) → Type 0
 IsIn n e ps = (i : ℕ) × (slice_get ps i ≡ Some (n, e))
 

@@ -2,7 +2,7 @@
 use Rattle.tc_apart.proofs.Names.{Answer, Answered, AreApart, AreChannelsApart, ArePerformed, BeginsWith, Bool, Changes, Clcw, HasChannel, IsAnswerOf, IsChannelAnswer, IsChannelAt, IsClcwAnswer, IsFrameAnswer, IsFrameAnswered, IsIdKept, IsOf, IsOneAtMost, IsReleaseAnswered, IsTakeAnswered, IsUnitAnswered, Linked, List, Operation, Racked, [], answers_frame, any-here, ap, arith, eqb-false, eqb-true, false, filter, frame-determined, frame-kept, get_or_from_slice_get, header_of, inl, inr, is_on, is_own, map, operation-ids, operation_of, refl, release-determined, release-kept, reported_word, same-at, same_Some, set-elsewhere, set-there, slice_get, slice_get_within, slice_set, subst, sym, take-determined, take-kept, true, unit-determined, unit-kept, unmapped, vcid_of, ℕ, ◌==◌, ◌∙◌, ◌∷◌, ◌≡◌, ◌≢◌, cases_order}
 use Rattle.tc_rack.specs.declared.operation.Operation.TheVariants.{Frame, Release, Take, Unit as TakeUnit}
 
--- each id stands at one place
+-- no id occurs at two places
 ids-apart : (channels : List Linked) → AreChannelsApart channels → AreApart (map vcid_of channels)
 ids-apart channels apart p q vcid at to =
     let (c, here, its) = unmapped vcid_of channels p vcid at in
@@ -15,7 +15,7 @@ ids-apart channels apart p q vcid at to =
       | inr (inr above) ↦ absurd (apart q p c above (slice_get_within channels p c here) (other ∙ sym one))
     ]
 
--- the channel's answer to an operation on it, and the channel after that
+-- the channel gives this answer to an operation on it, and is then in this state
 abbrev IsAnsweredOn : Operation → Linked → Answer → Linked → Type 0
 IsAnsweredOn (Frame octets) old answer new = (frame : List ℕ) × BeginsWith octets frame × IsFrameAnswered frame old answer new
 IsAnsweredOn (Release vcid) old answer new = IsReleaseAnswered old answer new
@@ -23,7 +23,7 @@ IsAnsweredOn (Take vcid apid) old answer new = IsTakeAnswered apid old answer ne
 IsAnsweredOn (TakeUnit vcid map_id) old answer new = IsUnitAnswered map_id old answer new
 IsAnsweredOn (Clcw vcid) old answer new = (answer ≡ reported_word old) × (new ≡ old)
 
--- after an operation, the channel is as the operation leaves it if it was on this channel, and otherwise unchanged
+-- if the operation was on this channel, the channel is as the operation leaves it, and otherwise it is unchanged
 abbrev IsLeft : Bool → Operation → Linked → Answer → Linked → Type 0
 IsLeft true operation old answer new = IsAnsweredOn operation old answer new
 IsLeft false operation old answer new = new ≡ old
@@ -33,14 +33,14 @@ abbrev IsStep : Operation → Answer → Racked → ℕ → ℕ → Linked → T
 IsStep operation answer new vcid p c = (later : Linked) × IsChannelAt new.channels vcid p later × IsLeft (is_on vcid operation answer) operation c answer later
 
 module _ (operation : Operation) (answer : Answer) (old new : Racked) (vcid p : ℕ) (c : Linked) (apart : AreApart (map vcid_of old.channels)) (here : IsChannelAt old.channels vcid p c) where
-  -- if no channel has changed, a step leaves this channel as it was
+  -- if nothing has changed, the channel is still at its place
   stays : new ≡ old → (is_on vcid operation answer ≡ true → IsAnsweredOn operation c answer c) → IsStep operation answer new vcid p c
   stays same own = (c, subst (λ (r : Racked). IsChannelAt r.channels vcid p c) (sym same) here, by (is_on vcid operation answer) own) where
     by : (b : Bool) → (b ≡ true → IsAnsweredOn operation c answer c) → IsLeft b operation c answer c
     by true says = says refl
     by false says = refl
 
-  -- a channel that is there has its id
+  -- the id of a channel that is in the list isn't unknown
   not-unknown : (own : ℕ) → own ≡ vcid → ¬ HasChannel old.channels own → ⊥
   not-unknown own same none = none (any-here (λ (x : Linked). vcid_of x ≡ own) old.channels p c here.0 (here.1 ∙ sym same))
 

@@ -13,7 +13,7 @@ performed-ids [] old new is = ap (λ (r : Racked). map vcid_of r.channels) is
 performed-ids (d ∷ done) old new (next, first, rest) = performed-ids done next new rest ∙ operation-ids d.operation old next d.answer first
 
 module _ (scid : ℕ) (script : List ℕ) where
-  -- the operations that a script has performed so far
+  -- these are the operations that the script has performed so far
   abbrev IsSoFar : List Answered → Progress → Type 0
   IsSoFar done (SettingUp list) = done ≡ []
   IsSoFar done (Operating rack) = (list : List Settings) × LeadsTo scid script (SettingUp list) × ArePerformed done (new_rack scid list) rack

@@ -40,7 +40,7 @@ said-alike : (a : Option Answer) → live_text (script_answer a) ≡ answer_line
 said-alike None = refl
 said-alike (Some answer) = refl
 
--- a line of a script has the same answer and the same effect
+-- a line of a script has the same answer and the same effect in a session as in `tcrx run`
 line-done : (old new : Receiving) (line : List ℕ) (answer : LiveAnswer) → old.check ≡ Nothing → IsScriptLineAnswered old line new answer
     → (a : Option Answer) × IsLineAnswered (IsPerformed old.scid) old.stage line new.stage a × (live_text answer ≡ answer_line a) × (new.check ≡ Nothing) × (new.scid ≡ old.scid)
 line-done old new line answer none (said, is, inl (passed, passes, (done, ((a, answered, reported, same), does), noted))) =
@@ -61,7 +61,7 @@ line-done old new line answer none (said, is, inl (passed, passes, (done, ((a, a
     )
 line-done old new line answer none (said, is, inr (fails, reported, same)) = absurd (subst (λ (c : FrameCheck). FailsCheck c said) none fails)
 
--- lines that were given to a session are answered as tcrx answers them
+-- Lines that were given to a session have the same answers in `tcrx run`.
 record Alike (scid : ℕ) (script texts : List ℕ) (engine : Engine) (rest : List ℕ) : Type 0 where
   receiver : Receiving
   answers : List (Option Answer)
@@ -97,7 +97,7 @@ alike-so scid script _ new after (one_said {texts} {rest} {line} {engine = engin
       same = done.4 ∙ so.same;
     }
 
--- a line of a script is bad for the same reason
+-- if a line of a script is bad in a session, it is bad in `tcrx run` for the same reason
 bad-alike : (receiver : Receiving) (line : List ℕ) (reason : Reason) → receiver.check ≡ Nothing → (reason ≡ NoMemory) ⊎ IsBadScriptLine receiver line reason
     → (reason ≡ NoMemory) ⊎ IsBadLine (phase_of receiver.stage) line reason
 bad-alike receiver line reason none (inl memory) = inl memory
@@ -106,7 +106,7 @@ bad-alike receiver line reason none (inr (inr (said, is, (passed, passes, bad)))
     let alike : passed ≡ said = subst (λ (c : FrameCheck). IsPassed c said passed) none passes in
     inr (inr (said, is, subst (λ (l : Line). IsBad (phase_of receiver.stage) (instruction_of l) reason) alike bad))
 
--- the final report of channels, of which some were set up
+-- the text is the report of the channels, at least one of which was set up
 abbrev IsReport : ℕ → Progress → List ℕ → Type 0
 IsReport scid progress text = (channels : List History) × IsPermutation (histories (rack_for scid progress)) channels × IsReportOf channels text
 

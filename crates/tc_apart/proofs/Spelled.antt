@@ -26,7 +26,7 @@ use Rattle.tc_apart.specs.Making.{AreSpelled, AskFor, HasBadLine, frames_needed,
 only-bad : (text : List ℕ) (frames : List (List ℕ)) (reason : Reason) → text ≡ frames_text frames ++ bad_text reason → HasBadLine text
 only-bad text frames reason is = record { frames = frames; bad = bad_text reason; rest = []; parts = is ∙ ap (λ (x : List ℕ). frames_text frames ++ x) (sym (append-nil (bad_text reason))); reason = inl (reason, refl) }
 
--- an empty text has none, because the line `bad` isn't empty
+-- the words of a reason aren't empty, so an empty text has no bad line
 bad-some : (reason : Reason) → (n : ℕ) × (length (unmade_text reason) ≡ suc n)
 bad-some BadHex = (_, refl)
 bad-some _ = (_, refl)
@@ -63,7 +63,7 @@ bad-behind frames text b = record {
   reason = b.reason;
 }
 
--- the frames of a unit without their frame error control fields
+-- these are the frames of a unit, from a place on, without their frame error control fields
 abbrev AreFramesAt : Parting → ℕ → List (List ℕ) → Type 0
 AreFramesAt p place frames = (k : ℕ) → k < length frames → IsFrameAt p (place + k) (get_or frames k [])
 
@@ -77,7 +77,7 @@ plain ending p place (f ∷ fs) ((frame, is, fits, end), later) =
     let (frames, all, each) = plain ending p (suc place) fs later in
     (frame ∷ frames, (λ i. end i ∷ all i), one-before p place frame frames is each)
 
--- the text that is written for one unit
+-- this is the text that is written for one unit: its frames, or a bad line
 abbrev IsSpelled : Ending → Bool → Stream → UnitSent → List ℕ → Type 0
 IsSpelled ending b stream u text = ((frames : List (List ℕ)) × AreFramesOf b (ad_header stream) u frames × (text ≡ frames_text (map (ended ending) frames))) ⊎ HasBadLine text
 

@@ -1,4 +1,4 @@
--- Operations on the channels of a spacecraft, or of the lines of a script, one after the other, and the operations
+-- Operations that are performed one after the other, on the channels of a spacecraft or as lines of a script, and those
 -- among them that are on one channel.
 use Rattle.std.specs.Prelude.{◌≡◌, ◌==◌, ℕ, Bool, false, List, [], ◌∷◌, ◌++◌, filter, Option, Some, None}
 use Rattle.tc_text.specs.declared.line.Line.{Line}
@@ -21,13 +21,13 @@ pub record Answered : Type 0 where
 abbrev pub operation_of : Answered → Operation
 operation_of d = d.operation
 
--- whether this is an answer of the channel with this id to a frame
+-- the flag that is set if this is the answer of the channel with this id to a frame
 abbrev pub answers_frame : ℕ → Answer → Bool
 answers_frame vcid (answers.Frame own reply) = own == vcid
 answers_frame vcid _ = false
 
--- whether the operation was brought to the channel with this id: the operation names that channel or, if it is a frame,
--- that channel answered it
+-- The flag that is set if the operation was brought to the channel with this id. The operation names that channel or,
+-- if it is a frame, that channel answered it.
 abbrev pub is_on : ℕ → Operation → Answer → Bool
 is_on vcid (Frame octets) answer = answers_frame vcid answer
 is_on vcid (Release own) answer = own == vcid
@@ -48,7 +48,7 @@ abbrev pub with_answer : Operation → Option Answer → List Answered
 with_answer operation None = []
 with_answer operation (Some answer) = record { operation = operation; answer = answer } ∷ []
 
--- the operation of a line, with the line's answer (none for a blank line or one that sets a channel up)
+-- the operation of a line with the line's answer, or none if the line is blank or sets something up
 abbrev pub operation_in : Line → Option Answer → List Answered
 operation_in (asks.Frame octets) answer = with_answer (Frame octets) answer
 operation_in (asks.Release vcid) answer = with_answer (Release vcid) answer
@@ -62,7 +62,7 @@ abbrev pub operations_of : {scid : ℕ} {script rest : List ℕ} {answers : List
 operations_of at_first = []
 operations_of (one_more {answer = answer} lines next (said, is, does, answered)) = operations_of lines ++ operation_in said answer
 
--- some first lines of a script are good, and lead to this progress
+-- the first lines of the script are good, and lead to this progress
 abbrev pub LeadsTo : ℕ → List ℕ → Progress → Type 0
 LeadsTo scid script progress = (answers : List (Option Answer)) × (rest : List ℕ) × AreAnswers (IsPerformed scid) script answers progress rest
 

@@ -1,4 +1,4 @@
--- Lines that order the frames of a sender's units from tcmake, and the text that it writes for them.
+-- Lines that order the frames of a sender's units from tcmake, and the text that tcmake writes for these lines.
 use Rattle.std.specs.Prelude.{◌≡◌, ◌⊎◌, ℕ, ◌+◌, ◌%◌, Bool, true, false, List, [], ◌∷◌, ◌++◌, length, map, None, Ok}
 use Rattle.tc_packet.specs.SpacePacket.{joined}
 use Rattle.tc_lines.specs.Answering.{too_long_text}

@@ -8,7 +8,7 @@ use Rattle.tc_session.specs.declared.engine.Engine.{Engine}
 use Rattle.tc_session.specs.declared.engine.Engine.TheVariants.{Script}
 
 -- The first lines of a script were given to a session for scripts, one after the other, and each was good. These are
--- their texts, one after the other, the engine that they left, and the octets behind them.
+-- their texts, one after the other, the engine that they left, and the octets of the script that follow them.
 pub data AreSaid (scid : ℕ) (script : List ℕ) : List ℕ → Engine → List ℕ → Type 0 where
   none_said : AreSaid scid script [] (Script (new_receiver Nothing scid) 0) script
   one_said : {texts rest line after : List ℕ} {engine new : Engine} (text : List ℕ)

@@ -21,9 +21,9 @@ ghost use Rattle.tc_apart.specs.Apart.{Answered, ArePerformed, HasPerformed, Lea
 
 use tc_link::each_input_begins_with_one_frame_at_most;
 
-/// Two lists of operations are performed, each on channels of its own. Suppose that a channel of this id is the same in
-/// both at first, and that the same operations are brought to it in the same order. Then these operations have the same
-/// answers, and the channel is the same in the end, whatever is done on other channels in between. Each kind of
+/// Suppose that two lists of operations are performed, each on channels of its own. The channel with this id is the
+/// same in both at first, and the same operations are brought to it in the same order. Then these operations have the
+/// same answers, and the channel is the same in the end, whatever is done on other channels in between. Each kind of
 /// operation is brought to the channel that it names (`own`) and to no other (`other`).
 pub fn channels_do_not_touch_each_other()
     ensures own { (answer : Answer) (octets : List ℕ) (reply : FrameReply) → (is_on 1 (Operation.Frame octets) (Answer.Frame 1 reply) ≡ true) × (is_on 1 (Operation.Release 1) answer ≡ true)
@@ -42,11 +42,11 @@ pub fn channels_do_not_touch_each_other()
 }
 
 /// Channels of two scripts don't touch each other, either. The first lines of both scripts are good, and are answered
-/// as `what_a_script_does_follows_from_its_lines` (tc_cli) states. Suppose that a channel of this id is set up with the
-/// same settings in both, and that the same operations are brought to it in the same order. Then these operations have
-/// the same answers, and the channel is the same in the end, whatever other lines there are for other channels. All
-/// operations of the lines are performed on the channels that lines set up before them (`performed`), and those among
-/// them that are on a channel are what the lines have performed there (`has`).
+/// as `what_a_script_does_follows_from_its_lines` (tc_cli) states. Suppose that the channel with this id is set up with
+/// the same settings in both, and that the same operations are brought to it in the same order. Then these operations
+/// have the same answers, and the channel is the same in the end, whatever other lines there are for other channels
+/// (`answers`). All operations of the lines are performed on the channels that lines set up before them (`performed`).
+/// Those among them that are on a channel are the ones that the lines have performed there (`has`).
 pub fn channels_of_a_script_do_not_touch_each_other()
     ensures has { (scid vcid : ℕ) (script rest : List ℕ) (answers : List (Option Answer)) (progress : Progress) (channel : Linked) (lines : AreAnswers (IsPerformed scid) script answers progress rest)
         → IsOf (rack_for scid progress) vcid (λ c. c ≡ channel) → HasPerformed scid script vcid (filter (is_own vcid) (operations_of lines)) channel }
@@ -60,11 +60,11 @@ pub fn channels_of_a_script_do_not_touch_each_other()
     each_input_begins_with_one_frame_at_most();
 }
 
-/// Two stations are closed, each together with its operators. Suppose that a channel of one has the settings of a
-/// channel of the other, and that the operators made the same events at it, each at the same place of its journal. Then
-/// the two channels that are given out are the same, whatever was done at other channels. So each call on the channel
-/// had the same answer, too, because each answer is the model's after the journal up to the call
-/// (`from_a_sender_to_packets` of tc_station).
+/// Suppose that two stations are closed, each together with its operators, and that a channel of one has the settings
+/// of a channel of the other. Suppose also that the operators made the same events on both channels, each at the same
+/// place of the journal. Then the two channels that the closes return are the same, whatever was done on other
+/// channels. Each call on the channels therefore had the same answer, too, because an answer is the model's after the
+/// journal up to the call (`from_a_sender_to_packets` of tc_station).
 pub fn channels_of_a_station_do_not_touch_each_other()
     ensures { (station other : Roster) (operators others : List AtStation) (closed shut : List History) (place at : ℕ) (one two : History)
         → AreClosedTogether station operators closed → AreClosedTogether other others shut → slice_get closed place ≡ Some one → slice_get shut at ≡ Some two

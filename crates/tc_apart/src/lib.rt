@@ -1,11 +1,11 @@
-//! Laws by which channels don't touch each other. They are about lists of operations on the channels of a spacecraft
-//! ([`channels_do_not_touch_each_other`]), about the operations of scripts
-//! ([`channels_of_a_script_do_not_touch_each_other`]), and about the channels that a station gives out
+//! Laws which state that operations on one channel don't affect another. They are about lists of operations on the
+//! channels of a spacecraft ([`channels_do_not_touch_each_other`]), about the operations of scripts
+//! ([`channels_of_a_script_do_not_touch_each_other`]), and about the channels that the close of a station returns
 //! ([`channels_of_a_station_do_not_touch_each_other`]).
 //!
 //! Another law leads from a sender's packets to the packets that are taken, over any threads:
-//! [`a_station_gives_out_what_a_loop_sent`]. By a last one, a session carries out a script as `tcrx run` does:
-//! [`a_session_does_a_script_as_tcrx_does`].
+//! [`a_station_gives_out_what_a_loop_sent`]. The last law states that a session carries out a script as `tcrx run`
+//! does: [`a_session_does_a_script_as_tcrx_does`].
 #![tactic(auto)]
 
 mod laws;

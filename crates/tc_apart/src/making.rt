@@ -9,10 +9,11 @@ ghost use Rattle.tc_ends.specs.Ends.{UnitSent};
 ghost use Rattle.tc_ends.specs.Examples as example;
 ghost use Rattle.tc_apart.specs.Making.{AskFor, AreSpelled, HasBadLine};
 
-/// Suppose that lines order a sender's units from `tcmake` in their order, and that `answer_lines` of tc_make answers
-/// them (`AreWritten`). Then `tcmake` writes the frames of `numbered_frames_send_packets` (tc_ends), or reports that a
-/// line is bad (`written`). An empty text has no bad line (`none_bad`). Two lines that were worked out by hand order a
-/// unit, with segment headers (`asked`) and without (`asked_plainly`).
+/// Suppose that the lines of an input order the frames of a sender's units, one unit after the other, and that
+/// `answer_lines` of tc_make answers them (`AreWritten`). Then `tcmake` writes the frames of
+/// `numbered_frames_send_packets` (tc_ends), or reports that a line is bad (`written`). An empty text has no bad line
+/// (`none_bad`). Two lines that were worked out by hand order a unit, with segment headers (`asked`) and without
+/// (`asked_plainly`).
 pub fn tcmake_writes_numbered_frames()
     ensures written { (ending : Ending) (segmented : Bool) (stream : Stream) (units : List UnitSent) (octets : List ℕ) (before after : Option (List ℕ)) → stream.ns < 256
         → AskFor segmented stream units (lines_of octets) → AreWritten ending octets before after

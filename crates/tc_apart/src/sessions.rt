@@ -1,4 +1,4 @@
-//! A law by which a session carries out a script as `tcrx run` does.
+//! A law which states that a session carries out a script as `tcrx run` does.
 
 ghost use Rattle.std.specs.Prelude.{◌≡◌, ◌⊎◌, ◌+◌, ◌-◌, ◌^◌, ◌++◌, ℕ, List, [], Option, codes, false, length, min};
 ghost use Rattle.std.specs.Io.KnownBytes.{Appends};
@@ -16,13 +16,13 @@ ghost use Rattle.tc_session.specs.declared.engine.Engine.{Engine};
 ghost use Rattle.tc_session.specs.declared.session.Said.TheVariants.{Done};
 ghost use Rattle.tc_apart.specs.Sessions.{AreSaid};
 
-/// The lines of a script are given to a session for scripts, one after the other, as long as each is good (`AreSaid`).
+/// Suppose that the first lines of a script are given to a session for scripts, one after the other, and that each of
+/// them is good (`AreSaid`).
 ///
-/// - `answers`: The texts together are the answers by which `run_script` (tc_cli) says what `tcrx run` writes.
-/// - `written`: If these are all lines of the script, and then the lines end with a report, the texts and the report
+/// - `answers`: The texts together are the answers to these lines that `tcrx run` writes, by the definitions of tc_cli.
+/// - `written`: If these are all lines of the script, and the session then ends with a report, the texts and the report
 ///   together are what `tcrx run` writes for the script.
-/// - `fault`: If the next line is bad, its text is the fault of this line, by its number and its reason, as `tcrx run`
-///   prints it.
+/// - `fault`: If the next line is bad, its text gives the number of the line and the reason, as `tcrx run` prints them.
 pub fn a_session_does_a_script_as_tcrx_does()
     ensures answers { (scid : ℕ) (script texts rest : List ℕ) (engine : Engine) → AreSaid scid script texts engine rest
         → (answers : List (Option Answer)) × (progress : Progress) × AreAnswers (IsPerformed scid) script answers progress rest × (texts ≡ answers_text answers) }

@@ -19,16 +19,16 @@ ghost use Rattle.tc_ends.specs.Ends.{AreFrom, AreGivenOf, AreNumbered, CanBeSent
 
 use tc_write::the_segments_of_a_unit_make_the_unit;
 
-/// Threads work at the channels of a station, each with an operator of its own, in any order, and the station is closed
-/// together with these operators. `from_a_sender_to_packets` (tc_station) ties the journal of each channel that the
-/// station gives out to their calls. This law doesn't have the premises of that law's clause `sent`. Instead it
-/// supposes that the journal is that of a session of a loop. A loop's links keep order, and the threads are part of the
-/// link.
+/// Suppose that threads work at the channels of a station in any order, each with an operator of its own, and that the
+/// station is then closed together with these operators. `from_a_sender_to_packets` (tc_station) relates the journal of
+/// each channel that the close returns to their calls. This law doesn't have the premises of that law's clause `sent`.
+/// Instead it supposes that the journal is that of a session of a loop. A loop's links keep order, and the threads are
+/// part of the link.
 ///
 /// - `passed`: The Type-AD data fields of the era that were released are those that were sent, each once and in order.
 /// - `given`: The packets that were taken are those that `packets_that_are_sent_are_given` (tc_ends) promises for the
 ///   packets that the sender sent.
-/// - `in_cltus`: This also holds for the whole way, from a ground system's packets, over the start of an era and in
+/// - `in_cltus`: This also holds for the whole way: from a ground system's packets, over the start of an era and in
 ///   CLTUs with wrong bits, to the packets that were taken. The premises are those of `packets_in_cltus_are_given`
 ///   (tc_ends).
 pub fn a_station_gives_out_what_a_loop_sent()
