@@ -21,7 +21,7 @@ pub data Phase : Type 0 where
 abbrev pub Operates : Phase → Phase → Type 0
 Operates phase new = (phase ≢ Setup []) × (new ≡ Operation)
 
--- if a line is good, its instruction leads from the first phase to the second
+-- this is the instruction of a good line, and leads from the first phase to the second
 abbrev pub Does : Phase → Instruction → Phase → Type 0
 Does phase Nothing new = new ≡ phase
 Does phase (Channel settings) new =

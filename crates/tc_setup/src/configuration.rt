@@ -20,8 +20,8 @@ use tc_text::Reason;
 #[derive(Drop)]
 pub struct Configuration {
     channels: Vec<Settings>,
-    // The APIDs of each channel's queues, so that a queue line can be checked without going through the lines before
-    // it.
+    // A table of the APIDs of each channel's queues, by which a queue line is checked without a search through the
+    // queues.
     apids: Vec<Apids>,
 }
 
@@ -179,7 +179,7 @@ fn add_checked(
 }
 
 // Checks whether a queue can be added to a channel whose queues have these APIDs. The settings without the queue are
-// allowed, so only the queue is looked at.
+// allowed, so only the queue is checked.
 fn check_queue(apids: &Apids, queue: QueueSetting) -> Result<(), SettingsFault>
     ensures { (s : Settings) → IsAllowed s → AreApidsOf s.queues apids.now → MatchResult result (λ _. IsAllowed (with_addition s (Addition.Queue queue))) (IsFault (with_addition s (Addition.Queue queue))) }
 {

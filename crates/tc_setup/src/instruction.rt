@@ -16,7 +16,7 @@ pub enum Addition {
     Map(MapSetting),
 }
 
-/// The instruction of a line. The fields of a channel line become settings only in [`Instruction::of`].
+/// The instruction of a line, as [`Instruction::of`] returns it.
 #[derive(Drop)]
 pub enum Instruction {
     /// A line without an instruction.

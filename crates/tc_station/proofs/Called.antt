@@ -159,8 +159,7 @@ err-call place vcid e ok err ok2 err2 before after r f h c is weaker =
     let was : IsCallAt place vcid e ok err before (Err f) after = subst (λ x. IsCallAt place vcid e ok err before x after) is c in
     answered-so place vcid e ok err ok2 err2 before after (Err f) (Err h) was (weaker was.call.now was.call.answer.0, was.call.answer.1)
 
--- if a call at a desk is refused, and `?` converts its fault to a fault of the station, the call can be stated with the
--- converted fault
+-- a refused call at a desk can be stated with the station's fault in place of the desk's fault
 pub refused-call : {R F S G : Type 0} (place vcid : ℕ) (e : Event) (ok : Moment → R → Type 0) (err : Moment → F → Type 0) (ok2 : Moment → S → Type 0) (err2 : Moment → G → Type 0) (before after : AtStation) (r : Result R F) (f : F) (words : F → G)
     (r2 : Result S G) → IsCallAt place vcid e ok err before r after → r ≡ Err f → IsErrAnd r2 (λ h. h ≡ words f) → ((m : Moment) (h : G) → h ≡ words f → err m f → err2 m h) → IsCallAt place vcid e ok2 err2 before r2 after
 refused-call place vcid e ok err ok2 err2 before after r f words (Ok b) c is said weaker = absurd said

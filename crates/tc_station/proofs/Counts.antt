@@ -9,7 +9,7 @@ use Rattle.tc_link.specs.declared.location.LocateFault.TheVariants.{Frame, Other
 front : (octets frame : List ℕ) (k : ℕ) → frame ≡ take (length frame) octets → k < length frame → get_or octets k 0 ≡ get_or frame k 0
 front octets frame k e lt = sym (ap (λ xs. get_or xs k 0) e ∙ get_or-take (length frame) octets k 0 lt)
 
--- the octets have the header of the frame that they begin with
+-- octets that begin with a frame have the frame's header
 pub same-header : (octets frame : List ℕ) → BeginsWith octets frame → header_of octets ≡ header_of frame
 same-header octets frame b =
     let least = b.0.least in

@@ -6,7 +6,7 @@ use Rattle.tc_queues.specs.declared.reply.FrameReply.{FrameReply}
 use Rattle.tc_desk.specs.Call.{IsFramedWatched}
 use Rattle.tc_station.specs.Moments.{IsWatcherAt, IsWatcherOf}
 
--- for an operator's desk, a meeting has the effect of a call that was refused
+-- the effect of a meeting on the operator's desk is that of a refused call
 pub as-call : (early : Watching) (there : AtLock) (late : Watching) (next : AtLock) → IsMeeting early there late next
     → IsCall {R = Unit {0}} {F = Unit {0}} Release (λ m done. ⊥) (λ m done. HasSeenNoMore early m) there (Err tt) next
 as-call early there late next m =
@@ -18,8 +18,8 @@ desk-there station desks place w heads (head, at, board, settings) =
     let within = slice_get_within station.heads place head at in
     omega (arith, within, ap (length {A = Identity}) heads, length-map desks (λ (d : AtLock). d.own.seen.head))
 
--- the desk at the place of a watcher has the head that the station has at this place, and its board is the one that the
--- watcher reads
+-- the desk at the place of a watcher has the head that the station has at this place, and the board that the watcher
+-- reads
 pub head-at : (station : Roster) (desks : List AtLock) (place : ℕ) (there : AtLock) (w : Watching) → heads_of desks ≡ station.heads → there ≡ get_or desks place there → IsWatcherAt station place w
     → (slice_get station.heads place ≡ Some there.own.seen.head) × (w.board ≡ there.own.seen.head.board)
 head-at station desks place there w heads is (head, at, board, settings) =
@@ -41,8 +41,8 @@ pub watcher-kept : (station : Roster) (place : ℕ) (there next : AtLock) (late 
 watcher-kept station place there next late known head met =
     (there.own.seen.head, known, met.0 ∙ ap (λ (h : Identity). h.board) head, ap (λ (h : History). h.settings) met.1 ∙ ap (λ (h : Identity). h.settings) head)
 
--- a watcher that saw the channel process a frame belongs to that channel, if the operator that brought the frame knows
--- its desks
+-- if the operator that brought a frame knows its desks, a watcher that saw the channel process the frame belongs to the
+-- channel
 pub watcher-there : {F : Type 0} (station : Roster) (place vcid : ℕ) (frame : List ℕ) (err : Moment → F → Type 0) (before after : AtStation) (r : Result (FrameReply × Watching) F) (answer : FrameReply × Watching)
     → IsPlace station vcid place → KnowsDesks station before → IsCallAt place vcid (Frame frame) (IsFramedWatched frame) err before r after → r ≡ Ok answer → IsWatcherOf station vcid answer.1
 watcher-there station place vcid frame err before after r answer at knows c is =

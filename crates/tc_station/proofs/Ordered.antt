@@ -10,6 +10,5 @@ in-order (v ∷ vs) (h ∷ hs) e named =
     cc
 in-order _ _ e named = absurd (omega arith)
 
--- if a fact holds for ids, operators and channels, it also holds for lists that are equal to them
 pub moved : (P : List ℕ → List AtStation → List History → Type 0) (a b : List ℕ) (o p : List AtStation) (d e : List History) → a ≡ b → o ≡ p → d ≡ e → P a o d → P b p e
 moved P a b o p d e s t u h = subst (λ (x : List ℕ × List AtStation × List History). P x.0 x.1 x.2) (λ i. (s i, t i, u i)) h

@@ -51,7 +51,7 @@ have-more n i [] have k d lt = absurd (omega (arith, lt))
 have-more n i (p ∷ ps) have zero d lt = let here = have 0 d (omega arith) in omega (arith, here)
 have-more n i (p ∷ ps) have (suc k) d lt = have-more n i ps (λ j e inside. have (suc j) e (omega (arith, inside))) k d (omega (arith, lt))
 
--- if one more owned desk has also issued `n` operators, each desk of the longer list has issued `n` operators
+-- if all owned desks of a list, and one more, have issued `n` operators, so has each desk of the longer list
 pub have-end : (n : ℕ) (owned_desks next : List AtLock) (p : AtLock) → next ≡ owned_desks ++ p ∷ [] → HaveIssued n owned_desks → p.own.issued ≡ n → HaveIssued n next
 have-end n owned_desks next p is have one =
     All-same (λ (i : ℕ). i ≡ n) (issued_of next) (issued_of owned_desks ++ p.own.issued ∷ []) (ap issued_of is ∙ map_push (λ (o : AtLock). o.own.issued) owned_desks p)
@@ -117,7 +117,6 @@ issued-fresh n vcids owned_desks operators long is =
     let new : tally (newcomer_at_desks vcids owned_desks) ≡ fresh vcids = ap (λ (cs : List ℕ). record { vcids = vcids; counts = cs }) (arrival-counts owned_desks ∙ ap (λ (k : ℕ). replicate k 0) long) in
     ap tallies is ∙ (tallies-replicate n (newcomer_at_desks vcids owned_desks) ∙ ap (replicate n) new)
 
--- a fact about one operator holds for all operators that are equal to it
 pub issued-all : (P : AtStation → Type 0) (n : ℕ) (o : AtStation) (operators : List AtStation) → operators ≡ replicate n o → P o → All P operators
 issued-all P n o operators is one = All-same P operators (replicate n o) is (All-replicate P n o one)
 

@@ -83,7 +83,7 @@ not-there ids v is (k, lt, e) = by (ltb n (length ids)) refl is where
       let ge = ltb-false n (length ids) far in
       true≢false (sym (eq-eqb (get_or ids k v) v e) ∙ fails_before_first (λ x. x == v) ids k v (omega (arith, lt, ge)))
 
--- the search for an id finds either no place, if the list doesn't have the id, or a place at which the list has the id
+-- the search for an id finds a place at which the list has the id, or no place if the list doesn't have it
 pub found-there : (ids : List ℕ) (v : ℕ) (place : Option ℕ) → place ≡ position (λ x. x == v) ids → MatchOption place (¬ Contains ids v) (λ k. (k < length ids) × (slice_index ids k ≡ v))
 found-there ids v None is = not-there ids v is
 found-there ids v (Some k) is = let at = position-Some (λ x. x == v) ids k 0 (sym is) in (at.0, eqb-true (get_or ids k 0) v at.1)

@@ -24,7 +24,7 @@ use Rattle.tc_station.specs.declared.faults.CloseFault.TheVariants.{Missing, NoM
 use Rattle.tc_station.specs.declared.faults.CountingCloseFault.{CountingCloseFault}
 use Rattle.tc_station.specs.declared.faults.CountingCloseFault.TheVariants as counting
 
--- the station's refusal when its channel refuses
+-- the station's refusal for a fault of one of its channels
 abbrev pub release_refused : ReleaseFault → ReleaseRefused
 release_refused release.Empty = release_refusals.Empty
 release_refused release.NoMemory = release_refusals.NoMemory

@@ -1,4 +1,4 @@
--- The calls of an operator, seen from the channel that was returned when its station was closed.
+-- The calls of an operator, as they appear in the channels that the close of the station returned.
 use Rattle.std.specs.Prelude.{◌≡◌, ◌≤◌, ℕ, List, [], ◌∷◌, ◌++◌, Some, length, slice_get, take}
 use Rattle.tc_channel.specs.declared.event.Event.{Event}
 use Rattle.tc_channel.specs.declared.event.Event.TheVariants.{Frame}

@@ -1,4 +1,4 @@
--- The octets of a script: reading them, and splitting them into lines.
+-- Reading the octets of a script, and splitting them into lines.
 use Rattle.std.specs.Prelude.{◌≡◌, ◌≢◌, ◌<◌, ℕ, List, [], ◌∷◌, ◌++◌, ◌⊎◌, length, All, Option, IfSome}
 use Rattle.tc_text.specs.declared.fault.Reason.TheVariants.{NoMemory}
 use Rattle.tc_text.specs.declared.fault.ScriptFault.{ScriptFault}
