@@ -26,14 +26,14 @@ abbrev pub link_text : ℕ → Link → List ℕ
 link_text vcid link =
     codes "link " ++ decimal vcid ++ codes " " ++ flag_text link.no_rf ++ codes " " ++ flag_text link.no_bit_lock ++ codes "\n"
 
--- the beginning of the text of a report, on FARM-1: its state, V(R), Lockout and Wait
+-- the beginning of the text of a report: FARM-1's state, V(R), and the flags Lockout and Wait
 unfoldable pub farm_text : ℕ → Holding → List ℕ
 farm_text vcid holding =
     codes "report " ++ decimal vcid ++ codes " state " ++ state_text holding.report.state ++ codes " vr " ++ decimal holding.report.vr
     ++ codes " lockout " ++ flag_text holding.report.lockout ++ codes " wait " ++ flag_text holding.report.wait
 
--- the next part of the text of a report: Retransmit, the FARM-B counter, and the number of data fields that wait in the
--- buffer
+-- the next part of the text of a report: the flag Retransmit, the FARM-B counter, and the number of data fields that
+-- wait in the buffer
 unfoldable pub rest_text : Holding → List ℕ
 rest_text holding =
     codes " retransmit " ++ flag_text holding.report.retransmit ++ codes " farm-b " ++ decimal holding.report.farm_b

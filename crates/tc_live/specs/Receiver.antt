@@ -167,7 +167,7 @@ abbrev pub IsBadLiveLine : Receiving → List ℕ → Reason → Type 0
 IsBadLiveLine old octets reason =
     (live_line_of (words octets) ≡ Err reason) ⊎ ((said : LiveLine) × (live_line_of (words octets) ≡ Ok said) × IsBadSaying old said reason)
 
--- a delivery or a collection that was begun can be ended, because the channels are in operation
+-- if the answer begins a delivery or a collection, the channels are in operation
 abbrev pub IsReady : LiveAnswer → Receiving → Type 0
 IsReady (reported.Delivery vcid a) receiver = phase_of receiver.stage ≡ InOperation
 IsReady (reported.Collection vcid) receiver = phase_of receiver.stage ≡ InOperation

@@ -71,8 +71,7 @@ fn take_frame_off(alloc: Global, octets: &[u8]) -> Result<Option<Line>, Reason>
     }
 }
 
-// Returns the line of the frame that these octets are, without the frame error control field. Returns `None` if this
-// field is wrong.
+// Returns the line of the frame `octets`, without its frame error control field. Returns `None` if this field is wrong.
 fn take_field_off(alloc: Global, octets: &[u8]) -> Result<Option<Line>, Reason>
     ensures passed { IfOk result (λ passed. MatchOption passed (HasWrongField octets.now) (IsFieldOff octets.now)) }
     ensures reason { IfErr result (λ reason. reason ≡ Reason.NoMemory) }

@@ -6,8 +6,8 @@ ghost use Rattle.tc_live.specs.Ends.{ends_after, has_field};
 use tc_fecf::passes;
 use tc_link::read_frame;
 
-/// A record of whether each frame so far in a `frame` line ended with a frame error control field. The record is kept
-/// only if frames aren't checked, and serves for a hint to the user.
+/// A record of whether each frame of the `frame` lines so far ended with a frame error control field. The record is
+/// kept only if frames aren't checked, and serves for a hint to the user.
 #[derive(Clone, Copy, Debug, PartialEq, Eq)]
 pub enum FrameEnds {
     /// No frame has come yet.

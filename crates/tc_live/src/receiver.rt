@@ -80,7 +80,7 @@ impl Receiver {
     }
 
     /// Carries out a line of a script, as [`do_line`](Receiver::do_line) does, and returns its answer. A line that
-    /// isn't one of a script, such as `link`, is bad for this call.
+    /// isn't one of a script, such as a `link` line, is bad.
     pub fn do_script_line(&mut self, alloc: Global, octets: &[u8]) -> Result<LiveAnswer, Reason>
         ensures answer { IfOk result (IsScriptLineAnswered self.old octets.now self.new) }
         ensures reason { IfErr result (λ reason. (reason ≡ Reason.NoMemory) ⊎ IsBadScriptLine self.old octets.now reason) }
@@ -106,8 +106,8 @@ impl Receiver {
         }
     }
 
-    // Removes the fill from a candidate, and brings its frame to the frame's channel. If more than fill follows the
-    // frame, nothing changes.
+    // Carries out a candidate, and brings its frame to the frame's channel. If more than fill follows the frame,
+    // nothing changes.
     fn candidate(&mut self, alloc: Global, octets: Octets) -> Result<LiveAnswer, Reason>
         ensures answer { IfOk result (IsCandidateDone self.old octets self.new) }
         ensures reason { IfErr result (λ reason. (reason ≡ Reason.NoMemory) ⊎ IsBadCandidate self.old octets reason) }

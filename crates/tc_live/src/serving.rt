@@ -104,7 +104,7 @@ pub fn serve<R: AllocGlobal + Input + Print>(
 /// The answer to a bad line is `bad` and the reason. If there is a hint on how to mend the line, it follows after a
 /// colon. The answer to a line with more octets than [`MAX_LINE`] is `bad too long`, and the line isn't kept. Octets
 /// after the last line feed are a line. If the octets of the reader are known, the answers to all lines are written. If
-/// the reader fails, the answers to the lines before are written.
+/// the reader fails, the answers to the lines that it gave before are written.
 pub fn answer_lines<R: BufRead, W: Write>(
     alloc: Global,
     receiver: Receiver,

@@ -127,8 +127,7 @@ AreFramesSaid most octets text =
 abbrev pub IsWordSaid : ℕ → List ℕ → Type 0
 IsWordSaid word text = (IsClcw word × (text ≡ clcw_text (fields_of word))) ⊎ ((IsClcw word → ⊥) × (text ≡ refused_text (codes "clcw")))
 
--- The text explains octets as a CLCW. There must be four octets, which are the word of the CLCW with its most
--- significant octet first.
+-- The text explains octets as a CLCW. There must be four octets, the most significant one first.
 abbrev pub IsClcwSaid : List ℕ → List ℕ → Type 0
 IsClcwSaid octets = Unless (if length octets == 4 then None else Some BadClcw) (IsWordSaid (from_be_bytes w32 octets))
 
@@ -159,7 +158,7 @@ IsKept old (Piece id octets) new = new ≡ record old { decoders = new.decoders 
 IsKept old (Search id) new = new ≡ record old { decoders = new.decoders }
 IsKept old line new = new ≡ old
 
--- This is the answer to a line. It is the reason if the line can't be parsed.
+-- This is the answer to a line. If the line can't be parsed, the answer is the reason.
 abbrev pub IsReadingSaid : Maker → Result Line Reason → Maker → List ℕ → Type 0
 IsReadingSaid old (Ok line) new text = IsSaid old line new text × IsKept old line new
 IsReadingSaid old (Err reason) new text = (text ≡ bad_text reason) × (new ≡ old)

@@ -27,7 +27,7 @@ IsCltuSaid octets = Unless (cltu_reason_of octets) (λ text. text ≡ named_text
 abbrev pub IsRandomSaid : List ℕ → List ℕ → Type 0
 IsRandomSaid octets text = text ≡ named_text (codes "random") (randomised octets)
 
--- telemetry frames end with a frame error control field if and only if telecommand frames do
+-- the ending of telemetry frames, which have a frame error control field if and only if telecommand frames have one
 abbrev pub telemetry_ending : Ending → ErrorControl
 telemetry_ending endings.DataField = Absent
 telemetry_ending endings.ErrorControl = Present

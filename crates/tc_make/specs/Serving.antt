@@ -21,6 +21,6 @@ IsMakerAnswered old line new text = IsAnswer old (maker_line_of (words line)) ne
 abbrev pub AreWritten : Ending → List ℕ → Option (List ℕ) → Option (List ℕ) → Type 0
 AreWritten ending octets before after = (last : Maker) × lines.AreAllWritten limit IsMakerAnswered (new_maker ending) octets last before after
 
--- this text was written before an early end
+-- this text was written before this fault ended the answers early
 abbrev pub IsMakingCutShort : Ending → List ℕ → Option (List ℕ) → Option (List ℕ) → ServingFault → Type 0
 IsMakingCutShort ending octets before after fault = (last : Maker) × lines.IsCutShort limit IsMakerAnswered (new_maker ending) octets last before after fault

@@ -22,8 +22,8 @@ use tc_link::{
 };
 use tc_packet::{Packet, Part, Segment, next_packet, read_segment};
 
-/// Writes the explanation of the frame at the front of the octets, which is as long as its length field says, and of
-/// the octets that follow it. If frames end with a frame error control field, this field is removed first.
+/// Writes the explanation of the frame at the front of the octets, and of the octets that follow it. The frame is as
+/// long as its length field says. If frames end with a frame error control field, this field is removed first.
 pub(crate) fn write_explained<W: Write>(
     alloc: Global,
     ending: Ending,

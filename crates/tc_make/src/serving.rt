@@ -36,7 +36,7 @@ impl LineAnswerer for Maker {
 ///
 /// The answer to a line with more octets than [`MAX_LINE`] is `bad too long`. Octets after the last line feed are a
 /// line. If the octets of the reader are known, the answers to all lines are written. If the reader fails, the answers
-/// to the lines before are written.
+/// to the lines that it gave before are written.
 pub fn answer_lines<R: BufRead, W: Write>(
     alloc: Global,
     ending: Ending,

@@ -23,7 +23,7 @@ pub enum Answer {
 /// A reason why an operation is refused.
 #[derive(Clone, Copy, Debug, PartialEq, Eq)]
 pub enum Refusal {
-    /// Octets that are no frame for a channel of the station.
+    /// Octets that don't begin with a frame for one of the channels.
     Unlocated(LocateFault),
     UnknownChannel,
     NoQueue,

@@ -1,4 +1,4 @@
-//! Handing on all items that wait in the queues of a channel. Nothing is allocated.
+//! Handing on all items that wait in the queues of a channel, without any allocation.
 
 ghost use Rattle.std.specs.Prelude.{◌≡◌, ◌∷◌, [], OnOk};
 ghost use Rattle.std.specs.Io.KnownBytes.{Appends};

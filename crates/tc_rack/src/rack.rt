@@ -182,7 +182,7 @@ impl Rack {
     }
 }
 
-// Returns the place of the channel with this id.
+// Returns the place of the channel with this id, if there is one.
 fn place_of(channels: &[LinkedChannel], vcid: u8) -> Option<usize>
     ensures { MatchOption result (¬ HasChannel channels.now vcid) (λ place. (channel : Linked) × IsChannelAt channels.now vcid place channel) }
 {
