@@ -1,6 +1,6 @@
 -- If the operator of a station has made all events of its desks, each of its answers follows from the lines before it.
--- So does each CLCW that its watchers read, if each watcher has in the end seen exactly the events that the operator
--- has.
+-- The CLCWs that its watchers read do so, too, if in the end each watcher has seen exactly the events that the operator
+-- has seen.
 use Rattle.std.proofs.Common.{◌≡◌, ◌<◌, ℕ, zero, suc, List, [], ◌∷◌, ◌++◌, Some, Err, All, map, length, get_or, set, slice_get, inl, inr, refl, sym, ap, ◌∙◌, subst, arith, ◌==◌, Contains, slice_index}
 use Rattle.tc_cli.proofs.Names.{All-head, All-tail, AllHaveMet, Answer, AreClosedTogether, AtLock, AtStation, Changes, Event, HasChannel, HasMadeAll, HasMetAt, HasSeenItsOwn, HasSeenNoMore, HaveMet, History, Identity, IsAnswerOf, IsAnsweredAt, IsBeginning, IsBringAnswer, IsChannelAnswer, IsClcwAnswer, IsClosed, IsDeskAnswer, IsFrameAnswer, IsFrameAnswered, IsMergeOf, IsPlace, IsRackLocateFault, IsReleaseAnswered, IsTakeAnswered, IsUnitAnswered, IsWordAnswer, KnowsDesks, Linked, LocateFault, Staffed, Moment, Operation, Own, Racked, Roster, Settings, Watching, clcw, eqb-true, eqb_tells, get_or_from_slice_get, header_of, heads_of, histories, history_of, length-map, length-set, linked, looked, made, map-map, new_linked, new_rack, no_flag, nobody, position-Some, same_Some, settings_in, slice_get-get_or, slice_get_within, reported_word, vcid_of}
 use Rattle.std.proofs.lemmas.List.{map-set}

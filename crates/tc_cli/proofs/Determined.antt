@@ -60,7 +60,7 @@ same-line octets line after other rest one two = same-parts octets line after ot
 abbrev pub AreApart : List ℕ → Type 0
 AreApart ids = (one other vcid : ℕ) → slice_get ids one ≡ Some vcid → slice_get ids other ≡ Some vcid → one ≡ other
 
--- if no two places have the same id, two elements with the same id are at the same place, and are equal
+-- if each id occurs at one place only, two elements with the same id are at the same place, and are equal
 pub same-at : {X : Type 0} (id : X → ℕ) (xs : List X) → AreApart (map id xs) → (vcid one other : ℕ) (x y : X) → slice_get xs one ≡ Some x → id x ≡ vcid → slice_get xs other ≡ Some y → id y ≡ vcid → (one ≡ other) × (x ≡ y)
 same-at id xs apart vcid one other x y at is to too =
     let place = apart one other vcid (mapped-at id xs one x at ∙ ap (λ (z : ℕ). Some z) is) (mapped-at id xs other y to ∙ ap (λ (z : ℕ). Some z) too) in
@@ -188,7 +188,7 @@ word-determined vcid rack answer another apart (inr (none, is)) (inr (nothing, t
 -- ---- octets that begin with a frame, and octets that don't
 
 module _ (only : IsOneAtMost) where
-  -- if octets begin with a frame for one of the channels, there is no reason why they are for none of the channels
+  -- octets that begin with a frame for one of the channels have no fault
   not-located : (octets frame : List ℕ) (rack : Racked) (fault : LocateFault) → BeginsWith octets frame → (header_of frame).scid ≡ rack.scid
       → ((¬ HasChannel rack.channels (header_of frame).vcid) → ⊥) → IsRackLocateFault rack octets fault → ⊥
   not-located octets frame rack (faults.Frame f) begins ours here why = none-some f (sym (no-fault octets frame begins) ∙ why)

@@ -83,7 +83,7 @@ pub record WorkLaws : Type 0 where
   pub maker : (makers : List Own) (k : ℕ) (own : Own) (journal : List Event) → made_by makers k ≡ own.made → ((j : ℕ) → j ≢ k → made_by makers j ≡ []) → HasSeenItsOwn own
       → IsBeginning own.seen (record { head = own.seen.head; entries = journal }) → IsMergeOf journal makers → HasMadeAll own × (own.seen.entries ≡ journal)
 
--- the events that an operator has seen and made at the desk at this place
+-- the operator's desk at this place, or `nobody` if there is none
 abbrev pub desk_at : ℕ → AtStation → AtLock
 desk_at place o = slice_index_or o.desks place nobody
 
@@ -123,7 +123,7 @@ worked-more s place old mid new before between after first second = record {
       );
 }
 
--- if the premises hold for the events that the operator has seen and made after a call, `IsMadeOf` holds for the desk
+-- `IsMadeOf` holds for the desk of a call if the premises hold for the operator's account after the call
 desk-grown : (there next : AtLock) (now : Moment) (o : Own) (s : Settings) (old new : List Event) → next.own ≡ o → o.seen.head ≡ now.head → (HasSeenItsOwn there.own → HasSeenItsOwn o)
     → (HasSeenItsOwn there.own → HasMadeAll o → HasMadeAll there.own × (now ≡ there.own.seen)) → (now.head.settings ≡ s → now.entries ≡ old → o.seen.entries ≡ new) → IsMadeOf s old new there next
 desk-grown there next now o s old new is head its law journal = λ own. (

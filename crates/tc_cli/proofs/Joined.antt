@@ -38,7 +38,6 @@ place-of station k v distinct at =
 
 -- ---- the events that each worker has made
 
--- if the lower of two lines is absent, both are absent
 first-none : (a b : Option ℕ) → lower a b ≡ None → (a ≡ None) × (b ≡ None)
 first-none a b is = grind arith
 

@@ -66,8 +66,8 @@ new-planned scid list found new =
           subst (λ (x : List Job × List Event). AllHappen found.station.scid l.vcid c.history.settings x.0 [] x.1) (λ i. (sym no-jobs i, sym no-events i)) refl;
     }
 
--- if a job is added to a list, and the channel of this list is replaced by the channel after the job, the plan and the
--- channels still fit
+-- if a job is added to a list, and the channel of this list is replaced by the channel after the job, the plan still
+-- fits the channels
 moved-planned : (found : Parted) (rack : Racked) (place : ℕ) (l : WorkList) (c new : Linked) (job : Job) → IsPlanned found rack
     → slice_get found.lists place ≡ Some l → slice_get rack.channels place ≡ Some c → new.history.settings ≡ c.history.settings
     → Happens found.station.scid l.vcid c.history.settings job.order c.history.journal new.history.journal

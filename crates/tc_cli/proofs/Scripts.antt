@@ -35,7 +35,7 @@ end-fault (Err fault) scid session script rest count phase leads end within (inr
 end-fault (Err fault) scid session script rest count phase leads end within (inr (inr memory)) =
     subst (IsScriptFault script) (sym memory) (inl (refl, inl (phase, rest, leads)))
 
--- if the jobs of some lines were given to their channels, these lines are good
+-- lines whose jobs were appended to the lists of their channels are good
 pub parted-leads : (scid : ℕ) (script : List ℕ) (count : ℕ) (plan : Plan) (rest : List ℕ) → AreParted scid script count plan rest → Leads script count (phase_of plan) rest
 parted-leads scid script count plan rest none_parted = starts
 parted-leads scid script count plan rest (one_parted {count = before} {plan = old} leads next parted) =

@@ -11,7 +11,6 @@ use Rattle.tc_rack.specs.declared.answer.Answer.TheVariants.{Clcw}
 use Rattle.tc_cli.proofs.Joined.{place-of}
 use Rattle.tc_cli.proofs.Lists.{push-cases, set-at, set-else}
 
--- there are as many desks as ids
 pub as-many : (station : Roster) → IsOrdered station → length station.heads ≡ length station.vcids
 as-many station ordered =
     let settings : Identity → Settings = λ h. h.settings in

@@ -117,8 +117,8 @@ abbrev pub IsReportInOrder : Type 0
 IsReportInOrder = (scid : ℕ) (script : List ℕ) (channels : List History) (text : List ℕ) → AreWorkedChannels scid script channels → IsReportOf channels text
     → (answers : List (Option Answer)) × (progress : Progress) × AreAnswers (IsPerformed scid) script answers progress [] × IsScriptReport scid progress text
 
--- if the octets of the reader are known, they are the script, and the report is the one of the script when its lines
--- are carried out in order
+-- if the octets of the reader are known, the report that is written is the one of these octets when their lines are
+-- carried out in order
 pub parallel-written : IsReportInOrder → (known : Option (List ℕ)) (scid : ℕ) (script read : List ℕ) (channels shown : List History) (a b c : Option (List ℕ))
     → script ≡ read → IfSome known (λ octets. read ≡ octets) → shown ≡ channels → AreWorkedChannels scid script channels → AreRising channels → All IsNumberReported channels
     → All IsLawfulHistory shown → Appends a b (report_text shown) → Keeps b c → IfSome known (λ octets. IsWrittenInParallel scid octets a c)

@@ -65,12 +65,12 @@ AreWorkedChannels scid script channels =
     (count : ℕ) × (plan : Plan) × AreParted scid script count plan []
     × (((phase_of plan ≡ Setup []) × (channels ≡ [])) ⊎ ((found : Parted) × ArePartedFor scid plan found × IsWorkedOut found channels))
 
--- the workers of the whole script have left its station out of balance, and there is a cause for it
+-- the workers of the whole script have left its station out of balance, and there is a cause of the imbalance
 abbrev pub AreWorkedUnbalanced : ℕ → List ℕ → Type 0
 AreWorkedUnbalanced scid script =
     (count : ℕ) × (plan : Plan) × (found : Parted) × AreParted scid script count plan [] × ArePartedFor scid plan found × IsWorkedUnbalanced found
 
--- if a script is reported to be out of balance, there is a cause for it
+-- if a script is reported to be out of balance, there is a cause of the imbalance
 abbrev pub HasCause : ℕ → List ℕ → ScriptFault → Type 0
 HasCause scid script Unbalanced = AreWorkedUnbalanced scid script
 HasCause scid script fault = Unit {0}

@@ -98,8 +98,8 @@ IsBringAnswer octets m answer after =
     ⊎ ((fault : LocateFault) × IsLocateFault m.station octets fault × (answer ≡ Refused (Unlocated fault)) × (after ≡ m))
 
 -- The watcher at this place, whose channel has this id, read a CLCW without flags of the link. It is the CLCW of the
--- history that the watcher has seen after the read, which continues the history that it had seen before. Nothing else
--- changes.
+-- history that the watcher has seen after the read. This history continues the one that the watcher had seen before.
+-- Nothing else changes.
 pub record IsReadAt (place vcid : ℕ) (before : Staffed) (answer : Answer) (after : Staffed) : Type 0 where
   pub head : Identity
   pub early : Watching

@@ -7,8 +7,9 @@ use std::alloc::Global;
 use tc_fecf::without_field;
 use tc_text::{Line, next_line, parse_line};
 
-/// Returns whether a script that was carried out has a frame, and each of its frames is whole and ends with its field.
-/// Returns false if memory runs out. The result only decides on a hint for the user, and no contract depends on it.
+/// Returns true if a script that was carried out has a frame, and if each of its frames is whole and ends with its
+/// field. Returns false if memory runs out. The result only decides on a hint for the user, and no contract depends on
+/// it.
 pub(crate) fn each_frame_has_its_field(alloc: Global, script: &[u8]) -> bool {
     let mut has_frame = false;
     let mut rest = from_next_frame(script);
@@ -23,7 +24,7 @@ pub(crate) fn each_frame_has_its_field(alloc: Global, script: &[u8]) -> bool {
     has_frame
 }
 
-// Returns the lines from the first one on that has an `f`. No line before it can be a frame line.
+// Returns the lines from the first one that has an `f` to the end. No line before it can be a frame line.
 fn from_next_frame(lines: &[u8]) -> &[u8]
     ensures { length result.now ≤ length lines.now }
 {

@@ -32,7 +32,7 @@ pub fn what_a_script_does_follows_from_its_lines()
     each_input_begins_with_one_frame_at_most();
 }
 
-/// States that the report on the channels after a script's workers is the report of the script when its lines are
+/// States that the report on the channels that a script's workers leave is the report of the script when its lines are
 /// carried out in order.
 pub(crate) fn the_workers_report_is_that_of_the_lines_in_order()
     ensures { (scid : ℕ) (script : List ℕ) (channels : List History) (text : List ℕ) → AreWorkedChannels scid script channels → IsReportOf channels text

@@ -31,7 +31,7 @@ use tc_text::{Reason, ScriptFault, next_line, parse_line, read_whole};
 ///
 /// Each worker passes the gate once, while it holds its channel's lock. If the octets of the reader are known, nothing
 /// is carried out unless each line is good, and only the first bad line is reported. If the script ends early, nothing
-/// is written unless a write failed. `Unbalanced` is returned only if the station has a cause of imbalance.
+/// is written unless a write failed. `Unbalanced` is returned only if there is a cause of an imbalance.
 pub fn parallel_script<T: Threads + Wait + Sync, G: Gate + Sync, R: Read, W: Write>(
     rt: &T,
     alloc: Global,

@@ -2,8 +2,8 @@ use Rattle.std.proofs.Common.{◌≤◌, ◌+◌, length}
 use Rattle.tc_cli.specs.Parallel.{AreParted}
 use Rattle.tc_cli.proofs.parallel.part_lines.Given as goal
 
--- Each line so far was good, and its job was given to its channel. A line has at least one octet, which may be its line
--- feed.
+-- Each line so far was good, and its job was appended to the list of its channel. A line has at least one octet, which
+-- may be its line feed.
 abbrev pub invariant-loop-octets : goal.invariant-loop-octets
 invariant-loop-octets l = record {
   counted : l.line + length l.rest ≤ length l.fn.script;
