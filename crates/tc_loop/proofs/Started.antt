@@ -3,8 +3,8 @@ use Rattle.tc_loop.proofs.Names.{Action, Arrive, Bc, Bool, ChannelState, E1, E10
 use Rattle.tc_loop.proofs.Actions.{known-append, take-some, take-none}
 use Rattle.tc_loop.proofs.Counted.{journal-append, known-step, one-at, clcw-shows}
 
--- This was the action of the session that is this action of the era's loop. If the era's action is `Other`, the session
--- had the same event, or an earlier frame or Set V(R) arrived.
+-- The action of the era's loop was `a` in the session. If the era's action is `Other`, the session had the same event,
+-- or an earlier frame or Set V(R) arrived.
 abbrev WasSuch : Start → ℕ → Action → Action → Type 0
 WasSuch s t a (Send i) = a ≡ Send (s.directive + 1 + i)
 WasSuch s t a (Arrive i r) = (s.again < t) × (a ≡ Arrive (s.directive + 1 + i) r)
@@ -58,7 +58,7 @@ late-events : (s : Start) (xs : List Action) (n : ℕ) → s.again < n → event
 late-events s [] n later = refl
 late-events s (x ∷ xs) n later = rw (late-event s n x later, late-events s xs (suc n) (omega arith)) refl
 
--- if the era begins with action d of a list, the era's events are those of the actions from there on
+-- if the era begins with action d of a list, the era's events are those of action d and the actions after it
 early-events : (s : Start) (d : ℕ) (xs : List Action) (n : ℕ) → n + d ≡ suc s.again → events (era s) (era_actions s n xs) ≡ events s.loop (drop d xs)
 early-events s zero xs n e = late-events s xs n (omega arith)
 early-events s (suc d) [] n e = refl
@@ -67,7 +67,7 @@ early-events s (suc d) (x ∷ xs) n e = rw (early-event s n x (omega arith)) (ea
 era-events : (s : Start) (xs : List Action) → events (era s) (era_actions s 0 xs) ≡ events s.loop (drop (suc s.again) xs)
 era-events s xs = early-events s (suc s.again) xs 0 (omega arith)
 
--- the era's journal is the session's, from the start of the era on
+-- from the start of the era on, the journal of the era's loop is that of the session
 journal-late : (s : Start) (t : ℕ) → s.again < t → journal (era s) (take t (era_session s)) ≡ journal s.loop (take t s.session)
 journal-late s t later =
     let n = suc s.again in

@@ -68,7 +68,7 @@ allowed-from first low = record {
 pub allowed-2 : IsAllowed (example.buffer_of 2)
 allowed-2 = allowed-from 0 (omega arith)
 
--- the action at each moment
+-- this is the action at this moment
 abbrev IsAt : ℕ → Action → Type 0
 IsAt t (Send j) = ((t ≡ 0) × (j ≡ 0)) ⊎ (((t ≡ 2) × (j ≡ 1)) ⊎ (((t ≡ 5) × (j ≡ 1)) ⊎ ((t ≡ 7) × (j ≡ 2))))
 IsAt t (Arrive j s) = ((t ≡ 1) × (j ≡ 0) × (s ≡ 0)) ⊎ (((t ≡ 4) × (j ≡ 1) × (s ≡ 2)) ⊎ (((t ≡ 8) × (j ≡ 1) × (s ≡ 2)) ⊎ ((t ≡ 9) × (j ≡ 2) × (s ≡ 7))))

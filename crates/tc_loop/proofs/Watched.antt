@@ -1,4 +1,4 @@
--- The two halves of a window of 2 K track a sender with a window of K.
+-- The two parts of a window of 2 K track a sender with a window of K frames.
 use Rattle.tc_loop.proofs.Names.{Ahead, Behind, Bool, Expected, IsTrue, Outside, above, ahead, ap, arith, behind, cond, eq-eqb, event_at, false, heard, inl, inr, is_here_or_ahead, is_here_or_behind, nat_tests, outside, place_of, refl, row_at, true, ℕ, ◌%◌, ◌*◌, ◌+◌, ◌-◌, ◌<◌, ◌↔◌, ◌≡◌, ◌≤◌, cases_lt, zero, suc}
 
 -- a frame that is expected passes both tests

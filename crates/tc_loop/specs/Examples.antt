@@ -47,9 +47,9 @@ around x (suc (suc i)) = example.packet_octets ((x + i) % 256)
 abbrev pub around_set_to : ℕ → Loop
 around_set_to x = record (new_loop no_limits (example.buffer_of 2) (λ m. example.link_up) 5) { first = x; frames = around x }
 
--- V(R) was 0, and then 1. A Set V(R) to 0 is obeyed. Then the two earlier CLCWs come. The sender takes the first one
--- for a sign that Set V(R) was obeyed, because it has the number 0. The sender's frame 0 is lost, but the second CLCW
--- makes the sender take it for accepted.
+-- V(R) was 0, and then 1. A Set V(R) to 0 is obeyed. Then the two earlier CLCWs come. The sender believes that Set V(R)
+-- was obeyed when it hears the first of them, because this CLCW has the number 0. The sender's frame 0 is lost, but the
+-- second CLCW makes the sender take this frame for accepted.
 abbrev pub trap : Start
 trap = record {
   loop = around_set_to 0;
@@ -65,9 +65,9 @@ abbrev pub by_bd : List ℕ
 by_bd = 0x20 ∷ 0x2a ∷ 0x04 ∷ 0x06 ∷ 0x00 ∷ 0xc1 ∷ 0x00 ∷ []
 
 -- A start with a Set V(R) to 9, a number that no earlier CLCW has. The sender sends Set V(R) again before it believes
--- that it was obeyed. This time it is lost, but the first one comes twice and is obeyed twice. Then frame 0 of the era
--- is accepted, a Type-BD frame comes, and the sender hears of frame 0 by a CLCW that comes twice. The data fields of
--- the earlier frame 0 and of this one are released, and the packet is taken.
+-- that Set V(R) was obeyed. This second Set V(R) is lost, but the first one comes twice and is obeyed twice. Then frame
+-- 0 of the era is accepted, a Type-BD frame comes, and the sender hears of frame 0 by a CLCW that comes twice. The data
+-- fields of the earlier frame 0 and of the era's frame 0 are released, and the packet is taken.
 abbrev pub learnt_by_9 : Start
 learnt_by_9 = record {
   loop = around_set_to 9;

@@ -1,6 +1,6 @@
 -- The start of an era. A sender sends Set V(R) itself, while earlier frames and CLCWs are still on their way. It
--- numbers its frames anew once it takes Set V(R) for obeyed (CCSDS 232.1-B, FOP-1: initiation of the AD service with
--- Set V(R)).
+-- numbers its frames anew once it believes that Set V(R) was obeyed (CCSDS 232.1-B, FOP-1: initiation of the AD service
+-- with Set V(R)).
 use Rattle.std.specs.Prelude.{◌≡◌, ℕ, suc, ◌+◌, ◌-◌, ◌%◌, ◌≢◌, ◌<◌, ◌≤◌, List, [], ◌∷◌, drop, take, map, slice_get, Some, None, nat_le, nat_lt, if◌then◌else◌}
 use Rattle.tc_link.specs.Frame.{header_of}
 use Rattle.tc_link.specs.Command.{kind_of}
@@ -20,7 +20,7 @@ pub record Start : Type 0 where
   pub directive : ℕ
   pub session : List Action
   -- `obeyed` is a moment at which Set V(R) was obeyed, and `again` is the last such moment. At the moment `believed`,
-  -- the sender hears the CLCW by which it learns that Set V(R) was obeyed.
+  -- the sender hears the CLCW that makes it believe that Set V(R) was obeyed.
   pub obeyed : ℕ
   pub again : ℕ
   pub believed : ℕ
@@ -54,7 +54,7 @@ era_actions s t (action ∷ rest) = era_action s t action ∷ era_actions s (suc
 abbrev pub era_session : Start → List Action
 era_session s = era_actions s 0 s.session
 
--- The start follows FOP-1's rules. The sender takes Set V(R) for obeyed only after it was obeyed.
+-- The start follows FOP-1's rules. The sender believes that Set V(R) was obeyed only after it was obeyed.
 pub record IsStart (s : Start) : Type 0 where
   pub window : s.loop.window < 256
   pub directive : kind_of (header_of (s.loop.frames s.directive)) (field_of (s.loop.frames s.directive)) ≡ Bc (SetVr s.loop.first)
@@ -64,10 +64,10 @@ pub record IsStart (s : Start) : Type 0 where
   pub obeyed : IsObeyed s s.obeyed
   pub again : (s.obeyed ≤ s.again) × IsObeyed s s.again
   pub last : NoneSetsWithin s.loop.limits s.loop.settings (journal s.loop (take (suc s.again) s.session)) (events s.loop (drop (suc s.again) s.session))
-  -- Set V(R) was obeyed before the receiver made the CLCW by which the sender learns of that.
+  -- Set V(R) was obeyed before the receiver made the CLCW that makes the sender believe that it was.
   pub believes : (made : ℕ) × (slice_get s.session s.believed ≡ Some (Hear made)) × (s.obeyed < made)
-  -- From the directive on, the sender sends no earlier frame. Once it takes Set V(R) for obeyed, it no longer sends the
-  -- directive, and sends the era's frames by its window.
+  -- From the directive on, the sender sends no earlier frame. Once it believes that Set V(R) was obeyed, it no longer
+  -- sends the directive, and sends the era's frames by its window.
   pub stops : (t u j : ℕ) → slice_get s.session t ≡ Some (Send j) → j < s.directive → slice_get s.session u ≡ Some (Send s.directive) → t < u
   pub asks : (t : ℕ) → slice_get s.session t ≡ Some (Send s.directive) → t < s.believed
   pub sends : (t i : ℕ) → slice_get s.session t ≡ Some (Send (s.directive + 1 + i)) → (s.believed < t) × (known_since s t ≤ i) × (i < known_since s t + s.loop.window)

@@ -77,30 +77,30 @@ pub fn each_receiver_can_be_in_a_loop()
 {}
 
 /// The era that a sender's own Set V(R) starts is a loop, too, even if earlier frames and CLCWs are still on their way.
-/// The receiver must have obeyed Set V(R) before it made the CLCW by which the sender learns of that. The loop has the
-/// journal of the session (`journal`). Its sender knows those frames to be accepted that CLCWs have shown since that
-/// CLCW (`known`).
+/// The premise is that Set V(R) was obeyed before the receiver made the CLCW that makes the sender believe that it was.
+/// The loop has the journal of the session (`journal`). In the loop, the sender knows those frames to be accepted that
+/// CLCWs have shown from that CLCW on (`known`).
 pub fn an_era_that_set_v_r_starts_is_a_loop()
     ensures loop_again { (s : Start) → IsStart s → IsLoop (era s) (era_session s) }
     ensures journal { (s : Start) → IsStart s → journal (era s) (era_session s) ≡ journal s.loop s.session }
     ensures known { (s : Start) (t : ℕ) → IsStart s → known (era s) (era_session s) t ≡ known_since s t }
 {}
 
-/// A sender can make sure that a CLCW was made after its Set V(R) was obeyed. Consider the numbers of its frames, from
-/// the first one that it doesn't know to be accepted to the one after the last one that it sent. Suppose that Set V(R)
-/// names none of these numbers. Then each CLCW with Set V(R)'s number that the sender hears after it sends Set V(R) was
-/// made after Set V(R) was obeyed.
+/// A sender can choose the number that Set V(R) names so that a CLCW with this number shows that Set V(R) was obeyed.
+/// Consider the numbers of the earlier frames, from the first one that the sender doesn't know to be accepted to the
+/// one after the last one that it sent. Suppose that Set V(R) names none of these numbers. Then each CLCW with Set
+/// V(R)'s number that the sender hears after it sends Set V(R) was made after Set V(R) was obeyed.
 pub fn a_number_of_its_own_shows_that_set_v_r_was_obeyed()
     ensures { (s : Start) (first window : ℕ) (frames : ℕ → List ℕ) (asked made : ℕ) → ((i : ℕ) → i < s.directive → frames i ≡ s.loop.frames i)
         → IsLoop (era_before s first window frames) (session_before s) → KeepOrder s.session → IsObeyed s s.obeyed → asked ≤ s.obeyed → asked ≤ s.believed
         → NamesAnother s first window frames asked → slice_get s.session s.believed ≡ Some (Hear made) → reported s.loop s.session made ≡ s.loop.first → s.obeyed < made }
 {}
 
-/// These starts come to the results that were worked out by hand. By FOP-1's rule alone, a sender takes Set V(R) for
-/// obeyed if a CLCW has the number that Set V(R) names. This rule isn't enough (`trap`): an earlier CLCW has the number
-/// 0, too, and the sender takes a lost frame for accepted. A Set V(R) to 9 meets each premise of both laws (`met`,
-/// `before_met`, `another_met`), although it is obeyed twice. A Set V(R) may also name the number of a frame that is
-/// known to be accepted (`known_named`), but not that of the next frame (`next_not_named`).
+/// These starts come to the results that were worked out by hand. By FOP-1's rule alone, a sender believes that Set
+/// V(R) was obeyed if a CLCW has the number that Set V(R) names. This rule isn't enough (`trap`): an earlier CLCW has
+/// the number 0, too, and the sender takes a lost frame for accepted. A Set V(R) to 9 meets each premise of both laws
+/// (`met`, `before_met`, `another_met`), although it is obeyed twice. A Set V(R) may also name the number of a frame
+/// that is known to be accepted (`known_named`), but not that of the next frame (`next_not_named`).
 pub fn starts_come_to_this()
     ensures trap_says { reported example.trap.loop example.trap.session 0 ≡ example.trap.loop.first }
     ensures trap_known { known_since example.trap 7 ≡ 1 }
@@ -138,11 +138,11 @@ pub fn report_values_are_read_so()
     ensures widest { heard 0 255 255 254 ≡ 510 }
 {}
 
-/// FARM-1 in a channel with a window of 2 K can track a sender with a window of K frames. Consider the first frame that
-/// the sender doesn't know to be accepted. If V(R) is the number of this frame, a frame is expected or in the positive
-/// part of the window if and only if the sender may send it (`may_send`). If V(R) is an N(R) that the sender reads, the
-/// first unknown frame is expected or in the negative part of the window if and only if the sender then knows the
-/// frames before N(R) to be accepted (`known_after`).
+/// FARM-1 in a channel with a window of 2 K can track a sender with a window of K frames. Let f be the first frame that
+/// the sender doesn't know to be accepted. If V(R) is the number of f, a frame is expected or in the positive part of
+/// the window if and only if the sender may send it (`sends`). If V(R) is an N(R) that the sender reads, f is expected
+/// or in the negative part of the window if and only if N(R) is within the sender's window (`hears`). The sender then
+/// knows the frames before N(R) to be accepted (`known`).
 pub fn a_window_twice_as_wide_shows_a_sender()
     ensures sends { (window first known index : ℕ) (room : Bool) → 1 ≤ window → window ≤ 127 → known ≤ index → index < known + 256
         → IsTrue (is_here_or_ahead (event_at window ((first + known) % 256) ((first + index) % 256) room)) ↔ (index < known + window) }
