@@ -1,5 +1,5 @@
--- A channel that a station gives out has the settings of its place, and its journal is a merge of the events that its
--- operators made.
+-- A channel that the close of a station returns has the settings of its place, and its journal is a merge of the events
+-- that its operators made.
 use Rattle.tc_apart.proofs.Names.{AreClosedTogether, AtLock, AtStation, Event, History, Identity, IsMergeOf, List, Roster, Settings, Some, [], accounts_of, ap, arith, column, heads_of, map, no_limits, operator_lists_of, owned_desk-there, refl, settings_in, slice_get, slice_get_within, subst, suc, sym, zero, ℕ, ◌∙◌, ◌∷◌, ◌≡◌}
 
 setting-there : (owned_desks : List AtLock) (n : ℕ) (owned_desk : AtLock) → slice_get owned_desks n ≡ Some owned_desk → slice_get (map (λ (h : Identity). h.settings) (heads_of owned_desks)) n ≡ Some owned_desk.own.seen.head.settings

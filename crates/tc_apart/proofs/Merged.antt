@@ -67,7 +67,7 @@ all-alike (e ∷ es) (f ∷ fs) go back =
     let same : f ≡ e = cc in
     rw same (ap (λ (xs : List Event). e ∷ xs) (all-alike es fs (λ n g h. go (suc n) g h) (λ n g h. back (suc n) g h)))
 
--- the channels that two closed stations give out are the same
+-- if the operators of two stations made the same events of a channel of each, the closes return the same channel
 pub same-channel : (station other : Roster) (operators others : List AtStation) (closed shut : List History) (place at : ℕ) (one two : History)
     → AreClosedTogether station operators closed → AreClosedTogether other others shut → slice_get closed place ≡ Some one → slice_get shut at ≡ Some two
     → slice_get (settings_in station) place ≡ slice_get (settings_in other) at

@@ -28,7 +28,7 @@ abbrev IsLeft : Bool → Operation → Linked → Answer → Linked → Type 0
 IsLeft true operation old answer new = IsAnsweredOn operation old answer new
 IsLeft false operation old answer new = new ≡ old
 
--- the channel after an operation is at its place
+-- after an operation, the channel with this id is still at its place, and is as the operation leaves it
 abbrev IsStep : Operation → Answer → Racked → ℕ → ℕ → Linked → Type 0
 IsStep operation answer new vcid p c = (later : Linked) × IsChannelAt new.channels vcid p later × IsLeft (is_on vcid operation answer) operation c answer later
 
@@ -90,7 +90,7 @@ abbrev pub AreAnsweredOn : List Answered → Linked → Linked → Type 0
 AreAnsweredOn [] old new = new ≡ old
 AreAnsweredOn (d ∷ done) old new = (mid : Linked) × IsAnsweredOn d.operation old d.answer mid × AreAnsweredOn done mid new
 
--- all operations leave a channel as its own operations do
+-- all operations together leave the channel at its place, as its own operations alone do
 abbrev pub IsSeen : List Answered → Racked → ℕ → ℕ → Linked → Type 0
 IsSeen done new vcid p c = (last : Linked) × IsChannelAt new.channels vcid p last × AreAnsweredOn (filter (is_own vcid) done) c last
 

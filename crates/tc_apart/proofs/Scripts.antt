@@ -1,4 +1,4 @@
--- A script, line by line, by a session and by tcrx.
+-- A script that a session and tcrx carry out, line by line.
 use Rattle.std.proofs.Common.{◌≡◌, ◌⊎◌, ◌∙◌, ◌++◌, ◌∷◌, ◌+◌, ◌-◌, ◌^◌, ℕ, List, [], Bool, true, false, Option, Some, None, arith, length, min, refl, sym, ap, subst, inl, inr}
 use Rattle.std.proofs.lemmas.Grind.{flat_map-append}
 use Rattle.std.proofs.lemmas.List.{append-nil, length-append}

@@ -22,7 +22,7 @@ use Rattle.tc_write.specs.Frames.{IsMadeFrame}
 use Rattle.tc_ends.specs.Ends.{AreFramesOf, AreNumbered, UnitSent}
 use Rattle.tc_apart.specs.Making.{AreSpelled, AskFor, HasBadLine, frames_needed, order_for}
 
--- a text that consists of one line `bad` has a bad line, and so has that text with frames before it
+-- a text that consists of the lines of some frames and then one line `bad` has a bad line
 only-bad : (text : List ℕ) (frames : List (List ℕ)) (reason : Reason) → text ≡ frames_text frames ++ bad_text reason → HasBadLine text
 only-bad text frames reason is = record { frames = frames; bad = bad_text reason; rest = []; parts = is ∙ ap (λ (x : List ℕ). frames_text frames ++ x) (sym (append-nil (bad_text reason))); reason = inl (reason, refl) }
 

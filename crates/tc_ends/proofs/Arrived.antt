@@ -1,5 +1,4 @@
--- A CLTU with few wrong bits is the arrival of its frames, and octets in CLTUs bring about the events of the session at
--- a receiver.
+-- The frames of a CLTU with few wrong bits arrive. Octets in CLTUs bring about the events of the session at a receiver.
 use Rattle.tc_ends.proofs.Names.{if◌then◌else◌, Action, AllByRecursion, AltersNothing, AreBrought, AreCarriedOrLost, AreEventsAt, AreEventsOf, AreNearBlocks, ArePassed, AreTakenOut, Asks, Bool, CarriesWell, Coming, Decoding, Event, Frame, HasNoStart, IsCarriedOrLost, IsLost, IsNearCltu, IsWhole, LinkEnd, List, Loop, Mode, None, Octets, Option, Reception, Searching, Step, [], after-fits, after_block, ap, append-nil, append_assoc, arith, cltu_fault_of, concat, decoded, enclosed, events, events_at, events_of, false, fault_of, fill, filled, filled-fits, filled-front, flat_map-append, frame_with_field-alike, frames_of, inl, inr, is_fill, is_some, is_start, length, length-append, length-map, map, most_octets, nat_lt, nat_tests, one-frame, only-frames, reception_step, refl, some-octets, state_after, state_behind, subst, suc, sym, take, taken, true, ℕ, ◌++◌, ◌+◌, ◌<◌, ◌∙◌, ◌∷◌, ◌≡◌, ◌≤◌}
 
 -- the state after octets, and the candidate frames that they end

@@ -4,7 +4,6 @@ use Rattle.tc_ends.proofs.Segmented.{Makes}
 use Rattle.tc_ends.proofs.Streams.{headed-carried}
 use Rattle.tc_ends.proofs.Made.{made-append, no-parts, same-self}
 
--- a filter whose test is the same for each item keeps all items or none
 all-or-none : (t : Bool) (xs : List (List ℕ)) → filter (λ (unit : List ℕ). t) xs ≡ cond t xs []
 all-or-none true [] = refl
 all-or-none true (x ∷ xs) = ap (λ (ys : List (List ℕ)). x ∷ ys) (all-or-none true xs)

@@ -61,7 +61,7 @@ came-all limits s apid before (p ∷ ps) =
     ∙ ap (λ (x : List (List ℕ)). x ++ map packet_on later) (tag-off p.service (map_in s.segmented p.field) now)
     ∙ ap (λ (x : List (List ℕ)). now ++ x) (came-all limits s apid (before ++ p ∷ []) ps)
 
--- the MAP of a data field is chosen exactly when the MAP of its stream is chosen
+-- the MAP of a data field is chosen if and only if the MAP of its stream is chosen
 chosen-by : (s : Settings) (field : List ℕ) (map_id : ℕ) (c : Bool) → HasMapsByHeaders s → map_in s.segmented field ≡ map_id → is_chosen_map s map_id ≡ c → is_chosen_by s field ≡ c
 chosen-by s field map_id c free is h = by s.segmented refl is where
   by : (t : Bool) → s.segmented ≡ t → map_in t field ≡ map_id → is_chosen_by s field ≡ c

@@ -69,8 +69,8 @@ with-fields = (refl, refl, refl, refl)
 fits : (frame : List ℕ) → IsWhole frame → length frame ≤ 1022 → IsWhole (enclosed true frame)
 fits frame whole most = (frame_with_field-frame frame whole most).whole
 
--- if code blocks have few wrong bits against the octets of one frame or of two, a CLTU of these blocks carries the
--- frames well
+-- if code blocks differ in few bits from the octets of one frame, or of two, a CLTU of these blocks carries the frames
+-- well
 one-carried : (last : ℕ) (frame sent blocks : List ℕ) → IsWhole frame → length frame ≤ 1022 → enclosed true frame ≡ sent → length sent ≤ 1029 → AreNearBlocks Correct (filled sent) blocks → CarriesWell correcting last (frame ∷ []) (enclosing blocks)
 one-carried last frame sent blocks whole most is short near =
     let all : all_enclosed true (frame ∷ []) ≡ sent = append-nil (enclosed true frame) ∙ is in

@@ -1,4 +1,4 @@
--- The segments of a unit end it once, whatever came before.
+-- The segments of a unit end the unit once, whatever fields came before.
 use Rattle.tc_ends.proofs.Names.{AllByRecursion, AreSegments, Continuing, EndAtLast, First, IsPart, List, MakeUnit, Segment, Unsegmented, [], ap, append_assoc, arith, common_steps, get_or, inl, inr, length, length-append, nat_tests, part_at, refl, segments_needed, sym, units_ended_by, ℕ, ◌++◌, ◌∙◌, ◌∷◌, ◌≡◌, ◌≤◌, get_or_at, nil_from_length}
 use Rattle.tc_packet.specs.Segment.{header_of}
 
@@ -17,7 +17,7 @@ part-first place count is = grind (arith, nat_tests, common_steps)
 part-only : (place count : ℕ) → part_at place count ≡ Unsegmented → count ≡ 1
 part-only place count is = grind (arith, nat_tests, common_steps)
 
--- a field at a place among segments has the part of that place
+-- the segment at each place is the first, a continuing, the last or the only one of its unit, as its header says
 part-there : (map size : ℕ) (unit : List ℕ) (fields xs ys : List (List ℕ)) (y : List ℕ) → AreSegments map size unit fields → fields ≡ xs ++ y ∷ ys
     → (header_of y).part ≡ part_at (length xs) (segments_needed size (length unit))
 part-there map size unit fields xs ys y s parts =

@@ -9,7 +9,7 @@ shift : (sent : ℕ → List ℕ) (k n : ℕ) → sent_from sent (suc k) n ≡ s
 shift sent k zero = refl
 shift sent k (suc n) = ap (λ (x : List (List ℕ)). sent (suc k) ∷ x) (shift sent (suc k) n)
 
--- the data fields of a sender's frames are those of the list
+-- the data fields of a sender's first frames are those of the frames in the list
 fields-of : (frames : ℕ → List ℕ) (list : List (List ℕ)) → AreFrom frames list → sent_from (λ i. field_of (frames i)) 0 (length list) ≡ map field_of list
 fields-of frames [] are = refl
 fields-of frames (f ∷ fs) are =
@@ -50,7 +50,7 @@ packets-of-start make s header units frames apid q k can numbered are only has =
     (packets-of-loop make (era s) (era_session s) header units frames apid q (is-loop s k) can numbered are only
     (subst (λ es. queue_of apid (run_within s.loop.limits s.loop.settings es).queues ≡ Some q) (sym same) has))
 
--- over CLTUs, too, the sent packets are given, because the receiver's journal is that of the session
+-- the law also holds for frames in CLTUs, because the receiver's journal is that of the session
 pub packets-in-cltus : Makes → (s : Start) (header : Header) (units : List UnitSent) (frames : List (List ℕ)) (apid : ℕ) (q : Queue) (end : LinkEnd) (state : Reception) (coming : List Coming) (came : List Event)
     → IsStart s → AllByRecursion (CanBeSent s.loop.limits s.loop.settings.segmented) units → AreNumbered s.loop.settings.segmented header units frames → AreFrom (era s).frames frames → SendsOnly (length frames) (era_session s)
     → AltersNothing end s.loop.frames state s.session coming → AreEventsOf end state coming came

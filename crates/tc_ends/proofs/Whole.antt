@@ -83,7 +83,8 @@ stream-sent b sent r n passed fields less id =
     ∙ sym (filter-append (λ (field : List ℕ). eqb (map_in b field) id) (sent_from sent 0 r) (sent_from sent r (n - r)))
     ∙ ap (on_map b id) (more ∙ ap (sent_from sent 0) sum)
 
--- the items made are those made before the era, and those that the fields of the era make
+-- the items that all fields make are those that the fields before the era make, followed by those that the fields of
+-- the era make
 made-parts : (ended : List Passed → Passed → List (List ℕ)) (limits : ℕ → ℕ) (s : Settings) (before journal : List Event)
     → all_made ended [] (run_within limits s journal).passed ≡ all_made ended [] (passed_before limits s before journal) ++ all_made ended (passed_before limits s before journal) (passed_in limits s before journal)
 made-parts ended limits s before journal =

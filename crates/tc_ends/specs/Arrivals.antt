@@ -43,9 +43,9 @@ enclosed true frame = frame_with_field frame
 enclosed false frame = frame
 
 -- These are the whole frames that a receiver takes out of the octets that a CLTU carried, with their frame error
--- control fields if frames have one. A receiver of several frames takes one after the other, as a program does that
--- calls tcrx_rack_candidate() again while frames may follow. Any other receiver takes one frame if at most fill follows
--- it, and otherwise none, as tclive does with `candidate`.
+-- control fields if frames have one. A receiver of several frames takes one after the other, like a program that calls
+-- tcrx_rack_candidate() again while frames may follow. Any other receiver takes one frame if at most fill follows it,
+-- and otherwise none, as tclive does with `candidate`.
 abbrev pub AreTakenOut : Bool → List ℕ → List (List ℕ) → Type 0
 AreTakenOut true carried taken = (rest : List ℕ) × AreDelimited (length carried) carried taken rest
 AreTakenOut false carried taken =
@@ -72,8 +72,8 @@ pub data Coming : Type 0 where
   Octets : List ℕ → Coming
   Asks : Event → Coming
 
--- a receiver's end of the link: the mode of its decoder, whether it takes several frames out of a CLTU, and whether
--- frames have a frame error control field
+-- A receiver's end of the link. `mode` is the mode of its decoder, `several` is set if it takes several frames out of a
+-- CLTU, and `field` is set if frames have a frame error control field.
 pub record LinkEnd : Type 0 where
   pub mode : Mode
   pub several : Bool

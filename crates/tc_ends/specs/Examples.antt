@@ -1,5 +1,5 @@
--- A session that was worked out by hand, to be read with the definitions: that of `learnt_by_9` of tc_loop, with its
--- frames in CLTUs.
+-- A session that was worked out by hand, to be read with the definitions: `learnt_by_9` of tc_loop, with its frames in
+-- CLTUs.
 use Rattle.std.specs.Prelude.{ℕ, false, true, List, [], ◌∷◌, ◌++◌}
 use Rattle.tc_link.specs.declared.frame.Header.{Header}
 use Rattle.tc_cltu.specs.Cltu.{start_sequence, tail_sequence}
@@ -58,8 +58,8 @@ with_wrong_field = 0x30 ∷ 0x2a ∷ 0x04 ∷ 0x09 ∷ 0x00 ∷ 0x82 ∷ 0x00 �
 abbrev pub of_wrong : List ℕ
 of_wrong = enclosing (0x30 ∷ 0x2a ∷ 0x04 ∷ 0x09 ∷ 0x00 ∷ 0x82 ∷ 0x00 ∷ 0xda ∷ 0x09 ∷ 0x80 ∷ 0x95 ∷ 0x55 ∷ 0x55 ∷ 0x55 ∷ 0x55 ∷ 0xcc ∷ [])
 
--- the link end of a receiver that takes several frames out of a CLTU, with a decoder that corrects errors and frames
--- that have a frame error control field
+-- The link end of a receiver whose decoder corrects errors. The receiver takes several frames out of a CLTU, and frames
+-- have a frame error control field.
 abbrev pub correcting : LinkEnd
 correcting = record { mode = Correct; several = true; field = true }
 

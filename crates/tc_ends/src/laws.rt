@@ -76,7 +76,7 @@ pub fn units_that_are_sent_are_made()
 }
 
 /// Suppose that each data field on a channel without segment headers consists of joined packets. Then the packets that
-/// the data fields make for an application are exactly those of these packets that are for it.
+/// the data fields make for an application are exactly its own among these packets.
 pub fn packets_that_are_sent_plainly_are_made()
     ensures { (limits : ℕ → ℕ) (s : Settings) (apid : ℕ) (units : List (List (List ℕ))) (before passed : List Passed)
         → s.segmented ≡ false → s.maps ≡ [] → AreAllPackets units → fields_in_order passed ≡ all_joined units
@@ -131,8 +131,9 @@ pub fn numbered_frames_send_packets()
 
 /// This law leads from a ground system's packets to the packets that are taken, over the start of an era and over links
 /// that lose, repeat and delay frames, but keep their order. The sender sends Set V(R) and then its packets, in units
-/// on any MAPs. It numbers the frames, sends them by its window, and sends no others. It takes Set V(R) for obeyed only
-/// after it was obeyed. The packets that were taken are then those that [`packets_that_are_sent_are_given`] promises.
+/// on any MAPs. It numbers the frames, sends them by its window, and sends no others. It believes that Set V(R) was
+/// obeyed only after it was obeyed. The packets that were taken are then those that [`packets_that_are_sent_are_given`]
+/// promises.
 pub fn packets_from_a_start_are_given()
     ensures { (s : Start) (header : Header) (units : List UnitSent) (frames : List (List ℕ)) (apid : ℕ) (q : Queue) → IsStart s
         → AllByRecursion (CanBeSent s.loop.limits s.loop.settings.segmented) units → AreNumbered s.loop.settings.segmented header units frames → AreFrom (era s).frames frames → SendsOnly (length frames) (era_session s)
@@ -145,7 +146,7 @@ pub fn packets_from_a_start_are_given()
 /// Suppose that a CLTU carries whole frames one after the other, each with its frame error control field if frames have
 /// one. Suppose also that no code block has more wrong bits than the mode tolerates, and that the tail, as it is
 /// received, is rejected as a code block. Then these frames arrive (`arrives`), and the receiver searches for a start
-/// sequence again (`searches`). For an input in a state of the decoder, there is only one list of events (`alone`).
+/// sequence again (`searches`). An input brings about only one list of events in each state of the decoder (`alone`).
 pub fn a_cltu_with_few_wrong_bits_brings_its_frames()
     ensures arrives { (end : LinkEnd) (last : ℕ) (frames : List (List ℕ)) (octets : List ℕ) → CarriesWell end last frames octets → AreEventsAt end (Searching last) (Octets octets) (map Frame frames) }
     ensures searches { (end : LinkEnd) (last : ℕ) (frames : List (List ℕ)) (octets : List ℕ) → CarriesWell end last frames octets → state_behind end (Searching last) (Octets octets) ≡ Searching 0 }
