@@ -17,7 +17,7 @@ part-first place count is = grind (arith, nat_tests, common_steps)
 part-only : (place count : ℕ) → part_at place count ≡ Unsegmented → count ≡ 1
 part-only place count is = grind (arith, nat_tests, common_steps)
 
--- the segment at each place is the first, a continuing, the last or the only one of its unit, as its header says
+-- the header of each segment has the part of the segment's place: first, continuing, last or only
 part-there : (map size : ℕ) (unit : List ℕ) (fields xs ys : List (List ℕ)) (y : List ℕ) → AreSegments map size unit fields → fields ≡ xs ++ y ∷ ys
     → (header_of y).part ≡ part_at (length xs) (segments_needed size (length unit))
 part-there map size unit fields xs ys y s parts =

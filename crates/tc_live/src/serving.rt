@@ -21,8 +21,8 @@ use std::{fmt, io};
 use tc_lines::LineAnswerer;
 use tc_text::{Reason, SpacecraftId};
 
-/// The largest number of octets that a line may have, without its line feed. The digits of a frame of 1,024 octets are
-/// a quarter of them.
+/// The largest number of octets that a line may have, without its line feed. The hexadecimal digits of a frame of 1,024
+/// octets take a quarter of this number.
 pub const MAX_LINE: usize = 8_192;
 
 /// A fault after which lines are no longer answered.

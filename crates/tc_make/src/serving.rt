@@ -1,4 +1,4 @@
-//! The bench, which reads lines and writes their answers.
+//! Reading lines, and writing their answers.
 
 ghost use Rattle.std.specs.Prelude.{◌≡◌, IfErr, IfSome, OnOk};
 ghost use Rattle.tc_make.specs.Serving.{AreWritten, IsMakingCutShort};

@@ -29,7 +29,7 @@ head-at station desks place there w heads is (head, at, board, settings) =
     let one : head ≡ there.own.seen.head = sym (get_or_from_slice_get station.heads place head head at) ∙ (ap (λ (l : List Identity). get_or l place head) (sym heads) ∙ mine) in
     (at ∙ ap (λ (h : Identity). Some h) one, board ∙ ap (λ (h : Identity). h.board) one)
 
--- the watcher of a channel is at the channel's place
+-- a watcher of a channel is a watcher at the channel's place
 pub at-place : (station : Roster) (place vcid : ℕ) (w : Watching) → IsPlace station vcid place → IsWatcherOf station vcid w → IsWatcherAt station place w
 at-place station place vcid w at (head, (p, here, of), board, settings) =
     let same : p ≡ place = same_Some p place (sym here ∙ at) in

@@ -53,7 +53,7 @@ abbrev pub AreMade : Roster → ℕ → List Job → AtStation → AtStation →
 AreMade station vcid [] before after = after ≡ before
 AreMade station vcid (job ∷ jobs) before after = (mid : AtStation) × IsJobMade station vcid job.order before mid × AreMade station vcid jobs mid after
 
--- the operator has made at each desk what it had made before, and no more
+-- the operator has made the same events at each desk as before
 abbrev pub HasMadeTheSame : AtStation → AtStation → Type 0
 HasMadeTheSame before after = map (λ (d : AtLock). d.own.made) after.desks ≡ map (λ (d : AtLock). d.own.made) before.desks
 

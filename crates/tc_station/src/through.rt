@@ -97,11 +97,11 @@ pub fn calls_go_on_one_after_another()
     ensures both { (before between after : AtStation) → HasGoneOnAtEach before between → HasGoneOnAtEach between after → HasGoneOnAtEach before after }
 {}
 
-/// Answered calls meet the premises of [`from_a_sender_to_packets`]: the event of each call is in the closed journal of
-/// its channel, and the answer is the one at its place. The premises of this law are two contracts alone. One is that
-/// of the call by an operator of the station. The other is that of
-/// [`StationOf::close_together`](crate::StationOf::close_together), which is given this operator, as its last call left
-/// it, among others.
+/// The event of each answered call is in the closed journal of its channel, and the call's answer is the one at the
+/// event's place. The premises of this law are two contracts alone. One is that of the call by an operator of the
+/// station. The other is that of [`StationOf::close_together`](crate::StationOf::close_together), which is given this
+/// operator, as its last call left it, among others. These contracts imply the premises of
+/// [`from_a_sender_to_packets`].
 ///
 /// - `frames` is about calls of `bring`, `watched` is about calls of `bring_watched`, and `releases`, `takes` and
 ///   `units` are about calls of `release`, `take` and `take_unit`.
