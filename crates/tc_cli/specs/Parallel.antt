@@ -25,7 +25,7 @@ abbrev pub ArePartedFor : ℕ → Plan → Parted → Type 0
 ArePartedFor scid (SettingUp list) found = IsNewlyParted scid list found
 ArePartedFor scid (Operating parted) found = found ≡ parted
 
--- the second plan has the jobs that an operation finds after the first plan
+-- the second plan is in operation, with the jobs that an operation finds in the first plan
 abbrev pub Begins : ℕ → Plan → Plan → Type 0
 Begins scid old new = (found : Parted) × ArePartedFor scid old found × (new ≡ Operating found)
 

@@ -59,12 +59,12 @@ IsReached script number =
     ⊎ ((before : ℕ) × (phase : Phase) × (rest line after : List ℕ) × Leads script before phase rest × IsFirstLine rest line after × (number ≡ before + 1))
 
 -- This is the fault of a script with `lines` lines if its station isn't closed together with these operators. If the
--- station is out of balance, there is a cause.
+-- station is out of balance, there is a cause of the imbalance.
 abbrev pub IsScriptCloseFault : Roster → List AtStation → ℕ → ScriptFault → Type 0
 IsScriptCloseFault station operators lines fault = ((fault ≡ Unbalanced) × IsCauseAtStation station operators) ⊎ (fault ≡ Line lines NoMemory)
 
--- The fault of a script of `lines` lines whose station isn't closed. A lock that isn't free is reported as running out
--- of memory.
+-- The fault of a script with this number of lines, whose station isn't closed. A lock that isn't free is reported as a
+-- lack of memory.
 abbrev pub close_fault : ℕ → Refusal → ScriptFault
 close_fault lines refusals.NoMemory = Line lines NoMemory
 close_fault lines refusals.InUse = Line lines NoMemory

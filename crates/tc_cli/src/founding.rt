@@ -9,7 +9,7 @@ use tc_setup::Configuration;
 use tc_station::{CountingStation, StationFault, WorkList};
 use tc_text::Reason;
 
-/// Creates a station with these channels.
+/// Creates a station with the channels of a configuration.
 pub(crate) fn found(
     alloc: Global,
     scid: u16,
@@ -32,7 +32,7 @@ pub(crate) fn found(
     }
 }
 
-/// Creates an empty list of jobs for each channel.
+/// Creates an empty list of jobs for each channel of a configuration.
 pub(crate) fn lists_for(
     alloc: Global,
     configuration: &Configuration,

@@ -32,12 +32,12 @@ new_linked s = record {
 abbrev pub later : Event → Linked → Linked
 later event channel = record channel { history = with_event channel.history event }
 
--- the frame is answered, and is the next event of the channel
+-- the frame gets this answer, and is the next event of the channel
 abbrev pub IsFrameAnswered : List ℕ → Linked → Answer → Linked → Type 0
 IsFrameAnswered frame old answer new =
     (answer ≡ answers.Frame (vcid_of old) (frame_reply old.history.settings old.history.journal frame)) × (new ≡ later (events.Frame frame) old)
 
--- a release is answered, unless the buffer is empty
+-- a release is answered, or refused because the buffer is empty
 abbrev pub IsReleaseAnswered : Linked → Answer → Linked → Type 0
 IsReleaseAnswered old answer new =
     ((buffered_fields old.history.settings old.history.journal ≢ [])
@@ -51,13 +51,13 @@ IsPacketTaken apid old answer new =
     (packet : List ℕ) × (take_reply old.history.settings old.history.journal apid ≡ Some packet)
     × (answer ≡ answers.Take (vcid_of old) apid packet) × (new ≡ later (events.Take apid) old)
 
--- there is no packet to take, because there is no queue for the APID or it is empty
+-- there is no packet to take, because the APID has no queue, or because its queue is empty
 abbrev pub IsPacketRefused : ℕ → Linked → Answer → Type 0
 IsPacketRefused apid old answer =
     ((waiting_packets old.history.settings old.history.journal apid ≡ None) × (answer ≡ answers.Refused NoQueue))
     ⊎ ((waiting_packets old.history.settings old.history.journal apid ≡ Some []) × (answer ≡ answers.Refused Empty))
 
--- the oldest packet is taken, if there is one
+-- the oldest packet is taken, or the take is refused
 abbrev pub IsTakeAnswered : ℕ → Linked → Answer → Linked → Type 0
 IsTakeAnswered apid old answer new =
     IsPacketTaken apid old answer new ⊎ (IsPacketRefused apid old answer × (new ≡ old))
@@ -68,13 +68,13 @@ IsUnitTaken map_id old answer new =
     (unit : List ℕ) × (unit_reply old.history.settings old.history.journal map_id ≡ Some unit)
     × (answer ≡ answers.Unit (vcid_of old) map_id unit) × (new ≡ later (events.TakeUnit map_id) old)
 
--- there is no unit to take, because the MAP isn't chosen or its queue is empty
+-- there is no unit to take, because the MAP isn't chosen, or because its queue is empty
 abbrev pub IsUnitRefused : ℕ → Linked → Answer → Type 0
 IsUnitRefused map_id old answer =
     ((waiting_units old.history.settings old.history.journal map_id ≡ None) × (answer ≡ answers.Refused NoMap))
     ⊎ ((waiting_units old.history.settings old.history.journal map_id ≡ Some []) × (answer ≡ answers.Refused Empty))
 
--- the oldest unit is taken, if there is one
+-- the oldest unit is taken, or the take is refused
 abbrev pub IsUnitAnswered : ℕ → Linked → Answer → Linked → Type 0
 IsUnitAnswered map_id old answer new =
     IsUnitTaken map_id old answer new ⊎ (IsUnitRefused map_id old answer × (new ≡ old))

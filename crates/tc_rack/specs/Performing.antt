@@ -1,6 +1,6 @@
 -- Performing the lines of a script in order. At the first operation the channels are created from the set-up. A backend
--- defines new channels (`IsNew`), the answers to operations (`Answers`), and the states that channels are left in when
--- memory runs out (`Spares`).
+-- defines which channels are new (`IsNew`), which answers operations have (`Answers`), and in which states channels are
+-- left if memory runs out (`Spares`).
 use Rattle.std.specs.Prelude.{◌≡◌, ◌⊎◌, List, Option, Some, None}
 use Rattle.tc_queues.specs.declared.settings.Settings.{Settings}
 use Rattle.tc_setup.specs.declared.instruction.Instruction.{Instruction}

@@ -1,4 +1,4 @@
--- The progress of a script, as a phase, and the stage after a refused line.
+-- The phase that a stage stands for, and the stage after a refused line.
 use Rattle.std.specs.Prelude.{◌≡◌, ◌≢◌, ◌⊎◌}
 use Rattle.tc_setup.specs.Phase.{Phase, Setup, Operation}
 use Rattle.tc_rack.specs.declared.stage.Stage.{Stage}

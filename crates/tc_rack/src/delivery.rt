@@ -46,7 +46,7 @@ fn empty_unit_queues<W: Write>(channel: &mut LinkedChannel, writer: &mut W) -> i
     Ok(())
 }
 
-// Takes the items that wait in a queue, one after the other.
+// Takes the items that wait in a queue, one after the other, and writes the answers to the takes.
 fn empty_queue<W: Write>(
     channel: &mut LinkedChannel,
     queue: QueueId,

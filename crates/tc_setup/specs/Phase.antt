@@ -11,8 +11,8 @@ use Rattle.tc_setup.specs.declared.instruction.Addition.{Addition}
 use Rattle.tc_setup.specs.declared.instruction.Instruction.{Instruction}
 use Rattle.tc_setup.specs.declared.instruction.Instruction.TheVariants.{Nothing, Channel, Add, Frame, Release, Take, Unit as TakeUnit, Clcw}
 
--- The phase of a script. Before the first operation it has the settings of the channels so far. From the first
--- operation on, nothing more is set up.
+-- The phase of a script: the set-up, with the settings of the channels so far, or the operation, in which nothing more
+-- is set up.
 pub data Phase : Type 0 where
   Setup : List Settings → Phase
   Operation : Phase

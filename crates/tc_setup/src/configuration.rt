@@ -115,7 +115,7 @@ impl Configuration {
         Ok(Configuration { channels, apids })
     }
 
-    /// Lends the settings of the channels, at most one for each id of six bits.
+    /// Lends the settings of the channels. There are at most 64, since an id has six bits.
     pub fn channels(&self) -> &[Settings]
         ensures channels { result.now ≡ self.now }
         ensures few { length self.now ≤ 64 }

@@ -51,8 +51,8 @@ use tc_desk::each_event_stands_at_its_place;
 ///   them. `given_units` states this for the units of a chosen MAP.
 /// - `whole`: If the takes returned as many packets or units as these fields make, none is missing.
 ///
-/// Each call of an operator continues all that the operator had seen (`later` of `IsCall`), and so do several calls
-/// together ([`calls_go_on_one_after_another`]).
+/// Each call of an operator continues all that the operator had seen (`later` of `IsCall`), and several calls together
+/// continue it, too ([`calls_go_on_one_after_another`]).
 pub fn from_a_sender_to_packets()
     ensures merge { (station : Roster) (operators : List AtStation) (closed : List History) (place : ℕ) (channel : History)
         → AreClosedTogether station operators closed → slice_get closed place ≡ Some channel

@@ -27,7 +27,7 @@ pub enum LiveLine {
     Deliver(u8),
     /// A collection: takes of all items that wait in the queues of a virtual channel.
     Collect(u8),
-    /// A candidate: the octets that a CLTU carried, which are a frame and the fill after it.
+    /// A candidate: octets that a CLTU carried, which should be one frame and the fill after it.
     Candidate(Octets),
 }
 

@@ -7,7 +7,7 @@ ghost use Rattle.tc_text.specs.Line.{last_of, two_of, three_of};
 use crate::fault::Reason;
 use tc_lines::next_word;
 
-/// Returns the next of the words that a command takes, and the octets after it.
+/// Returns the next word of a command, and the octets after the word. The call fails if no word is left.
 pub(crate) fn next_argument(octets: &[u8]) -> Result<(&[u8], &[u8]), Reason>
     ensures { MatchResult result
         (λ parts. words octets.now ≡ parts.0.now ∷ words parts.1.now)
@@ -34,7 +34,7 @@ pub(crate) fn last_argument(octets: &[u8]) -> Result<Option<&[u8]>, Reason>
     }
 }
 
-/// Returns the two words that follow a command, if there are exactly two.
+/// Returns the two words that follow a command. The call fails if there are more or fewer.
 pub(crate) fn two_arguments(octets: &[u8]) -> Result<(&[u8], &[u8]), Reason>
     ensures { MatchResult result
         (λ parts. two_of (words octets.now) ≡ Ok (parts.0.now, parts.1.now))
@@ -46,7 +46,7 @@ pub(crate) fn two_arguments(octets: &[u8]) -> Result<(&[u8], &[u8]), Reason>
     Ok((first, second))
 }
 
-/// Returns the three words that follow a command, if there are exactly three.
+/// Returns the three words that follow a command. The call fails if there are more or fewer.
 pub(crate) fn three_arguments(octets: &[u8]) -> Result<(&[u8], &[u8], &[u8]), Reason>
     ensures { MatchResult result
         (λ parts. three_of (words octets.now) ≡ Ok (parts.0.now, parts.1.now, parts.2.now))
