@@ -53,7 +53,7 @@ module _ (scid : ℕ) (script : List ℕ) where
   so-far answers progress rest (one_more {answers = before} {stage = old} {rest = from} {answer = answer} lines next (said, is, does, a)) =
       line-performed (operations_of lines) said old progress answer (before, from, lines) does a (so-far before old from lines)
 
-  -- the operations on a channel lead to it from a new channel with its settings
+  -- the operations on a channel lead from a new channel with the same settings to this channel
   from-new : (all : List Answered) (list : List Settings) (rack : Racked) (vcid : ℕ) (channel : Linked) → ArePerformed all (new_rack scid list) rack → AreApart (map vcid_of rack.channels) → IsOf rack vcid (λ c. c ≡ channel)
       → AreAnsweredOn (filter (is_own vcid) all) (new_linked channel.history.settings) channel
   from-new all list rack vcid channel performed apart (p, last, at, is) =

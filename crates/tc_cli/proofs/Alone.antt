@@ -94,9 +94,8 @@ module _ (laws : AloneLaws) (Answers : Linked → Answer → Linked → Type 0) 
             (λ made. subst (board.IsEarlier (history_of a.next.own.seen)) (sym a.met.1) (beginning-self (history_of a.next.own.seen)));
       }
 
-  -- If the operator is alone after this answer, it was alone before it, and the channel, as the operator had seen it,
-  -- gives this answer. `IsAlone` states that the operator has made all events, and that each watcher has seen exactly
-  -- the events that the operator has seen.
+  -- If the operator is alone after this answer, it was alone before. The channel then gives this answer in the state
+  -- that the operator had seen.
   changed : IsAlone new → IsAlone m × Changes (rack_of m) vcid (λ before after. Answers before answer after) (rack_of new)
   changed alone =
       let desks = m.operator.desks in

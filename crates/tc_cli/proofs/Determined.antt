@@ -98,7 +98,7 @@ frame-determined frame old new other answer another (is, next) (too, then) = (is
 pub release-determined : IsDetermined IsReleaseAnswered
 release-determined old new other answer another one two = grind arith
 
--- either there is no queue and the answer is `without`, or the queue is empty and the operation is refused as empty
+-- either there is no queue and the answer is `without`, or the queue is empty and the answer reports that
 abbrev IsNoneThere : Option (List (List ℕ)) → Answer → Answer → Type 0
 IsNoneThere waiting without answer = ((waiting ≡ None) × (answer ≡ without)) ⊎ ((waiting ≡ Some []) × (answer ≡ answers.Refused Empty))
 

@@ -1,5 +1,5 @@
--- The channels of a closed station whose lists were worked on side by side. They are the channels that result when the
--- lines are carried out in order, and their report is the same.
+-- The channels of a closed station whose workers carried out the lists at the same time. Carrying out the lines in
+-- order leads to the same channels, and to the same report.
 use Rattle.std.proofs.Common.{◌≡◌, ◌<◌, ℕ, zero, suc, ◌+◌, List, [], ◌∷◌, Bool, true, false, Option, None, Some, All, map, length, get_or, cond, inl, inr, refl, sym, ap, ◌∙◌, subst, arith, eq-eqb, ne_eqb, not, ◌≢◌, ◌==◌, AllPairs, IsPermutation, nat_lt, slice_get, slice_index_or}
 use Rattle.tc_cli.proofs.Names.{Answer, AreAnswers, AreClosedTogether, AreWorkedChannels, AtLock, AtStation, Event, HasMadeNothing, HasSeenItsOwn, History, Identity, IsBeginning, IsClosed, IsPerformed, IsPlace, IsReportOf, IsScriptReport, IsWorkedOut, KnowsDesks, Linked, Parted, Progress, Racked, Roster, Settings, WorkList, column, operator_lists_of, get_or_from_slice_get, heads_of, histories, length-map, lower, made_by, nobody, none-some, rack_for, report_text, same_Some, settings_in, slice_get_within, vcid_of, cases_lt}
 use mathlib.Core.Option.{some}

@@ -156,7 +156,7 @@ read-cut-short (Some script) scid a (Line number reason) why = inl (why.1, inl (
 read-cut-short (Some script) scid a Write why = tt
 read-cut-short (Some script) scid a Unbalanced why = absurd why
 
--- if the octets of the reader are known, they are the script that was carried out
+-- if the octets of the reader are known, the text that was written is that of the script with these octets
 pub whole-written : (done : Result (Unit {0}) ScriptFault) (known : Option (List ℕ)) (scid : ℕ) (script read : List ℕ) (a b c : Option (List ℕ))
     → script ≡ read → IfSome known (λ octets. read ≡ octets) → OnOk done (IsScriptWritten scid script a b) → Keeps b c → OnOk done (IfSome known (λ octets. IsScriptWritten scid octets a c))
 whole-written done known scid script read a b c whole is written kept =

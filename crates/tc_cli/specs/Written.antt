@@ -93,8 +93,7 @@ IsWrittenBefore scid script number IsSo old new =
     × AreAnswers (IsStaffedOperated scid) script answers session rest × IsFirstLine rest line after × IsSo session line
     × (number ≡ length answers + 1) × Appends old new (answers_text answers)
 
--- no report is written, and if the octets written so far are known, the answers to all `count` lines are appended to
--- them
+-- No report is written. If the octets written so far are known, the answers to all `count` lines are appended to them.
 abbrev pub IsScriptUnreported : ℕ → List ℕ → ℕ → Option (List ℕ) → Option (List ℕ) → Type 0
 IsScriptUnreported scid script count old new =
     (answers : List (Option Answer)) × (session : Session) × AreAnswers (IsStaffedOperated scid) script answers session [] × (count ≡ length answers)

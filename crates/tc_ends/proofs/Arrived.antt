@@ -148,7 +148,7 @@ well-come end last frames octets w =
     let one : AreBrought end.several end.field (filled all ∷ []) frames = (xs, frames, [], taken, all-passed end.field frames w.whole, sym (append-nil frames), refl) in
     (ap (λ (s : Step). s.0) now, (frames, subst (λ cs. AreBrought end.several end.field cs frames) (sym (ap (λ (s : Step). s.1) now)) one, refl))
 
--- if octets have the same effect as other octets from another state, and the others are lost, they are lost, too
+-- octets that have the same effect as lost octets in another state are lost, too
 lost-alike : (end : LinkEnd) (last o : ℕ) (octets os : List ℕ) (later : ℕ) → Both end.mode most_octets (Searching last) octets ≡ Both end.mode most_octets (Searching o) os → IsLost end o os later → IsLost end last octets later
 lost-alike end last o octets os later same is = (
   (is.0.0, subst (λ cs. AreBrought end.several end.field cs is.0.0) (sym (ap (λ (s : Step). s.1) same)) is.0.1, is.0.2),

@@ -10,7 +10,7 @@ const BAD: &[u8] = b"bad ";
 #[derive(Drop)]
 pub(crate) struct Strict<W: Write + Drop> {
     writer: W,
-    // The number of octets of the line so far if they are the first octets of `BAD`, and otherwise `None`.
+    // The number of octets of the line so far, if they are the first octets of `BAD`, and otherwise `None`.
     alike: Option<usize>,
     has_bad: bool,
 }

@@ -3,7 +3,7 @@ use Rattle.tc_station.proofs.Names.{◌≡◌, ℕ, ◌+◌, ◌<◌, List, [], 
 use Rattle.tc_station.proofs.Counts.{raised-is}
 use Rattle.tc_station.proofs.GoneOn.{longer, on-by-one}
 
--- a list of values read from desks stays the same if one desk is replaced by another with an equal value
+-- if one desk is replaced by another with the same value of `f`, the values of `f` for all desks stay the same
 pub same-set : {A : Type 0} (f : AtLock → A) (desks : List AtLock) (place : ℕ) (there next : AtLock) → there ≡ get_or desks place there → f next ≡ f there → map f (set desks place next) ≡ map f desks
 same-set f desks place there next is same =
     map-set f desks place next
@@ -132,7 +132,7 @@ same-lock station o vcids owned scid issued desks owned_desks place vcid there o
     let at_owned_desk : position (λ v. v == vcid) owned ≡ Some place = ap (λ (x : Roster). position (λ v. v == vcid) x.vcids) seen ∙ place_is in
     same-lock-at station o vcids owned scid issued desks owned_desks place there owned_desk view ours seen (id-of vcids desks place vcid there ids is at).0 (id-of owned owned_desks place vcid owned_desk owned_desk_ids owned_desk_is at_owned_desk).0 is owned_desk_is
 
--- if another answer holds at the moment of a call, it can take the place of the call's answer
+-- if another answer holds at the moment of a call, the call can be stated with this answer
 answered-so : {R F S G : Type 0} (place vcid : ℕ) (e : Event) (ok : Moment → R → Type 0) (err : Moment → F → Type 0) (ok2 : Moment → S → Type 0) (err2 : Moment → G → Type 0) (before after : AtStation) (r : Result R F) (r2 : Result S G)
     (c : IsCallAt place vcid e ok err before r after) → MatchResult r2 (λ a. ok2 c.call.now a × (c.next.own ≡ made e c.call.now c.there.own)) (λ f. err2 c.call.now f × (c.next.own ≡ looked c.call.now c.there.own))
     → IsCallAt place vcid e ok2 err2 before r2 after

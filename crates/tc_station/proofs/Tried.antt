@@ -22,8 +22,8 @@ tried-at place vcid e ok err before after (Ok a) can cannot c =
 tried-at place vcid e ok err before after (Err f) can cannot c =
     (Err tt, err-call place vcid e ok err (λ m _. CanBeMade e m) (λ m _. CannotBeMade e m) before after (Err f) f tt c refl (λ m p. cannot m f refl p))
 
--- unless memory ran out, a call on a channel made its event if the event could be made, or the station doesn't have the
--- channel
+-- unless memory ran out, either a call on a channel made its event if the event could be made, or the station doesn't
+-- have the channel
 pub tried-on : {R F : Type 0} (station : Roster) (vcid : ℕ) (e : Event) (ok : Moment → R → Type 0) (err : Moment → F → Type 0) (unknown : F) (before after : AtStation) (r : Result R F) → ((m : Moment) (a : R) → ok m a → CanBeMade e m)
     → ((m : Moment) (f : F) → r ≡ Err f → err m f → CannotBeMade e m) → IsCallOn station vcid e ok err unknown before r after → IsTriedOn station vcid e before after
 tried-on station vcid e ok err unknown before after r can cannot (inl c) = inl (c.0, c.1, tried-at c.0 vcid e ok err before after r can cannot c.2)
