@@ -40,7 +40,7 @@ apart r s b c =
 fits-with : (d e : ℕ) → d < 2 ^ 16 → e < 2 → bit_xor d (e * 2 ^ 15) < 2 ^ 16
 fits-with d e d_fits e_fits = xor_lt 16 d (e * 2 ^ 15) d_fits (omega arith)
 
--- if one step makes two registers equal, they differed only by their two bits
+-- if one step makes two registers equal, they differed at most in the highest bit, by the sum of the step's two bits
 back-one : (r s b c : ℕ) → r < 2 ^ 16 → s < 2 ^ 16 → b < 2 → c < 2 → with_bit r b ≡ with_bit s c → bit_xor r s ≡ bit_xor b c * 2 ^ 15
 back-one r s b c r_fits s_fits b_fits c_fits e =
     same (bit_xor r s) (bit_xor b c * 2 ^ 15)
@@ -50,7 +50,7 @@ back-one r s b c r_fits s_fits b_fits c_fits e =
 unfoldable pub Alike : List ℕ → List ℕ → ℕ → Type 0
 Alike bs cs k = get_or bs k 0 ≡ get_or cs k 0
 
--- if two registers become equal through equal bits, they were equal before
+-- if two registers become equal through alike bits, the registers and the bits were equal before
 pub back : (bs cs : List ℕ) → length bs ≡ length cs → AreBits bs → AreBits cs → (r s : ℕ) → r < 2 ^ 16 → s < 2 ^ 16 → ((k : ℕ) → Alike bs cs k)
     → remainder r bs ≡ remainder s cs → (r ≡ s) × (bs ≡ cs)
 unfolding AreBits Alike
@@ -64,8 +64,8 @@ back (b ∷ bs) (c ∷ cs) lengths bits_b bits_c r s r_fits s_fits alike e =
     (same r s (omega arith), cc)
 back _ _ lengths bits_b bits_c r s r_fits s_fits alike e = absurd (omega arith)
 
--- if only the first n bits may differ and the registers become equal, the registers differ at most in their n high
--- bits, and if they don't differ, no bit does
+-- Let only the first `n` bits differ, and let the registers become equal. Then the registers differ at most in their
+-- `n` high bits. If the registers are equal, so are the bits.
 window : (n p : ℕ) → n + p ≡ 16 → (bs cs : List ℕ) → length bs ≡ length cs → AreBits bs → AreBits cs → (r s : ℕ) → r < 2 ^ 16 → s < 2 ^ 16
     → ((k : ℕ) → n ≤ k → Alike bs cs k) → remainder r bs ≡ remainder s cs
     → ((q : ℕ) × (bit_xor r s ≡ q * 2 ^ p)) × (r ≡ s → bs ≡ cs)
@@ -104,7 +104,7 @@ window (suc n) p sixteen (b ∷ bs) (c ∷ cs) lengths bits_b bits_c r s r_fits 
     )
 window (suc n) p sixteen _ _ lengths bits_b bits_c r s r_fits s_fits alike e = absurd (omega arith)
 
--- a burst: if only the 16 bits from place i on may differ and the remainders are equal, no bit differs
+-- if only the 16 bits from place `i` on may differ and the remainders are equal, no bit differs
 pub burst : (i : ℕ) (bs cs : List ℕ) → length bs ≡ length cs → AreBits bs → AreBits cs → (r : ℕ) → r < 2 ^ 16
     → ((k : ℕ) → (k < i) ⊎ (i + 16 ≤ k) → Alike bs cs k) → remainder r bs ≡ remainder r cs → bs ≡ cs
 unfolding AreBits Alike
@@ -119,7 +119,7 @@ burst (suc i) (b ∷ bs) (c ∷ cs) lengths bits_b bits_c r r_fits alike e =
 burst (suc i) _ _ lengths bits_b bits_c r r_fits alike e = absurd (omega arith)
 
 -- ---- two bits
--- a difference of two registers that isn't 0, and that one more bit can't undo
+-- whether a difference of two registers isn't 0 and can't be undone by one more bit
 open_sum : ℕ → Bool
 open_sum d = not (eqb d 0) && not (eqb d 32768)
 
@@ -147,8 +147,8 @@ shut d zero fits is h = let f : open_sum d ≡ open_sum 0 = ap open_sum is in cc
 shut d (suc zero) fits is h = let f : open_sum d ≡ open_sum 32768 = ap open_sum is in cc
 shut d (suc (suc e)) fits is h = omega arith
 
--- two registers can't become equal if only place n may differ and `open_sum` is true of their difference up to that
--- place
+-- Let only the bits at place `n` differ. The registers can't become equal if `open_sum` is true of their difference and
+-- of its next `n` multiples by x.
 later : (n : ℕ) (bs cs : List ℕ) → length bs ≡ length cs → AreBits bs → AreBits cs → (r s : ℕ) → r < 2 ^ 16 → s < 2 ^ 16
     → ((k : ℕ) → k ≢ n → Alike bs cs k) → stays (suc n) (bit_xor r s) ≡ true → remainder r bs ≡ remainder s cs → ⊥
 unfolding AreBits Alike stays
@@ -168,8 +168,8 @@ later (suc n) (b ∷ bs) (c ∷ cs) lengths bits_b bits_c r s r_fits s_fits alik
     (ap (stays (suc n)) next ∙ (and_parts (open_sum (bit_xor r s)) (stays (suc n) (times_x (bit_xor r s))) h).1) e
 later n _ _ lengths bits_b bits_c r s r_fits s_fits alike h e = omega arith
 
--- if one differing bit set two registers apart, they can't become equal again while only one of the next 32,766 places
--- may differ
+-- One differing bit has set two registers apart. If only one of the next 32,766 bits may differ, the registers can't
+-- become equal again.
 pub later-near : (n : ℕ) → n < 32766 → (bs cs : List ℕ) → length bs ≡ length cs → AreBits bs → AreBits cs → (r s : ℕ) → r < 2 ^ 16 → s < 2 ^ 16
     → ((k : ℕ) → k ≢ n → Alike bs cs k) → bit_xor r s ≡ times_x 32768 → remainder r bs ≡ remainder s cs → ⊥
 later-near n near bs cs lengths bits_b bits_c r s r_fits s_fits alike one e =
@@ -182,7 +182,7 @@ different (suc (suc b)) c b_fits c_fits ne = absurd (omega arith)
 different b (suc (suc c)) b_fits c_fits ne = absurd (omega arith)
 different _ _ b_fits c_fits ne = absurd (ne refl)
 
--- if the lists may differ only at place i and n + 1 bits later, and their remainders are equal, no bit differs
+-- two lists with equal remainders are equal if they may differ only at the places `i` and `i + n + 1`
 pub two : (i n : ℕ) → n < 32766 → (bs cs : List ℕ) → length bs ≡ length cs → AreBits bs → AreBits cs → (r : ℕ) → r < 2 ^ 16
     → ((k : ℕ) → k ≢ i → k ≢ i + suc n → Alike bs cs k) → remainder r bs ≡ remainder r cs → bs ≡ cs
 unfolding AreBits Alike

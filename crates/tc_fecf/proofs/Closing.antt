@@ -21,7 +21,6 @@ sum-fits octets = fits (bits_of octets) 65535 (omega arith)
 sum-append : (xs ys : List ℕ) → checksum_of (xs ++ ys) ≡ remainder (checksum_of xs) (bits_of ys)
 sum-append xs ys = ap (remainder 65535) (bits-append xs ys) ∙ onward (bits_of xs) (bits_of ys) 65535
 
--- a register that processes its own two octets ends at 0
 table-none : table 0 ≡ 0
 unfolding table shifted times_x
 table-none = refl
@@ -61,7 +60,7 @@ closed octets =
     let whole : n ≡ 256 * (n / 256) + n % 256 = omega arith in
     sum-append octets (spelled n) ∙ ap (λ (x : ℕ). remainder x (bits_of (spelled n))) whole ∙ own (n / 256) (n % 256) (omega arith) (omega arith)
 
--- octets followed by any other two octets leave a remainder
+-- if octets followed by two octets leave no remainder, these two octets spell the sum
 pub closing : (octets : List ℕ) (h l : ℕ) → h < 256 → l < 256 → checksum_of (octets ++ (h ∷ l ∷ [])) ≡ 0 → h ∷ l ∷ [] ≡ spelled (checksum_of octets)
 unfolding AreBits Alike
 closing octets h l h_fits l_fits none =

@@ -30,7 +30,7 @@ less : (n m : ℕ) (rest : List ℕ) → (suc n ≡ suc m) ⊎ IsSome (fault_of 
 less n m rest (inl full) = inl (omega arith)
 less n m rest (inr fault) = inr fault
 
--- octets that begin with a whole frame aren't a rest
+-- octets that begin with a whole frame aren't a rest, unless the largest number of frames is reached
 not-rest : (most : ℕ) (octets rest frame more : List ℕ) → octets ≡ [] ++ rest → octets ≡ frame ++ more → IsWhole frame → (0 ≡ most) ⊎ IsSome (fault_of rest) → suc 0 ≤ most → ⊥
 not-rest most octets rest frame more is begins w (inl full) some = omega arith
 not-rest most octets rest frame more is begins w (inr fault) some = let none : fault_of rest ≡ None = ap fault_of (sym is ∙ begins) ∙ no-fault frame more w in grind arith

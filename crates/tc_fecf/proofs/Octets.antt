@@ -90,7 +90,7 @@ unfolding table shifted times_x
 rows-three-on = same_below (λ x. get_or SUMS_THREE_ON x 0) (λ x. shifted eight (shifted eight (shifted eight (table x)))) 256 refl
 
 -- ---- four octets at once
--- the step of a register whose high octet is `l` and whose low octet is 0
+-- a register with the high octet `l` and the low octet 0 takes an octet by one look-up
 low-octet : (l b : ℕ) → l < 256 → b < 256 → remainder (l * 256) (octet_bits b) ≡ table (bit_xor l b)
 low-octet l b l_fits b_fits =
     let none : l * 256 % 256 * 256 ≡ 0 = omega arith in

@@ -78,7 +78,7 @@ four-scaled i j k n q =
     ∙ ap (λ (x : ℕ). bit_xor x (bit_xor (q * 2 ^ k) q * 2 ^ n)) (scaled n (q * 2 ^ i) (q * 2 ^ j) ∙ ap (λ (x : ℕ). bit_xor x (q * 2 ^ j * 2 ^ n)) (up i) ∙ ap (bit_xor (q * 2 ^ n * 2 ^ i)) (up j))
     ∙ ap (bit_xor (bit_xor (q * 2 ^ n * 2 ^ i) (q * 2 ^ n * 2 ^ j))) (scaled n (q * 2 ^ k) q ∙ ap (λ (x : ℕ). bit_xor x (q * 2 ^ n)) (up k))
 
--- ---- a register that divides: its step in terms of numbers, and R, which is the register after bits
+-- ---- a register that divides; `R r bs` is the register after the bits `bs`, if it is `r` before them
 pub record Divides (m j k g : ℕ) (R : ℕ → List ℕ → ℕ) : Type 0 where
   pub whole : (y : ℕ) → y < 2 ^ suc m → y * 2 ≡ y / 2 ^ m % 2 * 2 ^ suc m + y * 2 % 2 ^ suc m
   pub rest : (b : ℕ) → b < 2 → b * g ≡ bit_xor (b * 2 ^ j) (bit_xor (b * 2 ^ k) b)

@@ -54,7 +54,8 @@ odd-one : parity (times_x 32768) ≡ 1
 unfolding parity half times_x
 odd-one = refl
 
--- if one differing bit set two registers apart, they can't become equal again if exactly two more places differ
+-- One differing bit has set two registers apart. If exactly two more bits differ, the registers can't become equal
+-- again.
 never-two : (m n : ℕ) (bs cs : List ℕ) → length bs ≡ length cs → AreBits bs → AreBits cs → (r s : ℕ) → r < 2 ^ 16 → s < 2 ^ 16
     → ((k : ℕ) → k ≢ m → k ≢ m + suc n → Alike bs cs k) → get_or bs m 0 ≢ get_or cs m 0 → get_or bs (m + suc n) 0 ≢ get_or cs (m + suc n) 0
     → bit_xor r s ≡ times_x 32768 → remainder r bs ≡ remainder s cs → ⊥

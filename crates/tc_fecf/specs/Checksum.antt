@@ -13,7 +13,7 @@ times_x r = bit_xor (r * 2 % 2 ^ 16) (bits r 15 1 * (2 ^ 12 + 2 ^ 5 + 1))
 abbrev pub with_bit : ℕ → ℕ → ℕ
 with_bit r b = times_x (bit_xor r (b * 2 ^ 15))
 
--- the register after all these bits, from r on
+-- the register after the bits, if it is `r` before them
 abbrev pub remainder : ℕ → List ℕ → ℕ
 remainder r [] = r
 remainder r (b ∷ bs) = remainder (with_bit r b) bs

@@ -10,13 +10,13 @@ use Rattle.tc_fecf.specs.declared.frames.FieldFault.TheVariants.{NoFrame, Fill, 
 abbrev pub spelled : ℕ → List ℕ
 spelled n = n / 256 ∷ n % 256 ∷ []
 
--- the octets before the field: those of the frame, except that the length field, which ends with the fourth octet,
--- counts two octets more
+-- The octets before the field are those of the frame, except that its length field counts two octets more. The length
+-- field ends with the fourth octet.
 unfoldable pub octets_before_field : List ℕ → List ℕ
 octets_before_field (a ∷ b ∷ c ∷ d ∷ rest) = a ∷ b ∷ (256 * c + d + 2) / 256 ∷ (256 * c + d + 2) % 256 ∷ rest
 octets_before_field octets = octets
 
--- a frame with its field, which is over all octets before it (CCSDS 232.0-B, 4.1.4.1)
+-- a frame with its frame error control field, computed over all octets before that field (CCSDS 232.0-B, 4.1.4.1)
 unfoldable pub frame_with_field : List ℕ → List ℕ
 frame_with_field frame = octets_before_field frame ++ spelled (checksum_of (octets_before_field frame))
 

@@ -16,8 +16,8 @@ pub struct Delimited<'a> {
 }
 
 /// Takes the frame off the front of the octets that a CLTU carried, by its length field alone (frame delimiting and
-/// fill removal, CCSDS 232.0-B). This comes before the check of the frame error control field, which is at the end of
-/// the frame.
+/// fill removal, CCSDS 232.0-B). A frame is delimited before its frame error control field is checked, since that field
+/// is at the end of the frame.
 ///
 /// Nothing is allocated.
 pub fn delimit(octets: &[u8]) -> Result<Delimited<'_>, FrameFault>

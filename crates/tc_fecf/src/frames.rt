@@ -9,15 +9,13 @@ use std::alloc::Global;
 use tc_link::{Frame, FrameFault, read_frame};
 use thiserror::Error;
 
-/// The reason why a field isn't added to a frame or isn't removed from it. If several apply, it is the first of them,
-/// in this order.
+/// The first reason, in this order, why a field isn't added to a frame or isn't removed from it.
 #[derive(Clone, Copy, Debug, PartialEq, Eq, Error)]
 pub enum FieldFault {
     /// The octets don't begin with a frame.
     #[error("no frame: {0}")]
     NoFrame(FrameFault),
-    /// Octets follow the frame. The frame error control field must be the last two octets, so it isn't looked for before
-    /// fill.
+    /// Octets follow the frame. The frame error control field has to be the last two octets, so no fill may follow it.
     #[error("octets after the frame")]
     Fill,
     /// A frame with a field has at most 1,024 octets.

@@ -36,7 +36,7 @@ pub fn just_frames_with_room_for_the_field_have_no_fault()
 
 /// Two lists with the same number of octets that differ only within 16 consecutive bits don't both pass.
 ///
-/// So each change of one bit is detected, and each burst of up to 16 bits.
+/// Each change of one bit and each burst of up to 16 bits is therefore detected.
 pub fn a_burst_of_16_bits_is_detected()
     ensures { (one other : List ℕ) (i : ℕ) → SameOctets one other → SameBits one other (λ k. (k < i) ⊎ (i + 16 ≤ k)) → Passes one → Passes other → one ≡ other }
 {}
@@ -60,8 +60,8 @@ pub fn a_change_of_an_odd_number_of_bits_is_detected()
     ensures { (one other : List ℕ) → SameOctets one other → differences (bits_of one) (bits_of other) % 2 ≡ 1 → Passes one → Passes other → ⊥ }
 {}
 
-/// The octets that a CLTU carried divide into frames and a rest in only one way. If whole frames stand in front of
-/// fill, they are exactly the frames that are found, whatever their number.
+/// The octets that a CLTU carried divide into frames and a rest in only one way. If at most `most` whole frames stand
+/// in front of fill, exactly these frames are found.
 pub fn each_candidate_is_delimited_in_one_way()
     ensures one { (octets frame other rest behind : List ℕ) → IsDelimited octets frame rest → IsDelimited octets other behind → (frame ≡ other) × (rest ≡ behind) }
     ensures only { (most : ℕ) (octets rest behind : List ℕ) (frames others : List (List ℕ)) → AreDelimited most octets frames rest

@@ -49,7 +49,7 @@ fn with_four(sum: u16, a: u8, b: u8, c: u8, d: u8) -> u16
 /// Checks octets that end with a frame error control field. Returns true if the octets, with the field included, leave
 /// no remainder (CCSDS 232.0-B, 4.1.4.3).
 ///
-/// It doesn't check whether they are a frame. Nothing is allocated.
+/// The octets needn't be a frame. Nothing is allocated.
 pub fn passes(octets: &[u8]) -> bool
     ensures { IsTrue result ↔ Passes octets.now }
 {

@@ -1,4 +1,4 @@
--- The table has an entry for every arrival, if no frame that is expected and finds room comes in S2.
+-- The table has an entry for every arrival, except for an expected frame that finds room in S2.
 use Rattle.std.proofs.Common.{◌≡◌, ◌≢◌, ℕ, Bool, true, false, refl}
 use Rattle.std.specs.Prelude.{IsSome}
 use Rattle.tc_link.specs.declared.command.Command.TheVariants.{Unlock, SetVr}
@@ -24,7 +24,7 @@ room-from_E1 width vr (Ad ns) room e = at (place_of width vr ns) room e where
 room-from_E1 width vr (Bc Unlock) room e = absurd cc
 room-from_E1 width vr _ room e = absurd cc
 
--- in S2 each row but E1 has an entry, and in the other states each row has one
+-- each row has an entry in each state, except for E1 in S2
 pub enters : (row : Row) (st : State) (r : Report) → (st ≡ S2 → row ≢ E1) → IsSome (entry_at row st r)
 enters E1 S2 r h = absurd (h refl refl)
 enters row S1 r h = refl

@@ -6,7 +6,7 @@ use Rattle.tc_link.specs.declared.frame.Header.{Header}
 use Rattle.tc_link.specs.Bits.{bit}
 use Rattle.tc_link.specs.Frame.{IsOctets, IsFrame, IsHeader, IsField, header_of, version_of, spare_of, named_length}
 
--- five octets and a data field are a frame, if the five octets are the primary header of a frame with that data field
+-- five octets and a data field are a frame if the five octets are the primary header of that frame
 pub framed : (five field : List ℕ) (header : Header) → length five ≡ 5 → header_of five ≡ header → version_of five ≡ 0 → spare_of five ≡ 0
     → named_length five ≡ length field + 5 → 1 ≤ length field → length field ≤ 1019 → IsOctets (five ++ field) → IsFrame (five ++ field) header field
 framed (a ∷ b ∷ c ∷ d ∷ e ∷ []) field header five says version spare named least most each = record {
@@ -31,7 +31,7 @@ pub octets-append : (xs ys : List ℕ) → IsOctets xs → IsOctets ys → IsOct
 octets-append [] ys each more = more
 octets-append (x ∷ xs) ys each more = octets-cons x (xs ++ ys) (each 0) (octets-append xs ys (octets-tail x xs each) more)
 
--- the first five octets of a frame, from the words that they spell
+-- the five octets that spell two words and N(S)
 abbrev octets_of : ℕ → ℕ → ℕ → List ℕ
 octets_of first second ns = first / 256 ∷ first % 256 ∷ second / 256 ∷ second % 256 ∷ ns ∷ []
 
@@ -58,7 +58,7 @@ says true false scid vcid ns m one two three = grind arith
 says false true scid vcid ns m one two three = grind arith
 says false false scid vcid ns m one two three = grind arith
 
--- each header and data field that fit a frame make one
+-- a header and a data field that fit a frame make a frame
 pub frame-of : (header : Header) (field : List ℕ) → IsHeader header → IsField field → (frame : List ℕ) × IsFrame frame header field
 frame-of header field fits is_field =
     let first = first_of header.bypass header.control header.scid in
@@ -83,7 +83,7 @@ frame-of header field fits is_field =
 flags-alike : (x y : ℕ) → eqb (x % 2) 1 ≡ eqb (y % 2) 1 → x % 2 ≡ y % 2
 flags-alike x y same = grind (arith, eqb-true)
 
--- two words are equal if their fields are
+-- two values of the first word are equal if the fields in them are equal
 first-alike : (x y : ℕ) → x < 65536 → y < 65536 → x / 16384 % 4 ≡ 0 → y / 16384 % 4 ≡ 0 → x / 1024 % 4 ≡ 0 → y / 1024 % 4 ≡ 0
     → x / 8192 % 2 ≡ y / 8192 % 2 → x / 4096 % 2 ≡ y / 4096 % 2 → x % 1024 ≡ y % 1024 → x ≡ y
 first-alike x y xs ys v w s t b c i = omega arith
@@ -110,7 +110,7 @@ only-frame _ _ field header f g = let l = f.whole.least in let m = g.whole.least
 octets-drop : (n : ℕ) (xs : List ℕ) → IsOctets xs → IsOctets (drop n xs)
 octets-drop n xs each i = subst (λ (x : ℕ). x < 256) (sym (get_or-drop n xs i 0)) (each (n + i))
 
--- the data field of a frame fits
+-- the data field of a frame has 1 to 1,019 octets
 pub field-fits : (frame field : List ℕ) (header : Header) → IsFrame frame header field → IsField field
 field-fits frame field header f =
     let least = f.whole.least in let most = f.whole.most in

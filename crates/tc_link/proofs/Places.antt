@@ -20,7 +20,7 @@ some-found (suc n) k passes low high found =
       | inr ne ↦ rw (some-found n k passes low (omega arith) found) (or-true (passes (n + 1)))
     ]
 
--- `d` is the distance from `vr` up to `ns`
+-- N(S) is ahead if its distance `d` from V(R) is positive and less than half the width
 pub ahead : (width vr ns d : ℕ) → vr < 256 → d < 256 → (vr + d) % 256 ≡ ns → 0 < d → d < width / 2 → place_of width vr ns ≡ Ahead
 ahead width vr ns d vr_fits d_fits at low high =
     let apart : eqb ns vr ≡ false = ne_eqb ns vr (λ e. omega arith) in

@@ -227,7 +227,7 @@ fn set(r: &mut Report, x: u8)
             r.retransmit = false;
             r.wait = false;
         }
-        State::S3 => {} // It isn't obeyed in lockout.
+        State::S3 => {} // Set V(R) isn't obeyed in lockout.
     }
 }
 
@@ -283,8 +283,8 @@ impl Farm {
         }
     }
 
-    /// Creates a FARM-1 that continues from `report`, six components that a caller has kept. `window` is the window of
-    /// the FARM-1 that they were taken from.
+    /// Creates a FARM-1 that continues from an earlier one. `report` holds the earlier FARM-1's six components, and
+    /// `window` is its window.
     ///
     /// The FARM-B counter must be below 4, as it always is in a result of [`Farm::report`]. Nothing is allocated.
     pub fn resumed(window: Window, report: Report) -> Farm
@@ -308,8 +308,8 @@ impl Farm {
 
     /// Processes one arrival by the state table of FARM-1 (CCSDS 232.1-B, 6.3).
     ///
-    /// The table must have an entry for the arrival. It has one for every arrival except an expected AD frame that
-    /// comes in S2 and finds room. No such frame comes if the state is S2 only while the buffer is full.
+    /// The table must have an entry for the arrival. Only an expected Type-AD frame that finds room in S2 has none. No
+    /// such frame comes if the state is S2 only while the buffer is full.
     #[inline(always)]
     pub fn step(&mut self, arrival: Arrival) -> Act
         requires { IsSome (entry (row_of self.old.width self.old.report.vr arrival) self.old.report) }

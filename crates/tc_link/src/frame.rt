@@ -23,7 +23,7 @@ pub struct Header {
     pub ns: u8,
 }
 
-/// The reason why octets don't begin with a frame. If several apply, it is the first of them, in this order.
+/// The first reason, in this order, why octets don't begin with a frame.
 #[derive(Clone, Copy, Debug, PartialEq, Eq, Error)]
 pub enum FrameFault {
     #[error("fewer than 5 octets")]

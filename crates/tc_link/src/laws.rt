@@ -53,8 +53,8 @@ pub fn frames_are_so()
     ensures too_long { write_fault_of (record { bypass = false; control = false; scid = 42; vcid = 1; ns = 0 }) (replicate 1020 0) ≡ Some writing.TooLong }
 {}
 
-/// A header and a data field that are to be written have no fault exactly when both fit a frame, given that N(S) and
-/// each octet are below 256, as their types ensure.
+/// A header and a data field have no write fault exactly when both fit a frame. N(S) and each octet must be below 256,
+/// as their types ensure.
 pub fn just_what_fits_a_frame_has_no_write_fault()
     ensures { (header : Header) (field : List ℕ) → header.ns < 256 → IsOctets field → (write_fault_of header field ≡ None) ↔ (IsHeader header × IsField field) }
 {}
@@ -79,7 +79,7 @@ pub fn v_r_changes_by_acceptance_and_set_v_r_alone()
         ⊎ ((x : ℕ) × (row ≡ E8 x) × (r.state ≢ S3) × ((after row r).vr ≡ x)) }
 {}
 
-/// A CLCW that was written reads back as the values that it was written from.
+/// A written CLCW reads back as the values from which it was written.
 pub fn a_written_clcw_reads_back()
     ensures fits { (r : Report) (vcid : ℕ) (link : Link) → vcid < 64 → r.farm_b < 4 → r.vr < 256 → word_of r vcid link < 2 ^ 32 }
     ensures clcw { (r : Report) (vcid : ℕ) (link : Link) → vcid < 64 → r.farm_b < 4 → r.vr < 256 → IsClcw (word_of r vcid link) }
@@ -105,8 +105,8 @@ pub fn clcws_are_so()
     ensures last_spare { IsClcw 0x01040100 → ⊥ }
 {}
 
-/// An Unlock followed by a Set V(R) to `x` leads to S1 with V(R) at `x` and no flag set, from any components in which
-/// Lockout is set only in S3 and Wait is never set in S1.
+/// An Unlock followed by a Set V(R) to `x` leads to S1 with V(R) at `x` and no flag set. The components before may be
+/// any in which Lockout is set only in S3 and Wait is never set in S1.
 pub fn unlock_and_set_v_r_open_farm_1()
     ensures { (r : Report) (x : ℕ) → (r.lockout ≡ true → r.state ≡ S3) → (r.wait ≡ true → r.state ≢ S1)
         → after (E8 x) (after E7 r) ≡ record { state = S1; vr = x; lockout = false; wait = false; retransmit = false; farm_b = ((r.farm_b + 1) % 4 + 1) % 4 } }

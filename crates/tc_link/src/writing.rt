@@ -7,7 +7,7 @@ use crate::frame::Header;
 use std::alloc::Global;
 use thiserror::Error;
 
-/// The reason why a frame isn't written. If several apply, it is the first of them, in this order.
+/// The first reason, in this order, why a frame isn't written.
 #[derive(Clone, Copy, Debug, PartialEq, Eq, Error)]
 pub enum WriteFault {
     #[error("a field of the header is over its bound")]
