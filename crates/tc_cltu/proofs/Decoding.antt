@@ -37,7 +37,7 @@ pub block-counted : (count : Option Fate → ℕ) (mode : Mode) (room : ℕ) (fr
 block-counted count mode room frame (a ∷ b ∷ c ∷ d ∷ e ∷ f ∷ g ∷ h ∷ []) none eight = omega (arith, none)
 block-counted count mode room frame _ none eight = absurd (omega arith)
 
--- the state after the eight octets of a block
+-- after the eight octets of a block, the state is that after the block
 pub block-state : (mode : Mode) (room : ℕ) (frame block : List ℕ) → length block ≡ 8 → state_after mode room (Decoding frame []) block ≡ (after_block room frame (decoded mode block)).0
 block-state mode room frame (a ∷ b ∷ c ∷ d ∷ e ∷ f ∷ g ∷ h ∷ []) eight = refl
 block-state mode room frame _ eight = absurd (omega arith)
@@ -99,7 +99,7 @@ filled-octets fs each =
     let fills : IsOctets fill = octets-take 6 (alike 0x55) (alike-octets 0x55 (omega arith)) in
     subst IsOctets (sym f.2) (octets-append fs (take f.0 fill) each (octets-take f.0 fill fills))
 
--- octets without a fault, together with their fill, are no more than a CLTU carries
+-- a list of octets without a fault has 1 to 1,029 octets
 pub some-octets : (fs : List ℕ) → cltu_fault_of fs ≡ None → 0 < length fs
 some-octets fs none = grind (arith, nat_tests)
 
@@ -153,7 +153,7 @@ alike-rejected Correct o last s fits small is some place =
     let p : placed (syndrome (alike o) last) ≡ 63 = ap placed is ∙ place in
     more-wrong (alike o) last (record { each = alike-octets o fits; seven = refl }) small (λ z. omega arith) (omega arith)
 
--- the tail sequence isn't a code block
+-- ---- the tail sequence
 tail-syndrome : syndrome (alike 0xC5) 0x79 ≡ 67
 unfolding syndrome octet_bits block_times_x
 tail-syndrome = refl
@@ -167,7 +167,7 @@ tail-ends mode room f fs rest =
     frames-block mode room (f ∷ fs) 0xC5 0xC5 0xC5 0xC5 0xC5 0xC5 0xC5 0x79 rest
     ∙ ap (λ (o : Option (List ℕ)). (after_block room (f ∷ fs) o).1 ++ frames_of mode room (after_block room (f ∷ fs) o).0 rest) (tail-rejected mode)
 
--- the start sequence is found, whatever octet came last
+-- ---- the search for a start sequence
 quiet-step : (mode : Mode) (room last o : ℕ) → is_start mode last o ≡ false → reception_step mode room (Searching last) o ≡ (Searching o, [])
 quiet-step mode room last o h = ap (λ (t : Bool). if t then (Decoding [] [], []) else (Searching o, [])) h
 
@@ -326,7 +326,7 @@ pub state-kept : (mode : Mode) (room : ℕ) (os : List ℕ) (state : Reception) 
 state-kept mode room [] state short = short
 state-kept mode room (o ∷ os) state short = state-kept mode room os (reception_step mode room state o).0 (step-kept mode room o state short)
 
--- the next CLTU is found from any state that searches
+-- in each state that searches, the next CLTU is found
 search-given : (mode : Mode) (room : ℕ) (state : Reception) (frame rest : List ℕ) → IsSearching state → IsOctets frame → 0 < length frame → length (filled frame) ≤ room
     → frames_of mode room state (cltu frame ++ rest) ≡ filled frame ∷ frames_of mode room (Searching 0) rest
 search-given mode room (Searching last) frame rest searching each some fits = cltu-given mode room last frame rest each some fits
@@ -374,7 +374,7 @@ last-fate mode room octet last count frame block decoding value f on more less l
     subst (λ (v : Receiver). Some f ≡ fate_of v.mode room v.state octet) view
     (sym (ap (λ (x : Reception). fate_of mode room x octet) state ∙ ap (λ (t : Bool). if t then None else Some (fate_after mode room frame (take 7 block ++ octet ∷ []))) whole ∙ ap Some (sym is)))
 
--- one code block is counted at most once
+-- a code block adds at most 1 to each count
 pub one-counted : (fate : Option Fate) → (corrections_of fate ≤ 1) × (rejections_of fate ≤ 1) × (overruns_of fate ≤ 1)
 one-counted None = (omega arith, omega arith, omega arith)
 one-counted (Some Right) = (omega arith, omega arith, omega arith)
@@ -407,7 +407,7 @@ taken_octet room before after os rest o given whole state frames = record {
 pub take-both : (i n : ℕ) (os : List ℕ) → take (i + n) os ≡ take i os ++ take n (drop i os)
 take-both i n os = sym (take-append-drop i (take (i + n) os)) ∙ rw (take-take i (i + n) os (omega arith), drop-take i n os) refl
 
--- if a front is processed, and then a front of the rest, both together are a front that is processed
+-- two fronts that are processed one after the other are one front that is processed
 pub taken-more : (room : ℕ) (first before after : Receiver) (os left rest : List ℕ) (given more : List (List ℕ)) → before.mode ≡ first.mode
     → IsTaken room first before os left given → IsTaken room before after left rest more → IsTaken room first after os rest (given ++ more)
 taken-more room first before after os left rest given more mode t u =
@@ -433,7 +433,7 @@ taken-more room first before after os left rest given more mode t u =
 pub taken-none : (room : ℕ) (first : Receiver) (os : List ℕ) → IsTaken room first first os os []
 taken-none room first os = record { count = 0; within = omega arith; left = refl; state = refl; frames = refl }
 
--- everything has been processed
+-- if no rest is left, all octets were processed
 pub taken-all : (room : ℕ) (first after : Receiver) (os rest : List ℕ) (given : List (List ℕ)) → rest ≡ [] → IsTaken room first after os rest given
     → (after.state ≡ state_after first.mode room first.state os) × (frames_of first.mode room first.state os ≡ given)
 taken-all room first after os rest given none t =

@@ -18,7 +18,8 @@ unfolding xors
 sum a b =
     rw (xor_mod a b 8, octet-sum a b 8, octet-sum a b 16, octet-sum a b 24, octet-sum a b 32, octet-sum a b 40, octet-sum a b 48, octet-sum a b 56) refl
 
--- A sum with zeros changes no octet, and a sum with one bit flips this bit. Both hold of the first octets alone.
+-- Adding zeros changes no octet, and adding a single bit inverts that bit. Both lemmas are about the front `os` of a
+-- list.
 none-turned : (os ps : List ℕ) (n : ℕ) → length os ≤ n → take (length os) (xors (os ++ ps) (zeros n)) ≡ os
 unfolding xors
 none-turned [] ps n less = refl
@@ -46,7 +47,7 @@ zero-octets zero i = omega arith
 zero-octets (suc n) zero = omega arith
 zero-octets (suc n) (suc i) = zero-octets n i
 
--- the octets that a block carries if `e` is the number of its wrong bit
+-- the first seven octets of a block in which the bits of the number `e` were inverted
 abbrev pub by_number : List ℕ → ℕ → ℕ → List ℕ
 by_number own last e = take 7 (to_le_bytes w64 (bit_xor (from_le_bytes w64 (own ++ last ∷ [])) e))
 

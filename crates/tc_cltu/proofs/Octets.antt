@@ -63,7 +63,7 @@ all-left (o ∷ os) r =
 abbrev pub row : ℕ → ℕ → ℕ
 row k o = get_or (get_or REMAINDERS k []) o 0
 
--- seven octets take seven look-ups in the tables
+-- the remainder of seven octets is the sum of seven look-ups in the tables
 pub seven-left : (os : List ℕ) → length os ≡ 7 → IsOctets os
     → bit_xor (row 6 (get_or os 0 0)) (bit_xor (row 5 (get_or os 1 0)) (bit_xor (row 4 (get_or os 2 0)) (bit_xor (row 3 (get_or os 3 0)) (bit_xor (row 2 (get_or os 4 0)) (bit_xor (row 1 (get_or os 5 0)) (row 0 (get_or os 6 0)))))))
     ≡ block_remainder 0 (bits_of os)
@@ -82,7 +82,7 @@ bit-fits : (r : ℕ) → next_bit r < 2
 unfolding next_bit
 bit-fits r = omega arith
 
--- one more octet receives the sequence
+-- a step of the randomiser adds the register to one more octet
 pub random-step : (os target : List ℕ) (i r next : ℕ) → i < length os → next ≡ octet_on r → take i os ++ randomised_from r (drop i os) ≡ target
     → take (i + 1) (set os i (bit_xor (get_or os i 0) r)) ++ randomised_from next (drop (i + 1) (set os i (bit_xor (get_or os i 0) r))) ≡ target
 random-step os target i r next less is h =

@@ -62,7 +62,7 @@ single-weight k zero less = absurd (omega arith)
 single-weight zero (suc n) less = let rest = zeros-weight n in omega arith
 single-weight (suc k) (suc n) less = let rest = single-weight k n (omega arith) in omega arith
 
--- lists with no one, with one, and with two of them
+-- ---- lists of bits with no ones, with a single one, and with two ones
 none-is : (e : List ℕ) → AreBits e → weight e ≡ 0 → e ≡ zeros (length e)
 unfolding weight
 none-is [] p h = refl

@@ -4,7 +4,7 @@ use Rattle.tc_cltu.proofs.Names.{Correct, Detect, Mode, differences, flipped, lt
 use lib.Count.{ones, ones_in}
 use Rattle.tc_cltu.specs.Reception.{start_errors, is_start}
 
--- the wrong bits of the first octet, and of the second
+-- the ones in the sum of two octets are the bits in which these octets differ
 firsts : (o : ℕ) → o < 256 → ones (bit_xor o 0xEB) ≡ differences (octet_bits o) (octet_bits 0xEB)
 unfolding octet_bits ones ones_in
 firsts = same_below (λ o. ones (bit_xor o 0xEB)) (λ o. differences (octet_bits o) (octet_bits 0xEB)) 256 refl
@@ -20,7 +20,7 @@ split last octet = omega arith
 pub counted : (last octet : ℕ) → last < 256 → octet < 256 → ones (bit_xor last 0xEB) + ones (bit_xor octet 0x90) ≡ start_errors last octet
 counted last octet p q = let a = firsts last p in let b = seconds octet q in let s = split last octet in omega arith
 
--- the code's tests of the number of wrong bits
+-- the code's test of the number of wrong bits agrees with the mode's limit
 none-wrong : (n : ℕ) → nat_eq n 0 ≡ (if nat_lt 0 n then false else true)
 none-wrong zero = refl
 none-wrong (suc n) = grind (arith, nat_tests)
@@ -63,8 +63,8 @@ pub idle-far : 1 < differences (octet_bits 0x55) (octet_bits 0x90)
 unfolding octet_bits
 idle-far = far-by 0x55 2 refl
 
--- the start sequence with one bit inverted is two octets that count as it with correction, and the first of them
--- doesn't end one
+-- With correction, the start sequence with bit `k` inverted counts as a start sequence. Its first octet doesn't end
+-- one.
 abbrev pub IsOneOff : ℕ → List ℕ → Type 0
 IsOneOff k body = (a b : ℕ) × (flipped (start_sequence ++ body) k ≡ a ∷ b ∷ body) × (1 < differences (octet_bits a) (octet_bits 0x90)) × (is_start Correct a b ≡ true)
 

@@ -77,7 +77,7 @@ first-more limit block x xs over = ap (λ (t : Bool). if t then first_within lim
 first-here : (limit : ℕ) (block x : List ℕ) (xs : List (List ℕ)) → errors block x ≤ limit → first_within limit block (x ∷ xs) ≡ Some x
 first-here limit block x xs within = ap (λ (t : Bool). if t then first_within limit block xs else Some x) (le-ltb limit (errors block x) within)
 
--- the candidate is one that a code block can carry, and within the limit
+-- a code block can carry `y`, and its errors are within the limit
 abbrev IsWithin : ℕ → List ℕ → List ℕ → Type 0
 IsWithin limit block y = IsInformation y × (errors block y ≤ limit)
 
@@ -97,7 +97,7 @@ first-good limit block information zero y good h = first-next limit block inform
 first-good limit block information (suc n) y good h =
     first-next limit block (flipped information n) (near information n) y (turned-good information n good) (first-good limit block information n y good) h
 
--- there is such a candidate
+-- `first_within` finds a candidate
 abbrev IsFound : ℕ → List ℕ → List (List ℕ) → Type 0
 IsFound limit block xs = (y : List ℕ) × (first_within limit block xs ≡ Some y)
 
@@ -128,7 +128,7 @@ differences-append _ bs _ ds l = absurd (omega arith)
 pub block-length : (own : List ℕ) (last : ℕ) → length own ≡ 7 → length (own ++ last ∷ []) ≡ 8
 block-length own last l = length-append own (last ∷ []) ∙ omega arith
 
--- one of the candidates near a block is found if any information is within the limit
+-- if some information is within the limit, a candidate near the block is found
 some-found : (own information : List ℕ) (last limit : ℕ) → IsInformation own → IsInformation information → limit ≤ 1 → errors (own ++ last ∷ []) information ≤ limit
     → IsFound limit (own ++ last ∷ []) (near own 56)
 some-found own information last limit good is low within =
@@ -218,7 +218,7 @@ none-wrong mode own last good fits s =
     let e : errors (own ++ last ∷ []) own ≡ 0 = sym (ap (differences (word (own ++ last ∷ []))) w) ∙ differences-self (word (own ++ last ∷ [])) own_bits.1 in
     taken mode own last own good good (omega arith)
 
--- if the block with bit k inverted is a code block, its octets are the result
+-- if inverting bit `k` makes the block a code block, the octets of that code block are the result
 one-turned : (own : List ℕ) (last k : ℕ) (own' : List ℕ) (last' : ℕ) → IsInformation own → last < 256 → k < 63 → left (single k 63) ≡ syndrome own last
     → IsInformation own' → last' < 256 → flipped (own ++ last ∷ []) k ≡ own' ++ last' ∷ [] → decoded Correct (own ++ last ∷ []) ≡ Some own'
 one-turned own last k own' last' good fits less s good' fits' is =
@@ -308,7 +308,7 @@ pub syndrome-is : (own : List ℕ) (last p : ℕ) → p ≡ parity_of own → bi
 unfolding syndrome
 syndrome-is own last p h = ap (λ (x : ℕ). bit_xor x (last / 2)) h
 
--- decoding by the parity bits p, in the form that the code has
+-- ---- decoding in the form that the code has, with `p` for the parity bits
 pub right_by : (mode : Mode) (own : List ℕ) (last p : ℕ) → IsOctets own → length own ≡ 7 → last < 256 → p ≡ parity_of own → bit_xor p (last / 2) ≡ 0 → decoded mode (own ++ last ∷ []) ≡ Some own
 right_by mode own last p each seven fits is none = none-wrong mode own last (record { each = each; seven = seven }) fits (sym (syndrome-is own last p is) ∙ none)
 

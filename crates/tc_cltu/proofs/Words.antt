@@ -27,7 +27,7 @@ fifty-six os l = bits-length os ∙ ap (λ (n : ℕ). 8 * n) l
 abbrev pub seven : ℕ → List ℕ
 seven h = bit_at h 6 ∷ bit_at h 5 ∷ bit_at h 4 ∷ bit_at h 3 ∷ bit_at h 2 ∷ bit_at h 1 ∷ bit_at h 0 ∷ []
 
--- the first seven bits of an octet
+-- the first seven bits of an octet are the bits of its half
 seven-half : (o : ℕ) → bit_at o 7 ∷ bit_at o 6 ∷ bit_at o 5 ∷ bit_at o 4 ∷ bit_at o 3 ∷ bit_at o 2 ∷ bit_at o 1 ∷ [] ≡ seven (o / 2)
 seven-half o =
     let a : bit_at o 7 ≡ bit_at (o / 2) 6 = omega arith in let b : bit_at o 6 ≡ bit_at (o / 2) 5 = omega arith in
@@ -87,7 +87,7 @@ pub word-parts : (information : List ℕ) (last : ℕ) → length information �
 word-parts (a ∷ b ∷ c ∷ d ∷ e ∷ f ∷ g ∷ []) last l = word-is a b c d e f g last
 word-parts _ last l = absurd (omega arith)
 
--- the remainder of a block's word
+-- the word of a block leaves the sum of its information's remainder and its parity bits
 pub word-left : (information : List ℕ) (last : ℕ) → length information ≡ 7 → last < 256
     → left (word (information ++ last ∷ [])) ≡ bit_xor (block_remainder 0 (bits_of information)) (last / 2)
 unfolding left
@@ -97,7 +97,7 @@ word-left information last l fits =
     ∙ ap (λ (x : ℕ). block_remainder x (zeros 56)) (onward (bits_of information) (seven (last / 2)) 0 ∙ more-seven r (last / 2) (omega arith))
     ∙ around (bit_xor r (last / 2)) (xor_lt 7 r (last / 2) (remainder-fits (bits_of information) 0 (omega arith)) (omega arith))
 
--- blocks with equal first seven octets, and last octets that differ only in the filler bit, have equal words
+-- two blocks that differ only in the filler bit have equal words
 word-alike : (information : List ℕ) (o p : ℕ) → length information ≡ 7 → o / 2 ≡ p / 2 → word (information ++ o ∷ []) ≡ word (information ++ p ∷ [])
 word-alike information o p l h =
     word-parts information o l ∙ ap (λ (x : ℕ). bits_of information ++ seven x) h ∙ sym (word-parts information p l)
@@ -180,7 +180,7 @@ bits-turned (o ∷ os) k n l less =
           ∙ ap (xors (octet_bits o ++ bits_of os)) (sym (ap (single k) total ∙ single-back k 8 m high))
     ]
 
--- inverting a bit of a whole block
+-- inverting a bit of a whole block inverts that bit of its word
 pub word-turned : (block : List ℕ) (k : ℕ) → length block ≡ 8 → k < 63 → word (flipped block k) ≡ xors (word block) (single k 63)
 word-turned block k l less =
     let n : length (bits_of block) ≡ 64 = bits-length block ∙ ap (λ (x : ℕ). 8 * x) l in

@@ -19,7 +19,7 @@ block_times_x r = bit_xor (r * 2 % 2 ^ 7) (bit_at r 6 * (2 ^ 6 + 2 ^ 2 + 1))
 abbrev pub block_with_bit : ℕ → ℕ → ℕ
 block_with_bit r b = block_times_x (bit_xor r (b * 2 ^ 6))
 
--- the register after all these bits, from r on
+-- the register after the bits, if it is `r` before them
 abbrev pub block_remainder : ℕ → List ℕ → ℕ
 block_remainder r [] = r
 block_remainder r (b ∷ bs) = block_remainder (block_with_bit r b) bs

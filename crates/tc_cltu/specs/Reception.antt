@@ -11,8 +11,8 @@ use Rattle.tc_cltu.specs.declared.block.Fate.TheVariants.{Right, Corrected, Tail
 use Rattle.tc_cltu.specs.declared.block.Mode.{Mode}
 use Rattle.tc_cltu.specs.declared.block.Mode.TheVariants.{Detect}
 
--- the state of the receiving end: it searches, with the last octet that came (0 at first), or it decodes, with the
--- octets of the accepted blocks and the octets that have come of the next block
+-- The state of the receiving end. `Searching` holds the octet that came last, 0 at first. `Decoding` holds the octets
+-- of the accepted blocks, and the octets of the next block that have come.
 pub data Reception : Type 0 where
   Searching : ℕ → Reception
   Decoding : List ℕ → List ℕ → Reception
@@ -61,8 +61,8 @@ fate_in mode block =
     else if is_some (decoded mode block) then Corrected
     else rejected_as block
 
--- The fate of a block, given the octets that the CLTU carried before it. A block that would be accepted may find no
--- room.
+-- The fate of a block, given the octets that the CLTU carried before it. A block that decodes but finds no room is
+-- `Overlong`.
 abbrev pub fate_behind : ℕ → List ℕ → Option (List ℕ) → Fate → Fate
 fate_behind room frame None fate = fate
 fate_behind room frame (Some information) fate = if nat_lt room (length frame + 7) then Overlong else fate
@@ -111,7 +111,7 @@ pub record Receiver : Type 0 where
   pub state : Reception
   pub carried : List ℕ
 
--- octets at the front were processed: they completed these candidate frames, and this rest is left
+-- Octets at the front were processed. They completed the candidate frames `given`, and `rest` is left.
 pub record IsTaken (room : ℕ) (before after : Receiver) (octets rest : List ℕ) (given : List (List ℕ)) : Type 0 where
   pub count : ℕ
   pub within : count ≤ length octets
@@ -119,8 +119,8 @@ pub record IsTaken (room : ℕ) (before after : Receiver) (octets rest : List �
   pub state : after.state ≡ state_after before.mode room before.state (take count octets)
   pub frames : frames_of before.mode room before.state (take count octets) ≡ given
 
--- memory ran out at the end of a candidate frame: the octets up to there were processed, all candidate frames before it
--- were kept, and it is still carried
+-- Memory ran out at the end of a candidate frame. The octets up to this end were processed, and the candidate frames
+-- `given` before it were kept. The decoder still carries the frame.
 pub record StopsShort (room : ℕ) (before after : Receiver) (octets : List ℕ) (given : List (List ℕ)) : Type 0 where
   pub count : ℕ
   pub within : count ≤ length octets

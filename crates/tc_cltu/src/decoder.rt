@@ -119,9 +119,9 @@ impl Decoder {
         Some(self.end_block(block))
     }
 
-    /// Processes the front of a piece of the stream. This is a whole code block if one begins there, and otherwise one
-    /// octet. Returns the effect of the front and the rest of the piece, or `None` if the piece is empty. No memory is
-    /// requested.
+    /// Processes the front of a piece of the stream. The front is a whole code block if one begins there, and otherwise
+    /// one octet. Returns the effect of the front and the rest of the piece, or `None` if the piece is empty. No memory
+    /// is requested.
     #[inline(always)]
     #[tactic(auto, using(crate::proofs::Decoding::taken_block, crate::proofs::Decoding::taken_octet))]
     pub fn feed_front<'a>(&mut self, piece: &'a [u8]) -> Option<(Fed, &'a [u8])>
@@ -181,8 +181,9 @@ impl Decoder {
         }
     }
 
-    /// Restarts the search for a start sequence, as after a loss of bit lock (CCSDS 231.0-B). Returns whether that cuts
-    /// a CLTU short. In that case the code blocks that were accepted since its start sequence yield no candidate frame.
+    /// Restarts the search for a start sequence, as after a loss of bit lock (CCSDS 231.0-B). Returns whether the
+    /// restart cuts a CLTU short. In that case the code blocks that were accepted since its start sequence yield no
+    /// candidate frame.
     pub fn search_anew(&mut self) -> bool
         ensures mode { self.new.mode ≡ self.old.mode }
         ensures state { self.new.state ≡ Searching 0 }
@@ -203,7 +204,7 @@ impl Decoder {
     /// Processes the next piece of the stream, of any length, and adds a copy of each candidate frame that ends in it.
     ///
     /// If memory runs out for a candidate frame, the octets up to its end have been processed, and those after it
-    /// haven't. All candidate frames before it were added, and [`carried`](Decoder::carried) lends it.
+    /// haven't. All candidate frames before it were added, and [`carried`](Decoder::carried) lends this one.
     pub fn feed(
         &mut self,
         alloc: Global,

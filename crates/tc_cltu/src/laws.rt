@@ -55,7 +55,7 @@ pub fn code_blocks_differ_in_four_places()
     ensures { (one other : List ℕ) → IsInformation one → IsInformation other → differences (word (code_block one)) (word (code_block other)) ≤ 3 → one ≡ other }
 {}
 
-/// A code block in which one, two or three of its 63 bits are inverted has exactly that many errors.
+/// One inverted bit among the 63 bits of a code block is one error, two are two errors, and three are three.
 pub fn each_turned_bit_is_an_error()
     ensures one { (information : List ℕ) (i : ℕ) → IsInformation information → i < 63 → errors (flipped (code_block information) i) information ≡ 1 }
     ensures two { (information : List ℕ) (i j : ℕ) → IsInformation information → i < j → j < 63
@@ -64,8 +64,8 @@ pub fn each_turned_bit_is_an_error()
         → errors (flipped (flipped (flipped (code_block information) i) j) k) information ≡ 3 }
 {}
 
-/// States examples of CLTUs, worked out by hand: the start sequence, code blocks with their parity bits, with fill in
-/// the last of them if it needs some, and the tail sequence. The frames are an Unlock and a frame with a packet.
+/// States examples of CLTUs, worked out by hand: the start sequence, code blocks with their parity bits and any fill,
+/// and the tail sequence. The frames are an Unlock and a frame with a packet.
 #[tactic(auto, unfolding(crate::specs::CodeBlock::block_times_x, tc_fecf::specs::Checksum::octet_bits))]
 pub fn a_cltu_is_so()
     ensures one_block { cltu (0x00 ∷ 0x00 ∷ 0x00 ∷ 0x00 ∷ 0x00 ∷ 0x00 ∷ 0x01 ∷ []) ≡ 0xeb ∷ 0x90 ∷ 0x00 ∷ 0x00 ∷ 0x00 ∷ 0x00 ∷ 0x00 ∷ 0x00 ∷ 0x01 ∷ 0x74 ∷ 0xc5 ∷ 0xc5 ∷ 0xc5 ∷ 0xc5 ∷ 0xc5 ∷ 0xc5 ∷ 0xc5 ∷ 0x79 ∷ [] }
@@ -90,8 +90,7 @@ pub fn a_cltu_gives_its_frame()
         ≡ frames_of mode most_octets state one ++ frames_of mode most_octets (state_after mode most_octets state one) other }
 {}
 
-/// Whole frames that a CLTU carries one after the other are found again by their own lengths, and exactly the CLTU's
-/// fill follows them.
+/// The whole frames that a CLTU carries are found again by their length fields. Exactly the CLTU's fill follows them.
 pub fn a_cltu_gives_its_frames()
     ensures { (mode : Mode) (last most : ℕ) (frames : List (List ℕ)) (rest : List ℕ) → AllByRecursion IsWhole frames → 1 ≤ length frames → length frames ≤ most
         → length (concat frames) ≤ most_octets → (fill : List ℕ)
@@ -100,7 +99,7 @@ pub fn a_cltu_gives_its_frames()
 {}
 
 /// Octets in which nothing counts as a start sequence don't hide the CLTU after them. From each state that octets can
-/// lead to, 15 octets of the idle sequence lead back to the search, so the CLTU after them is found.
+/// lead to, 15 octets of the idle sequence lead back to the search. The CLTU after the idle sequence is then found.
 pub fn the_next_cltu_is_found()
     ensures quiet { (mode : Mode) (last : ℕ) (before frame rest : List ℕ) → HasNoStart mode last before → IsOctets frame → cltu_fault_of frame ≡ None
         → frames_of mode most_octets (Searching last) (before ++ (cltu frame ++ rest)) ≡ filled frame ∷ frames_of mode most_octets (Searching 0) rest }

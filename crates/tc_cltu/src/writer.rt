@@ -18,7 +18,7 @@ pub const START: [u8; 2] = [0xeb, 0x90];
 /// The tail sequence, a block that no mode accepts.
 pub const TAIL: [u8; 8] = [0xc5, 0xc5, 0xc5, 0xc5, 0xc5, 0xc5, 0xc5, 0x79];
 
-/// The reason why octets can't become a CLTU. If several apply, it is the first of them, in this order.
+/// The first reason, in this order, why octets can't become a CLTU.
 #[derive(Clone, Copy, Debug, PartialEq, Eq, Error)]
 pub enum CltuFault {
     /// A CLTU carries at least one octet.

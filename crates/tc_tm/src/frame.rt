@@ -7,8 +7,8 @@ use std::alloc::{AllocError, Global};
 use tc_fecf::checksum;
 use thiserror::Error;
 
-/// Whether each frame ends with a frame error control field. This is a property of the whole physical channel (CCSDS
-/// 132.0-B, 4.1.6).
+/// The presence or absence of a frame error control field at the end of each frame. This is a property of the whole
+/// physical channel (CCSDS 132.0-B, 4.1.6).
 #[derive(Clone, Copy, Debug, PartialEq, Eq)]
 pub enum ErrorControl {
     Absent,
@@ -29,7 +29,7 @@ pub struct TmHeader {
     pub channel_count: u8,
 }
 
-/// The reason why a frame isn't written. If several apply, it is the first of them, in this order.
+/// The first reason, in this order, why a frame isn't written.
 #[derive(Clone, Copy, Debug, PartialEq, Eq, Error)]
 pub enum TmFault {
     #[error("the spacecraft id is over 1,023")]

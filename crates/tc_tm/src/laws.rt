@@ -10,8 +10,7 @@ ghost use Rattle.tc_tm.specs.declared.frame.TmHeader.{TmHeader};
 ghost use Rattle.tc_tm.specs.declared.reading.TmReadFault.TheVariants.{Short, Version, NoControl, WrongSum};
 ghost use Rattle.tc_tm.specs.Examples as example;
 
-/// A frame that was written has the requested length, and reads back, field by field, as the values that it was written
-/// from.
+/// A written frame has the requested length. Its fields read back as the values from which it was written.
 pub fn a_written_frame_reads_back()
     ensures long { (error : ErrorControl) (header : TmHeader) (control : List ℕ) (n : ℕ) → length control ≡ 4 → least_length error ≤ n
         → length (tm_frame error header control n) ≡ n }

@@ -18,7 +18,7 @@ pub struct TmFields {
     pub control: [u8; 4],
 }
 
-/// The reason why octets aren't read as a telemetry frame. If several apply, it is the first of them, in this order.
+/// The first reason, in this order, why octets aren't read as a telemetry frame.
 #[derive(Clone, Copy, Debug, PartialEq, Eq, Error)]
 pub enum TmReadFault {
     /// The frames of this crate have at least 11 octets, or 13 with a frame error control field.
