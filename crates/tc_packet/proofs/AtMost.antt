@@ -11,7 +11,7 @@ at_most-some n octets h = rw (le-leb (length octets) n h) refl
 pub at_most-none : (n : ℕ) (octets : List ℕ) → n < length octets → at_most n (Some octets) ≡ None
 at_most-none n octets h = rw (lt-leb (length octets) n h) refl
 
--- a limit leaves no unit that is over it
+-- `at_most` returns no unit that is over the limit
 pub at_most-within : (n : ℕ) (o : Option (List ℕ)) → IsAtMost n (at_most n o)
 at_most-within n None = tt
 at_most-within n (Some octets) = by (leb (length octets) n) refl where
@@ -19,7 +19,7 @@ at_most-within n (Some octets) = by (leb (length octets) n) refl where
   by true h = rw h (leb-true (length octets) n h)
   by false h = rw h tt
 
--- after a limit within the largest unit, the bound of the largest unit has no further effect
+-- a limit within the largest unit makes the bound of the largest unit redundant
 pub at_most-bounded : (n : ℕ) (octets : List ℕ) → n ≤ 65542 → at_most n (bounded octets) ≡ at_most n (Some octets)
 at_most-bounded n octets small = by (leb (length octets) 65542) refl where
   by : (t : Bool) → leb (length octets) 65542 ≡ t → at_most n (bounded octets) ≡ at_most n (Some octets)
@@ -37,7 +37,7 @@ at_most-extended n (Some octets) body small = by (leb (length octets) n) refl wh
       let l = length-append octets body in
       rw h (sym (at_most-bounded n (octets ++ body) small ∙ at_most-none n (octets ++ body) (omega arith)))
 
--- a run within its limit moves on as it would without the limit
+-- applying the limit before a segment doesn't change the limited run after that segment
 pub next-at_most : (n : ℕ) (part : Part) (run : Option (List ℕ)) (body : List ℕ) → n ≤ 65542 → at_most n (next_run part (at_most n run) body) ≡ at_most n (next_run part run body)
 next-at_most n Continuing run body small = at_most-extended n run body small
 next-at_most n _ run body small = refl

@@ -4,7 +4,7 @@ use Rattle.tc_packet.proofs.Names.{common_steps, nat_tests}
 use Rattle.std.proofs.lemmas.List.{get_or-take, take-append-drop, take_at, drop_at, length-append, length-take, length-drop, drop-drop, take_min}
 use Rattle.tc_packet.specs.SpacePacket.{IsPacket, IsCut, joined, version_of, named_length, begins, packets_within, packets_of, rest_of}
 
--- a front of at least 7 octets has the header of the whole
+-- a front of at least 7 octets has the primary header of the whole list
 version-front : (n : ℕ) (u : List ℕ) → 7 ≤ n → version_of (take n u) ≡ version_of u
 version-front n u h = rw (get_or-take n u 0 0 (omega arith), get_or-take n u 1 0 (omega arith)) refl
 
@@ -96,7 +96,7 @@ only-cut n u (p ∷ ps) rest small cut =
     let named : named_length u ≡ length p = b.1 ∙ ap length front in
     go-on n u p ps rest small b.0 named front back (λ m h. only-cut m (drop (named_length u) u) ps rest h (record { parts = rw named back; each = cut.each.1; ends = cut.ends }))
 
--- two fronts that are packets have the length that the header names
+-- two packets at the front of a list are equal, since both have the length that the header names
 pub one-front : (u : List ℕ) (n m : ℕ) → IsPacket (take n u) → IsPacket (take m u) → take n u ≡ take m u
 one-front u n m p q =
     let a = begins-packet n u p in
@@ -104,8 +104,8 @@ one-front u n m p q =
     let front : (k : ℕ) → take k u ≡ take (length (take k u)) u = λ k. sym (ap (λ (j : ℕ). take j u) (length-take k u) ∙ take_min k u) in
     front n ∙ ap (λ (k : ℕ). take k u) (sym a.1 ∙ b.1) ∙ sym (front m)
 
--- if a unit begins with a packet, that packet is the first of its cut, and the other packets and the rest are those of
--- the octets after it
+-- If a unit begins with a packet, that packet is the first of its cut. The cut's other packets and its rest are those
+-- of the octets after that packet.
 pub cut-next : (u p : List ℕ) → IsPacket p → p ≡ take (length p) u → (packets_of u ≡ p ∷ packets_of (drop (length p) u)) × (rest_of u ≡ rest_of (drop (length p) u))
 cut-next u p packet front =
     let after = drop (length p) u in

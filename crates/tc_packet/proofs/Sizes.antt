@@ -16,7 +16,7 @@ pub if-ok : {A E : Type 0} (P Q : A → Type 0) (r : Result A E) → ((x : A) �
 if-ok P Q (Ok x) follows h = follows x h
 if-ok P Q (Err e) follows h = tt
 
--- the limit of a MAP when every MAP has the same one
+-- if every MAP has the same limit, each stream has that limit
 pub one-limit : (segmented : Bool) (limit place : ℕ) → (if segmented then get_or (replicate 64 limit) (place % 64) 0 else limit) ≡ limit
 one-limit true limit place = get_or-replicate 64 (place % 64) limit 0 (omega arith)
 one-limit false limit place = refl

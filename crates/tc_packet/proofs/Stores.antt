@@ -47,7 +47,7 @@ same-sizes runs i run next inside is same =
 abbrev pub MovesOn : Type 0
 MovesOn = (fields : List (List ℕ)) (field : List ℕ) → open_run (fields ++ field ∷ []) ≡ next_run (header_of field).part (open_run fields) (body_of field)
 
--- if the fields leave the run, then the fields with one more leave the next run, each within the limit
+-- if the fields leave a run within the limit, the fields and one more leave the next run within the limit
 pub run-pushed : MovesOn → (n : ℕ) (next run : Option (List ℕ)) (fields : List (List ℕ)) (field body : List ℕ) (part : Part) → n ≤ 65542
     → part ≡ (header_of field).part → body ≡ body_of field → next ≡ at_most n (next_run part run body)
     → at_most n (open_run fields) ≡ run → at_most n (open_run (fields ++ field ∷ [])) ≡ next
@@ -79,7 +79,7 @@ over-written : (runs : List OpenRun) (i : ℕ) (next : OpenRun) → i < length r
 over-written (r ∷ runs) (suc i) next inside = ap (λ (xs : List OpenRun). r ∷ xs) (over-written runs i next (omega arith))
 over-written _ _ next inside = refl
 
--- to write a run as closed at its place is to end the run at that place
+-- writing a run as closed at its place ends the run at that place
 pub closed-set : (runs : List OpenRun) (i : ℕ) (run : OpenRun) → i < length runs → run ≡ get_or runs i run → set runs i (closed run) ≡ over_at i runs
 closed-set [] i run inside is = absurd (omega arith)
 closed-set (r ∷ runs) zero run inside is = ap (λ (x : OpenRun). closed x ∷ runs) is
@@ -96,7 +96,7 @@ committed-is store i next ended_kinds.Nothing inside = refl
 committed-is store i next ended_kinds.Body inside = ap (λ (xs : List OpenRun). record store { runs = xs }) (over-written store.runs i next inside)
 committed-is store i next ended_kinds.Whole inside = ap (λ (xs : List OpenRun). record store { runs = xs }) (over-written store.runs i next inside)
 
--- ending a run leaves the sizes of all rooms
+-- ending a run changes no room's size
 over-sizes : (runs : List OpenRun) (i : ℕ) → sizes_of (over_at i runs) ≡ sizes_of runs
 over-sizes (r ∷ runs) (suc i) = ap (λ (xs : List ℕ). r.room.size ∷ xs) (over-sizes runs i)
 over-sizes _ _ = refl
@@ -120,7 +120,7 @@ pub committed-segmented : (store : Store) (e : Ended) (i : ℕ) → (committed e
 committed-segmented store ends.Nothing i = refl
 committed-segmented store _ i = refl
 
--- the place of a segment with this header, and its effect on the run there
+-- the segment's run is at place `i`, and the segment has this part and this body
 pub record IsPassed (store : Store) (i place : ℕ) (part : Part) (field body : List ℕ) : Type 0 where
   pub on : store.segmented ≡ true
   pub at : i ≡ place
@@ -183,7 +183,7 @@ module _ {store : Store} {i place : ℕ} {part : Part} {field body : List ℕ} {
 pub ended-nothing : (t : EndedKind) (i : ℕ) → (ended_by_stream t i ≡ ends.Nothing → ⊥) → t ≡ ended_kinds.Nothing → ⊥
 ended-nothing t i some is = some (ap (λ (x : EndedKind). ended_by_stream x i) is)
 
--- a run that was written leaves the others as they were
+-- writing one run leaves the other runs as they were
 pub written-others : (store : Store) (i place other : ℕ) (later : List OpenRun) → IsWritten i store.runs later → i ≡ place → (other ≡ place → ⊥) → run_at (map open_in later) other ≡ run_at (map open_in store.runs) other
 written-others store i place other later w at apart = ap (λ (xs : List OpenRun). run_at (map open_in xs) other) w.is ∙ others-open store.runs i other w.next (λ e. apart (e ∙ at))
 

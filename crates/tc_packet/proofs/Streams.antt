@@ -44,7 +44,7 @@ some-bounded octets whole h = by (leb (length octets) 65542) refl h where
   by true e h = let same : whole ≡ octets = cc in (same, subst (λ (x : List ℕ). length x ≤ 65542) (sym same) (leb-true (length octets) 65542 e))
   by false e h = cc
 
--- the place of the last first segment
+-- `f` is the last first segment of the fields, and `fs` are the fields after it
 record Found (fields : List (List ℕ)) (f : List ℕ) (fs : List (List ℕ)) : Type 0 where
   before : List (List ℕ)
   parts : fields ≡ before ++ f ∷ fs

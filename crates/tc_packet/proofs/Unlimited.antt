@@ -141,7 +141,7 @@ module _ {old new : Store} {place : ℕ} {field : List ℕ} (inside : place < 12
         };
       }
 
--- a field was processed, and the unit that it completed is committed
+-- a field moves its stream's run on when the unit that it completed is committed
 pub taken : {old new : Store} {place : ℕ} {field : List ℕ} (mid : Store) (ended : Ended) → mid.segmented ≡ old.segmented → ((at : ℕ) → limit_at mid at ≡ limit_at old at)
     → ((other : ℕ) → other ≢ place → run_at (open_runs mid).runs other ≡ run_at (open_runs old).runs other)
     → ((fields : List (List ℕ)) → LeaveWithin fields old place → LeaveWithin (fields ++ field ∷ []) (committed ended place mid) place)

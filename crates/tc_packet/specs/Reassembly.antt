@@ -17,8 +17,8 @@ largest_unit = largest_packet
 abbrev pub bounded : List ℕ → Option (List ℕ)
 bounded octets = if nat_le (length octets) largest_unit then Some octets else None
 
--- The octets if there are no more of them than the limit, and otherwise none. If the limit is the largest unit, each
--- run and unit of a stream stays as it is.
+-- The octets if their number is within the limit, and otherwise none. The largest unit as the limit changes no run or
+-- unit of a stream.
 abbrev pub at_most : ℕ → Option (List ℕ) → Option (List ℕ)
 at_most limit None = None
 at_most limit (Some octets) = if nat_le (length octets) limit then Some octets else None
@@ -35,7 +35,7 @@ IsPart part field = (header_of field).part ≡ part
 abbrev pub joined_bodies : List (List ℕ) → List ℕ
 joined_bodies fields = flat_map body_of fields
 
--- the fields end with a first segment and continuing ones, whose joined bodies are these octets
+-- The fields end with a first segment and any number of continuing segments. The joined bodies of these are `octets`.
 pub record IsOpenRun (fields : List (List ℕ)) (octets : List ℕ) : Type 0 where
   pub before : List (List ℕ)
   pub first : List ℕ
@@ -46,7 +46,7 @@ pub record IsOpenRun (fields : List (List ℕ)) (octets : List ℕ) : Type 0 whe
   pub joins : octets ≡ joined_bodies (first ∷ after)
   pub limit : length octets ≤ largest_unit
 
--- the field is a last segment after an open run, and these are the octets of the unit that it completes
+-- The field is a last segment after an open run. The unit that it completes is `octets`.
 pub record IsClosedBy (fields : List (List ℕ)) (field octets : List ℕ) : Type 0 where
   pub run : List ℕ
   pub opened : IsOpenRun fields run
@@ -54,7 +54,7 @@ pub record IsClosedBy (fields : List (List ℕ)) (field octets : List ℕ) : Typ
   pub joins : octets ≡ run ++ body_of field
   pub limit : length octets ≤ largest_unit
 
--- the field is a whole unit in one segment
+-- the field is a whole unit in one segment, and its body is `octets`
 pub record IsUnsegmented (field octets : List ℕ) : Type 0 where
   pub whole : IsPart Unsegmented field
   pub joins : octets ≡ body_of field
@@ -123,7 +123,7 @@ is_of service map_id p = same_service service p.service && (header_of p.field).m
 abbrev pub stream : Service → ℕ → List Passed → List (List ℕ)
 stream service map_id passed = map (λ p. p.field) (filter (is_of service map_id) passed)
 
--- the place of a stream's open run in a reassembler: first come those of AD, then those of BD, each by MAP
+-- The place of a stream's open run in a reassembler. The places of AD come first, then those of BD, each by MAP id.
 abbrev pub place_of : Service → ℕ → ℕ
 place_of Ad map_id = map_id
 place_of Bd map_id = 64 + map_id
@@ -138,7 +138,7 @@ stream_place service field = place_of service (header_of field).map
 abbrev pub stream_count : ℕ
 stream_count = 128
 
--- The run and the unit with or without segment headers. Without them each field is plain, is a unit by itself and
+-- The run and the unit, with or without segment headers. A field without a segment header is a unit by itself and
 -- leaves no run.
 
 -- the run that the fields of a stream leave open

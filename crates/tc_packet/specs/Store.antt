@@ -36,7 +36,8 @@ of_streams opened = record { segmented = opened.segmented; runs = first_runs str
 abbrev pub limit_at : Store → ℕ → ℕ
 limit_at store place = if store.segmented then get_or (sizes_of store.runs) place 0 else store.plain_limit
 
--- there is a room for each stream with segment headers and no room without them, and no limit is over the largest unit
+-- There is a room for each stream if data fields have segment headers, and otherwise there is no room. Each limit is at
+-- most the largest unit.
 pub record IsStore (store : Store) : Type 0 where
   pub streams : store.segmented ≡ true → length store.runs ≡ stream_count
   pub plain : store.segmented ≡ false → length store.runs ≡ 0
@@ -47,7 +48,7 @@ pub record IsUnlimited (store : Store) : Type 0 where
   pub limits : (place : ℕ) → place < stream_count → limit_at store place ≡ largest_unit
   pub runs : AreOpenRuns (of_streams (open_runs store))
 
--- the run at this place is the one that the fields leave, or none if that one is over the limit
+-- The run at this place is the one that the fields leave. If that run is over the limit, there is none at this place.
 abbrev pub LeaveWithin : List (List ℕ) → Store → ℕ → Type 0
 LeaveWithin fields store place = at_most (limit_at store place) (run_left store.segmented fields) ≡ run_at (open_runs store).runs place
 
@@ -57,14 +58,14 @@ ended_kind ended_kinds.Nothing run body = None
 ended_kind ended_kinds.Body run body = Some body
 ended_kind ended_kinds.Whole run body = Some run.room.octets
 
--- The run after a segment for which this kind was returned. A run that completed a unit is over once the unit is
--- delivered.
+-- The run after a segment for which this kind was returned, once any completed unit is delivered. The run that made
+-- this unit is then over.
 abbrev pub behind : EndedKind → OpenRun → OpenRun
 behind ended_kinds.Nothing run = run
 behind ended_kinds.Body run = closed run
 behind ended_kinds.Whole run = closed run
 
--- the place of the unit that a segment of the stream with this place completed
+-- The place of the unit that a segment completed. `place` is the place of the segment's stream.
 abbrev pub ended_by_stream : EndedKind → ℕ → Ended
 ended_by_stream ended_kinds.Nothing place = Nothing
 ended_by_stream ended_kinds.Body place = Lying 1
@@ -76,7 +77,7 @@ unit_in Nothing store field = None
 unit_in (Lying from) store field = Some (drop from field)
 unit_in (Joined place) store field = option_map (λ (r : OpenRun). r.room.octets) (slice_get store.runs place)
 
--- there are octets at the place that is reported for the unit
+-- the place that is reported for the unit exists
 abbrev pub IsThere : Ended → Store → List ℕ → Type 0
 IsThere Nothing store field = Unit {0}
 IsThere (Lying from) store field = from ≤ length field
@@ -97,7 +98,7 @@ committed Nothing place store = store
 committed (Lying from) place store = over place store
 committed (Joined at) place store = over place store
 
--- one run was written, and its room is as large as before
+-- the run at this place was written, and its room is as large as before
 pub record IsWritten (place : ℕ) (old new : List OpenRun) : Type 0 where
   pub next : OpenRun
   pub is : new ≡ set old place next

@@ -26,8 +26,8 @@ pub fn cut(alloc: Global, unit: &[u8]) -> Result<Cut<'_>, NoMemory>
 }
 
 /// Returns the first packet of a unit, and the octets after it. A cut of those octets yields the unit's other packets
-/// and its rest. Returns `None` if the unit doesn't begin with a packet. Then the whole unit is rest. Nothing is
-/// allocated.
+/// and its rest. Returns `None` if the unit doesn't begin with a packet, in which case the whole unit is rest. Nothing
+/// is allocated.
 pub fn next_packet(unit: &[u8]) -> Option<(Packet<'_>, &[u8])>
     ensures packets { IfSome result (λ r. packets_of unit.now ≡ r.0.octets.now ∷ packets_of r.1.now) }
     ensures rest { IfSome result (λ r. rest_of unit.now ≡ rest_of r.1.now) }

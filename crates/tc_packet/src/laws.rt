@@ -39,14 +39,14 @@ pub fn each_input_begins_with_one_packet_at_most()
     ensures { (octets : List ℕ) (n m : ℕ) → IsPacket (take n octets) → IsPacket (take m octets) → take n octets ≡ take m octets }
 {}
 
-/// A stream has an open run exactly when its fields end with a first segment, followed by any number of continuing
-/// ones, and their bodies join to no more octets than the limit. The run is these joined bodies.
+/// A stream has an open run exactly when its fields end with a first segment and any number of continuing segments, and
+/// the joined bodies of these segments are within the limit. The run consists of the joined bodies.
 pub fn an_open_run_looks_back_over_its_stream()
     ensures { (fields : List (List ℕ)) (octets : List ℕ) → (open_run fields ≡ Some octets) ↔ IsOpenRun fields octets }
 {}
 
-/// A field completes a unit exactly when it is unsegmented, or a last segment after an open run, and the unit is within
-/// the limit. The unit is the field's own body, or the run followed by that body.
+/// A field completes a unit in two cases. The body of an unsegmented field is a unit. The open run and the body of a
+/// last segment together are a unit. In both cases the unit must be within the limit.
 pub fn a_unit_looks_back_over_its_stream()
     ensures { (fields : List (List ℕ)) (field octets : List ℕ) → (unit_at fields field ≡ Some octets) ↔ IsUnit fields field octets }
 {}
@@ -59,9 +59,8 @@ pub fn each_run_within_the_limit_is_left_by_fields()
     ensures units { (fields : List (List ℕ)) (field : List ℕ) → IsWithinLimit (unit_at fields field) }
 {}
 
-/// The run that a stream has after one more field follows from the run before that field, and from the field's part and
-/// body alone: a first segment begins a run, a continuing one extends the open run, and after any other segment no run
-/// is open.
+/// The run after one more field depends only on the run before that field, and on the field's part and body. A first
+/// segment begins a run, and a continuing segment extends the open run. After any other segment no run is open.
 pub fn one_more_field_moves_its_run_on()
     ensures { (fields : List (List ℕ)) (field : List ℕ) → open_run (fields ++ field ∷ []) ≡ next_run (header_of field).part (open_run fields) (body_of field) }
 {}

@@ -19,7 +19,8 @@ pub(crate) const MAPS: usize = 64;
 /// The number of streams: two services of 64 MAPs.
 pub(crate) const STREAMS: usize = 128;
 
-/// Returns the place of a stream's open run: first come those of AD, then those of BD, each by MAP.
+/// Returns the place of a stream's open run. The places of AD come first, then those of BD. Each service's places are
+/// in the order of the MAP ids.
 pub(crate) fn place(service: Service, map: u8) -> usize
     requires { map < 64 }
     ensures value { result ≡ place_of service map }
