@@ -6,7 +6,7 @@ use Rattle.std.proofs.lemmas.List.Elements.{All-from_get_or}
 use Rattle.memchr.specs.Find.{IsFirstByte, is_byte}
 use Rattle.tc_lines.specs.Reading.{IsFront}
 
--- the front if a line feed was found
+-- if a line feed is found, the front ends with it
 pub front-to-feed : (octets : List ℕ) (end : ℕ) → IsFirstByte (is_byte 10) octets (Some end) → IsFront octets (record { line = end; all = end + 1; ended = true })
 front-to-feed octets end found =
     let first = found.0 in
@@ -21,7 +21,7 @@ front-to-feed octets end found =
       whole = λ e. absurd (cc);
     }
 
--- the front if no line feed was found
+-- if no line feed is found, the front is all octets
 pub front-whole : (octets : List ℕ) → IsFirstByte (is_byte 10) octets None → IsFront octets (record { line = length octets; all = length octets; ended = false })
 front-whole octets none =
     let size = length-take-le (length octets) octets (omega arith) in

@@ -16,7 +16,7 @@ lines-ended (x ∷ xs) after one =
     ap (λ b. cond b ([] ∷ lines_of (xs ++ 10 ∷ after)) (lines_after x (lines_of (xs ++ 10 ∷ after)))) (ne_eqb x 10 (All-head (λ octet. octet ≢ 10) x xs one))
     ∙ ap (lines_after x) (lines-ended xs after (All-tail (λ octet. octet ≢ 10) x xs one))
 
--- octets without a line feed are one line, unless there are none
+-- octets without a line feed are one line, unless there are no octets
 lines-last : (line : List ℕ) → IsOneLine line → line ≢ [] → lines_of line ≡ line ∷ []
 lines-last [] one some = absurd (some refl)
 lines-last (x ∷ []) one some =
@@ -26,7 +26,7 @@ lines-last (x ∷ (y ∷ ys)) one some =
     ∙ ap (lines_after x) (lines-last (y ∷ ys) (All-tail (λ octet. octet ≢ 10) x (y ∷ ys) one) (λ no. cc))
 
 module _ {S : Type 0} (limit : ℕ) (Answers : S → List ℕ → S → List ℕ → Type 0) where
-  -- one more line is answered
+  -- answering one more line after the answered lines answers all of them in order
   answered-more : (old now new : S) (lines : List (List ℕ)) (line text more : List ℕ) → AreAnswered limit Answers old lines now text
       → IsAnswered limit Answers now line new more → AreAnswered limit Answers old (lines ++ line ∷ []) new (text ++ more)
   answered-more old now new [] line text more before next = (
@@ -46,7 +46,7 @@ module _ {S : Type 0} (limit : ℕ) (Answers : S → List ℕ → S → List ℕ
     ap (λ l. l ++ more) joined ∙ append_assoc front rest more,
   )
 
-  -- the first lines of known octets were answered, and their answers written
+  -- the first lines of known octets were answered, and their answers were written
   abbrev pub IsSoFar : S → Option (List ℕ) → S → Option (List ℕ) → Option (List ℕ) → Option (List ℕ) → Type 0
   IsSoFar old known now left before after = IfSome known (λ octets. (lines : List (List ℕ)) × (rest : List ℕ) × (left ≡ Some rest)
       × (lines_of octets ≡ lines ++ lines_of rest) × Writes before after (AreAnswered limit Answers old lines now))
@@ -100,7 +100,7 @@ module _ {S : Type 0} (limit : ℕ) (Answers : S → List ℕ → S → List ℕ
       )
       at (inr (not, none, same, reported)) found = absurd (both_ways read.ended not ended)
 
-  -- the last line is answered
+  -- once the last line is answered, the answers of all lines are written
   pub lines-end : (old now new : S) (known left after_it : Option (List ℕ)) (kept shown : List ℕ) (read : LineRead) (a b c : Option (List ℕ))
       → IsSoFar old known now left a b → IsLineRead limit left after_it kept read → read.ended ≡ false
       → shown ≡ kept → Writes b c (IsReadAnswered Answers now read shown new) → IfSome known (λ octets. AreAllWritten limit Answers old octets new a c)
@@ -140,7 +140,7 @@ module _ {S : Type 0} (limit : ℕ) (Answers : S → List ℕ → S → List ℕ
         Appends-trans a b c text more written appended,
       )
 
-  -- no more lines can be read
+  -- if no more lines can be read, the answers of some first lines are written
   pub lines-cut : (old now : S) (known left a b : Option (List ℕ)) → IsSoFar old known now left a b
       → IfSome known (λ octets. AreFirstWritten limit Answers old octets now a b)
   lines-cut old now None left a b so_far = tt

@@ -13,7 +13,7 @@ use Rattle.tc_lines.specs.declared.reading.Part.{Part}
 nothing-one : IsOneLine []
 nothing-one k d lt = absurd (omega (arith, lt))
 
--- nothing was read
+-- if nothing was read, the part of the line that was read is empty
 none-read : (limit : ℕ) (a b : Option (List ℕ)) (before : List ℕ) → length before ≤ limit → Keeps a b → IsPartRead limit a b before before nothing_yet
 none-read limit a b before within kept = record {
   octets = [];
@@ -30,7 +30,7 @@ pub read-again : {E : Type 0} (r : Result Part E) (limit : ℕ) (a b : Option (L
 read-again (Err e) limit a b before none within kept = tt
 read-again (Ok part) limit a b before none within kept = subst (IsPartRead limit a b before before) (sym none) (none-read limit a b before within kept)
 
--- a line that may continue: the octets that are kept of it, and whether it had more
+-- The octets of a line so far were taken, and at most `limit` of them are kept. `over` tells whether there were more.
 pub record IsLineSoFar (limit : ℕ) (old new : Option (List ℕ)) (kept : List ℕ) (over : Bool) : Type 0 where
   pub line : List ℕ
   pub one : IsOneLine line
@@ -60,7 +60,7 @@ over-more limit line kept octets is = at (cases_lt limit (length line))
         ap (λ b. b || nat_lt limit (length kept + length octets)) (le-ltb limit (length line) le)
         ∙ ap (λ l. nat_lt limit (length l + length octets)) (is ∙ take_all limit line le) ∙ ap (nat_lt limit) (sym (length-append line octets))
 
--- one more part of the line is read, and the line continues after it
+-- a line to which one more part is added may continue after that part
 pub part-more : (limit : ℕ) (a b c : Option (List ℕ)) (before after : List ℕ) (over : Bool) (part : Part) → IsLineSoFar limit a b before over
     → IsPartRead limit b c before after part → part.goes_on ≡ true → IsLineSoFar limit a c after (over || part.over)
 part-more limit a b c before after over part so_far more goes_on = record {
@@ -78,7 +78,7 @@ end-of None b c line lost end = tt
 end-of (Some x) None c line lost end = absurd lost
 end-of (Some x) (Some y) c line lost end = end
 
--- the last part of the line is read
+-- with its last part, the whole line has been read
 pub last-part : (limit : ℕ) (a b c : Option (List ℕ)) (before after : List ℕ) (over : Bool) (part : Part) → IsLineSoFar limit a b before over
     → IsPartRead limit b c before after part → part.goes_on ≡ false
     → IsLineRead limit a c after (record { ended = part.ended; too_long = over || part.over })

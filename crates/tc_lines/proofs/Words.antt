@@ -34,7 +34,7 @@ word-starts (x ∷ xs) = rw take_while-cons (at (word-starts xs) (is_separator x
     at more true e h = more h
     at more false e h = rw (take_while-cons, e) (omega arith)
 
--- the first piece, and the words of the octets after it
+-- the first `n` octets are the first piece, and `rest` are the pieces in the octets after it
 pub record HasFirst (xs : List ℕ) (n : ℕ) (rest : List (List ℕ)) : Type 0 where
   pub pieces : slice_split is_separator xs ≡ take n xs ∷ rest
   pub more : words (drop n xs) ≡ filter is_filled rest
@@ -79,7 +79,7 @@ unfolding words
 words-none [] h = refl
 words-none (x ∷ xs) h = absurd (omega arith)
 
--- the first word of octets, after the separators in front were left out
+-- the first word of octets is the octets between the separators in front and the next separator
 pub words-split : (octets rest word after : List ℕ) (g n : ℕ)
     → g ≡ length (take_while is_separator octets) → rest ≡ drop g octets → 0 < length rest
     → n ≡ length (take_while is_inner rest) → word ≡ take n rest → after ≡ drop n rest
@@ -95,7 +95,8 @@ false-of : (b : Bool) → (b ≡ true → ⊥) → b ≡ false
 false-of true h = absurd (h refl)
 false-of false _ = refl
 
--- the number of octets before the first separator
+-- The first `n` octets contain no separator. If a separator or the end follows them, exactly `n` octets are before the
+-- first separator.
 before-separator : (xs : List ℕ) (n : ℕ) → ((k : ℕ) → k < n → is_separator (get_or xs k 0) ≡ false) → n ≤ length xs → (n < length xs → is_separator (get_or xs n 0) ≡ true)
     → n ≡ length (take_while is_inner xs)
 before-separator [] n inner within stops = omega (arith, within)
@@ -104,11 +105,11 @@ before-separator (x ∷ xs) (suc n) inner within stops =
     rw (take_while-cons, inner 0 (omega arith))
     (ap suc (before-separator xs n (λ k lt. inner (suc k) (omega (arith, lt))) (omega (arith, within)) (λ lt. stops (omega (arith, lt)))))
 
--- the first separator was found
+-- if a separator is found first at place `n`, the word has `n` octets
 pub word-to-separator : (xs : List ℕ) (n : ℕ) → IsFirstByte (is_byte3 32 9 13) xs (Some n) → n ≡ length (take_while is_inner xs)
 word-to-separator xs n found =
     before-separator xs n (λ k lt. false-of _ (found.0.before k (omega arith) lt)) (omega (arith, found.0.high)) (λ lt. found.1)
 
--- no separator was found
+-- if no separator is found, the word has all octets
 pub last-word : (xs : List ℕ) → IsFirstByte (is_byte3 32 9 13) xs None → length xs ≡ length (take_while is_inner xs)
 last-word xs none = before-separator xs (length xs) (λ k lt. false-of _ (none k (omega arith) lt)) (omega arith) (λ lt. absurd (omega (arith, lt)))

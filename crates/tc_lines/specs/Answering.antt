@@ -5,7 +5,7 @@ use Rattle.tc_lines.specs.declared.reading.LineRead.{LineRead}
 use Rattle.tc_lines.specs.declared.answering.ServingFault.{ServingFault}
 use Rattle.tc_lines.specs.declared.answering.ServingFault.TheVariants.{Read, Write, NoMemory}
 
--- the lines with one more octet in front, which isn't a line feed and so belongs to the first line
+-- The lines with one more octet in front. The octet isn't a line feed, so it belongs to the first line.
 abbrev pub lines_after : ℕ → List (List ℕ) → List (List ℕ)
 lines_after octet [] = (octet ∷ []) ∷ []
 lines_after octet (line ∷ lines) = (octet ∷ line) ∷ lines
@@ -23,8 +23,8 @@ Writes old new Is = (text : List ℕ) × Is text × Appends old new text
 abbrev pub too_long_text : List ℕ
 too_long_text = codes "bad too long\n"
 
--- A line that is too long gets the answer for that, and changes nothing. Any other line is answered as `Answers`
--- states.
+-- A line of more than `limit` octets is answered with `too_long_text`, and changes nothing. Any other line is answered
+-- as `Answers` states.
 abbrev pub IsAnswered : {S : Type 0} → ℕ → (S → List ℕ → S → List ℕ → Type 0) → S → List ℕ → S → List ℕ → Type 0
 IsAnswered limit Answers old line new text =
     ((limit < length line) × (new ≡ old) × (text ≡ too_long_text)) ⊎ ((length line ≤ limit) × Answers old line new text)
@@ -36,8 +36,8 @@ AreAnswered {S} limit Answers old (line ∷ lines) new text =
     (between : S) × (first : List ℕ) × (rest : List ℕ) × IsAnswered limit Answers old line between first
     × AreAnswered limit Answers between lines new rest × (text ≡ first ++ rest)
 
--- A line that was read gets the answer to its kept octets, or the answer for a line that is too long. There is no line
--- if the input ended after a line feed.
+-- A line that was read is answered as `Answers` states for its kept octets, or with `too_long_text` if it was too long.
+-- There is no line if the input ended after a line feed.
 abbrev pub IsReadAnswered : {S : Type 0} → (S → List ℕ → S → List ℕ → Type 0) → S → LineRead → List ℕ → S → List ℕ → Type 0
 IsReadAnswered Answers old read kept new text =
     ((read.too_long ≡ true) × (new ≡ old) × (text ≡ too_long_text))
@@ -54,8 +54,8 @@ AreFirstWritten limit Answers old octets new before after =
     (lines : List (List ℕ)) × (rest : List (List ℕ)) × (lines_of octets ≡ lines ++ rest)
     × Writes before after (AreAnswered limit Answers old lines new)
 
--- the state after an early end: after a failed read some first lines were answered, after a failed write nothing is
--- known, and without memory nothing was done
+-- The state after an early end. After a failed read, some first lines were answered. After a failed write, nothing is
+-- known. Without memory, nothing was done.
 abbrev pub IsCutShort : {S : Type 0} → ℕ → (S → List ℕ → S → List ℕ → Type 0) → S → List ℕ → S → Option (List ℕ) → Option (List ℕ) → ServingFault → Type 0
 IsCutShort limit Answers old octets new before after Read = AreFirstWritten limit Answers old octets new before after
 IsCutShort limit Answers old octets new before after Write = Unit {0}

@@ -24,7 +24,7 @@ pub record IsLineRead (limit : ℕ) (old new : Option (List ℕ)) (kept : List �
   pub kept_is : kept ≡ take limit line
   pub too_long_is : read.too_long ≡ nat_lt limit (length line)
 
--- a part of a line was taken from a reader, and it follows the octets of the line that were kept before
+-- A part of a line was taken from a reader. It follows the octets of the line that were kept before.
 pub record IsPartRead (limit : ℕ) (old new : Option (List ℕ)) (before after : List ℕ) (part : Part) : Type 0 where
   pub octets : List ℕ
   pub one : IsOneLine octets
@@ -38,7 +38,7 @@ pub record IsPartRead (limit : ℕ) (old new : Option (List ℕ)) (before after 
 abbrev pub nothing_yet : Part
 nothing_yet = record { over = false; goes_on = true; ended = false }
 
--- the front of octets, up to their first line feed
+-- `front` is the front of the octets, up to their first line feed
 pub record IsFront (octets : List ℕ) (front : Front) : Type 0 where
   pub one : IsOneLine (take front.line octets)
   pub all_is : take front.all octets ≡ take front.line octets ++ feed_of front.ended

@@ -15,11 +15,11 @@ is_filled (octet ∷ octets) = true
 unfoldable pub words : List ℕ → List (List ℕ)
 words octets = filter is_filled (slice_split is_separator octets)
 
--- the word is this text
+-- whether the word is this text
 abbrev pub is : List ℕ → List ℕ → Bool
 is word text = pointwise nat_eq word text
 
--- the word begins with a number sign, and so begins a comment
+-- whether the word begins with a number sign, which begins a comment
 abbrev pub is_comment : List ℕ → Bool
 is_comment word = slice_index word 0 == 35
 

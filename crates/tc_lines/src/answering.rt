@@ -23,7 +23,7 @@ pub enum ServingFault {
     NoMemory,
 }
 
-/// An answerer of lines.
+/// A receiver of lines that answers each of them with a text.
 pub trait LineAnswerer {
     // the effect of a line on the answerer, and the text that answers the line
     ghost answers: { Self → List ℕ → Self → List ℕ → Type 0 };
@@ -41,8 +41,8 @@ pub trait LineAnswerer {
 /// Answers lines until there are no more, and flushes after each answer.
 ///
 /// A line of more than `limit` octets is answered `bad too long`, and isn't kept. Octets after the last line feed are a
-/// line. If the octets of the reader are known to its contract, all their lines are answered, or the first ones of them
-/// if the reader fails. After 2^64 - 1 lines the reader counts as failed.
+/// line. If the reader's contract states its octets, all lines in them are answered. If the reader fails, only the
+/// first lines are answered. After 2^64 - 1 lines the reader counts as failed.
 pub fn answer_lines<A: LineAnswerer, R: BufRead, W: Write>(
     alloc: Global,
     limit: usize,

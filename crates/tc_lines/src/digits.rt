@@ -9,8 +9,8 @@ use std::fmt;
 // The number of octets that are turned into digits at a time.
 const AT_ONCE: usize = 64;
 
-/// Octets that are written as two hexadecimal digits each. A few at a time are written, since a packet or a unit may
-/// have 65,542 octets, and memory would have to be allocated for all digits at once.
+/// Octets that are written as two hexadecimal digits each. The digits of a packet or a unit of up to 65,542 octets are
+/// written a few at a time, so that no memory is allocated for them.
 #[derive(Clone, Copy, Debug)]
 pub struct Digits<'a>(pub &'a [u8]);
 

@@ -11,7 +11,7 @@ use std::io::{BufRead, ErrorKind};
 /// The result of reading a line whose octets are kept elsewhere.
 #[derive(Clone, Copy)]
 pub(crate) struct LineRead {
-    /// Whether a line feed ended the line. If not, the input ended. Then the line is empty if nothing came after the
+    /// Whether a line feed ended the line. If not, the input ended. The line is then empty if nothing came after the
     /// last line feed.
     pub(crate) ended: bool,
     /// Whether the line is longer than it may be. In that case only its front is kept.

@@ -15,7 +15,7 @@ not-apart key qs i d lt earlier apart =
     let here : get_or qs i x ≡ get_or qs i d = get_or_default qs i x d lt in
     apart k i x before lt (ap key at ∙ earlier.4 ∙ sym (ap key here))
 
--- the first i have distinct keys
+-- the first `i` items have distinct keys
 abbrev pub ApartBelow : {A : Type 0} → (A → ℕ) → List A → ℕ → Type 0
 ApartBelow {A} key qs i = (j k : ℕ) (d : A) → j < k → k < i → key (get_or qs j d) ≢ key (get_or qs k d)
 
@@ -29,7 +29,7 @@ apart-more key qs i d lt none below j k e jk ki same = elim (cases_eq k i) [
   | inr other ↦ below j k e jk (omega arith) same
 ]
 
--- a table has marked the keys of the first i
+-- the table has marked exactly the keys of the first `i` items
 abbrev pub AreMarked : {A : Type 0} → (A → ℕ) → List A → ℕ → List Bool → Type 0
 AreMarked key qs i seen = (n : ℕ) → n < length seen → (get_or seen n false ≡ true) ↔ Earlier key qs i n
 

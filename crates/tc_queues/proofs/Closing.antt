@@ -1,4 +1,4 @@
--- Sets of lemmas that close goals of calls without an answer.
+-- Sets of lemmas that close the goals of calls without a proof by hand.
 use Rattle.tc_queues.proofs.Names.{map-set_same}
 use Rattle.std.proofs.lemmas.List.{set-get_or}
 use Rattle.tc_queues.proofs.InRooms.{fit-at, key-in, staged-of-none-at, put-in, same-rings, same-sizes, committed-at, committed-set, full-at}

@@ -4,20 +4,18 @@ use Rattle.tc_queues.proofs.Counted.{for-one}
 use Rattle.tc_queues.proofs.Passes.{NoneFor, apart-at, none-others}
 use Rattle.tc_queues.proofs.Tables.{keys-length}
 
--- at the start nothing is staged, so items are staged only in queues that one of these packets is for, whatever the
--- packets are
+-- if nothing is staged, `AreStagedOf` holds for any packets
 pub none-staged : (qs : List Keyed) (ps : List (List ℕ)) → AreCommitted qs → AreStagedOf ps qs
 none-staged [] ps all = tt
 none-staged (q ∷ qs) ps all = (inl all.0, none-staged qs ps all.1)
 
--- if one of the packets is staged in the queue that it is for, items still are staged only in queues that one of the
--- packets is for
+-- staging one of the packets in the queue that it is for keeps `AreStagedOf`
 pub staged-at : (qs : List Keyed) (i k : ℕ) (q next : Keyed) (ps : List (List ℕ)) → i < length qs → q ≡ get_or qs i q → next.key ≡ q.key → k ≡ get_or (keys_of (rings_in qs)) i k → IsAmong k ps → AreStagedOf ps qs → AreStagedOf ps (set qs i next)
 staged-at [] i k q next ps inside is key k_is among all = tt
 staged-at (r ∷ qs) zero k q next ps inside is key k_is among all = (inr (subst (λ (x : ℕ). IsAmong x ps) (k_is ∙ sym (key ∙ ap (λ (x : Keyed). x.key) is)) among), all.1)
 staged-at (r ∷ qs) (suc i) k q next ps inside is key k_is among all = (all.0, staged-at qs i k q next ps (omega arith) is key k_is among all.1)
 
--- after the last packet nothing is staged
+-- if no packets remain, nothing is staged
 pub all-committed-of : (qs : List Keyed) → AreStagedOf [] qs → AreCommitted qs
 all-committed-of [] all = tt
 all-committed-of (q ∷ qs) all = (by all.0, all-committed-of qs all.1) where

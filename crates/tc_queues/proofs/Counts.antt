@@ -7,7 +7,7 @@ use Rattle.tc_packet.proofs.Cuts.{is-cut}
 use Rattle.tc_queues.specs.Steps.{most_looks, looks_for, delivery_steps, packet_steps, unit_steps, take_steps}
 use Rattle.tc_queues.proofs.Tables.{keys-length}
 
--- for an equal number of queues, an equal number of them is looked at
+-- equally many queues are looked at in two lists of equal length
 pub looks-same : (a b : List Keyed) (table : List ℕ) → length a ≡ length b → looks a table ≡ looks b table
 looks-same a b [] same = same
 looks-same a b (t ∷ table) same = refl
@@ -34,7 +34,7 @@ unit-more n a b m o le le' = sum-more (pass_steps n a) (pass_steps n b) a b m o 
   sum-more : (x y a b m o : ℕ) → x ≤ y → a ≤ b → m ≤ o → m + (x + (x + a)) ≤ o + (y + (y + b))
   sum-more x y a b m o h i j = omega arith
 
--- if there is a table whenever one is worthwhile, the queues that are looked at are within their bound
+-- no more queues are looked at than `most_looks` allows, if the table is as `IsTabled` states
 pub looks-most : (qs : List Keyed) (table : List ℕ) → IsTabled (keys_of (rings_in qs)) table → looks qs table ≤ most_looks (length qs)
 looks-most qs [] k = by (nat_lt (length qs) 8) (nat_lt 65535 (length qs)) refl refl where
   by : (s t : Bool) → nat_lt (length qs) 8 ≡ s → nat_lt 65535 (length qs) ≡ t → length qs ≤ cond s (length qs) (cond t (length qs) 1)
@@ -61,7 +61,7 @@ cost-more before after a b le cost = omega arith
 pub cost-more-err : (before after a b n : ℕ) → a ≤ b → after ≤ before + (a + n) → after ≤ before + (b + n)
 cost-more-err before after a b n le cost = omega arith
 
--- a packet has at least seven octets
+-- joined packets have at least seven octets each
 few-joined : (ps : List (List ℕ)) → AllByRecursion IsPacket ps → length ps * 7 ≤ length (joined ps)
 few-joined [] all = omega arith
 few-joined (p ∷ ps) all =

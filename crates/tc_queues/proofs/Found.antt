@@ -43,11 +43,11 @@ popped-none key (w ∷ ws) none = rw (ne_eqb w.key key (λ e. none.0 (sym e))) (
 ring-at : (qs : List Keyed) (i : ℕ) (q : Keyed) → i < length qs → q ≡ get_or qs i q → ring_in q ≡ get_or (rings_in qs) i (ring_in q)
 ring-at qs i q inside is = ap ring_in is ∙ sym (get_or-map ring_in qs i q (ring_in q) inside)
 
--- this also holds for queues in rooms
+-- the queue in rooms at the first place of a key is the one that is found for the key
 pub found-in : (key i : ℕ) (qs : List Keyed) (q : Keyed) → i < length qs → q ≡ get_or qs i q → IsFirst key i (keys_of (rings_in qs)) → queue_for key (rings_in qs) ≡ Some (ring_in q)
 found-in key i qs q inside is first = found key i (rings_in qs) (ring_in q) first (ring-at qs i q inside is)
 
--- if the oldest item of the queue that is found for a key is dropped, the queues are those without this item
+-- if the queue at the first place of a key loses its oldest item, the queues are those that `popped` defines
 pub popped-in : (key i : ℕ) (qs : List Keyed) (q next : Keyed) → i < length qs → q ≡ get_or qs i q → next.key ≡ q.key
     → next.slots ≡ slotted (drop 1 q.slots.ring.items) q.slots.ring.capacity q.slots.staged q.slots.size → IsFirst key i (keys_of (rings_in qs)) → rings_in (set qs i next) ≡ popped key (rings_in qs)
 popped-in key i qs q next inside is key_is slots first =

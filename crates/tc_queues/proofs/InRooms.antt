@@ -5,7 +5,7 @@ use Rattle.tc_queues.specs.Keyed.{IsPutBehind}
 use Rattle.tc_queues.specs.Delivering.{IsPutAt}
 use Rattle.tc_queues.proofs.Copies.{put-set, longer-fits}
 
--- if a queue is replaced by one in which the same items wait, the items that wait in all the queues stay the same
+-- replacing a queue by one with equal waiting items leaves the waiting items of all queues as they were
 pub same-rings : (qs : List Keyed) (i : ℕ) (q next : Keyed) → q ≡ get_or qs i q → next.key ≡ q.key → next.slots.ring ≡ q.slots.ring → rings_in (set qs i next) ≡ rings_in qs
 same-rings qs i q next is key ring =
     let same : ring_in next ≡ ring_in (get_or qs i q) = rw (key, ring) (ap ring_in is) in
@@ -37,8 +37,8 @@ key-in qs i k q inside is k_is =
     k_is ∙ sym (get_or-map (λ (x : StoredQueue). x.key) (rings_in qs) i (ring_in q) k (omega (arith, length-map qs ring_in))
     ∙ ap (λ (x : StoredQueue). x.key) (get_or-map ring_in qs i q (ring_in q) inside ∙ ap ring_in (sym is)))
 
--- if one queue is replaced by the queue with one more item, the list of queues has the item at that place, whether
--- staged items are counted or not
+-- If a queue is replaced by one with one more item, the list of queues has the item at that place. Staged items may be
+-- counted or not.
 pub put-in : (f : Keyed → StoredQueue) (qs : List Keyed) (i : ℕ) (q next : Keyed) (p : List ℕ) (place : Bool) → i < length qs → q ≡ get_or qs i q → IsPutBehind p (f q) (f next) place → IsPutAt i p (map f qs) (map f (set qs i next)) place
 put-in f qs i q next p place inside is behind =
     let here : f q ≡ get_or (map f qs) i (f q) = ap f is ∙ sym (get_or-map f qs i q (f q) inside) in
@@ -54,8 +54,7 @@ put-in f qs i q next p place inside is behind =
           (map-set_same f qs i next q (n.0 ∙ ap f is), omega arith);
     }
 
--- if nothing is staged in any queue, and one is replaced by a queue in which nothing is staged, nothing is staged in
--- any
+-- writing a queue without staged items leaves nothing staged, if nothing was staged in any queue
 pub committed-at : (qs : List Keyed) (i : ℕ) (next : Keyed) → AreCommitted qs → next.slots.staged ≡ [] → AreCommitted (set qs i next)
 committed-at [] i next all one = tt
 committed-at (r ∷ qs) zero next all one = (one, all.1)
@@ -66,7 +65,7 @@ staged-of-none-at [] i q all inside is = absurd (omega arith)
 staged-of-none-at (r ∷ qs) zero q all inside is = ap (λ (x : Keyed). x.slots.staged) is ∙ all.0
 staged-of-none-at (r ∷ qs) (suc i) q all inside is = staged-of-none-at qs i q all.1 (omega arith) is
 
--- this also holds if the queue that is written has the staged items of the queue that was there
+-- writing a queue with the staged items of the one that it replaces leaves nothing staged, if nothing was staged
 pub committed-set : (qs : List Keyed) (i : ℕ) (q next : Keyed) → AreCommitted qs → i < length qs → q ≡ get_or qs i q → next.slots.staged ≡ q.slots.staged → AreCommitted (set qs i next)
 committed-set qs i q next all inside is same = committed-at qs i next all (same ∙ staged-of-none-at qs i q all inside is)
 

@@ -55,7 +55,7 @@ module _ (places waiting count size : ℕ) (rooms : List Contents) (k : AreSlots
       let l = length-staged in
       rw (← view, later_is) (record { done = λ yes. (staged-seen octets lt, omega arith); full = λ e. absurd cc })
 
-  -- if no item is staged, no room is taken by one
+  -- if no item is staged, no room is taken by a staged item
   pub none-staged : (old : Slotted) → seen places waiting count size rooms ≡ old → old.staged ≡ [] → count ≡ 0
   none-staged old view none = sym length-staged ∙ ap length (ap (λ (s : Slotted). s.staged) view ∙ none)
 

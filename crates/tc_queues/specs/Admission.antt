@@ -10,18 +10,18 @@ use Rattle.tc_queues.specs.ChannelState.{Queue, ChannelState, queue_of}
 abbrev pub map_of : List ℕ → ℕ
 map_of field = (segment.header_of field).map
 
--- the MAP of this data field is chosen: it has a unit queue
+-- whether the MAP of this data field is chosen, and so has a unit queue
 abbrev pub is_chosen : ChannelState → List ℕ → Bool
 is_chosen state field = is_some (queue_of (map_of field) state.units)
 
--- the packets that are offered to the queues for a unit, if one was ended: none if its MAP is chosen, otherwise the
--- packets that the unit is cut into
+-- The packets that a unit offers to the queues. They are the packets that the unit is cut into, unless its MAP is
+-- chosen or no unit was ended.
 abbrev pub packets_offered : Option (List ℕ) → Bool → List (List ℕ)
 packets_offered None chosen = []
 packets_offered (Some unit) true = []
 packets_offered (Some unit) false = packets_of unit
 
--- the units that are offered to the queues: the unit itself if one was ended and its MAP is chosen, otherwise none
+-- the units that are offered to the queues: only a unit that was ended on a chosen MAP
 abbrev pub units_offered : Option (List ℕ) → Bool → List (List ℕ)
 units_offered None chosen = []
 units_offered (Some unit) true = unit ∷ []
@@ -39,7 +39,7 @@ is_of_map map_id key unit = key == map_id
 abbrev pub room_of : Queue → ℕ
 room_of q = q.capacity - (length q.admitted - q.taken)
 
--- the items that a queue wants by its key: only the first ones, if there are more than it has room for
+-- the items that a queue wants by its key, up to the number that it has room for
 abbrev pub share_of : (ℕ → List ℕ → Bool) → List (List ℕ) → Queue → List (List ℕ)
 share_of wanted items q = take (room_of q) (filter (wanted q.key) items)
 

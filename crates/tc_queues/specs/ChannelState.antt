@@ -19,9 +19,9 @@ pub record Queue : Type 0 where
   pub admitted : List (List ℕ)
   pub taken : ℕ
 
--- The state of a channel: whether data fields have segment headers, the largest number of octets in a unit of each MAP,
--- all AD frames ever accepted, the number of those that were released, all data fields ever passed to reassembly, the
--- packet queues, and the unit queues.
+-- The state of a channel: FARM-1's components, whether data fields have segment headers, the largest number of octets
+-- in a unit of each MAP, all AD frames ever accepted, the number of those that were released, all data fields ever
+-- passed to reassembly, the packet queues, and the unit queues.
 pub record ChannelState : Type 0 where
   pub report : Report
   pub segmented : Bool

@@ -11,7 +11,8 @@ use Rattle.tc_queues.specs.Keyed.{Keyed}
 abbrev pub nothing : Delivery
 nothing = record { queued = 0; dropped = 0; rest = false }
 
--- the delivery of a unit when this number of units or packets were queued, for a chosen MAP or for another one
+-- The delivery of a unit of which `queued` items were queued. On a chosen MAP the only item is the unit itself. On
+-- another MAP the items are its packets.
 abbrev pub delivered : Option (List ℕ) → Bool → ℕ → Delivery
 delivered None chosen queued = nothing
 delivered (Some unit) true queued = record { queued = queued; dropped = 1 - queued; rest = false }
@@ -54,7 +55,7 @@ pub record IsDelivered (map_id : ℕ) (unit : Option (List ℕ)) (queues later u
 abbrev pub room_at : ℕ → List StoredQueue → ℕ
 room_at place rings = get_or (map room_in rings) place 0
 
--- an item is put behind those of the ring at this place, or that ring is full
+-- an item was put at the end of the ring at this place, or that ring is full
 pub record IsPutAt (place : ℕ) (item : List ℕ) (old new : List StoredQueue) (room : Bool) : Type 0 where
   pub done : room ≡ true → (new ≡ put old place item) × (0 < room_at place old)
   pub full : room ≡ false → (new ≡ old) × (room_at place old ≡ 0)

@@ -40,7 +40,7 @@ FitsIn sizes unit = IfSome unit (λ octets. Fit octets sizes)
 abbrev pub AreCommitted : List Keyed → Type 0
 AreCommitted queues = AllByRecursion (λ (q : Keyed). q.slots.staged ≡ []) queues
 
--- an item is put behind those of a ring, or that ring is full
+-- an item was put at the end of a ring, or that ring is full
 pub record IsPutBehind (item : List ℕ) (old new : StoredQueue) (place : Bool) : Type 0 where
   pub done : place ≡ true → (new ≡ with_items old (item ∷ [])) × (length old.ring.items < old.ring.capacity)
   pub full : place ≡ false → (new ≡ old) × (old.ring.capacity ≤ length old.ring.items)

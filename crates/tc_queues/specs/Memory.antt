@@ -42,27 +42,27 @@ packets_stored s = sum_by (λ (q : QueueSetting). q.capacity) s.queues
 abbrev pub units_stored : Settings → ℕ
 units_stored s = sum_by (λ (m : MapSetting). m.capacity) s.maps
 
--- a room for each data field of the buffer
+-- the bytes of a room for each data field of the buffer
 abbrev pub buffer_memory : Settings → ℕ
 buffer_memory s = s.buffer * (room_words + largest_field)
 
--- an open run of the largest unit on each MAP of each service, or none on a plain channel
+-- the bytes of an open run of the largest unit on each MAP of each service, or 0 on a plain channel
 abbrev pub runs_memory : Settings → ℕ
 runs_memory s = if s.segmented then stream_count * (run_words + run_room) else 0
 
--- each queue full of the largest packets, and each unit queue full of the largest units
+-- the bytes of the packet queues, full of the largest packets, and of the unit queues, full of the largest units
 abbrev pub queues_memory : Settings → ℕ
 queues_memory s = (length s.queues + length s.maps) * queue_words + packets_stored s * (room_words + largest_item s.segmented) + units_stored s * (room_words + largest_unit)
 
--- a table of the places of 2,048 keys, if there are 8 queues or more
+-- The bytes of a table of the places of 2,048 keys. There is no table for fewer than 8 queues.
 abbrev pub table_memory : ℕ → ℕ
 table_memory queues = if nat_lt queues 8 then 0 else 2048 * 2
 
--- the tables of the packet queues and of the unit queues
+-- the bytes of the tables of the packet queues and of the unit queues
 abbrev pub tables_memory : Settings → ℕ
 tables_memory s = table_memory (length s.queues) + table_memory (length s.maps)
 
--- a first segment for which the block of its run is too small, and which lies beside that block
+-- The bytes of a first segment that lies beside the block of its run, because that block is too small for it.
 abbrev pub segment_memory : Settings → ℕ
 segment_memory s = if s.segmented then largest_field else 0
 

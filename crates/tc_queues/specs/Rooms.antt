@@ -24,7 +24,7 @@ pub record IsFull (capacity : ℕ) (rooms : List Contents) : Type 0 where
   pub full : length rooms ≡ capacity
   pub small : capacity < 2 ^ 63
 
--- all rooms: the first ones are taken by items that wait, and the next ones by items that are staged behind them
+-- the first rooms are taken by items that wait, and the next ones by items that are staged behind them
 pub record AreSlots (places waiting count size : ℕ) (rooms : List Contents) : Type 0 where
   pub full : length rooms ≡ places
   pub small : places < 2 ^ 63
@@ -34,12 +34,12 @@ pub record AreSlots (places waiting count size : ℕ) (rooms : List Contents) : 
 abbrev pub seen : ℕ → ℕ → ℕ → ℕ → List Contents → Slotted
 seen places waiting count size rooms = slotted (map octets_of (take waiting rooms)) places (map octets_of (take count (drop waiting rooms))) size
 
--- the effect of staging: an item is staged behind the others, or there is no place for it
+-- an item was staged behind the others, or there was no place for it
 pub record IsStagedBehind (octets : List ℕ) (old new : Slotted) (place : Bool) : Type 0 where
   pub done : place ≡ true → (new ≡ slotted old.ring.items old.ring.capacity (old.staged ++ octets ∷ []) old.size) × (length old.ring.items + length old.staged < old.ring.capacity)
   pub full : place ≡ false → (new ≡ old) × (old.ring.capacity ≤ length old.ring.items + length old.staged)
 
--- the effect of a put when nothing is staged: an item is put behind those that wait, or there is no place for it
+-- an item was put behind those that wait while nothing was staged, or there was no place for it
 pub record IsPut (octets : List ℕ) (old new : Slotted) (place : Bool) : Type 0 where
   pub done : place ≡ true → (new ≡ slotted (old.ring.items ++ octets ∷ []) old.ring.capacity [] old.size) × (length old.ring.items < old.ring.capacity)
   pub full : place ≡ false → (new ≡ old) × (old.ring.capacity ≤ length old.ring.items)

@@ -4,17 +4,18 @@ use Rattle.tc_packet.specs.SpacePacket.{packets_of}
 use Rattle.tc_queues.specs.StoredQueues.{apid_count}
 use Rattle.tc_queues.specs.Keyed.{Keyed}
 
--- the number of queues that are looked at to find one: one if there is a table, otherwise at most all of them
+-- the largest number of queues that are looked at to find one: 1 with a table, and otherwise all of them
 abbrev pub looks : List Keyed → List ℕ → ℕ
 looks queues [] = length queues
 looks queues (n ∷ table) = 1
 
--- the largest number of queues that are looked at to find one among `count` queues, which have a table if there are 8
--- or more and the table can show their places
+-- The largest number of queues that are looked at to find one among `count` queues. From 8 to 65,535 queues have a
+-- table.
 abbrev pub most_looks : ℕ → ℕ
 most_looks count = if nat_lt count 8 then count else if nat_lt 65535 count then count else 1
 
--- the number of queues that are looked at to find the one with a key (no table has a key that an APID can't be)
+-- The largest number of queues that are looked at to find the one with a key. A table has only the keys that an APID
+-- can be.
 abbrev pub looks_for : ℕ → ℕ → ℕ
 looks_for key count = if nat_lt key apid_count then most_looks count else count
 
@@ -27,8 +28,7 @@ pass_steps packets looks_for_one = packets * (looks_for_one + 1)
 abbrev pub unit_steps : ℕ → ℕ → ℕ → ℕ
 unit_steps packets looks_for_one looks_for_map = looks_for_map + (pass_steps packets looks_for_one + (pass_steps packets looks_for_one + looks_for_one))
 
--- the largest number of steps for a unit with this number of packets, given the numbers of packet queues and of unit
--- queues
+-- the largest number of steps for a unit of `packets` packets, given the numbers of packet queues and of unit queues
 abbrev pub packet_steps : ℕ → ℕ → ℕ → ℕ
 packet_steps packets queues units = unit_steps packets (most_looks queues) (most_looks units)
 
@@ -42,7 +42,6 @@ delivery_steps (Some unit) queues units = packet_steps (length (packets_of unit)
 abbrev pub most_packets : ℕ
 most_packets = 9363
 
--- the largest number of steps for a take from one of this number of queues: the queue is looked for, and found once
--- more
+-- The largest number of steps for a take from one of `count` queues. The queue is searched for twice.
 abbrev pub take_steps : ℕ → ℕ → ℕ
 take_steps key count = 2 * looks_for key count

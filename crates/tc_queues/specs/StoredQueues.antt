@@ -16,7 +16,7 @@ pub record Placed : Type 0 where
   pub place : ℕ
   pub item : List ℕ
 
--- the queue as which a queue of the state is stored
+-- the stored form of a queue of the state
 abbrev pub stored : Queue → StoredQueue
 stored q = record { key = q.key; ring = ring_of (waiting q) q.capacity }
 
@@ -53,7 +53,7 @@ shares_in wanted items queues = sum_by length (map (share wanted items) queues)
 abbrev pub copied_to : ℕ → List ℕ → Placed
 copied_to place item = record { place = place; item = item }
 
--- the share of each queue, one queue after the other, when the first of these queues stands at this place
+-- The items that each queue takes, queue by queue, each with the place of its queue. The first queue is at `place`.
 abbrev pub copies_from : (ℕ → List ℕ → Bool) → ℕ → List (List ℕ) → List StoredQueue → List Placed
 copies_from wanted place items [] = []
 copies_from wanted place items (q ∷ qs) = map (copied_to place) (share wanted items q) ++ copies_from wanted (place + 1) items qs
@@ -73,7 +73,7 @@ abbrev pub put_all : List StoredQueue → List Placed → List StoredQueue
 put_all qs [] = qs
 put_all qs (one ∷ others) = put_all (put qs one.place one.item) others
 
--- each item is for a queue that is there
+-- each item has the place of one of the `count` queues
 abbrev pub HavePlaces : ℕ → List Placed → Type 0
 HavePlaces count copies = AllByRecursion (λ (one : Placed). one.place < count) copies
 

@@ -53,9 +53,9 @@ fn commit_packet<R: Room, C: Tick>(
     queues[place].commit();
 }
 
-/// Commits the staged packets of this unit, whose number is `staged`. If rooms never grow, the packets were committed
-/// as they were staged. If a table shows the places of the queues, and there are at least `staged` queues, only the
-/// queues of the unit's packets are looked at.
+/// Commits the staged packets of this unit, whose number is `staged`. If rooms never grow, there is nothing left to
+/// commit, since each packet was committed when it was staged. If there is a table of places, and there are at least
+/// `staged` queues, only the queues of the unit's packets are looked at.
 pub(crate) fn commit_packets<R: Room, C: Tick>(
     queues: &mut BoxedSlice<Queue<R>>,
     table: &[u16],

@@ -19,7 +19,7 @@ use std::alloc::AllocError;
 use std::boxed::BoxedSlice;
 use tc_packet::{LARGEST_UNIT, Room};
 
-// Puts an item behind the others of the queue at this place, if there is room, and returns whether there was.
+// Puts an item at the end of the queue at this place, if the queue has room. Returns whether it had room.
 #[tactic(auto, using(crate::proofs::Closing::at_place))]
 fn put_item_at<R: Room>(
     queues: &mut BoxedSlice<Queue<R>>,

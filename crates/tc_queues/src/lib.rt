@@ -1,12 +1,12 @@
-//! The settings, the replies and the queues that a channel stands on.
+//! The settings, the replies and the queues of a channel.
 //!
-//! There are packet queues and unit queues, and a unit is delivered to both kinds of [`Queues`] by [`deliver_ended`].
+//! [`deliver_ended`] delivers a unit to the packet queues or to the unit queue of its MAP. Both kinds are [`Queues`].
 //! Settings and replies are plain data, and [`Tick`] counts the steps that a call takes.
 //!
 //! The items of a queue lie in rooms that are created at the start or in rooms that grow. One implementation serves
-//! both. [`Slots`] are the items that wait, each in a [`Room`](tc_packet::Room) of its own. A call stages the items
-//! that it adds behind those that count. Once they are all staged, they count ([`Slots::commit`]). If memory runs out
-//! before, they are rolled back ([`Slots::roll_back`]), and everything is as it was before the call.
+//! both. [`Slots`] are the items that wait, each in a [`Room`](tc_packet::Room) of its own. A call first stages its
+//! items behind the items that wait. Once all of them are staged, they are committed and count ([`Slots::commit`]). If
+//! memory runs out before, they are rolled back ([`Slots::roll_back`]), and everything is as it was before the call.
 //!
 //! The rooms of a queue are a ring made of the kit's `circular_buffer`, behind a type that has no call that grows the
 //! ring (`ring.rt`, the only file whose code could make the ring grow). So for rooms that are created at the start,

@@ -74,8 +74,8 @@ impl<R: Room> Queue<R> {
         self.slots.front()
     }
 
-    // Stages an item behind the others, if there is a place, and returns whether there was. If rooms never grow, the
-    // item is committed at once.
+    // Stages an item behind the others if a place is free, and returns whether one was. If rooms never grow, the item
+    // is committed at once.
     #[inline(always)]
     pub(crate) fn stage(&mut self, octets: &[u8]) -> Result<bool, AllocError>
         requires fits { length octets.now ≤ self.old.slots.size }
@@ -94,7 +94,7 @@ impl<R: Room> Queue<R> {
         self.put(octets)
     }
 
-    // Puts an item behind the others, if there is a place, and returns whether there was. Nothing may be staged.
+    // Puts an item behind the others if a place is free, and returns whether one was. Nothing may be staged.
     #[inline(always)]
     pub(crate) fn put(&mut self, octets: &[u8]) -> Result<bool, AllocError>
         requires fits { length octets.now ≤ self.old.slots.size }

@@ -78,7 +78,7 @@ impl<R: Room> Queues<R> {
         self.find(key, steps)?.front()
     }
 
-    /// Drops the oldest item of the queue with this key, if one waits, and returns whether it did.
+    /// Drops the oldest item of the queue with this key, if one waits, and returns whether one waited.
     pub fn pop<C: Tick>(&mut self, key: u16, steps: &mut C) -> bool
         ensures waits { IsTrue result ↔ IsSome (oldest_for key (rings_in self.old)) }
         ensures rings { rings_in self.new ≡ popped key (rings_in self.old) }

@@ -48,7 +48,7 @@ pub struct Settings {
     pub maps: Items<MapSetting>,
 }
 
-/// The settings from which a channel is created, with both lists lent, so that they can be looked at without memory.
+/// Borrowed settings from which a channel is created. Both lists are lent, so reading them takes no memory.
 #[derive(Clone, Copy, Debug)]
 pub struct LentSettings<'a> {
     pub vcid: u8,
@@ -60,7 +60,7 @@ pub struct LentSettings<'a> {
     pub maps: &'a [MapSetting],
 }
 
-/// A reason why no channel can be created from settings: the first fault that they have, in this order.
+/// The first fault, in this order, of settings from which no channel can be created.
 #[derive(Clone, Copy, Debug, PartialEq, Eq, Error)]
 pub enum SettingsFault {
     #[error("bad virtual channel identifier")]
@@ -138,7 +138,7 @@ impl LentSettings<'_> {
     pub fn check(self) -> Result<(), SettingsFault>
         ensures { MatchResult result (λ _. IsAllowed (settings_of self.entry)) (IsFault (settings_of self.entry)) }
     {
-        // This line reads the number, so that the proof knows that it is an octet.
+        // Reading the number tells the proof that it is an octet.
         let _first = self.first;
         if !is_vcid(self.vcid) {
             return Err(SettingsFault::BadVcid);

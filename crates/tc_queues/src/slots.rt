@@ -90,7 +90,7 @@ impl<R: Room> Slots<R> {
         Some(self.ring.first().as_slice())
     }
 
-    /// Puts an item behind the others, and returns whether there was a place for it. Nothing may be staged. The item
+    /// Puts an item behind the others if a place is free, and returns whether one was. Nothing may be staged. The item
     /// counts at once.
     #[inline(always)]
     pub fn put(&mut self, octets: &[u8]) -> Result<bool, AllocError>
@@ -110,7 +110,7 @@ impl<R: Room> Slots<R> {
         Ok(true)
     }
 
-    /// Stages an item behind the others if there is a place for it, and returns whether there was.
+    /// Stages an item behind the others if a place is free, and returns whether one was.
     #[inline(always)]
     pub fn stage(&mut self, octets: &[u8]) -> Result<bool, AllocError>
         requires { length octets.now ≤ self.old.size }

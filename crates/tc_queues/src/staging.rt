@@ -19,8 +19,8 @@ use std::alloc::AllocError;
 use std::boxed::BoxedSlice;
 use tc_packet::{LARGEST_UNIT, Packet, Room, each_unit_has_one_cut, next_packet};
 
-// Stages an item behind the others of the queue at this place, if there is room, and returns whether there was. If
-// rooms never grow, the item is committed at once.
+// Stages an item at the end of the queue at this place, if the queue has room. Returns whether it had room. If rooms
+// never grow, the item is committed at once.
 #[inline(always)]
 #[tactic(auto, using(crate::proofs::Closing::at_place))]
 fn stage_at<R: Room>(

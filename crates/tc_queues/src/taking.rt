@@ -47,7 +47,7 @@ fn take_at(queues: &mut BoxedSlice<Queue<GrowingRoom>>, place: usize) -> Option<
     queues[place].take_front()
 }
 
-/// Drops the oldest item of the queue with this key, if one waits, and returns whether it did.
+/// Drops the oldest item of the queue with this key, if one waits, and returns whether one waited.
 pub(crate) fn pop_from<R: Room, C: Tick>(
     queues: &mut BoxedSlice<Queue<R>>,
     table: &[u16],
