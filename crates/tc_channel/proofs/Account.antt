@@ -29,7 +29,7 @@ abbrev fields_so_far : Run → List (List ℕ)
 fields_so_far None = []
 fields_so_far (Some fields) = fields
 
--- the units that fields of a stream make after others came before them
+-- the units that fields of a stream make after the fields `before`
 abbrev units_over : ℕ → List (List ℕ) → List (List ℕ) → List (List ℕ)
 units_over limit before [] = []
 units_over limit before (f ∷ fs) = as_list (at_most limit (unit_at before f)) ++ units_over limit (before ++ f ∷ []) fs
@@ -42,7 +42,7 @@ record Parted (limit : ℕ) (before left : List (List ℕ)) (so_far : Run) : Typ
   units : units_in shares ≡ units_over limit before left
   open_is : open_in shares ≡ at_most limit (open_run (before ++ left))
 
--- octets within both limits, or over one of them
+-- the octets are within both limits, or over one of them
 abbrev Fits : ℕ → List ℕ → Type 0
 Fits limit octets =
     ((length octets ≤ limit) × (length octets ≤ 65542) × (at_most limit (bounded octets) ≡ Some octets))
@@ -83,7 +83,7 @@ at-end limit before (Some fields) is run = by (fits limit (joined_bodies fields)
   by (inl w) = record { shares = Open fields ∷ []; are = (run, (w.0, w.1), refl); fields = refl; units = refl; open_is = rw (append-nil before, is) (sym w.2) }
   by (inr w) = record { shares = OverLimit fields ∷ []; are = (inr (run, refl), w.0, tt); fields = refl; units = refl; open_is = rw (append-nil before, is) (sym w.1) }
 
--- if a field completes the segments of a unit, and the fields after it have their shares, all of them have their shares
+-- Let the fields after `f` have their shares. If `f` completes a unit, the fields of the unit have a share, too.
 with-all : (limit : ℕ) (before fs : List (List ℕ)) (f : List ℕ) (fields : List (List ℕ)) (so_far : Run) → AreAllSegments fields → unit_at before f ≡ bounded (joined_bodies fields)
     → fields ≡ fields_so_far so_far ++ f ∷ [] → Parted limit (before ++ f ∷ []) fs None → Parted limit before (f ∷ fs) so_far
 with-all limit before fs f fields so_far all unit are next = by (fits limit (joined_bodies fields)) where
@@ -97,7 +97,7 @@ with-all limit before fs f fields so_far all unit are next = by (fits limit (joi
   by (inl w) = record { shares = Ended fields ∷ next.shares; are = (all, (w.0, w.1), next.are); fields = order; units = rw (unit, w.2, next.units) refl; open_is = still }
   by (inr w) = record { shares = OverLimit fields ∷ next.shares; are = (inl all, w.0, next.are); fields = order; units = rw (unit, w.1, next.units) refl; open_is = still }
 
--- if a field ends no unit, and the fields after it have their shares, all of them have their shares
+-- Let the fields after `f` have their shares. If `f` ends no unit, `f` and the run before it have a share, too.
 with-none : (limit : ℕ) (before fs : List (List ℕ)) (f : List ℕ) (so_far later : Run) → unit_at before f ≡ None → fields_so_far later ≡ fields_so_far so_far ++ f ∷ []
     → Parted limit (before ++ f ∷ []) fs later → Parted limit before (f ∷ fs) so_far
 with-none limit before fs f so_far later unit are next = record {
@@ -108,7 +108,7 @@ with-none limit before fs f so_far later unit are next = record {
   open_is = next.open_is ∙ ap (λ (x : List (List ℕ)). at_most limit (open_run x)) (append_assoc before (f ∷ []) fs);
 }
 
--- if a segment comes when no run is open, and the fields after it have their shares, all of them have their shares
+-- Let the fields after `f` have their shares. If `f` is a segment for which no run is open, it has a share, too.
 with-lone : (limit : ℕ) (before fs : List (List ℕ)) (f : List ℕ) → IsPart Continuing f ⊎ IsPart Last f → unit_at before f ≡ None → Parted limit (before ++ f ∷ []) fs None → Parted limit before (f ∷ fs) None
 with-lone limit before fs f part unit next = record {
   shares = WithoutRun f ∷ next.shares;

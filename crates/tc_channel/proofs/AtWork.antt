@@ -28,7 +28,7 @@ without-limits store are = λ service map_id inside. are (place_of service map_i
   below Ad map_id inside = omega arith
   below Bd map_id inside = omega arith
 
--- the oldest field is the first one, if there is one
+-- if there is an oldest field, it is the first one
 pub first-is : (xs : List (List ℕ)) (x : List ℕ) → Some x ≡ slice_get xs 0 → (x ≡ first_of xs) × (0 < length xs)
 first-is [] x is = absurd cc
 first-is (y ∷ ys) x is = (let e : x ≡ y = cc in e, omega arith)
@@ -95,7 +95,7 @@ holds-on next later k holds size fields rooms = record {
   unit_sizes = λ place inside. rw (rooms.unit_sizes, rooms.limits_are place, rooms.segmented) (k.unit_sizes place inside);
 }
 
--- this also holds if only the queues were changed, and their rooms are as large as before
+-- if only the queues changed, and their rooms are as large as before, the core also belongs to the longer journal
 with-queues : {limits : ℕ → ℕ} {s : Settings} {journal : List Event} {parts : Parts} (next : List Event) (queues units : List Keyed) → HoldsInRooms limits s journal parts → HoldsWithin limits s next (inside_of (record parts { queues = queues; units = units }))
     → room_sizes queues ≡ room_sizes parts.queues → room_sizes units ≡ room_sizes parts.units → AreCommitted queues → AreCommitted units → HoldsInRooms limits s next (record parts { queues = queues; units = units })
 with-queues {parts = parts} next queues units k holds sizes unit_sizes committed units_committed = holds-on next (record parts { queues = queues; units = units }) k holds refl k.fields_committed
@@ -177,7 +177,7 @@ pub unit-copied : (parts : Parts) (later : List Keyed) (room map_id : ℕ) (answ
 unit-copied parts later room map_id (Err fault) reply is same still = tt
 unit-copied parts later room map_id (Ok count) reply is same still = λ limits s journal k. unit-taken later map_id k (rw (← reply) at (copied-waits room map_id (rings_in parts.units))) is same still
 
--- in both cases the core is that of some channel
+-- whether or not the oldest packet was copied out, the core is that of some channel
 pub queues-copied : (P : Type 0) (parts : Parts) (later : List Keyed) (apid : ℕ) (answer : Result ℕ NotCopied) → AreChannelCore parts → OnOk answer (rings_in later ≡ popped apid (rings_in parts.queues))
     → room_sizes later ≡ room_sizes parts.queues → (AreCommitted parts.queues → AreCommitted later) → OnErr answer ((later ≡ parts.queues) × P) → AreChannelCore (record parts { queues = later })
 queues-copied P parts later apid (Ok count) w is same still kept = queues-work parts later apid w is same still

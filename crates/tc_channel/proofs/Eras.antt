@@ -88,7 +88,7 @@ starts-at limits c before x (inr set) = rw (set.2, run-push limits c set.0 set.1
   by (Take apid) h = absurd cc
   by (TakeUnit map_id) h = absurd cc
 
--- the numbers count up from x on, modulo 256
+-- frame `n` has the number `x + n` modulo 256
 abbrev Counts : ℕ → ℕ → Accepted → Type 0
 Counts x n a = a.ns % 256 ≡ (x + n) % 256
 
@@ -96,13 +96,14 @@ all-count : (x n : ℕ) (e : Event) → IsTakenSo (Counts x) x n e
 all-count x n (Frame octets) = λ _ _ is. is
 all-count x n _ = tt
 
--- a number below 256 stays the same modulo 256
+-- frames with numbers below 256 have the numbers that count up from `x`
 numbers-are : (x n : ℕ) (xs : List Accepted) → AreSo (Counts x) n xs → AreFilled xs → (i : ℕ) (a : Accepted) → slice_get xs i ≡ Some a → a.ns ≡ (x + (n + i)) % 256
 numbers-are x n [] h filled i a e = absurd cc
 numbers-are x n (b ∷ xs) h filled zero a e = let q : b ≡ a = cc in rw (← q) (let m = h.0 in let f = filled.0.1 in omega arith)
 numbers-are x n (b ∷ xs) h filled (suc i) a e = numbers-are x (n + 1) xs h.1 filled.1 i a e ∙ ap (λ m. (x + m) % 256) (omega arith)
 
--- a later state has the accepted frames of b, n in number, and more of them, each with the property P
+-- The state `later` has the `n` accepted frames of `b`, and more of them. Each of the additional frames has the
+-- property P.
 record GoesOn (P : ℕ → Accepted → Type 0) (x n : ℕ) (b later : ChannelState) : Type 0 where
   more : List Accepted
   grown : later.accepted ≡ b.accepted ++ more

@@ -49,7 +49,7 @@ pub first-of : (s : Settings) (before later : List SettingsFault) (fault : Setti
 first-of s [] later fault free has = inl (refl, has)
 first-of s (b ∷ before) later fault free has = inr (free.0, first-of s before later fault free.1 has)
 
--- this also holds for the fault at a place of the list of all faults
+-- if settings have the fault at place `n` of the list and are free of those listed before it, it is their fault
 pub is-fault : (s : Settings) (n : ℕ) (fault : SettingsFault) → AllByRecursion (IsFreeOf s) (take n faults_in_order) → ¬ IsFreeOf s fault → faults_in_order ≡ take n faults_in_order ++ fault ∷ drop (suc n) faults_in_order → IsFault s fault
 unfolding IsFault
 is-fault s n fault free has at = subst (λ faults. IsFirstFault s faults fault) (sym at) (first-of s (take n faults_in_order) (drop (suc n) faults_in_order) fault free has)

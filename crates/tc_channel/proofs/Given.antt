@@ -15,7 +15,7 @@ found-key key (p ∷ qs) q e = elim (eqb_tells p.key key) [
   | inr h ↦ found-key key qs q (let t = h.0 in cc)
 ]
 
--- a queue that is found after each queue was changed, except for its key, was found before
+-- if queues are changed but keep their keys, the queue that is found for a key is the changed form of one found before
 pub found-changed : (key : ℕ) (f : Queue → Queue) → ((q : Queue) → (f q).key ≡ q.key) → (qs : List Queue) (new : Queue) → queue_of key (map f qs) ≡ Some new → (old : Queue) × (queue_of key qs ≡ Some old) × (new ≡ f old)
 found-changed key f same [] new e = absurd cc
 found-changed key f same (p ∷ qs) new e = by (eqb p.key key) (found-changed key f same qs new) (subst (λ k. cond (eqb k key) (Some (f p)) (queue_of key (map f qs)) ≡ Some new) (same p) e) where

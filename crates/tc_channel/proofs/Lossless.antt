@@ -16,7 +16,7 @@ use Rattle.tc_channel.proofs.StateQueues.{keys, taken-key, taken-same, queues-ap
 use Rattle.tc_channel.proofs.Given.{found-key, set-up, found-changed, packets-in-order, units-in-order}
 use Rattle.tc_channel.proofs.Through.{made-push, run-is-of, unit-is}
 
--- If as many items are queued as there are, each queue has all that it wants: with more room no more would be queued.
+-- If as many items are queued as there are, each queue has all that it wants. More room would queue no more items.
 
 queued-few : (wanted : ℕ → List ℕ → Bool) → IsForOneKey wanted → (items : List (List ℕ)) (qs : List Queue) → AreDistinct (keys qs) → queued_of wanted items qs ≤ length items
 queued-few wanted alone items qs apart =

@@ -59,7 +59,7 @@ pub shares-none : (wanted : ℕ → List ℕ → Bool) (qs : List Queue) → wit
 shares-none wanted [] = refl
 shares-none wanted (q ∷ qs) = ap (λ (x : Queue). x ∷ with_shares wanted [] qs) (none-with wanted q) ∙ ap (λ (x : List Queue). q ∷ x) (shares-none wanted qs)
 
--- the unit that a field ends is the same by the stored runs as by the state
+-- the stored runs and the state agree on the unit that a field ends
 pub ends-unit : (limits : ℕ → ℕ) (service : Service) (field : List ℕ) (b : ChannelState) (open_runs : OpenRuns) (unit : Option (List ℕ)) → b.limit ≡ limits → AreRuns limits open_runs b.segmented b.passed → EndsWithin (limits (map_of field)) open_runs service field unit → unit ≡ unit_of b service field
 ends-unit limits service field b open_runs unit limit are ends =
     let fields = stream service (segment.header_of field).map b.passed in

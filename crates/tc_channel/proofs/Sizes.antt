@@ -15,8 +15,8 @@ pub place-below : (service : Service) (field : List ℕ) → stream_place servic
 place-below Ad field = omega arith
 place-below Bd field = omega arith
 
--- a unit within the limit of its stream, and on a plain channel no longer than its field, fits rooms that are large
--- enough
+-- A unit within the limit of its stream fits rooms that are large enough. On a plain channel it must also be no longer
+-- than its field.
 pub fits-unit : (store : Store) (place : ℕ) (field : List ℕ) (o : Option (List ℕ)) (sizes : List ℕ) → place < 128 → AreSmall store → AreEnough store sizes → length field ≤ 1019
     → IsAtMost (limit_at store place) o → (store.segmented ≡ false → IsAtMost (length field) o) → FitsIn sizes o
 fits-unit store place field None sizes inside small enough short within shorter = tt

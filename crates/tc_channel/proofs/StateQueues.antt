@@ -4,8 +4,8 @@ use Rattle.tc_channel.specs.Laws.{KeepsToItsCapacity}
 use Rattle.tc_channel.proofs.Runs.{always}
 use Rattle.tc_queues.proofs.Lists.{all-map, all-mapped}
 
--- A property holds for the state that a frame leaves if it holds for the state before, for that state with one more
--- accepted frame, and for that state with one more field passed on.
+-- A property holds for the state after a frame if it holds for three states: the state before the frame, that state
+-- with one more accepted frame, and that state with one more field passed on.
 pub kept-either : (P : ChannelState → Type 0) (row : Row) (accepted : Bool) (octets : List ℕ) (b : ChannelState) → P b
     → P (record b { accepted = b.accepted ++ record { ns = (header_of octets).ns; field = drop 5 octets } ∷ [] }) → P (passed_on Bd (drop 5 octets) b) → P (kept row accepted octets b)
 kept-either P E1 true octets b same one passed = one
@@ -34,8 +34,8 @@ step-both P Q p q c b Release h =
 step-both P Q p q c b (Take apid) h = (p.taken apid b.queues h.0, h.1)
 step-both P Q p q c b (TakeUnit map_id) h = (h.0, q.taken map_id b.units h.1)
 
--- if properties hold for empty packet queues and for empty unit queues, and are kept, they hold for the queues of each
--- state
+-- If two properties are kept, and hold for empty packet queues and for empty unit queues, they hold for the queues of
+-- each state.
 pub run-both : (limits : ℕ → ℕ) (P Q : List Queue → Type 0) → GoesOn P → GoesOn Q → (c : Settings) (journal : List Event) → P (map empty_queue c.queues) → Q (map empty_unit_queue c.maps) → P (run_within limits c journal).queues × Q (run_within limits c journal).units
 run-both limits P Q p q c journal h u = always (λ b. P b.queues × Q b.units) limits c journal (step-both P Q p q c) (h, u)
 

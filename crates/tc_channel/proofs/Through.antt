@@ -74,7 +74,7 @@ keys-at-first limits c = unit-keys-stay limits c []
 run-chosen : (limits : ℕ → ℕ) (c : Settings) (journal : List Event) (field : List ℕ) → is_chosen (run_within limits c journal) field ≡ is_chosen_by c field
 run-chosen limits c journal field = some-by-keys (map_of field) (run_within limits c journal).units (map empty_unit_queue c.maps) (unit-keys-stay limits c journal ∙ sym (keys-at-first limits c))
 
--- the parts of a state that never change
+-- the parts of a state that never change are those of the settings and of the limits
 pub record IsOf (limits : ℕ → ℕ) (c : Settings) (b : ChannelState) : Type 0 where
   pub segmented : b.segmented ≡ c.segmented
   pub limit : b.limit ≡ limits
@@ -110,8 +110,7 @@ admits-taken key other Ended qs passed h = record {
       rw (found.2, taken-same {A = List (List ℕ)} (λ q. q.admitted) (λ q n. refl) other found.0) (h.each found.0 found.1);
 }
 
--- a state whose queue with this APID, and whose unit queue of this MAP, admitted part of the items that the passed
--- fields make
+-- the queue with this APID, and the unit queue of this MAP, admitted part of the items that the passed fields make
 record Carries (limits : ℕ → ℕ) (c : Settings) (apid map_id : ℕ) (b : ChannelState) : Type 0 where
   packets : Admits apid (packets_ended limits c apid) b.queues b.passed
   units : Admits map_id (units_ended limits c map_id) b.units b.passed
@@ -167,7 +166,7 @@ sent-fields sent k (suc n) (x ∷ xs) each le =
     let later = sent-fields sent (suc k) n xs (λ i a is. each (suc i) a is ∙ ap sent (omega arith)) (omega arith) in
     rw (here, later) refl
 
--- after the first n items of a list were left out, the released ones are the first of the rest
+-- the released items without the first `n` are the first `r - n` of the items after those `n`
 rest-released : (n r : ℕ) (xs : List Accepted) → drop n (map (λ (a : Accepted). a.field) (take r xs)) ≡ map (λ (a : Accepted). a.field) (take (r - n) (drop n xs))
 rest-released zero r xs =
     let all : r - 0 ≡ r = omega arith in

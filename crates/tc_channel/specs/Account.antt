@@ -10,8 +10,8 @@ use Rattle.tc_channel.specs.Given.{as_list}
 use Rattle.tc_channel.specs.Through.{all_made, unit_made}
 
 -- Data fields that follow each other in their stream, and their outcome. They made a unit, or they are an open run, or
--- they are lost because they were over their limit, because another unit began before theirs ended, or because no run
--- was open.
+-- they are lost. Fields are lost because they are over their limit, because another unit began before theirs ended, or
+-- because no run was open.
 pub data Share : Type 0 where
   Ended : List (List ℕ) → Share
   Open : List (List ℕ) → Share
@@ -50,12 +50,12 @@ open_in (OverLimit fields ∷ shares) = open_in shares
 open_in (Broken fields ∷ shares) = open_in shares
 open_in (WithoutRun field ∷ shares) = open_in shares
 
--- a first segment, and continuing ones behind it
+-- the fields are a first segment and any number of continuing segments behind it
 abbrev pub IsRun : List (List ℕ) → Type 0
 IsRun [] = ⊥
 IsRun (first ∷ after) = IsPart parts.First first × AllByRecursion (IsPart parts.Continuing) after
 
--- all segments of a unit: an unsegmented one, or a run and a last segment
+-- the fields are all segments of a unit: an unsegmented one, or a run and a last segment
 abbrev pub AreAllSegments : List (List ℕ) → Type 0
 AreAllSegments fields =
     ((whole : List ℕ) × (fields ≡ whole ∷ []) × IsPart parts.Unsegmented whole)

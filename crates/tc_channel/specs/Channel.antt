@@ -15,17 +15,18 @@ use Rattle.tc_queues.specs.ChannelState.{buffer}
 use Rattle.tc_queues.specs.StoredQueues.{stored, StoredQueue}
 use Rattle.tc_channel.specs.Run.{run_within, IsLawfulWithin}
 
--- the run stored at this place is the one that the fields leave open, or no run if that one is longer than the limit
+-- The run stored at this place is the one that the fields leave open. If that run is longer than the limit, no run is
+-- stored.
 abbrev pub LeaveAtMost : ℕ → List (List ℕ) → OpenRuns → ℕ → Type 0
 LeaveAtMost limit fields open_runs place = at_most limit (run_left open_runs.segmented fields) ≡ run_at open_runs.runs place
 
--- the open run of each stream is the one that the data fields passed so far leave, or no run if that one is longer than
--- the limit of its MAP
+-- The open run of each stream is the one that the data fields passed so far leave. If that run is longer than the limit
+-- of its MAP, the stream has no open run.
 pub record AreRuns (limits : ℕ → ℕ) (open_runs : OpenRuns) (headed : Bool) (passed : List Passed) : Type 0 where
   pub segmented : open_runs.segmented ≡ headed
   pub runs : (service : Service) (map_id : ℕ) → map_id < 64 → LeaveAtMost (limits map_id) (stream service map_id passed) open_runs (place_of service map_id)
 
--- the runs after one more data field, each run within the limit of its stream
+-- one more data field moved its stream's run on, within the limit, and the other runs stayed as they were
 pub record FollowsWithin (limit : ℕ) (old new : OpenRuns) (service : Service) (field : List ℕ) : Type 0 where
   pub run : (fields : List (List ℕ)) → LeaveAtMost limit fields old (stream_place service field) → LeaveAtMost limit (fields ++ field ∷ []) new (stream_place service field)
   pub others : (other : ℕ) → other ≢ stream_place service field → run_at new.runs other ≡ run_at old.runs other
@@ -38,11 +39,11 @@ FollowsKindWithin limit (kinds.Ad ns) old new field = new ≡ old
 FollowsKindWithin limit (kinds.Bc command) old new field = new ≡ old
 FollowsKindWithin limit kinds.Invalid old new field = new ≡ old
 
--- the unit that a data field ends, if the unit is within the limit
+-- `unit` is the unit that a data field ends, if that unit is within the limit
 abbrev pub EndsWithin : ℕ → OpenRuns → Service → List ℕ → Option (List ℕ) → Type 0
 EndsWithin limit open_runs service field unit = (fields : List (List ℕ)) → LeaveAtMost limit fields open_runs (stream_place service field) → unit ≡ at_most limit (unit_ended open_runs.segmented fields field)
 
--- the unit that a frame ends at once
+-- `unit` is the unit that a frame ends at once
 abbrev pub EndsAtOnceWithin : ℕ → Kind → OpenRuns → List ℕ → Option (List ℕ) → Type 0
 EndsAtOnceWithin limit kinds.Bd open_runs field unit = EndsWithin limit open_runs Bd field unit
 EndsAtOnceWithin limit (kinds.Ad ns) open_runs field unit = unit ≡ None

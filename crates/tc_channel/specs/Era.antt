@@ -10,7 +10,7 @@ use Rattle.tc_channel.specs.declared.event.Event.TheVariants.{Frame, Release, Ta
 use Rattle.tc_queues.specs.ChannelState.{ChannelState, Accepted, no_limits}
 use Rattle.tc_channel.specs.Run.{field_of, row_of, run_within}
 
--- the number that Set V(R) sets V(R) to, which it does in S1 and in S2
+-- The number to which a Set V(R) sets V(R). The command is obeyed in S1 and in S2.
 abbrev pub set_at : Row → State → Option ℕ
 set_at (E8 x) S1 = Some x
 set_at (E8 x) S2 = Some x
@@ -23,7 +23,8 @@ set_by s state Release = None
 set_by s state (Take apid) = None
 set_by s state (TakeUnit map_id) = None
 
--- an era starts after these events, at V(R) = x: either there are none, or the last of them set V(R) to x
+-- An era starts after the events `before`, with V(R) at `x`. Either there are no such events, or the last of them set
+-- V(R) to `x`.
 abbrev pub StartsWithin : (ℕ → ℕ) → Settings → List Event → ℕ → Type 0
 StartsWithin limits s before x =
     ((before ≡ []) × (x ≡ s.first))
@@ -33,7 +34,7 @@ StartsWithin limits s before x =
 abbrev pub NoneSetsWithin : (ℕ → ℕ) → Settings → List Event → List Event → Type 0
 NoneSetsWithin limits s before later = (i : ℕ) (e : Event) → slice_get later i ≡ Some e → set_by s (run_within limits s (before ++ take i later)) e ≡ None
 
--- the era of the journal: the events before it, the events in it, and its first number
+-- `later` is the era of the journal, `before` are the events before the era, and `x` is its first number
 pub record IsEraWithin (limits : ℕ → ℕ) (s : Settings) (journal before later : List Event) (x : ℕ) : Type 0 where
   pub parts : journal ≡ before ++ later
   pub starts : StartsWithin limits s before x
@@ -43,12 +44,12 @@ pub record IsEraWithin (limits : ℕ → ℕ) (s : Settings) (journal before lat
 abbrev pub accepted_since_within : (ℕ → ℕ) → Settings → List Event → List Event → List Accepted
 accepted_since_within limits s before journal = drop (length (run_within limits s before).accepted) (run_within limits s journal).accepted
 
--- modulo 256, the accepted frames have the numbers from x on, one after the other, and V(R) is the number after them
+-- The accepted frames have consecutive numbers from `x` on, modulo 256. V(R) is the next number.
 pub record CountsUpWithin (limits : ℕ → ℕ) (s : Settings) (journal before : List Event) (x : ℕ) : Type 0 where
   pub numbers : (i : ℕ) (a : Accepted) → slice_get (accepted_since_within limits s before journal) i ≡ Some a → a.ns ≡ (x + i) % 256
   pub vr : (run_within limits s journal).report.vr ≡ (x + length (accepted_since_within limits s before journal)) % 256
 
--- whichever way a journal is split into an era and the events before it, the frames accepted in the era count up
+-- the frames accepted in the journal's era count up
 abbrev pub CountsUpInItsEraWithin : (ℕ → ℕ) → Settings → List Event → Type 0
 CountsUpInItsEraWithin limits s journal = (before later : List Event) (x : ℕ) → IsEraWithin limits s journal before later x → CountsUpWithin limits s journal before x
 
@@ -62,7 +63,7 @@ pub record IsSent (x : ℕ) (sent : ℕ → List ℕ) (accepted : ℕ) (octets :
   pub not_old : accepted < number + 256
   pub not_new : number < accepted + 256
 
--- if the event is a frame of Type-AD, and this number of frames were accepted before it, the frame is the sender's
+-- If the event is a Type-AD frame, it is the sender's. `accepted` frames of the era were accepted before it.
 abbrev pub IsOfSender : ℕ → (ℕ → List ℕ) → ℕ → Event → Type 0
 IsOfSender x sent accepted (Frame octets) = (header_of octets).bypass ≡ false → (header_of octets).control ≡ false → IsSent x sent accepted octets
 IsOfSender x sent accepted Release = Unit {0}
@@ -75,7 +76,7 @@ abbrev pub ComesFromWithin : (ℕ → ℕ) → Settings → List Event → List 
 ComesFromWithin limits s before later x sent = (place : ℕ) (e : Event) → slice_get later place ≡ Some e
     → IsOfSender x sent (length (accepted_since_within limits s before (before ++ take place later))) e
 
--- the definitions above for a channel without limits by MAP
+-- The definitions that follow are those above, for a channel without limits by MAP.
 
 abbrev pub IsEra : Settings → List Event → List Event → List Event → ℕ → Type 0
 IsEra s journal before later x = IsEraWithin no_limits s journal before later x

@@ -9,8 +9,7 @@ use Rattle.tc_queues.specs.declared.settings.MapSetting.{MapSetting}
 use Rattle.tc_channel.specs.declared.event.Event.{Event}
 use Rattle.tc_channel.specs.declared.event.Event.TheVariants.{Frame}
 
--- channel 1 with a window of 10, a buffer for this number of data fields, V(R) 0, and a queue for one packet of
--- application 5
+-- channel 1 with a window of 10, a buffer for `fields` data fields, V(R) 0, and a queue for one packet of application 5
 abbrev pub buffer_of : ℕ → Settings
 buffer_of fields = record { vcid = 1; width = 10; buffer = fields; first = 0; segmented = true; queues = record { apid = 5; capacity = 1 } ∷ []; maps = [] }
 
@@ -18,11 +17,11 @@ buffer_of fields = record { vcid = 1; width = 10; buffer = fields; first = 0; se
 abbrev pub plain : Settings
 plain = record { vcid = 1; width = 10; buffer = 1; first = 0; segmented = false; queues = record { apid = 5; capacity = 1 } ∷ []; maps = [] }
 
--- channel 1 with a buffer for one data field and the chosen MAP 3, of whose units one may wait
+-- channel 1 with a buffer for one data field, and the chosen MAP 3 with a queue for one unit
 abbrev pub map_3_chosen : Settings
 map_3_chosen = record { vcid = 1; width = 10; buffer = 1; first = 0; segmented = true; queues = record { apid = 5; capacity = 1 } ∷ []; maps = record { map = 3; capacity = 1 } ∷ [] }
 
--- a limit of this number of octets for the units of one MAP, and that of the largest unit for the others
+-- a limit of `octets` octets for the units of MAP `own`, and that of the largest unit for the other MAPs
 abbrev pub limited : ℕ → ℕ → ℕ → ℕ
 limited own octets map_id = if map_id == own then octets else 65542
 
@@ -132,6 +131,6 @@ two_apids one other capacity = record { apid = one; capacity = capacity } ∷ re
 abbrev pub two_maps : ℕ → ℕ → ℕ → List MapSetting
 two_maps one other capacity = record { map = one; capacity = capacity } ∷ record { map = other; capacity = capacity } ∷ []
 
--- a sender's data fields: `field` has this number, and all others are empty
+-- the data fields of a sender: frame `number` has the data field `field`, and all other data fields are empty
 abbrev pub sent_as : ℕ → List ℕ → ℕ → List ℕ
 sent_as number field i = if i == number then field else []

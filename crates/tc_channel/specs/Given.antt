@@ -14,14 +14,14 @@ use Rattle.tc_channel.specs.Run.{step}
 abbrev pub oldest_in : ℕ → List Queue → Option (List ℕ)
 oldest_in key queues = option_and_then (λ items. slice_get items 0) (option_map waiting (queue_of key queues))
 
--- the packet of this application that an event gives in a state
+-- the packet that an event takes for this application in a state
 abbrev pub packet_given : ℕ → ChannelState → Event → Option (List ℕ)
 packet_given apid state (Frame octets) = None
 packet_given apid state Release = None
 packet_given apid state (Take other) = if other == apid then oldest_in apid state.queues else None
 packet_given apid state (TakeUnit map_id) = None
 
--- the unit of this MAP that an event gives in a state
+-- the unit that an event takes for this MAP in a state
 abbrev pub unit_given : ℕ → ChannelState → Event → Option (List ℕ)
 unit_given map_id state (Frame octets) = None
 unit_given map_id state Release = None
@@ -32,12 +32,12 @@ abbrev pub as_list : Option (List ℕ) → List (List ℕ)
 as_list None = []
 as_list (Some item) = item ∷ []
 
--- all packets of this application that events give from a state on, the oldest first
+-- all packets that the events take for this application from a state on, the oldest first
 abbrev pub packets_given : Settings → ℕ → ChannelState → List Event → List (List ℕ)
 packets_given s apid state [] = []
 packets_given s apid state (e ∷ es) = as_list (packet_given apid state e) ++ packets_given s apid (step s state e) es
 
--- all units of this MAP that events give from a state on, the oldest first
+-- all units that the events take for this MAP from a state on, the oldest first
 abbrev pub units_given : Settings → ℕ → ChannelState → List Event → List (List ℕ)
 units_given s map_id state [] = []
 units_given s map_id state (e ∷ es) = as_list (unit_given map_id state e) ++ units_given s map_id (step s state e) es

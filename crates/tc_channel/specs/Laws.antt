@@ -15,7 +15,7 @@ pub record IsSound (s : Settings) (state : ChannelState) : Type 0 where
   pub locked : state.report.lockout ≡ true → state.report.state ≡ S3
   pub lockout : state.report.state ≡ S3 → state.report.lockout ≡ true
 
--- a queue holds no more items than its capacity, and gave no more than it admitted
+-- a queue holds no more items than its capacity, and gave out no more than it admitted
 pub record KeepsToItsCapacity (q : Queue) : Type 0 where
   pub taken : q.taken ≤ length q.admitted
   pub capacity : length q.admitted ≤ q.capacity + q.taken
@@ -28,7 +28,7 @@ has_room_for_one q = nat_lt (length q.admitted - q.taken) q.capacity
 abbrev pub with_unit : Queue → List ℕ → Queue
 with_unit q unit = if has_room_for_one q then record q { admitted = q.admitted ++ unit ∷ [] } else q
 
--- a later state of a queue: it has admitted everything that it had before, and at least as many items were taken
+-- `new` is a later state of a queue: it has admitted all items that `old` has, and at least as many were taken
 pub record QueueGrows (old new : Queue) : Type 0 where
   pub key : new.key ≡ old.key
   pub capacity : new.capacity ≡ old.capacity
@@ -41,7 +41,7 @@ QueuesGrow (old ∷ olds) (new ∷ news) = QueueGrows old new × QueuesGrow olds
 QueuesGrow [] (new ∷ news) = ⊥
 QueuesGrow (old ∷ olds) [] = ⊥
 
--- a later state of a channel: each list begins with the items that it had before, and no count is smaller
+-- `new` is a later state of a channel: each list begins with the items that `old` has, and no count is smaller
 pub record Grows (old new : ChannelState) : Type 0 where
   pub accepted : (more : List Accepted) × (new.accepted ≡ old.accepted ++ more)
   pub released : old.released ≤ new.released

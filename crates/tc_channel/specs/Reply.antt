@@ -18,7 +18,7 @@ use Rattle.tc_queues.specs.Admission.{is_chosen, count_queued}
 use Rattle.tc_channel.specs.Run.{field_of, row_of, unit_of, first_of, run_within}
 use Rattle.tc_queues.specs.Delivering.{nothing, delivered}
 
--- The frame is of Type-BD. If the journal of a channel isn't recorded, only such a frame can make it run out of memory.
+-- The frame is of Type-BD. If the journal isn't recorded, only such a frame can make a channel run out of memory.
 abbrev pub IsBypassData : List ℕ → Type 0
 IsBypassData octets = kind_of (header_of octets) (field_of octets) ≡ kinds.Bd
 
@@ -77,7 +77,7 @@ buffered_fields_within limits s journal = buffer (run_within limits s journal)
 unfoldable pub clcw_within : (ℕ → ℕ) → Settings → List Event → Link → ℕ
 clcw_within limits s journal link = word_of (run_within limits s journal).report s.vcid link
 
--- the replies of a channel without limits by MAP
+-- The definitions that follow are the replies of a channel without limits by MAP.
 
 abbrev pub frame_reply : Settings → List Event → List ℕ → FrameReply
 frame_reply s journal octets = frame_reply_within no_limits s journal octets

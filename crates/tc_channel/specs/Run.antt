@@ -24,8 +24,8 @@ row_of s state octets = frame_row s.width state.report.vr (kind_of (header_of oc
 abbrev pub unit_of : ChannelState → Service → List ℕ → Option (List ℕ)
 unit_of state service field = at_most (state.limit (map_of field)) (unit_ended state.segmented (stream service (map_of field) state.passed) field)
 
--- the state after a data field was passed to reassembly, and after the queues admitted all that they can of the unit
--- that it ends
+-- The state after a data field was passed to reassembly. If the field ends a unit, the queues have admitted as much of
+-- the unit as they have room for.
 unfoldable pub passed_on : Service → List ℕ → ChannelState → ChannelState
 passed_on service field state = record (offered field (unit_of state service field) state) { passed = state.passed ++ record { service = service; field = field } ∷ [] }
 
@@ -81,7 +81,7 @@ abbrev pub run_from : Settings → ChannelState → List Event → ChannelState
 run_from s state [] = state
 run_from s state (e ∷ es) = run_from s (step s state e) es
 
--- each event can happen at its place
+-- each event can happen in the state that the events before it leave
 abbrev pub AreSteps : Settings → ChannelState → List Event → Type 0
 AreSteps s state [] = Unit {0}
 AreSteps s state (e ∷ es) = HasStep s state e × AreSteps s (step s state e) es
@@ -90,11 +90,11 @@ AreSteps s state (e ∷ es) = HasStep s state e × AreSteps s (step s state e) e
 unfoldable pub run_within : (ℕ → ℕ) → Settings → List Event → ChannelState
 run_within limits s journal = run_from s (first_state_within limits s) journal
 
--- each event of the journal can happen at its place
+-- each event of the journal can happen in the state that the events before it leave
 unfoldable pub IsLawfulWithin : (ℕ → ℕ) → Settings → List Event → Type 0
 IsLawfulWithin limits s journal = AreSteps s (first_state_within limits s) journal
 
--- the run of a channel without limits by MAP
+-- The definitions that follow are the run of a channel without limits by MAP.
 
 abbrev pub run : Settings → List Event → ChannelState
 run s journal = run_within no_limits s journal

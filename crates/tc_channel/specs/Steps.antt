@@ -21,7 +21,7 @@ frame_steps_within limits s journal octets = delivery_steps (ended_at_once (row_
 unfoldable pub release_steps_within : (ℕ → ℕ) → Settings → List Event → ℕ
 release_steps_within limits s journal = delivery_steps (unit_of (run_within limits s journal) Ad (first_of (buffer (run_within limits s journal)))) (length s.queues) (length s.maps)
 
--- the steps of a channel without limits by MAP
+-- The definitions that follow are the steps of a channel without limits by MAP.
 
 abbrev pub frame_steps : Settings → List Event → List ℕ → ℕ
 frame_steps s journal octets = frame_steps_within no_limits s journal octets

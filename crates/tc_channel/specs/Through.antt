@@ -33,7 +33,7 @@ packets_ended limits s apid before p = filter (is_for apid) (packets_offered (un
 abbrev pub units_ended : (ℕ → ℕ) → Settings → ℕ → List Passed → Passed → List (List ℕ)
 units_ended limits s map_id before p = filter (is_of_map (map_of p.field) map_id) (units_offered (unit_made limits s before p) (is_chosen_by s p.field))
 
--- all items that data fields make, one after the other, when other fields came before them
+-- all items that the data fields make after the fields `before`, one after the other
 abbrev pub all_made : (List Passed → Passed → List (List ℕ)) → List Passed → List Passed → List (List ℕ)
 all_made ended before [] = []
 all_made ended before (p ∷ ps) = ended before p ++ all_made ended (before ++ p ∷ []) ps
@@ -46,12 +46,13 @@ packets_made limits s apid passed = all_made (packets_ended limits s apid) [] pa
 abbrev pub units_made : (ℕ → ℕ) → Settings → ℕ → List Passed → List (List ℕ)
 units_made limits s map_id passed = all_made (units_ended limits s map_id) [] passed
 
--- this number of data fields of a sender, from number k on
+-- the given number of data fields of a sender, from number `k` on
 abbrev pub sent_from : (ℕ → List ℕ) → ℕ → ℕ → List (List ℕ)
 sent_from sent k zero = []
 sent_from sent k (suc n) = sent k ∷ sent_from sent (suc k) n
 
--- the Type-AD fields of an era that were passed to reassembly: those after the ones that were accepted before the era
+-- The Type-AD fields of an era that were passed to reassembly. The fields that were accepted before the era are left
+-- out.
 abbrev pub passed_since : (ℕ → ℕ) → Settings → List Event → List Passed → List (List ℕ)
 passed_since limits s before passed = drop (length (run_within limits s before).accepted) (fields_passed Ad passed)
 

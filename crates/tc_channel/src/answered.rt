@@ -12,8 +12,8 @@ ghost use Rattle.tc_queues.specs.declared.settings.SettingsFault.TheVariants as 
 ghost use Rattle.tc_link.specs.declared.State.TheVariants.{S1};
 ghost use Rattle.tc_channel.specs.Examples as example;
 
-/// For these journals the definitions give the results that were worked out by hand from the standard. Each clause is
-/// about one journal and the result of the next call after it.
+/// States the results that the definitions give after short journals, as they were worked out by hand from the
+/// standard. Each clause is about one journal and the result of the next call after it.
 pub fn short_journals_are_answered_so()
     ensures accepted { clcw (example.buffer_of 1) (example.one_packet 0 ∷ []) example.link_up ≡ 0x01040001 }
     ensures one_queued_one_dropped { release_reply (example.buffer_of 1) (example.two_packets ∷ []) ≡ record { queued = 1; dropped = 1; rest = false } }
@@ -32,8 +32,8 @@ pub fn short_journals_are_answered_so()
     ensures wait { clcw (example.buffer_of 1) (example.one_packet 0 ∷ example.one_packet 1 ∷ []) example.link_up ≡ 0x01041801 }
 {}
 
-/// For these further journals the definitions give the results that were worked out by hand. The journals cover CLCWs,
-/// the buffer, the queues, and each row of FARM-1's table that a frame can lead to.
+/// States the results after further journals, worked out by hand. The journals cover CLCWs, the buffer, the queues, and
+/// each row of FARM-1's table that a frame can lead to.
 pub fn further_journals_are_answered_so()
     ensures expected { frame_reply (example.buffer_of 1) [] (example.packet_octets 0) ≡ record { act = record { event = 1; accepted = true }; delivery = record { queued = 0; dropped = 0; rest = false } } }
     ensures no_room { frame_reply (example.buffer_of 1) (example.one_packet 0 ∷ []) (example.packet_octets 1) ≡ record { act = record { event = 2; accepted = false }; delivery = record { queued = 0; dropped = 0; rest = false } } }
@@ -71,8 +71,8 @@ pub fn further_journals_are_answered_so()
     ensures map_that_is_cut { release_reply example.map_3_chosen (example.one_packet 0 ∷ []) ≡ record { queued = 1; dropped = 0; rest = false } }
 {}
 
-/// With limits by MAP, too, the definitions give the results that were worked out by hand: for a packet of 7 octets on
-/// MAP 0, a packet of 8 octets in two segments, and a unit of 3 octets on MAP 3.
+/// States the results after journals of a channel with limits by MAP, worked out by hand. They are about a packet of 7
+/// octets on MAP 0, a packet of 8 octets in two segments, and a unit of 3 octets on MAP 3.
 pub fn journals_within_limits_are_answered_so()
     ensures of_the_limit { release_reply_within (example.limited 0 7) (example.buffer_of 1) (example.one_packet 0 ∷ []) ≡ record { queued = 1; dropped = 0; rest = false } }
     ensures over_the_limit { release_reply_within (example.limited 0 6) (example.buffer_of 1) (example.one_packet 0 ∷ []) ≡ record { queued = 0; dropped = 0; rest = false } }
@@ -84,22 +84,22 @@ pub fn journals_within_limits_are_answered_so()
     ensures empty_unit { unit_reply_within (example.limited 3 0) example.map_3_chosen (example.bypass_map_3_empty ∷ []) 3 ≡ Some [] }
 {}
 
-/// For three settings the bound of memory is the one that was worked out by hand.
+/// States the bound of memory for three settings, worked out by hand.
 pub fn memory_is_counted_so()
     ensures plain { memory_bound (example.two_queues false) ≡ 12740 }
     ensures segmented { memory_bound (example.two_queues true) ≡ 17312279 }
     ensures many { memory_bound example.many_queues ≡ 1192075848 }
 {}
 
-/// For this journal the state of the channel is the one that was worked out by hand: a packet of application 5 and a
-/// unit of MAP 3 came by Type-BD and wait, and the first Type-AD frame fills the buffer.
+/// Gives the state of the channel after one journal, worked out by hand. A packet of application 5 and a unit of MAP 3
+/// came by Type-BD and wait, and the first Type-AD frame fills the buffer.
 pub fn a_journal_comes_to_this()
     ensures { holding_of example.map_3_chosen (Frame example.bypass_packet ∷ Frame example.bypass_map_3_octets ∷ example.one_packet 0 ∷ [])
         ≡ record { report = record { state = S1; vr = 1; lockout = false; wait = false; retransmit = false; farm_b = 2 }; buffered = 1; queues = record { apid = 5; packets = 1 } ∷ []; maps = record { map = 3; units = 1 } ∷ [] } }
 {}
 
-/// These settings have the fault that was worked out by hand. The settings of the first clause have every fault. Each
-/// clause after it repairs the fault of the clause before, with the greatest value that is allowed. The last clauses
+/// States the first fault of settings, worked out by hand. The settings of the first clause have every fault. Each
+/// later clause repairs the fault of the clause before it, with the greatest value that is allowed. The last clauses
 /// have the least values that are allowed, and values below them.
 pub fn settings_are_refused_so()
     ensures vcid { IsFault (example.channel_of false 64 255 65 (example.two_apids 2047 2047 257) (example.two_maps 64 64 257)) faults.BadVcid }

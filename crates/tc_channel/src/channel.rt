@@ -26,8 +26,8 @@ use tc_queues::{
     TakeUnitFault, Tick,
 };
 
-// A counter that counts no steps. No other module can name this type, so a function that a channel's calls are built on
-// can't create a counter of its own. It has to count every step with the counter that its caller passes.
+// A counter that counts no steps. The functions under a channel's calls can't name this type, so they can't create a
+// counter of their own. They have to count every step with the counter that their caller passes.
 #[derive(Drop)]
 struct NoSteps;
 
@@ -163,8 +163,8 @@ impl<J: Journal> ChannelWith<J> {
         Ok(delivery)
     }
 
-    /// Takes the oldest packet out of the queue with this APID. The packet is moved, not copied. A recorded journal may
-    /// grow, and nothing else does. So if the journal isn't recorded, the call never runs out of memory.
+    /// Takes the oldest packet out of the queue with this APID. The packet is moved, not copied. Only a recorded
+    /// journal may grow, so without one the call never runs out of memory.
     pub fn take(&mut self, apid: u16) -> Result<Vec<u8>, TakeFault>
         ensures allowed { IsAllowed self.old.settings }
         ensures lawful { IsLawful self.old.settings self.old.journal }
@@ -206,8 +206,8 @@ impl<J: Journal> ChannelWith<J> {
         Ok(packet)
     }
 
-    /// Takes the oldest unit out of the queue of this chosen MAP. The unit is moved, not copied. A recorded journal may
-    /// grow, and nothing else does. So if the journal isn't recorded, the call never runs out of memory.
+    /// Takes the oldest unit out of the queue of this chosen MAP. The unit is moved, not copied. Only a recorded
+    /// journal may grow, so without one the call never runs out of memory.
     pub fn take_unit(&mut self, map: u8) -> Result<Vec<u8>, TakeUnitFault>
         ensures allowed { IsAllowed self.old.settings }
         ensures lawful { IsLawful self.old.settings self.old.journal }

@@ -151,7 +151,7 @@ impl<R: Room> ChannelCore<R> {
         Ok(delivery)
     }
 
-    /// Drops the oldest packet of the queue with this APID, if one waits, and returns whether it did.
+    /// Drops the oldest packet of the queue with this APID, if one waits, and returns whether one waited.
     #[tactic(auto, using(crate::proofs::Closing::at_work))]
     pub fn drop_packet<C: Tick>(&mut self, apid: u16, steps: &mut C) -> bool
         ensures waits { WhereverItHolds self.old (λ limits s journal. IsTrue result ↔ IsSome (take_reply_within limits s journal apid)) }
@@ -162,7 +162,7 @@ impl<R: Room> ChannelCore<R> {
         self.queues.pop(apid, steps)
     }
 
-    /// Drops the oldest unit of the queue of this chosen MAP, if one waits, and returns whether it did.
+    /// Drops the oldest unit of the queue of this chosen MAP, if one waits, and returns whether one waited.
     #[tactic(auto, using(crate::proofs::Closing::at_work))]
     pub fn drop_unit<C: Tick>(&mut self, map: u8, steps: &mut C) -> bool
         ensures waits { WhereverItHolds self.old (λ limits s journal. IsTrue result ↔ IsSome (unit_reply_within limits s journal map)) }

@@ -5,7 +5,7 @@ use tc_queues::Octets;
 /// An operation that a channel carried out. An operation that it refused is no event.
 #[derive(Debug, Drop, PartialEq, Eq)]
 pub enum Event {
-    /// A frame that came in, as its octets without fill, whatever FARM-1 did with it.
+    /// The octets of a frame that came in, without fill. They are kept whether or not FARM-1 accepted the frame.
     Frame(Octets),
     /// The release of the oldest data field from the buffer.
     Release,

@@ -50,11 +50,12 @@ pub fn what_was_passed_on_is_admitted_in_order()
     ensures whole { (one other : List (List ℕ)) → IsPartOf one other → length other ≤ length one → one ≡ other }
 {}
 
-/// This law leads from the frames of a sender to the items that were taken. Suppose that in an era a sender numbers its
-/// Type-AD frames, with the data fields `sent`, from the V(R) with which the era starts, and that no frame comes 256
-/// numbers or more early or late. Frames may be lost, come several times and come out of order. Then, after any lawful
-/// journal, the AD fields of the era that were passed to reassembly are the first fields that were sent, and their
-/// number is the number of released fields. If no Set V(R) was obeyed, the era is the whole journal.
+/// This law leads from the frames of a sender to the items that were taken. It is about an era in which every Type-AD
+/// frame comes from one sender. The sender's frames have the data fields `sent`, and are numbered from the V(R) with
+/// which the era starts. Frames may be lost, come several times and come out of order, but none comes 256 numbers or
+/// more early or late. After any lawful journal, the AD fields of the era that were passed to reassembly are the first
+/// fields that were sent. Their number is the number of released fields. If no Set V(R) was obeyed, the era is the
+/// whole journal.
 ///
 /// The packets ever taken for an application are, in order, packets made from the passed fields, whoever sent the
 /// frames. Some may be left out. This also holds for the units of a chosen MAP.
@@ -95,9 +96,10 @@ pub fn each_passed_field_is_accounted_for()
         → (shares : List Share) × AccountFor limits s service map_id (run_within limits s journal).passed shares }
 {}
 
-/// These data fields make the items that were worked out by hand. Two segments make a packet, for its own application
-/// alone. They make none if they came by different services, or if their unit is over the limit of its MAP. On a chosen
-/// MAP they make the unit as it is, and no packet. A field without a segment header is a packet by itself.
+/// States the items that data fields make, worked out by hand. Two segments make a packet, and only for the packet's
+/// own application. They make no packet if they came by different services, or if their unit is over the limit of its
+/// MAP. On a chosen MAP they make the unit as it is, and no packet. A field without a segment header is a packet by
+/// itself.
 #[tactic(auto, unfolding(tc_queues::specs::ChannelState::no_limits))]
 pub fn passed_fields_make_so()
     ensures two_segments { packets_made no_limits (example.buffer_of 2) 5 (example.in_two_segments Service.Ad Service.Ad) ≡ example.joined_packet ∷ [] }
@@ -109,7 +111,7 @@ pub fn passed_fields_make_so()
     ensures plain_field { packets_made no_limits example.plain 5 (record { service = Service.Bd; field = example.joined_packet } ∷ []) ≡ example.joined_packet ∷ [] }
 {}
 
-/// The report value of a CLCW tells the sender how many frames were accepted: it is the number with which the era
+/// The report value of a CLCW tells the sender how many frames were accepted. It is the number with which the era
 /// began, plus one for each Type-AD frame that was accepted since, modulo 256.
 pub fn a_clcw_reports_how_many_were_accepted()
     ensures { (limits : ℕ → ℕ) (s : Settings) (journal before later : List Event) (x : ℕ) (link : Link) → IsAllowed s → IsLawfulWithin limits s journal → IsEraWithin limits s journal before later x

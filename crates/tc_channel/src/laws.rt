@@ -36,7 +36,8 @@ pub fn allowed_settings_have_no_fault()
     ensures { (s : Settings) (fault : SettingsFault) → IsAllowed s → IsFault s fault → ⊥ }
 {}
 
-/// In S2 the Wait flag is set. Wait means that there is no room, and is never set in S1. Lockout is set exactly in S3.
+/// In S2 the Wait flag is set. If it is set, there is no room and the state isn't S1. The Lockout flag is set exactly
+/// in S3.
 pub fn wait_means_no_room()
     ensures { (limits : ℕ → ℕ) (s : Settings) (journal : List Event) → IsSound s (run_within limits s journal) }
 {}
@@ -80,9 +81,9 @@ pub fn buffer_keeps_to_its_size()
     ensures { (limits : ℕ → ℕ) (s : Settings) (journal : List Event) → length (buffer (run_within limits s journal)) ≤ s.buffer }
 {}
 
-/// If settings are allowed, each packet that a unit is cut into is either queued or dropped, so that the two counts add
-/// up. A unit of a chosen MAP is queued whole or dropped whole. Queues that are given the same packet have the same
-/// APID, which is their key.
+/// If settings are allowed, each packet that a unit is cut into is either queued or dropped, and the two counts add up
+/// to the number of packets. A unit of a chosen MAP is queued whole or dropped whole. Two queues that are given equal
+/// packets have the same APID, which is their key.
 pub fn each_packet_is_queued_or_dropped()
     ensures count { (limits : ℕ → ℕ) (s : Settings) (journal : List Event) (field : List ℕ) (unit : Option (List ℕ)) → IsAllowed s
         → (delivery_of field unit (run_within limits s journal)).queued + (delivery_of field unit (run_within limits s journal)).dropped
@@ -107,7 +108,7 @@ pub fn a_plain_channel_takes_each_field_as_a_unit()
     a_plain_field_is_a_unit_by_itself();
 }
 
-/// Whatever comes, the chosen MAPs are those of the settings.
+/// After any journal, the chosen MAPs are those of the settings.
 pub fn chosen_maps_stay()
     ensures { (limits : ℕ → ℕ) (s : Settings) (journal : List Event) (field : List ℕ) → IsTrue (is_chosen (run_within limits s journal) field) ↔ IsOfChosenMap s field }
 {}
@@ -126,15 +127,16 @@ pub fn a_unit_is_delivered_whole_or_by_packets()
     ensures by_packets { (state : ChannelState) (service : Service) (field : List ℕ) → ¬ IsTrue (is_chosen state field) → (passed_on service field state).units ≡ state.units }
 {}
 
-/// Suppose that each Type-AD frame of an era is from a sender that numbers its frames from x on modulo 256, and that
-/// none comes 256 frames or more too early or too late. Then the accepted data fields are the fields that were sent:
-/// each once, in order, and none left out. Frames may be lost, come several times, and come out of order.
+/// This law is about an era in which every Type-AD frame comes from one sender, whose frames are numbered from `x` on
+/// modulo 256. Frames may be lost, come several times, and come out of order, but none comes 256 frames or more too
+/// early or too late. Then the accepted data fields are the fields that were sent: each once, in order, and none left
+/// out.
 pub fn what_was_sent_is_accepted_once_and_in_order()
     ensures { (limits : ℕ → ℕ) (s : Settings) (journal before later : List Event) (x : ℕ) (sent : ℕ → List ℕ) → IsEraWithin limits s journal before later x → ComesFromWithin limits s before later x sent
         → (i : ℕ) (a : Accepted) → slice_get (accepted_since_within limits s before journal) i ≡ Some a → a.field ≡ sent i }
 {}
 
-/// Whatever comes, the queues of a channel are those of its settings, in their order, each with its capacity.
+/// After any journal, the queues of a channel are those of its settings, in their order, each with its capacity.
 pub fn queues_are_those_of_the_settings()
     ensures queues { (limits : ℕ → ℕ) (s : Settings) (journal : List Event) → map {B = ℕ × ℕ} (λ (q : Queue). (q.key, q.capacity)) (run_within limits s journal).queues ≡ map {B = ℕ × ℕ} (λ (q : QueueSetting). (q.apid, q.capacity)) s.queues }
     ensures units { (limits : ℕ → ℕ) (s : Settings) (journal : List Event) → map {B = ℕ × ℕ} (λ (q : Queue). (q.key, q.capacity)) (run_within limits s journal).units ≡ map {B = ℕ × ℕ} (λ (m : MapSetting). (m.map, m.capacity)) s.maps }

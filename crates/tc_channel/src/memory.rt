@@ -8,8 +8,8 @@ ghost use Rattle.tc_queues.specs.ChannelState.{buffer};
 ghost use Rattle.tc_channel.specs.Run.{IsLawfulWithin, run_within};
 ghost use Rattle.tc_queues.specs.Memory.{largest_field, memory_bound, memory_waiting, octets_in, octets_waiting, packets_stored, units_stored, waiting_in_all};
 
-/// Whatever journal a channel has, its queues hold no more packets and units than the bound of its memory counts.
-/// Together they have no more octets than if each were as long as the largest unit. After a lawful journal, the buffer
+/// After any journal, the queues of a channel hold no more packets and units than its bound of memory counts. These
+/// items together have no more octets than if each were as long as the largest unit. After a lawful journal, the buffer
 /// has no more octets than if it were full of the largest data fields.
 #[tactic(auto, using(crate::proofs::Closing::memory))]
 pub fn no_more_items_wait_than_memory_counts()
