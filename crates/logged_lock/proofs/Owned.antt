@@ -6,7 +6,7 @@ use native.Mathlib.Decide.{ℕ_discrete}
 use Rattle.logged_lock.specs.declared.views.Account.{Account}
 use Rattle.logged_lock.specs.Log.{owned, made_by}
 
--- one step of `owned`
+-- ---- one step of `owned`
 pub owned-own : {E : Type 0} (t at o : ℕ) (os : List ℕ) (e : E) (es : List E) → o ≡ t → owned t at (o ∷ os) (e ∷ es) ≡ (at, e) ∷ owned t (suc at) os es
 owned-own t at o os e es same = ap (λ (b : Bool). cond b ((at, e) ∷ owned t (suc at) os es) (owned t (suc at) os es)) (eq-eqb o t same)
 
@@ -17,7 +17,7 @@ at-end : {A : Type 0} (b : Bool) (x : A) (l : List A) (y : A) → cond b (x ∷ 
 at-end true x l y = refl
 at-end false x l y = refl
 
--- one more place that belongs to this owner
+-- one more place of this owner adds its entry to those of the owner
 pub owned-here : {E : Type 0} (t at : ℕ) (os : List ℕ) (es : List E) (e : E) → length os ≡ length es → owned t at (os ++ t ∷ []) (es ++ e ∷ []) ≡ owned t at os es ++ (at + length es, e) ∷ []
 owned-here t at [] [] e len = owned-own t at t [] e [] refl ∙ ap (λ (n : ℕ). (n, e) ∷ []) (omega arith)
 owned-here t at (o ∷ os) (x ∷ es) e len =
@@ -26,13 +26,13 @@ owned-here t at (o ∷ os) (x ∷ es) e len =
     ap (λ l. cond (o == t) ((at, x) ∷ l) l) more ∙ at-end (o == t) (at, x) (owned t (suc at) os es) (at + length (x ∷ es), e)
 owned-here t at _ _ e len = absurd (omega arith)
 
--- one more place that belongs to another owner
+-- one more place of another owner adds nothing to the places of this owner
 pub owned-else : {E : Type 0} (t at o : ℕ) (os : List ℕ) (es : List E) (e : E) → o ≢ t → length os ≡ length es → owned t at (os ++ o ∷ []) (es ++ e ∷ []) ≡ owned t at os es
 owned-else t at o [] [] e apart len = owned-other t at o [] e [] apart
 owned-else t at o (p ∷ os) (x ∷ es) e apart len = ap (λ l. cond (p == t) ((at, x) ∷ l) l) (owned-else t (suc at) o os es e apart (omega arith))
 owned-else t at o _ _ e apart len = absurd (omega arith)
 
--- the owner a gets the name b
+-- the owner `o`, with `b` in place of `a`
 abbrev pub renamed : ℕ → ℕ → ℕ → ℕ
 renamed a b o = cond (o == a) b o
 
@@ -68,7 +68,7 @@ owned-renamed-new a b at (o ∷ os) (e ∷ es) none =
     λ i. cond (renamed-new a b o n i) ((at, e) ∷ more i) (more i))
 owned-renamed-new a b at _ _ none = refl
 
--- the entries of the account that was joined last
+-- the account that was joined last comes after all others
 pub made_by-last : {D E : Type 0} (reported : List (Account D E)) (a : Account D E) → made_by (reported ++ a ∷ []) (length reported) ≡ a.made
 made_by-last [] a = refl
 made_by-last (x ∷ xs) a = made_by-last xs a

@@ -100,8 +100,8 @@ seat-there [] id lt = absurd (omega (arith, lt))
 seat-there (x ∷ xs) zero lt = (x, refl)
 seat-there (x ∷ xs) (suc id) lt = seat-there xs id (omega (arith, lt))
 
--- the facts about the first seat stay if a seat's view changes, as long as its reports, the number of seats that it
--- issued and whether it is a maker stay the same
+-- The facts about the first seat stay true when a seat's view changes. The seat's reports, the number of seats that it
+-- issued and its being a maker must stay as they are.
 first-stays : {D E : Type 0} (views : List (View D E)) (id : ℕ) (p v w : View D E) → get_elem? views 0 ≡ some p → get_elem? views id ≡ some v → w.reported ≡ v.reported → w.maker ≡ v.maker → w.own.issued ≡ v.own.issued
     → AreCounted views p → (q : View D E) × (get_elem? (set views id w) 0 ≡ some q) × (q.reported ≡ p.reported) × AreCounted (set views id w) q
 first-stays [] id p v w at here same maker issued counted = absurd (some-ne-none p (sym at))
@@ -173,7 +173,7 @@ module _ {S D E : Type 0} (log : S → Log D E) (fits : S → Type 0) (top : D) 
       one zero v e = subst (IsSeat (start_of top) [] none 0) (some-injective (newcomer (start_of top)) v e) record { mine = refl; behind = λ _. beginning-self (start_of top); locks = λ h. absurd (off h); quiet = λ _. refl }
       one (suc id) v e = absurd (some-ne-none v (sym e))
 
-  -- nothing changes except for the lock
+  -- if only the lock changes, the rule still holds
   relock : (words words' : List ℕ) (homes homes' : List (Option S)) (views : List (View D E)) (b : IsLock log fits top words homes views)
       → IsFree log fits words' homes' b.now b.holder ⊎ IsTakenOut words' homes' → IsLock log fits top words' homes' views
   relock words words' homes homes' views b lock = record { now = b.now; headed = b.headed; owners = b.owners; long = b.long; holder = b.holder; seats = b.seats; others = b.others; first = b.first; at_first = b.at_first; reported = b.reported; counted = b.counted; lock = lock }
@@ -191,14 +191,14 @@ module _ {S D E : Type 0} (log : S → Log D E) (fits : S → Type 0) (top : D) 
   Owes id me f then views words homes =
       (w : View D E) × (a : Act S) × Valid homes me.1 a × IsLock log fits top (set words 16 (f (slice_index words 16))) (homes_after homes me.1 a) (set views id w) × then (slice_index words 16) (w, carried_after me.1 a)
 
-  -- the word becomes the next one if it is the current one
+  -- `next` if the word is `current`, and otherwise the word itself
   abbrev swapped : ℕ → ℕ → ℕ → ℕ
   swapped current next n = either (n == current) next n
 
   abbrev Takes : Me S (View D E) → ℕ → ℕ → Me S (View D E) → Type 0
   Takes me current n w = MatchBool (n == current) (IsTaken log fits me w) (w ≡ me)
 
-  -- nothing happens if the word is another one
+  -- if the word isn't `current`, nothing changes
   misses : (s : State S (View D E)) (id : ℕ) (me : Me S (View D E)) (m current next : ℕ) → Recorded s → get_elem? s.views id ≡ some me.0
       → s.words ≡ words_of m → m ≢ current → Owes id me (swapped current next) (Takes me current) s.views s.words s.homes
   misses s id me m current next b at word other =
@@ -260,7 +260,7 @@ module _ {S D E : Type 0} (log : S → Log D E) (fits : S → Type 0) (top : D) 
       b.lock
   takes_lock slots id me current _ free some_mark idle s b len at small = absurd (omega arith)
 
-  -- the word of a taken lock becomes another one of a taken lock
+  -- ---- marking a taken lock
   marks-free : (s : State S (View D E)) (id : ℕ) (me : Me S (View D E)) (current next : ℕ) → 2 ≤ current → (b : Recorded s) → get_elem? s.views id ≡ some me.0
       → IsFree log fits s.words s.homes b.now b.holder → Owes id me (swapped current next) (λ _ w. w ≡ me) s.views s.words s.homes
   marks-free s id me current next taken b at f =
@@ -292,7 +292,7 @@ module _ {S D E : Type 0} (log : S → Log D E) (fits : S → Type 0) (top : D) 
   marks slots id me current (suc (suc mark)) taken some_mark s b len at small = ⊎_elim (marks-free s id me current (suc (suc mark)) taken b at) (marks-away s id me current mark b at) b.lock
   marks slots id me current _ taken some_mark s b len at small = absurd (omega arith)
 
-  -- the protected data is put back, if the state is right already except for the lock
+  -- the protected data can be put back if the rest of the state is already as the rule demands
   puts-back : (s : State S (View D E)) (id : ℕ) (me : Me S (View D E)) (free : ℕ) (y : S) (w : View D E) (then : ℕ → Me S (View D E) → Type 0) → me.1 ≡ (0, y) ∷ [] → IsTakenOut s.words s.homes
       → IsLock log fits top (words_of free) (some y ∷ []) (set s.views id w) → ((n : ℕ) → then n (w, [])) → Owes id me (λ _. free) then s.views s.words s.homes
   puts-back s id me free y w then hands t after reported =

@@ -14,12 +14,12 @@ pub record LockAt (D : Type 0) : Type 0 where
   pub id : TableId
   pub head : D
 
--- The words of a lock whose own word is this number. The words around it are never used.
+-- The words of a lock, with `n` as its own word. The words around it are never used.
 abbrev pub words_of : ℕ → List ℕ
 words_of n = 0 ∷ 0 ∷ 0 ∷ 0 ∷ 0 ∷ 0 ∷ 0 ∷ 0 ∷ 0 ∷ 0 ∷ 0 ∷ 0 ∷ 0 ∷ 0 ∷ 0 ∷ 0 ∷ n ∷ 0 ∷ 0 ∷ 0 ∷ 0 ∷ 0 ∷ 0 ∷ 0 ∷ 0 ∷ 0 ∷ 0 ∷ 0 ∷ 0 ∷ 0 ∷ 0 ∷ 0 ∷ 0 ∷ []
 
--- the tag that owns the entries made from a seat, and the tag that owns those of the k-th seat that was joined to the
--- first
+-- The tags of owners. `seat_tag` is the tag of a seat, and `reported_tag` is the tag of the `k`-th seat that was joined
+-- to the first one.
 abbrev pub seat_tag : ℕ → ℕ
 seat_tag id = id + id
 
@@ -54,8 +54,8 @@ locked l v = record { live = true; locks = true; maker = v.maker; own = record {
 abbrev pub unlocked : {D E : Type 0} → View D E → View D E
 unlocked v = record { live = true; locks = false; maker = v.maker; own = v.own; reported = v.reported }
 
--- the view of a seat after it has released the lock with this entry, which it owns, and which follows all entries that
--- it had seen
+-- The view of a seat after it has released the lock with an entry of its own. The entry follows all entries that the
+-- seat had seen.
 abbrev pub unlocked_with : {D E : Type 0} → E → View D E → View D E
 unlocked_with e v = record {
   live = true;
@@ -65,15 +65,15 @@ unlocked_with e v = record {
   reported = v.reported;
 }
 
--- The entries that a seat has made are its own in the log, which begins with the log that it has seen. A seat that has
--- the lock has seen all of the log. Only makers have made anything.
+-- The seat owns exactly the entries of the log that it has made. The log begins with the log that the seat has seen. A
+-- seat that has the lock has seen all of the log. Only makers have made anything.
 pub record IsSeat {D E : Type 0} (now : Log D E) (owners : List ℕ) (holder : Option ℕ) (id : ℕ) (v : View D E) : Type 0 where
   pub mine : owned (seat_tag id) 0 owners now.entries ≡ v.own.made
   pub behind : v.live ≡ true → IsBeginning v.own.seen now
   pub locks : v.locks ≡ true → (holder ≡ some id) × (v.own.seen ≡ now)
   pub quiet : v.maker ≡ false → v.own.made ≡ []
 
--- the entries of the seats that were joined to the first one are their own in the log
+-- each seat that was joined to the first one owns exactly its entries of the log, and has seen a beginning of the log
 abbrev pub AreReported : {D E : Type 0} → Log D E → List ℕ → List (Account D E) → Type 0
 AreReported now owners reported = ((k : ℕ) → owned (reported_tag k) 0 owners now.entries ≡ made_by reported k) × AreBehind reported now
 
@@ -119,13 +119,13 @@ pub record IsLock {S D E : Type 0} (log : S → Log D E) (fits : S → Type 0) (
   pub counted : AreCounted views first
   pub lock : IsFree log fits words homes now holder ⊎ IsTakenOut words homes
 
--- a seat that doesn't have the lock
+-- the seat doesn't have the lock
 pub record IsIdle {S D E : Type 0} (me : Me S (View D E)) : Type 0 where
   pub live : me.0.live ≡ true
   pub locks : me.0.locks ≡ false
   pub hands : me.1 ≡ []
 
--- a seat that has the lock, and with it the protected data, whose log is this one
+-- the seat has the lock, and with it the protected data, and the log of this data is `l`
 pub record HasLock {S D E : Type 0} (log : S → Log D E) (fits : S → Type 0) (me : Me S (View D E)) (l : Log D E) : Type 0 where
   pub kept : S
   pub live : me.0.live ≡ true
@@ -134,7 +134,8 @@ pub record HasLock {S D E : Type 0} (log : S → Log D E) (fits : S → Type 0) 
   pub fitting : fits kept
   pub same : log kept ≡ l
 
--- the lock was taken, and with it the protected data, whose log continues the one that the seat had seen
+-- The seat took the lock, and with it the protected data. The log of this data continues the log that the seat had
+-- seen.
 pub record IsTaken {S D E : Type 0} (log : S → Log D E) (fits : S → Type 0) (before after : Me S (View D E)) : Type 0 where
   pub kept : S
   pub me : after ≡ (locked (log kept) before.0, (0, kept) ∷ [])
@@ -146,8 +147,8 @@ abbrev pub NoSeatOwns : {D E : Type 0} → Log D E → List ℕ → Type 0
 NoSeatOwns now owners = (id : ℕ) → owned (seat_tag id) 0 owners now.entries ≡ []
 
 -- The log that was seen consists of the entries of the seats that were joined to the first one, and of the entries of
--- other seats. The other seats have made none if all seats that the first one issued were joined to it, and the first
--- one has made none.
+-- other seats. The other seats have made no entry if all seats that the first one issued were joined to it, and the
+-- first one has made no entry.
 abbrev pub IsAccountedFor : {D E : Type 0} → View D E → Type 0
 IsAccountedFor v = (owners : List ℕ) × (length owners ≡ length v.own.seen.entries) × AreReported v.own.seen owners v.reported
     × (v.own.made ≡ [] → v.own.issued ≤ length v.reported → NoSeatOwns v.own.seen owners)

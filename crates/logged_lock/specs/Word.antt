@@ -13,7 +13,7 @@ is_open (suc zero) zero = false
 is_open (suc zero) (suc sleeps) = true
 is_open (suc (suc word)) sleeps = false
 
--- The word by which a thread that has slept this many times shows that it waits. From its third sleep on it requests
+-- The word by which a thread that has slept `sleeps` times shows that it waits. From its third sleep on it requests
 -- that the lock be left to threads that have slept.
 abbrev pub asking : ℕ → ℕ
 asking zero = 3

@@ -8,8 +8,8 @@
 //!
 //! At the end the other seats report to the first one ([`LoggedLock::report`]), which then accounts for the log
 //! ([`LoggedLock::account`]). If the seats that reported have made as many entries as the log has, the log is a merge
-//! of their entries. They have made that many if all seats that the first one issued have reported, and the first one
-//! has made no entry itself. A guest ([`LoggedLock::guest`]) makes no entries.
+//! of their entries. The numbers are equal if all seats that the first one issued have reported, and the first one has
+//! made no entry itself. A guest ([`LoggedLock::guest`]) makes no entries.
 #![tactic(auto)]
 
 mod lock;

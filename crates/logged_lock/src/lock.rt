@@ -16,7 +16,7 @@ use std::hint::spin_loop;
 use std::marker::Model;
 use std::sync::Wait;
 
-// The words of a free lock. At `FREE` any thread may take it, and at `LEFT` only a thread that has slept.
+// The words of a free lock. At `FREE` any thread may take the lock, and at `LEFT` only a thread that has slept.
 const FREE: u64 = 0;
 
 const LEFT: u64 = 1;
@@ -43,8 +43,8 @@ const LOOKS: u32 = 6;
 
 const PAUSES: u32 = 32;
 
-// The number of times that a thread sleeps before it requests that the lock be left to threads that have slept. That
-// makes starvation rare, but doesn't bound it.
+// The number of times that a thread sleeps before it requests that the lock be left to threads that have slept. The
+// request makes starvation rare, but there is no bound on a thread's wait.
 const LOST_WAKES: u64 = 2;
 
 // Returns whether a thread that has slept `sleeps` times may take a lock with this word.
@@ -55,7 +55,7 @@ fn is_open(word: u64, sleeps: u64) -> bool
     word == FREE || (word == LEFT && sleeps != 0)
 }
 
-// Returns the word of a taken lock by which a thread that has slept `sleeps` times shows that it waits.
+// Returns the word with which a thread that has slept `sleeps` times marks a taken lock, to show that it waits.
 fn asking(sleeps: u64) -> u64
     ensures asked { result ≡ asking sleeps }
     ensures taken { (2 ≤ result) × (result ≤ 4) }
@@ -63,7 +63,7 @@ fn asking(sleeps: u64) -> u64
     if sleeps < LOST_WAKES { SLEEPERS } else { ASKED }
 }
 
-// Returns the word that a lock with this word gets when it is released.
+// Returns the word that replaces `word` when the lock is released.
 fn given_back(word: u64) -> u64
     ensures given_back { result ≡ given_back word }
     ensures free { result < 2 }
@@ -127,7 +127,7 @@ impl<S: Logged<D, E>, D: Head, E> LoggedLock<S, D, E> {
             == current
     }
 
-    // Raises the word of a taken lock from `current` to `next`, and returns whether it was `current`.
+    // Raises the word of a taken lock from `current` to `next`, and returns whether the word was `current`.
     fn mark(&self, seat: &mut LockSeat<S, D, E>, current: u64, next: u64) -> bool
         requires taken { (2 ≤ current) × (2 ≤ next) }
         requires own { seat.old.table_id ≡ self.now.id }
@@ -306,8 +306,8 @@ impl<S: Logged<D, E>, D: Head, E> LoggedLock<S, D, E> {
     }
 
     /// Accounts for the entries of the log, through the first seat, which must have the lock. If the seats that
-    /// reported to the first one have made as many entries as the log has, the log is a merge of their entries. They
-    /// have made that many if all seats that the first one issued have reported, and the first one has made no entry
+    /// reported to the first one have made as many entries as the log has, the log is a merge of their entries. The
+    /// numbers are equal if all seats that the first one issued have reported, and the first one has made no entry
     /// itself.
     pub fn account(&self, first: &mut LockSeat<S, D, E>)
         requires own { first.old.table_id ≡ self.now.id }

@@ -21,7 +21,7 @@ pub trait NextEntry<E> {
     ghost entry: { E };
 }
 
-/// The step that takes the lock if the lock's word is the expected one, a word of a free lock.
+/// The step that takes the lock if its word is the expected word of a free lock.
 pub struct Takes;
 
 impl<D, E, S: Logged<D, E>> Play<S, View<D, E>> for Takes {
@@ -31,7 +31,7 @@ impl<D, E, S: Logged<D, E>> Play<S, View<D, E>> for Takes {
     ghost then = { λ s before found after. MatchBool (found == s.first) (IsTaken S.log S.fits before after) (after ≡ before) };
 }
 
-/// The step that marks a taken lock, so that the thread that has it learns that another waits.
+/// The step that marks a taken lock, to show that a thread waits for it.
 pub struct Marks;
 
 impl<S, D, E> Play<S, View<D, E>> for Marks {

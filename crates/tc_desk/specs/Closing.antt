@@ -9,9 +9,9 @@ use Rattle.tc_desk.specs.Log.{Own, AtLock, accounts_of}
 abbrev pub IsBalanced : List Own → List Event → Type 0
 IsBalanced makers journal = (total_made makers ≡ length journal) × (length journal < 2 ^ 64 - 1)
 
--- These operators can close a desk whose owner has issued this many operators. Either all operators that were issued
--- are among these, or these operators have made as many events as the journal has. In both cases they have made fewer
--- events than the largest count of 64 bits.
+-- The operators `makers` can close a desk whose owner has issued `issued` operators. Either all issued operators are
+-- among them, or they have made as many events as the journal has. In both cases they have made fewer events than the
+-- largest count of 64 bits.
 abbrev pub CanClose : ℕ → List Own → List Event → Type 0
 CanClose issued makers journal = (total_made makers < 2 ^ 64 - 1) × ((issued ≤ length makers) ⊎ (total_made makers ≡ length journal))
 

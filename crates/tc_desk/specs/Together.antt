@@ -50,7 +50,7 @@ owners_of list = map (λ (h : AtHand). h.owner) list
 abbrev pub IsFresh : AtHand → Type 0
 IsFresh h = (h.reported ≡ []) × IsBeginning h.owner.own.seen h.now × (h.owner.own.seen.head ≡ h.desk.head)
 
--- these are moments of the desks, each of which continues what its owner has seen
+-- The guards are moments of the desks. Each moment continues the moment that the desk's owner has seen.
 abbrev pub AreMoments : List AtLock → List AtHand → Type 0
 AreMoments owned_desks guard = (owners_of guard ≡ owned_desks) × All IsFresh guard
 

@@ -95,9 +95,9 @@ impl<J: Journal> DeskGuard<J> {
         )
     }
 
-    /// Returns whether this many operators, which have made `count` events in all, can close the desk. They can if they
-    /// are all operators that were issued, or if the journal has as many events as they have made. A count of 2^64 - 1
-    /// stands for that number or more, and the result is then false.
+    /// Returns whether `operators` operators, which have made `count` events in all, can close the desk. They can if
+    /// they are all operators that were issued, or if the journal has `count` events. A count of 2^64 - 1 stands for
+    /// that number or more, and the result is then false.
     pub(crate) fn can_close(&self, operators: usize, count: u64) -> bool
         ensures { (makers : List Own) → operators ≡ length makers → count ≡ min (total_made makers) (2 ^ 64 - 1) → (IsTrue result ↔ CanClose self.now.owner.own.issued makers self.now.now.entries) }
     {

@@ -23,18 +23,19 @@ pub fn the_only_maker_made_the_whole_journal()
         → IsBeginning own.seen (record { head = own.seen.head; entries = journal }) → IsMergeOf journal makers → HasMadeAll own × (own.seen.entries ≡ journal) }
 {}
 
-/// Suppose that after a call an operator has made all events that it has seen. Then this was so before the call, too,
-/// and the call was answered at exactly the moment that the operator had seen before. So each answer to an operator
-/// that works alone is that of the journal of its own events so far.
+/// Suppose that after a call an operator has made all events that it has seen. Then it had made all events that it had
+/// seen before the call, too, and the call was answered at exactly the moment that it had seen. An operator that works
+/// alone is therefore answered after the journal of its own events so far.
 pub fn one_alone_is_answered_after_its_own_events()
     ensures event { (before : Own) (now : Moment) (e : Event) → HasSeenItsOwn before → IsBeginning before.seen now → HasMadeAll (made e now before) → HasMadeAll before × (now ≡ before.seen) }
     ensures look { (before : Own) (now : Moment) → HasSeenItsOwn before → IsBeginning before.seen now → HasMadeAll (looked now before) → HasMadeAll before × (now ≡ before.seen) }
     ensures seen { (before : Own) (now : Moment) (e : Event) → HasSeenItsOwn before → IsBeginning before.seen now → HasSeenItsOwn (made e now before) × HasSeenItsOwn (looked now before) }
 {}
 
-/// An event that an operator made is at its place in each later journal of the desk, and the moment at which the call
-/// was answered is the beginning of that journal before the event. So, by [`DeskOperator::operate`] and the close, each
-/// answer is the model's answer at a beginning of the closed journal.
+/// An event that an operator made is at its place in each later journal of the desk. The moment at which the call was
+/// answered is the beginning of that journal before the event. By the contracts of [`DeskOperator::operate`] and
+/// [`close_together`](crate::close_together), each answer is therefore one that a beginning of the closed journal
+/// determines.
 pub fn each_event_stands_at_its_place()
     ensures { (before : Own) (now : Moment) (e : Event) (closed : Moment) → IsBeginning (made e now before).seen closed
         → (slice_get closed.entries (length now.entries) ≡ Some e) × (now ≡ record { head = closed.head; entries = take (length now.entries) closed.entries }) }

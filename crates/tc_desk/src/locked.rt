@@ -210,7 +210,7 @@ fn issue_from<J: Journal>(lock: &DeskLock<J>, owner: DeskBadge) -> (DeskBadge, D
 }
 
 impl DeskOwner {
-    /// Creates an operator, which has made nothing, and has seen what the owner has seen.
+    /// Creates an operator, which has made no event, and has seen the moment that the owner has seen.
     pub fn operator<J: Journal>(&mut self, desk: &LockedDesk<J>) -> DeskOperator
         requires ours { self.old.lock ≡ desk.now.id }
         ensures issued { self.new ≡ with_one_issued self.old }
@@ -354,8 +354,9 @@ impl<J: Journal> LockedDesk<J> {
         Ok((LockedDesk { lock }, DeskOwner::of(first.into_badge(), 0)))
     }
 
-    /// Returns the desk's answer to the question at a moment under the lock, for a thread that has no operator. Nothing
-    /// is known of that moment except the parts of the desk that never change, and that its journal is lawful.
+    /// Returns the desk's answer to the question at a moment under the lock, for a thread that has no operator. The
+    /// contract states only that this moment has the parts of the desk that never change, and that its journal is
+    /// lawful.
     pub fn ask_as_guest<Q: Question<J>, R: Wait>(&self, rt: &R, question: &Q) -> Q::Answer
         ensures { (now : Moment) × IsMoment now × (now.head ≡ self.now.head) × Q.answers question.now now result }
     {

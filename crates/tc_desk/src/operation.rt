@@ -133,7 +133,7 @@ impl<J: Journal> Operation<J> for Framing<'_> {
     }
 }
 
-/// The arrival of a frame, with a new watcher of the desk's board that has seen it.
+/// The arrival of a frame, with a new watcher of the desk's board that has seen the frame.
 #[derive(Drop)]
 pub struct WatchedFraming<'a> {
     pub frame: &'a Frame<'a>,

@@ -29,7 +29,7 @@ impl<J: Journal> Model for OwnedDesk<J> {
 }
 
 impl<J: Journal> OwnedDesk<J> {
-    /// Creates a desk behind a lock that is free. It requests the memory of the desk and of the lock.
+    /// Creates a desk behind a lock that is free. The call requests the memory of the desk and of the lock.
     pub fn new(alloc: Global, settings: Settings) -> Result<OwnedDesk<J>, SettingsFault>
         ensures settings { IfOk result (λ owned_desk. owned_desk.own.seen.head.settings ≡ settings) }
         ensures journal { IfOk result (λ owned_desk. owned_desk.own.seen.entries ≡ []) }
@@ -48,7 +48,7 @@ impl<J: Journal> OwnedDesk<J> {
         &self.desk
     }
 
-    /// Creates an operator of the desk, which has made nothing, and has seen what the owner has seen.
+    /// Creates an operator of the desk, which has made no event, and has seen the moment that the owner has seen.
     pub fn operator(&mut self) -> DeskOperator
         ensures issued { self.new ≡ with_one_issued self.old }
         ensures lock { result.lock ≡ self.old.lock }

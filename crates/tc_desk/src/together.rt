@@ -196,7 +196,8 @@ fn take_all_out<J: Journal>(
     room
 }
 
-// Takes all locks, in the order of the desks. If one of them isn't free, it takes none, and returns all desks.
+// Takes all locks, in the order of the desks. If one of the locks isn't free, none is taken, and all desks are
+// returned.
 fn take_locks<J: Journal>(
     mut owned_desks: Vec<OwnedDesk<J>>,
     mut guards: Vec<DeskGuard<J>>,

@@ -43,7 +43,8 @@ limits_of lent = record { others = lent.others; maps = lent.maps.now }
 abbrev pub none : Limits
 none = record { others = largest_unit; maps = [] }
 
--- a plain data field is a unit by itself, so its limit isn't 0
+-- The limit of the MAPs that aren't listed is at most the largest unit. On a plain channel it isn't 0, since each data
+-- field is a unit by itself.
 abbrev pub IsOthers : ℕ → Bool → Type 0
 IsOthers others segmented = (others ≤ largest_unit) × (segmented ≡ false → 1 ≤ others)
 

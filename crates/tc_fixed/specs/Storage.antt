@@ -12,12 +12,11 @@ abbrev pub limits_below : Limits → ℕ → ℕ
 limits_below limits zero = 0
 limits_below limits (suc count) = limits_below limits count + limit_of limits count
 
--- the rooms of all streams of two services and 64 MAPs, each for the largest unit of its MAP, or none on a plain
--- channel
+-- The bytes of the rooms of all 128 streams, each for the largest unit of its MAP. A plain channel has no such rooms.
 abbrev pub runs_storage : Settings → Limits → ℕ
 runs_storage s limits = if s.segmented then stream_count * run_words + 2 * limits_below limits 64 else 0
 
--- the queues, with a room of `item` octets for each packet and each unit
+-- the bytes of the queues, with a room of `item` octets for each packet and each unit
 abbrev pub queues_in_rooms : Settings → ℕ → ℕ
 queues_in_rooms s item = (length s.queues + length s.maps) * queue_words + (packets_stored s + units_stored s) * (room_words + item)
 

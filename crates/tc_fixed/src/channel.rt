@@ -29,8 +29,8 @@ use tc_channel::{
 use tc_link::{Frame, Link, Report, clcw_word};
 use tc_packet::{FixedRoom, Runs};
 
-// A counter that counts no steps. No other module can name this type, so a function that a channel's calls are built on
-// can't create a counter of its own. It has to count every step with the counter that its caller passes.
+// A counter that counts no steps. The functions under a channel's calls can't name this type, so they can't create a
+// counter of their own. They have to count every step with the counter that their caller passes.
 #[derive(Drop)]
 struct NoSteps;
 
@@ -90,8 +90,8 @@ impl<N: Noted> FixedChannelWith<N> {
 
     /// Creates a channel as [`new`](FixedChannelWith::new) does, but with a limit for the units of each MAP, so that it
     /// requests less memory: [`storage_with_limits`](crate::storage_with_limits) bytes. A unit of more octets than its
-    /// MAP's limit is dropped when it ends, and no reply reports that. Without limits, this happens to a unit of more
-    /// than 65,542 octets.
+    /// MAP's limit is dropped when it ends, and no reply reports the loss. Without limits, only a unit of more than
+    /// 65,542 octets is dropped in this way.
     pub fn with_limits(
         alloc: Global,
         settings: Settings,
@@ -247,8 +247,8 @@ impl<N: Noted> FixedChannelWith<N> {
         Ok(count)
     }
 
-    /// Drops the oldest packet of the queue with this APID, if one waits, and returns whether one did. Call
-    /// [`oldest`](FixedChannelWith::oldest) first to read it.
+    /// Drops the oldest packet of the queue with this APID, if one waits, and returns whether one waited. Call
+    /// [`oldest`](FixedChannelWith::oldest) first to read the packet.
     pub fn drop_oldest(&mut self, apid: u16) -> bool
         ensures allowed { IsAllowed self.old.settings }
         ensures lawful { IsLawfulWithin (limit_of self.old.limits) self.old.settings self.old.journal }
@@ -263,8 +263,8 @@ impl<N: Noted> FixedChannelWith<N> {
         true
     }
 
-    /// Drops the oldest unit of the queue of this chosen MAP, if one waits, and returns whether one did. Call
-    /// [`oldest_unit`](FixedChannelWith::oldest_unit) first to read it.
+    /// Drops the oldest unit of the queue of this chosen MAP, if one waits, and returns whether one waited. Call
+    /// [`oldest_unit`](FixedChannelWith::oldest_unit) first to read the unit.
     pub fn drop_oldest_unit(&mut self, map: u8) -> bool
         ensures allowed { IsAllowed self.old.settings }
         ensures lawful { IsLawfulWithin (limit_of self.old.limits) self.old.settings self.old.journal }

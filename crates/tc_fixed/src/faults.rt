@@ -19,7 +19,8 @@ pub enum NothingTaken {
     NoQueue,
     #[error("the queue is empty")]
     Empty,
-    /// The packet has this number of octets, which is more than the place to which it would be copied. It still waits.
+    /// The packet has this number of octets, and the place to which it would be copied has fewer. The packet still
+    /// waits.
     #[error("no room for the packet")]
     NoRoom(usize),
 }
@@ -31,7 +32,7 @@ pub enum NoUnitTaken {
     NoMap,
     #[error("the queue is empty")]
     Empty,
-    /// The unit has this number of octets, which is more than the place to which it would be copied. It still waits.
+    /// The unit has this number of octets, and the place to which it would be copied has fewer. The unit still waits.
     #[error("no room for the unit")]
     NoRoom(usize),
 }

@@ -26,9 +26,9 @@ pub fn without_limits_each_unit_is_left()
     ensures { limit_of none ≡ no_limits }
 {}
 
-/// These limits have the fault that was worked out by hand. The limits of the first clause have every fault that can
-/// occur together with the others, and a fault of the settings comes first. Each of the next clauses repairs the fault
-/// of the clause before. The last clauses have the greatest values that are allowed, and values above them.
+/// States the first fault of limits, worked out by hand. In the first clause the settings have a fault, which comes
+/// first, and the limits have every fault that can occur together with the others. Each of the next clauses repairs the
+/// fault of the clause before it. The last clauses have the greatest values that are allowed, and values above them.
 pub fn limits_are_refused_so()
     ensures settings { IsFaultWithLimits (example.channel_of false 64 2 1 [] []) (limits_on 0 64 64 0) (faults.Settings settings_faults.BadVcid) }
     ensures others { IsFaultWithLimits (example.channel_of false 63 2 1 [] []) (limits_on 0 64 64 0) faults.BadOthers }
@@ -42,9 +42,9 @@ pub fn limits_are_refused_so()
     ensures large_limit { IsFaultWithLimits (example.channel_of true 63 2 1 [] []) (limits_on 65542 63 3 65543) faults.BadLimit }
 {}
 
-/// The storage of three channels is the one that was worked out by hand. The first is a plain channel for one data
-/// field and one packet. The second has segment headers, and also holds a unit of MAP 3. The third is the second with a
-/// limit of 100 octets for MAP 3 and of 0 for the other MAPs.
+/// States the storage of three channels, worked out by hand. The first is a plain channel for one data field and one
+/// packet. The second has segment headers, and also holds a unit of MAP 3. The third is the second with a limit of 100
+/// octets for MAP 3 and of 0 for the other MAPs.
 pub fn storage_is_counted_so()
     ensures plain { storage_of example.plain ≡ 2166 }
     ensures headed { storage_of example.map_3_chosen ≡ 8526823 }

@@ -1,8 +1,8 @@
 //! One virtual channel of a telecommand receiver that requests memory when it is created, and never afterwards.
 //!
 //! A contract sees a [`FixedChannel`] as its settings, its journal, and its [`Limits`] on the length of each MAP's
-//! units. Everything else in the channel is the run of that journal within these limits, so each law of tc_channel
-//! about runs also holds for it. Unlike a channel of tc_channel, it keeps its data in rooms of tc_queues that are
+//! units. Everything else in the channel is the run of its journal within these limits, so each law of tc_channel about
+//! runs also holds for this channel. Unlike a channel of tc_channel, it keeps its data in rooms of tc_queues that are
 //! created at the start: one for each data field, packet, unit and open run that the settings allow.
 //!
 //! Only [`FixedChannelWith::new`] and [`FixedChannelWith::with_limits`] receive an allocator, and no other call reports

@@ -44,7 +44,7 @@ pub struct LentLimits<'a> {
     pub maps: &'a [MapLimit],
 }
 
-/// A reason why no channel can be created from settings and limits: the first fault that they have, in this order.
+/// The first fault, in this order, of settings and limits with which no channel can be created.
 #[derive(Clone, Copy, Debug, PartialEq, Eq, Error)]
 pub enum LimitsFault {
     /// The settings have this fault. `NoMemory` means that neither the settings nor the limits have a fault, and memory

@@ -7,8 +7,8 @@ ghost use Rattle.tc_channel.specs.Journal.{event_of};
 use std::alloc::Global;
 use tc_channel::{EventsSeen, Journal, LentEvent, Unrecorded};
 
-/// A journal to which each event can be appended without memory. A channel with fixed memory is generic over it, so
-/// that its contracts hold for exactly the events that were noted.
+/// A journal to which each event can be appended without memory. A channel with fixed memory is generic over its
+/// journal, and its contracts hold for exactly the events that were noted.
 pub trait Noted: Drop {
     // the events, the oldest first
     ghost noted: { Self → List Event };

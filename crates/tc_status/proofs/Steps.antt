@@ -20,8 +20,7 @@ set-there [] i a b e = absurd (some-ne-none a (sym e))
 set-there (x ∷ xs) zero a b e = refl
 set-there (x ∷ xs) (suc i) a b e = set-there xs i a b e
 
--- if the view of any seat is replaced by a live view that has seen the history of the first seat, the first seat still
--- has this history
+-- The first seat keeps its history if the view of any seat is replaced by a live view that has seen this history.
 first-stays : (views : List View) (id : ℕ) (p w : View) → get_elem? views 0 ≡ some p → p.live ≡ true → w.live ≡ true → w.seen ≡ p.seen → (q : View) × (get_elem? (set views id w) 0 ≡ some q) × (q.live ≡ true) × (q.seen ≡ p.seen)
 first-stays [] id p w at live live' same = absurd (some-ne-none p (sym at))
 first-stays (x ∷ xs) zero p w at live live' same = (w, refl, live', same)

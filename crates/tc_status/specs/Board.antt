@@ -39,7 +39,7 @@ status_word h = clcw h.settings h.journal no_flag
 abbrev pub view : History → View
 view h = record { live = true; seen = h; reported = h }
 
--- a history that stands for none
+-- a history for places in which no history is meant
 abbrev pub no_history : History
 no_history = record { settings = record { vcid = 0; width = 0; buffer = 0; first = 0; segmented = true; queues = []; maps = [] }; journal = [] }
 
@@ -55,8 +55,8 @@ with_reported v w = record v { reported = w.seen }
 abbrev pub IsBehind : History → View → Type 0
 IsBehind published v = v.live ≡ true → IsEarlier v.seen published × IsEarlier v.reported published
 
--- the facts about a board that hold at every moment: the first seat is the publisher's, the word belongs to its
--- publication, and no live seat is ahead of it
+-- The facts about a board that hold at every moment. The first seat is the publisher's, the word is that of the
+-- published history, and no live seat is ahead of this history.
 pub record IsBoard (words : List ℕ) (views : List View) : Type 0 where
   pub publisher : View
   pub first : get_elem? views 0 ≡ some publisher
@@ -66,7 +66,7 @@ pub record IsBoard (words : List ℕ) (views : List View) : Type 0 where
   pub word : words ≡ status_word publisher.seen ∷ []
   pub behind : (id : ℕ) (v : View) → get_elem? views id ≡ some v → IsBehind publisher.seen v
 
--- a load found the word of the published history, which the seat has then seen
+-- A load found the word of the published history. The seat has then seen this history.
 pub record IsRead (before : Me Unit View) (found : ℕ) (after : Me Unit View) : Type 0 where
   pub seat : after ≡ (view after.0.seen, before.1)
   pub allowed : IsAllowed after.0.seen.settings
@@ -74,12 +74,13 @@ pub record IsRead (before : Me Unit View) (found : ℕ) (after : Me Unit View) :
   pub word : found ≡ status_word after.0.seen
   pub later : IsEarlier before.0.seen after.0.seen
 
--- the reported history is a beginning of the history that was seen, which then takes its place
+-- The reported history is a beginning of the history that was seen. The seat then has no other reported history than
+-- the seen one.
 pub record IsCompared (before after : Me Unit View) : Type 0 where
   pub seat : after ≡ (view before.0.seen, before.1)
   pub later : IsEarlier before.0.reported before.0.seen
 
--- a live seat at this board, with no slot
+-- the seat is live, is at this board, and has no slot
 pub record IsSeated (board seat : TableId) (me : Me Unit View) : Type 0 where
   pub same : seat ≡ board
   pub one_word : board.words ≡ 1

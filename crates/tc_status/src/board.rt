@@ -61,8 +61,7 @@ impl Play<(), View> for Reads {
     ghost then = { λ _ before found after. IsRead before found after };
 }
 
-/// The publisher's load, by which it learns that the history reported to it is a beginning of the one that it has
-/// published.
+/// The publisher's load, which shows that the history reported to the publisher is a beginning of the published one.
 pub struct Compares;
 
 impl Play<(), View> for Compares {

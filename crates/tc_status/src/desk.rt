@@ -44,7 +44,7 @@ impl<J: Journal> Model for DeskOf<J> {
 }
 
 impl<J: Journal> DeskOf<J> {
-    /// Creates a desk with a new channel, on a board of its own. It requests the memory of both.
+    /// Creates a desk with a new channel, on a board of its own. The call requests the memory of both.
     pub fn new(alloc: Global, settings: Settings) -> Result<DeskOf<J>, SettingsFault>
         ensures settings { IfOk result (λ desk. desk.channel.settings ≡ settings) }
         ensures journal { IfOk result (λ desk. desk.channel.journal ≡ []) }
@@ -136,8 +136,8 @@ impl<J: Journal> DeskOf<J> {
         Ok(unit)
     }
 
-    /// Creates a watcher of this desk's board, which has seen the channel as it is. It requests no more memory than the
-    /// publisher's call does.
+    /// Creates a watcher of this desk's board, which has seen the channel as it is. The call requests no more memory
+    /// than [`Publisher::watcher`] does.
     pub fn watcher(&mut self) -> Result<Watcher, NoMemory>
         ensures board { IfOk result (λ watcher. watcher.board ≡ self.old.board) }
         ensures seen { IfOk result (λ watcher. watcher.seen ≡ self.old.channel) }

@@ -13,7 +13,7 @@ use Rattle.tc_packet.specs.declared.segment.Segment.{Segment}
 use Rattle.tc_write.specs.Parts.{segments_needed, part_at}
 use Rattle.tc_write.specs.Segments.{AreSegments, MakeUnit}
 
--- a fact about each element of a list, by its place
+-- P holds for each element of the list and its place
 abbrev Places : List (List ℕ) → (ℕ → List ℕ → Type 0) → Type 0
 Places fields P = (k : ℕ) → k < length fields → P k (get_or fields k [])
 
@@ -46,7 +46,7 @@ last-part place count some at = grind (arith, nat_tests)
 inner-part : (place count : ℕ) → 1 ≤ place → place + 1 < count → part_at place count ≡ Continuing
 inner-part place count some before = grind (arith, nat_tests)
 
--- the segments after the first one: the last of them, and those before it
+-- `rest` are the segments after the first one: the last one, and the continuing ones before it
 record Closed (rest : List (List ℕ)) : Type 0 where
   middle : List (List ℕ)
   last : List ℕ

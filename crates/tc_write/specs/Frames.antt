@@ -13,7 +13,7 @@ abbrev pub Carries : Option Segment → List ℕ → List ℕ → Type 0
 Carries None field octets = field ≡ octets
 Carries (Some segment) field octets = (header_of field ≡ segment) × (body_of field ≡ octets)
 
--- a frame with this header, whose data field carries these octets
+-- the octets are a frame with this header, and its data field carries the octets `octets`
 abbrev pub IsMadeFrame : List ℕ → Header → Option Segment → List ℕ → Type 0
 IsMadeFrame frame header segment octets = IsFrame frame header (drop 5 frame) × Carries segment (drop 5 frame) octets
 
@@ -25,7 +25,7 @@ header_later header place = record header { ns = if header.bypass then header.ns
 abbrev pub command_header : ℕ → ℕ → Header
 command_header scid vcid = record { bypass = true; control = true; scid = scid; vcid = vcid; ns = 0 }
 
--- a frame for this channel with this control command
+-- the octets are a frame for this channel with this control command
 abbrev pub IsCommandFrame : List ℕ → ℕ → ℕ → Command → Type 0
 IsCommandFrame frame scid vcid command = IsFrame frame (command_header scid vcid) (drop 5 frame) × (command_of (drop 5 frame) ≡ Some command)
 

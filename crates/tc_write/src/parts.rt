@@ -7,8 +7,8 @@ ghost use Rattle.tc_write.specs.Parts.{segments_needed, part_at, piece_at};
 use tc_link::Header;
 use tc_packet::{Part, Segment};
 
-/// Returns the number of segments that carry a unit of `octets` octets, if each carries `size` octets and the last one
-/// carries the rest.
+/// Returns the number of segments that carry a unit of `octets` octets. Each segment but the last carries `size`
+/// octets, and the last one carries the rest.
 pub fn segment_count(size: usize, octets: usize) -> usize
     requires some { 1 ≤ size }
     requires few { size ≤ 1018 }
