@@ -165,8 +165,8 @@ impl<S: Logged<D, E>, D: Head, E> LoggedLock<S, D, E> {
         TAKEN
     }
 
-    // Marks the word to show that a thread may sleep, sleeps while the word stays as it is, and returns the last word
-    // that it saw. If the word changes before it is marked, the thread doesn't sleep.
+    // Marks the word to show that a thread may sleep, sleeps while the word stays the same, and returns the last word
+    // that the thread saw. If the word changes before it is marked, the thread doesn't sleep.
     fn sleep<R: Wait>(&self, rt: &R, seat: &mut LockSeat<S, D, E>, word: u64, sleeps: u64) -> u64
         requires small { word ≤ 4 }
         requires own { seat.old.table_id ≡ self.now.id }

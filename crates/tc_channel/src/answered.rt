@@ -12,8 +12,8 @@ ghost use Rattle.tc_queues.specs.declared.settings.SettingsFault.TheVariants as 
 ghost use Rattle.tc_link.specs.declared.State.TheVariants.{S1};
 ghost use Rattle.tc_channel.specs.Examples as example;
 
-/// States the results that the definitions give after short journals, as they were worked out by hand from the
-/// standard. Each clause is about one journal and the result of the next call after it.
+/// States the results that the definitions give after short journals, worked out by hand from the standard. Each clause
+/// is about one journal and the result of the next call after it.
 pub fn short_journals_are_answered_so()
     ensures accepted { clcw (example.buffer_of 1) (example.one_packet 0 ∷ []) example.link_up ≡ 0x01040001 }
     ensures one_queued_one_dropped { release_reply (example.buffer_of 1) (example.two_packets ∷ []) ≡ record { queued = 1; dropped = 1; rest = false } }

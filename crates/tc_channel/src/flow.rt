@@ -98,7 +98,7 @@ pub fn each_passed_field_is_accounted_for()
 
 /// States the items that data fields make, worked out by hand. Two segments make a packet, and only for the packet's
 /// own application. They make no packet if they came by different services, or if their unit is over the limit of its
-/// MAP. On a chosen MAP they make the unit as it is, and no packet. A field without a segment header is a packet by
+/// MAP. On a chosen MAP they make the whole unit, and no packet. A field without a segment header is a packet by
 /// itself.
 #[tactic(auto, unfolding(tc_queues::specs::ChannelState::no_limits))]
 pub fn passed_fields_make_so()

@@ -262,7 +262,7 @@ one-wrong own last good fits small less =
           parity-wrong own last good fits small high less ∙ ap (λ (x : List ℕ). Some x) (sym (turned-past own (placed (syndrome own last)) (omega arith)))
     ]
 
--- the syndromes of a code block without an error, and with one error
+-- a block without errors has the syndrome 0
 syndrome-none : (own : List ℕ) (last : ℕ) (y : List ℕ) → IsInformation own → last < 256 → IsInformation y → errors (own ++ last ∷ []) y ≡ 0 → syndrome own last ≡ 0
 syndrome-none own last y good fits is h =
     let a = word-bits (own ++ last ∷ []) (block-length own last good.seven) in let b = word-bits (code_block y) (code-length y is) in

@@ -28,7 +28,7 @@ block_remainder r (b ∷ bs) = block_remainder (block_with_bit r b) bs
 abbrev pub parity_of : List ℕ → ℕ
 parity_of information = bit_xor (2 ^ 7 - 1) (block_remainder 0 (bits_of information))
 
--- seven octets, which a code block can carry
+-- the information is seven octets, which a code block can carry
 pub record IsInformation (information : List ℕ) : Type 0 where
   pub each : IsOctets information
   pub seven : length information ≡ 7

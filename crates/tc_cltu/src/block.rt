@@ -23,7 +23,7 @@ pub enum Mode {
 /// The fate of a code block.
 #[derive(Clone, Copy, Debug, PartialEq, Eq)]
 pub enum Fate {
-    /// The block is accepted as it is.
+    /// The block is accepted without a correction.
     Right,
     /// The block is accepted with one of its bits corrected.
     Corrected,

@@ -75,7 +75,7 @@ HasSeen m seen watcher = (watcher.board ≡ m.head.board) × (watcher.seen ≡ s
 abbrev pub HasSeenNoMore : Watching → Moment → Type 0
 HasSeenNoMore watcher m = board.IsEarlier watcher.seen (history_of m)
 
--- the watcher belongs to the desk's board, and has seen the journal as it is
+-- the watcher belongs to the desk's board, and has seen the whole journal of this moment
 abbrev pub HasMet : Moment → Watching → Type 0
 HasMet m watcher = HasSeen m (history_of m) watcher
 

@@ -85,7 +85,7 @@ issued_count own = min own.issued (2 ^ 128 - 1)
 abbrev pub accounts_of : List AtLock → List Own
 accounts_of operators = map (λ (o : AtLock). o.own) operators
 
--- a desk whose owner has its lock: the owner as it was before, the desk as it is, and the accounts of operators that
+-- a desk whose owner has its lock: the owner before it took the lock, the desk now, and the accounts of operators that
 -- were reported to the owner
 pub record AtHand : Type 0 where
   pub desk : LockAt Identity

@@ -46,7 +46,7 @@ pub record AreClosed (owned_desks : List AtLock) (operator_lists : List (List At
 abbrev pub owners_of : List AtHand → List AtLock
 owners_of list = map (λ (h : AtHand). h.owner) list
 
--- the desk belongs to its owner, continues what the owner had seen, and nothing was reported to the owner
+-- The desk belongs to its owner, and continues the moment that the owner had seen. Nothing was reported to the owner.
 abbrev pub IsFresh : AtHand → Type 0
 IsFresh h = (h.reported ≡ []) × IsBeginning h.owner.own.seen h.now × (h.owner.own.seen.head ≡ h.desk.head)
 

@@ -85,7 +85,7 @@ impl Model for DeskOwner {
 }
 
 // Takes the lock, runs the operation, and unlocks. If the operation is answered, its event is logged with the unlock.
-// The answer is returned as it is, since each match on it would copy it.
+// The answer is returned without a match, since a match would copy the answer.
 fn operate_by<P: Occasion, J: Journal, O: Operation<J>, R: Wait>(
     lock: &DeskLock<J>,
     rt: &R,
@@ -163,7 +163,7 @@ pub(crate) fn answer_at<J: Journal, Q: Question<J>>(
     kept.answer(question)
 }
 
-// Takes the lock, lets the watcher see the channel as it is, and unlocks.
+// Takes the lock, lets the watcher see the whole journal of the channel, and unlocks.
 fn meet_by<J: Journal, R: Wait>(
     lock: &DeskLock<J>,
     rt: &R,

@@ -72,7 +72,7 @@ pub(crate) fn run_met<J: Journal, O: Operation<J>>(
     answer
 }
 
-/// A question to a desk, which leaves the desk as it is.
+/// A question to a desk, which doesn't change the desk.
 pub trait Question<J: Journal> {
     ghost use Rattle.tc_desk.specs.Log.{Moment};
 

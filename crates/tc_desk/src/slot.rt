@@ -95,7 +95,7 @@ impl<J: Journal> DeskSlot<J> {
         question.ask(desk)
     }
 
-    // Lets the watcher see the channel as it is.
+    // Lets the watcher see the whole journal of the channel.
     pub(crate) fn meet(&mut self, watcher: &mut Watcher)
         requires there { IsSome (padded_value self.old.desk) }
         requires board { watcher.old.board ≡ (desk_log (padded_value self.old.desk)).head.board }

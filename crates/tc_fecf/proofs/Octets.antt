@@ -57,7 +57,7 @@ octet_more r o r_fits o_fits =
     ∙ xor_assoc (r % 256 * 256) (table (r / 256)) (table o)
     ∙ ap (bit_xor (r % 256 * 256)) (sym (table-linear (r / 256) o))
 
--- the shifts compute the value of that look-up
+-- the shifts compute the value that the table holds
 pub by_shifts : (r o : ℕ) → r < 2 ^ 16 → o < 256
     → remainder r (octet_bits o) ≡ bit_xor (bit_xor (bit_xor (r * 2 ^ 8 % 2 ^ 16) (folded (bit_xor (r / 2 ^ 8) o) * 2 ^ 12 % 2 ^ 16)) (folded (bit_xor (r / 2 ^ 8) o) * 2 ^ 5 % 2 ^ 16)) (folded (bit_xor (r / 2 ^ 8) o))
 unfolding formula

@@ -7,7 +7,7 @@ use Rattle.tc_fecf.specs.Checksum.{bits_of, checksum_of}
 abbrev pub Passes : List ℕ → Type 0
 Passes octets = checksum_of octets ≡ 0
 
--- two lists with the same number of octets
+-- both lists consist of octets, and their lengths are equal
 pub record SameOctets (one other : List ℕ) : Type 0 where
   pub each_one : IsOctets one
   pub each_other : IsOctets other

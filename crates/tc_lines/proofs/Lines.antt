@@ -26,7 +26,7 @@ lines-last (x ∷ (y ∷ ys)) one some =
     ∙ ap (lines_after x) (lines-last (y ∷ ys) (All-tail (λ octet. octet ≢ 10) x (y ∷ ys) one) (λ no. cc))
 
 module _ {S : Type 0} (limit : ℕ) (Answers : S → List ℕ → S → List ℕ → Type 0) where
-  -- answering one more line after the answered lines answers all of them in order
+  -- once one more line is answered, all lines up to this one are answered
   answered-more : (old now new : S) (lines : List (List ℕ)) (line text more : List ℕ) → AreAnswered limit Answers old lines now text
       → IsAnswered limit Answers now line new more → AreAnswered limit Answers old (lines ++ line ∷ []) new (text ++ more)
   answered-more old now new [] line text more before next = (
@@ -55,7 +55,7 @@ module _ {S : Type 0} (limit : ℕ) (Answers : S → List ℕ → S → List ℕ
   none-answered old None before = tt
   none-answered old (Some octets) before = ([], octets, refl, refl, ([], (refl, refl), Appends-nil before))
 
-  -- a line that was read is answered, if there is one
+  -- if a line was read, the text is its answer
   line-answered : (now new : S) (read : LineRead) (line kept text : List ℕ) → kept ≡ take limit line → read.too_long ≡ nat_lt limit (length line)
       → IsReadAnswered Answers now read kept new text
       → (((read.ended ≡ true) ⊎ (line ≢ [])) × IsAnswered limit Answers now line new text)

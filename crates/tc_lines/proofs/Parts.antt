@@ -1,4 +1,4 @@
--- A line as it is read, part by part.
+-- A line that is read part by part.
 use Rattle.std.proofs.Common.{◌≡◌, ◌≢◌, ◌<◌, ◌≤◌, ◌+◌, ◌⊎◌, ℕ, Bool, true, false, List, [], ◌++◌, Option, None, Some, Result, Ok, Err, length, length-append, length-take-le, take, take_all, nat_lt, refl, sym, ap, subst, ◌∙◌, inl, inr, arith, append-nil, append_assoc}
 use Rattle.std.proofs.lemmas.Bool.{cases_lt, lt-ltb, le-ltb, or_left}
 use Rattle.std.proofs.lemmas.Grind.{common_steps}
@@ -60,7 +60,7 @@ over-more limit line kept octets is = at (cases_lt limit (length line))
         ap (λ b. b || nat_lt limit (length kept + length octets)) (le-ltb limit (length line) le)
         ∙ ap (λ l. nat_lt limit (length l + length octets)) (is ∙ take_all limit line le) ∙ ap (nat_lt limit) (sym (length-append line octets))
 
--- a line to which one more part is added may continue after that part
+-- one more part that goes on extends the line so far
 pub part-more : (limit : ℕ) (a b c : Option (List ℕ)) (before after : List ℕ) (over : Bool) (part : Part) → IsLineSoFar limit a b before over
     → IsPartRead limit b c before after part → part.goes_on ≡ true → IsLineSoFar limit a c after (over || part.over)
 part-more limit a b c before after over part so_far more goes_on = record {

@@ -13,7 +13,7 @@ word_of r vcid link = joined (
     ∷ (1, bit link.no_rf) ∷ (1, bit link.no_bit_lock) ∷ (1, bit r.lockout) ∷ (1, bit r.wait) ∷ (1, bit r.retransmit)
     ∷ (2, r.farm_b) ∷ (1, 0) ∷ (8, r.vr) ∷ [])
 
--- a word that is a CLCW of COP-1
+-- the word is a CLCW of COP-1
 pub record IsClcw (word : ℕ) : Type 0 where
   pub kind : bits word 31 1 ≡ 0
   pub version : bits word 29 2 ≡ 0

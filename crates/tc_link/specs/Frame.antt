@@ -46,7 +46,7 @@ pub record IsFrame (octets : List ℕ) (header : Header) (field : List ℕ) : Ty
   pub header_bits : header ≡ header_of octets
   pub rest : field ≡ drop 5 octets
 
--- the octets begin with this frame, and whatever follows it is fill
+-- the octets begin with this frame, and any octets after the frame are fill
 abbrev pub BeginsWith : List ℕ → List ℕ → Type 0
 BeginsWith octets frame = IsWhole frame × (frame ≡ take (length frame) octets)
 

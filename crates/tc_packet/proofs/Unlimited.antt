@@ -1,4 +1,4 @@
--- In a store whose limits are all the largest unit, the limits leave each run and unit as it is.
+-- In a store whose limits are all the largest unit, the limits change no run and no unit.
 use Rattle.std.proofs.Common.{◌≡◌, ◌≢◌, ℕ, zero, suc, ◌<◌, ◌≤◌, Bool, true, false, get_or, List, [], ◌∷◌, ◌++◌, length, Option, Some, None, inl, inr, replicate, refl, sym, ap, subst, ◌∙◌, arith}
 use Rattle.std.proofs.lemmas.Bool.{cases_eq, cases_lt}
 use Rattle.std.proofs.lemmas.List.{get_or_past}
@@ -53,7 +53,7 @@ others-stay old new place same other apart = elim (cases_lt other 128) [
   | inr past ↦ beyond (open_runs new) other past ∙ sym (beyond (open_runs old) other past)
 ]
 
--- the largest unit as a limit leaves octets within it as they are
+-- the largest unit as a limit changes no octets within the limit
 
 whole : (octets : Option (List ℕ)) → IsWithinLimit octets → at_most 65542 octets ≡ octets
 whole None within = refl

@@ -149,7 +149,7 @@ impl<R: Room> Run<R> {
     }
 
     // Applies a segment with this body to the run. If the segment completes a unit, returns the unit's place and leaves
-    // the run as it is until `close` is called.
+    // the run unchanged until `close` is called.
     fn follow(&mut self, part: Part, body: &[u8]) -> Result<EndedKind, AllocError>
         ensures unit { IfOk result (λ t. ended_kind t self.new body.now ≡ at_most self.old.room.size (ended_by part (open_in self.old) body.now)) }
         ensures run { IfOk result (λ t. open_in (behind t self.new) ≡ at_most self.old.room.size (next_run part (open_in self.old) body.now)) }
@@ -347,9 +347,9 @@ impl<R: Room> Runs<R> {
     }
 
     /// Processes the next field of its stream, and returns the place of the unit that it completes. A run or a unit
-    /// that exceeds the stream's limit is dropped. If the field completes a unit, the run stays as it is until
-    /// [`commit`](Runs::commit), so that nothing is lost if memory runs out in between. In the clauses, `fields` are
-    /// any earlier fields that would leave the stream's run as it is before this call.
+    /// that exceeds the stream's limit is dropped. If the field completes a unit, the run stays unchanged until
+    /// [`commit`](Runs::commit) is called, so that nothing is lost if memory runs out in between. In the clauses,
+    /// `fields` are any earlier fields that lead to the stream's run before this call.
     #[inline(always)]
     pub fn stage(&mut self, service: Service, field: &[u8]) -> Result<Ended, AllocError>
         requires { 0 < length field.now }

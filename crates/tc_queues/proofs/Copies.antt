@@ -1,4 +1,4 @@
--- Copies of items that are put into their queues one after the other, whatever the queues want.
+-- Copies of items that are put into their queues one after the other, for any choice of the items that a queue wants.
 use Rattle.tc_queues.proofs.Names.{◌≡◌, ℕ, Bool, zero, suc, ◌+◌, ◌-◌, ◌<◌, ◌≤◌, List, [], ◌∷◌, ◌++◌, length, map, filter, get_or, refl, sym, ap, ◌∙◌, append_assoc, arith, AllByRecursion, sum_by, set, take-nil, append-nil, length-append, length-map, length-take, sum_by-cons, share, with_items, copied_to, copies_from, longer, put, put_all, StoredQueue, Placed}
 use Rattle.circular_buffer.specs.Buffer.{buffer as ring_of}
 use Rattle.tc_queues.specs.StoredQueues.{HavePlaces}

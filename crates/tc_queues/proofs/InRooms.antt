@@ -54,7 +54,7 @@ put-in f qs i q next p place inside is behind =
           (map-set_same f qs i next q (n.0 ∙ ap f is), omega arith);
     }
 
--- writing a queue without staged items leaves nothing staged, if nothing was staged in any queue
+-- Nothing is staged in any queue. Writing a queue without staged items leaves nothing staged.
 pub committed-at : (qs : List Keyed) (i : ℕ) (next : Keyed) → AreCommitted qs → next.slots.staged ≡ [] → AreCommitted (set qs i next)
 committed-at [] i next all one = tt
 committed-at (r ∷ qs) zero next all one = (one, all.1)
@@ -65,7 +65,7 @@ staged-of-none-at [] i q all inside is = absurd (omega arith)
 staged-of-none-at (r ∷ qs) zero q all inside is = ap (λ (x : Keyed). x.slots.staged) is ∙ all.0
 staged-of-none-at (r ∷ qs) (suc i) q all inside is = staged-of-none-at qs i q all.1 (omega arith) is
 
--- writing a queue with the staged items of the one that it replaces leaves nothing staged, if nothing was staged
+-- Nothing is staged in any queue. Replacing a queue by one with equal staged items leaves nothing staged.
 pub committed-set : (qs : List Keyed) (i : ℕ) (q next : Keyed) → AreCommitted qs → i < length qs → q ≡ get_or qs i q → next.slots.staged ≡ q.slots.staged → AreCommitted (set qs i next)
 committed-set qs i q next all inside is same = committed-at qs i next all (same ∙ staged-of-none-at qs i q all inside is)
 

@@ -18,8 +18,8 @@ delivered None chosen queued = nothing
 delivered (Some unit) true queued = record { queued = queued; dropped = 1 - queued; rest = false }
 delivered (Some unit) false queued = record { queued = queued; dropped = length (packets_of unit) - queued; rest = nat_lt 0 (length (rest_of unit)) }
 
--- the state after some of a unit's packets: the items that went into the queues, the queues with them, and the number
--- of these items
+-- Some of a unit's packets went into their queues. `now` are the queues with these items, and `queued` is the number of
+-- the items.
 pub record IsOnItsWay (base : List StoredQueue) (left all : List (List ℕ)) (queued : ℕ) (now : List StoredQueue) : Type 0 where
   pub made : List Placed
   pub free : List ℕ

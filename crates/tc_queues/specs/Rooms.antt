@@ -19,7 +19,7 @@ slotted items capacity behind size = record { ring = buffer items capacity; stag
 abbrev pub HaveSize : ℕ → List Contents → Type 0
 HaveSize size rooms = AllByRecursion (λ (r : Contents). r.size ≡ size) rooms
 
--- a ring with a room at each of its places
+-- a ring of this capacity has a room at each of its places
 pub record IsFull (capacity : ℕ) (rooms : List Contents) : Type 0 where
   pub full : length rooms ≡ capacity
   pub small : capacity < 2 ^ 63

@@ -27,7 +27,7 @@ use tc_packet::{Ended, GrowingRoom, LARGEST_UNIT, Room, Runs};
 pub struct Queues<R: Room> {
     queues: BoxedSlice<Queue<R>>,
     // The table has an entry for each possible APID: the place of the queue with that key, or the number of queues if
-    // there is none. It is empty if there are fewer than 8 queues, or too many for a table.
+    // there is none. The table is empty if there are fewer than 8 queues, or too many for a table.
     table: BoxedSlice<u16>,
 }
 

@@ -27,7 +27,7 @@ pub struct Delivery {
 pub struct FrameReply {
     /// FARM-1's event, and whether the frame was accepted.
     pub act: Act,
-    /// The outcome for the unit that the frame ended. An AD frame ends none before its release.
+    /// The outcome for the unit that the frame ended. A Type-AD frame ends no unit before its data field is released.
     pub delivery: Delivery,
 }
 

@@ -136,8 +136,8 @@ impl<J: Journal> DeskOf<J> {
         Ok(unit)
     }
 
-    /// Creates a watcher of this desk's board, which has seen the channel as it is. The call requests no more memory
-    /// than [`Publisher::watcher`] does.
+    /// Creates a watcher of this desk's board, which has seen the whole journal of the channel. The call requests no
+    /// more memory than [`Publisher::watcher`] does.
     pub fn watcher(&mut self) -> Result<Watcher, NoMemory>
         ensures board { IfOk result (λ watcher. watcher.board ≡ self.old.board) }
         ensures seen { IfOk result (λ watcher. watcher.seen ≡ self.old.channel) }
@@ -151,8 +151,8 @@ impl<J: Journal> DeskOf<J> {
         self.publisher.watcher()
     }
 
-    /// Lets a watcher of this desk's board see the channel as it is, so that each of its later reads shows that moment
-    /// or a later one.
+    /// Lets a watcher of this desk's board see the whole journal of the channel. Each later read of the watcher then
+    /// shows this moment or a later one.
     pub fn meet(&mut self, watcher: &mut Watcher)
         requires { watcher.old.board ≡ self.old.board }
         ensures desk { self.new ≡ self.old }

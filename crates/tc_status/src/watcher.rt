@@ -48,8 +48,8 @@ impl Watcher {
     }
 }
 
-/// Lets a watcher see the history that its publisher has published, so that each of its later reads shows that moment
-/// or a later one.
+/// Lets a watcher see the history that its publisher has published. Each later read of the watcher then shows this
+/// moment or a later one.
 pub fn meet(publisher: &mut Publisher, watcher: &mut Watcher)
     requires { watcher.old.board ≡ publisher.old.board }
     ensures publisher { publisher.new ≡ publisher.old }

@@ -37,7 +37,7 @@ impl Counts {
     }
 
     /// Writes the next telemetry frame of a virtual channel with [`write_tm`], and advances both counts. If the frame
-    /// can't be written, the counts stay as they are.
+    /// can't be written, the counts don't change.
     ///
     /// The only allocation is the frame.
     pub fn next_frame(

@@ -27,7 +27,7 @@ limit map_id octets = record { map = map_id; octets = octets }
 abbrev chosen : ℕ → MapSetting
 chosen map_id = record { map = map_id; capacity = 1 }
 
--- allowed settings without queues, first without MAPs and then with two MAPs
+-- ---- allowed settings without queues, first without MAPs and then with two MAPs
 no-maps : (segmented : Bool) → IsAllowed (channel_of segmented 63 2 1 [] [])
 no-maps segmented = record {
   vcid = lit≤ tt;
