@@ -79,7 +79,6 @@ cond-true : (b : Bool) → bit b ≡ 0 → b ≡ false
 cond-true true h = absurd (omega (arith, h))
 cond-true false h = refl
 
--- if there are no makers, no seat is one
 makers-none : {D E : Type 0} (views : List (View D E)) (id : ℕ) (v : View D E) → makers_in views ≡ 0 → get_elem? views id ≡ some v → v.maker ≡ false
 makers-none [] id v empty here = absurd (some-ne-none v (sym here))
 makers-none {D = D} {E = E} (x ∷ xs) zero v empty here =
@@ -182,7 +181,6 @@ module _ {S D E : Type 0} (log : S → Log D E) (fits : S → Type 0) (top : D) 
   again : (words : List ℕ) (homes : List (Option S)) (views : List (View D E)) (id : ℕ) (v : View D E) → get_elem? views id ≡ some v → IsLock log fits top words homes views → IsLock log fits top words homes (set views id v)
   again words homes views id v at b = subst (λ l. IsLock log fits top words homes l) (sym (set_again views id v at)) b
 
-  -- the lock isn't free while a seat has it
   not-free : (s : State S (View D E)) (id : ℕ) (v : View D E) (b : Recorded s) → get_elem? s.views id ≡ some v → v.locks ≡ true → IsTakenOut s.words s.homes
   not-free s id v b at locks = ⊎_elim (λ (f : IsFree log fits s.words s.homes b.now b.holder). absurd (some-ne-none id (sym ((b.seats id v at).locks locks).0 ∙ f.nobody))) (λ (t : IsTakenOut s.words s.homes). t) b.lock
 
@@ -473,7 +471,6 @@ module _ {S D E : Type 0} (log : S → Log D E) (fits : S → Type 0) (top : D) 
   pub reports : (d : D) (id : ℕ) (v : View D E) (other : ℕ) (w : View D E) → id ≡ 0 → v.live ≡ true → w.live ≡ true → w.maker ≡ true → Joins Recorded id v other w (reported_of v w) (gone d)
   reports d id v other w is_first live live' maker = subst (λ (i : ℕ). Joins Recorded i v other w (reported_of v w) (gone d)) (sym is_first) (reports-first d v other w live live' maker)
 
-  -- a load leaves the word as it is
   word-stays : (s : State S (View D E)) (b : Recorded s) → set s.words 16 (slice_index s.words 16) ≡ s.words
   word-stays s b = ⊎_elim
       (λ (f : IsFree log fits s.words s.homes b.now b.holder). subst (λ (ws : List ℕ). set ws 16 (slice_index ws 16) ≡ ws) (sym f.word) refl)

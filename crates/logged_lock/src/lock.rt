@@ -146,8 +146,8 @@ impl<S: Logged<D, E>, D: Head, E> LoggedLock<S, D, E> {
         self.table.shared.peek(WORD).min(ASKED)
     }
 
-    // Looks at the word for a while, as long as the lock is taken and no thread sleeps. Returns the last word that it
-    // saw.
+    // Looks at the word for a while, as long as the lock is taken and no thread sleeps. Returns the last word that the
+    // thread saw.
     fn spin(&self) -> u64
         ensures { result ≤ 4 }
     {

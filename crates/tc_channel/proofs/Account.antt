@@ -1,4 +1,5 @@
--- Each field of a stream has its share. The proof goes field by field, by the run that the fields before it left.
+-- Each field of a stream has its share. The proof goes field by field, and follows the run that the earlier fields
+-- left.
 use Rattle.tc_channel.proofs.Names.{◌≡◌, ℕ, ◌≤◌, ◌⊎◌, Bool, true, false, eqb, ◌&&◌, List, [], ◌∷◌, ◌++◌, length, Option, Some, None, refl, sym, ap, subst, ◌∙◌, inl, inr, append_assoc, arith, nat_tests, append-nil, length-append, Part, Service, Bd, Passed, at_most, ended_by, is_of, open_run, same_service, stream, Settings, as_list, Ad}
 use Rattle.tc_packet.specs.declared.segment.Part.TheVariants.{Last, Unsegmented, First, Continuing}
 use Rattle.tc_packet.specs.Segment.{body_of, header_of}

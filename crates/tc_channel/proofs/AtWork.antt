@@ -16,7 +16,6 @@ nothing-left : (segmented : Bool) → run_left segmented [] ≡ None
 nothing-left true = refl
 nothing-left false = refl
 
--- no run is open at the start
 pub none-open : (limits : ℕ → ℕ) (store : Store) (segmented : Bool) → store.segmented ≡ segmented → ((place : ℕ) → run_at (open_runs store).runs place ≡ None) → AreRuns limits (open_runs store) segmented []
 none-open limits store segmented is none = record { segmented = is; runs = λ service map_id small. ap (at_most (limits map_id)) (nothing-left store.segmented) ∙ sym (none (place_of service map_id)) }
 
@@ -52,7 +51,6 @@ packet-is apid k = ap oldest (packets-wait apid k.holds)
 pub unit-is : {limits : ℕ → ℕ} {s : Settings} {journal : List Event} {parts : Parts} (map_id : ℕ) → HoldsInRooms limits s journal parts → unit_reply_within limits s journal map_id ≡ oldest_for map_id (rings_in parts.units)
 unit-is map_id k = ap oldest (units-wait map_id k.holds)
 
--- the number of queues is the number of queues in the settings
 pub queue-count : {limits : ℕ → ℕ} {s : Settings} {journal : List Event} {parts : Parts} → HoldsInRooms limits s journal parts → length parts.queues ≡ length s.queues
 queue-count {limits} {s} {journal} {parts} k =
     sym (length-map parts.queues ring_in) ∙ ap length k.holds.queues ∙ length-map (run_within limits s journal).queues stored
@@ -75,7 +73,6 @@ can-pass k = record {
   units_committed = k.units_committed;
 }
 
--- if nothing was touched, limits and rooms are kept
 pub none-touched : (store : Store) (queues units : List Keyed) → CanPassOn store queues units → KeepRooms store queues units store queues units
 none-touched store queues units k = record { limits_are = λ _. refl; segmented = refl; sizes = refl; unit_sizes = refl; committed = k.committed; units_committed = k.units_committed }
 
@@ -154,7 +151,6 @@ pub still-holds : {limits : ℕ → ℕ} {s : Settings} {journal : List Event} {
 still-holds {journal = journal} {parts = parts} store queues units k runs_are queues_are units_are rooms =
     holds-on journal (record parts { store = store; queues = queues; units = units }) k (rw (runs_are, queues_are, units_are) k.holds) refl k.fields_committed rooms
 
--- if an item was copied out, an item waited
 copied-waits : (room key : ℕ) (ws : List StoredQueue) → OnOk (copied_out room (items_for key ws)) (IsSome (oldest_for key ws))
 copied-waits room key ws = by (items_for key ws) where
   over : (item : List ℕ) (t : Bool) → OnOk (cond t (Err (NoRoom (length item))) (Ok (length item))) (IsSome (Some item))

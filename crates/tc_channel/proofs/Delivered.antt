@@ -9,7 +9,6 @@ use Rattle.tc_channel.proofs.Shares.{queued-is}
 use Rattle.tc_channel.proofs.StateQueues.{keys, queues-apart, units-apart}
 use Rattle.tc_channel.proofs.Takes.{same-keys}
 
--- no more items are queued than there are
 queued-few : (wanted : ℕ → List ℕ → Bool) → IsForOneKey wanted → (items : List (List ℕ)) (qs : List Queue) → AreDistinct (keys qs) → queued_of wanted items qs ≤ length items
 queued-few wanted alone items qs apart =
     let distinct : AreDistinct (keys_of (map stored qs)) = rw (same-keys qs) apart in

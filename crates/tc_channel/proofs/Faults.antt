@@ -44,7 +44,7 @@ two-apart key one other ne _ _ d before inside = absurd (omega arith)
 pub not-two-apart : {A : Type 0} (key : A → ℕ) (one other : A) → key one ≡ key other → ¬ AllPairs (λ p q. key p ≢ key q) (one ∷ other ∷ [])
 not-two-apart key one other same apart = apart 0 1 one (omega arith) (omega arith) same
 
--- if settings have a fault and are free of those listed before it, it is the first one
+-- if settings have a fault and are free of those listed before it, it is their first fault
 pub first-of : (s : Settings) (before later : List SettingsFault) (fault : SettingsFault) → AllByRecursion (IsFreeOf s) before → ¬ IsFreeOf s fault → IsFirstFault s (before ++ fault ∷ later) fault
 first-of s [] later fault free has = inl (refl, has)
 first-of s (b ∷ before) later fault free has = inr (free.0, first-of s before later fault free.1 has)

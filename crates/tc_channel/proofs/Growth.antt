@@ -88,7 +88,6 @@ run_from-grows c b (e ∷ es) = then b (step c b e) (run_from c (step c b e) es)
 pub run-grows : (limits : ℕ → ℕ) (c : Settings) (past future : List Event) → Grows (run_within limits c past) (run_within limits c (past ++ future))
 run-grows limits c past future = rw (run-append limits c past future) (run_from-grows c (run_within limits c past) future)
 
--- the key and the capacity of a queue
 abbrev pub key_and_capacity : Queue → ℕ × ℕ
 key_and_capacity q = (q.key, q.capacity)
 

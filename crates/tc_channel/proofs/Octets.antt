@@ -49,7 +49,6 @@ packets-within limits s journal = omega (arith, waiting-within (run_within limit
 pub units-within : (limits : ℕ → ℕ) (s : Settings) (journal : List Event) → waiting_in_all (run_within limits s journal).units ≤ units_stored s
 units-within limits s journal = omega (arith, waiting-within (run_within limits s journal).units (units-kept limits s journal), (room-stays limits s journal).1)
 
--- the item is no longer than the largest unit
 abbrev IsShort : List ℕ → Type 0
 IsShort item = length item ≤ largest_unit
 

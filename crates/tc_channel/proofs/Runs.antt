@@ -1,4 +1,4 @@
--- A run goes on by one event, or by several.
+-- The run after one more event, or after several.
 use Rattle.tc_channel.proofs.Names.{ℕ, ◌≡◌, List, [], ◌∷◌, ◌++◌, map, refl, subst, ◌∙◌, append_assoc, append-nil, Settings, Event, ChannelState, first_state_within, buffer, HasStep, step, run_from, AreRuns, Inside, HoldsWithin, stored, run_within, IsLawfulWithin}
 use Rattle.tc_channel.specs.Run.{AreSteps}
 
@@ -65,7 +65,7 @@ keeps-from : (P : ChannelState → Type 0) (c : Settings) (b : ChannelState) (es
 keeps-from P c b [] steps each h = h
 keeps-from P c b (e ∷ es) steps each h = keeps-from P c (step c b e) es steps.1 each (each b e steps.0 h)
 
--- a property that holds at first, and that each step which can happen keeps, holds after each lawful journal
+-- a property holds after each lawful journal if it holds at first and each step that can happen keeps it
 pub keeps : (P : ChannelState → Type 0) (limits : ℕ → ℕ) (c : Settings) (journal : List Event) → IsLawfulWithin limits c journal → ((b : ChannelState) (e : Event) → HasStep c b e → P b → P (step c b e)) → P (first_state_within limits c) → P (run_within limits c journal)
 unfolding run_within IsLawfulWithin
 keeps P limits c journal lawful each h = keeps-from P c (first_state_within limits c) journal lawful each h
@@ -74,7 +74,7 @@ always-from : (P : ChannelState → Type 0) (c : Settings) (b : ChannelState) (e
 always-from P c b [] each h = h
 always-from P c b (e ∷ es) each h = always-from P c (step c b e) es each (each b e h)
 
--- a property that holds at first, and that any step keeps, holds after each journal
+-- a property holds after each journal if it holds at first and each step keeps it
 pub always : (P : ChannelState → Type 0) (limits : ℕ → ℕ) (c : Settings) (journal : List Event) → ((b : ChannelState) (e : Event) → P b → P (step c b e)) → P (first_state_within limits c) → P (run_within limits c journal)
 unfolding run_within
 always P limits c journal each h = always-from P c (first_state_within limits c) journal each h

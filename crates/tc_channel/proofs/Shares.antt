@@ -54,7 +54,6 @@ kept-stored _ _ octets b rings unit_rings other h = h
 none-with : (wanted : ℕ → List ℕ → Bool) (q : Queue) → with_share wanted [] q ≡ q
 none-with wanted q = rw (take-nil {A = List ℕ} (q.capacity - (length q.admitted - q.taken)), append-nil q.admitted) refl
 
--- if no item is offered, the queues stay the same
 pub shares-none : (wanted : ℕ → List ℕ → Bool) (qs : List Queue) → with_shares wanted [] qs ≡ qs
 shares-none wanted [] = refl
 shares-none wanted (q ∷ qs) = ap (λ (x : Queue). x ∷ with_shares wanted [] qs) (none-with wanted q) ∙ ap (λ (x : List Queue). q ∷ x) (shares-none wanted qs)
@@ -86,7 +85,6 @@ delivered-stored field unit rings later unit_rings later_units d b kept kept_uni
           (from-copies (is_of_map (map_of field)) (units_offered unit (is_chosen b field)) unit_rings (placed is.whole) fit whole) is.units_are,
     )
 
--- if no unit is offered, the queues stay the same
 nothing-offered : (field : List ℕ) (unit : Option (List ℕ)) (rings unit_rings : List StoredQueue) (b : ChannelState) → unit ≡ None → AreStored rings unit_rings (offered field unit b) → AreStored rings unit_rings b
 nothing-offered field unit rings unit_rings b none are =
     let e : AreStored rings unit_rings (offered field None b) = rw none at are in
@@ -150,7 +148,6 @@ pub release-delivery : (limits : ℕ → ℕ) (b : ChannelState) (open_runs : Op
     → EndsWithin (limits (map_of (first_of (buffer b)))) open_runs Ad (first_of (buffer b)) unit → IsDelivered (map_of (first_of (buffer b))) unit rings later unit_rings later_units d → d ≡ release_reply_at b
 release-delivery limits b open_runs unit rings later unit_rings later_units d limit are stored_are ends is = delivery-is (first_of (buffer b)) unit rings later unit_rings later_units d b stored_are is ∙ ap (λ (x : Option (List ℕ)). delivery_of (first_of (buffer b)) x b) (ends-unit limits Ad (first_of (buffer b)) b open_runs unit limit are ends)
 
--- a frame of any row but E6 ends no unit at once
 other-none : (row : Row) (octets : List ℕ) (b : ChannelState) → row ≢ E6 → ended_at_once row octets b ≡ None
 other-none E6 octets b h = absurd (h refl)
 other-none _ octets b h = refl

@@ -10,7 +10,6 @@ all-least : (least size count : ℕ) → least ≤ size → AllByRecursion (λ (
 all-least least size zero le = tt
 all-least least size (suc count) le = (le, all-least least size count le)
 
--- the place of a stream is below 128
 pub place-below : (service : Service) (field : List ℕ) → stream_place service field < 128
 place-below Ad field = omega arith
 place-below Bd field = omega arith
@@ -27,7 +26,6 @@ fits-unit store place field (Some octets) sizes inside small enough short within
     item true on = rw on (let s = small place inside in omega (arith, within))
     item false off = rw off (let s = shorter off in omega (arith, short))
 
--- a unit within the limit of its stream is no longer than the largest unit
 pub within-all : (store : Store) (place : ℕ) (o : Option (List ℕ)) → place < 128 → AreSmall store → IsAtMost (limit_at store place) o → IsAtMost 65542 o
 within-all store place None inside small within = tt
 within-all store place (Some octets) inside small within = let s = small place inside in omega (arith, within)

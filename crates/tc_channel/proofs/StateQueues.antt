@@ -114,7 +114,6 @@ kept-both limits c journal =
     run-both limits AreKept AreKept kept-go-on kept-go-on c journal
     (all-map KeepsToItsCapacity empty_queue c.queues (λ q. record { taken = omega arith; capacity = omega arith })) (all-map KeepsToItsCapacity empty_unit_queue c.maps (λ m. record { taken = omega arith; capacity = omega arith }))
 
--- no queue holds more than its capacity
 pub queues-kept : (limits : ℕ → ℕ) (c : Settings) (journal : List Event) → AreKept (run_within limits c journal).queues
 queues-kept limits c journal = (kept-both limits c journal).0
 

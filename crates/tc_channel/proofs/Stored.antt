@@ -82,7 +82,6 @@ released-report : (c : Settings) (b : ChannelState) → (step c b Release).repor
 unfolding passed_on
 released-report c b = refl
 
--- if the buffer has a field, a release can happen
 has-release : (b : ChannelState) → 0 < length (buffer b) → b.released < length b.accepted
 has-release b h = omega (arith, length-map (drop b.released b.accepted) (λ (a : Accepted). a.field), length-drop b.released b.accepted)
 

@@ -47,7 +47,6 @@ popped-taken key (p ∷ qs) q apart is some = elim (eqb_tells p.key key) [
       head ∙ ap (λ (x : List StoredQueue). stored p ∷ x) rest ∙ sym tail)
 ]
 
--- if an item waits in the queue, the event of its take can happen
 pub can-take : (key : ℕ) (qs : List Queue) (q : Queue) → queue_of key qs ≡ Some q → q.taken < length q.admitted → HasItem key qs
 can-take key [] q is some = absurd cc
 can-take key (p ∷ qs) q is some = elim (eqb_tells p.key key) [
@@ -95,12 +94,10 @@ items-map (Some q) = refl
 items-wait : (key : ℕ) (rings : List StoredQueue) (qs : List Queue) → rings ≡ map stored qs → option_map waiting (queue_of key qs) ≡ items_for key rings
 items-wait key rings qs are = rw are (items-map (queue_of key qs) ∙ ap (option_map (λ (w : StoredQueue). w.ring.items)) (sym (stored-queue key qs)))
 
--- the packets that wait for an application are those in the stored queues
 pub packets-wait : {limits : ℕ → ℕ} {c : Settings} {j : List Event} {i : Inside} (apid : ℕ) → HoldsWithin limits c j i → waiting_packets_within limits c j apid ≡ items_for apid i.rings
 unfolding waiting_packets_within
 packets-wait {limits} {c} {j} {i} apid k = items-wait apid i.rings (run_within limits c j).queues k.queues
 
--- the units of a MAP that wait are those in the stored queues
 pub units-wait : {limits : ℕ → ℕ} {c : Settings} {j : List Event} {i : Inside} (map_id : ℕ) → HoldsWithin limits c j i → waiting_units_within limits c j map_id ≡ items_for map_id i.unit_rings
 unfolding waiting_units_within
 units-wait {limits} {c} {j} {i} map_id k = items-wait map_id i.unit_rings (run_within limits c j).units k.units
@@ -114,7 +111,6 @@ queues-distinct {limits} {c} {j} k = rw (k.queues, same-keys (run_within limits 
 pub units-distinct : {limits : ℕ → ℕ} {c : Settings} {j : List Event} {i : Inside} → HoldsWithin limits c j i → AreDistinct (keys_of i.unit_rings)
 units-distinct {limits} {c} {j} k = rw (k.units, same-keys (run_within limits c j).units) (units-apart limits c j k.allowed)
 
--- if items wait, one is taken
 pub one-is-taken : {A : Type 0} (f : A → List ℕ) (taken : Option A) (n : ℕ) (waiting : Option (List (List ℕ))) → Some n ≡ option_map length waiting → n ≢ 0 → option_map f taken ≡ option_and_then (λ items. slice_get items 0) waiting → IsSome taken
 one-is-taken f (Some x) n waiting count some is = refl
 one-is-taken f None n (Some []) count some is = absurd (some (let e : n ≡ 0 = cc in e))

@@ -1,5 +1,5 @@
 -- An account of all data fields of a stream. A field that is in no unit and in no open run is lost, and no reply
--- reports that.
+-- reports the loss.
 use Rattle.std.specs.Prelude.{◌≡◌, ◌≤◌, ◌⊎◌, ℕ, List, [], ◌∷◌, ◌++◌, length, Option, Some, None, if◌then◌else◌}
 use Rattle.std.specs.List.{AllByRecursion, flat_map}
 use Rattle.tc_packet.specs.declared.segment.Part.TheVariants as parts
@@ -65,7 +65,7 @@ AreAllSegments fields =
 abbrev pub AreWithin : ℕ → List (List ℕ) → Type 0
 AreWithin limit fields = (length (joined_bodies fields) ≤ limit) × (length (joined_bodies fields) ≤ largest_unit)
 
--- the next field begins a unit
+-- the first of these fields begins a unit
 abbrev pub BeginUnit : List (List ℕ) → Type 0
 BeginUnit [] = ⊥
 BeginUnit (next ∷ after) = IsPart parts.First next ⊎ IsPart parts.Unsegmented next

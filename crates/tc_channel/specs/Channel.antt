@@ -32,7 +32,7 @@ pub record FollowsWithin (limit : ℕ) (old new : OpenRuns) (service : Service) 
   pub others : (other : ℕ) → other ≢ stream_place service field → run_at new.runs other ≡ run_at old.runs other
   pub segmented : new.segmented ≡ old.segmented
 
--- the data field of a BD frame is passed on at once, and that of any other frame isn't
+-- the data field of a Type-BD frame is passed on at once, and no other frame's data field is
 abbrev pub FollowsKindWithin : ℕ → Kind → OpenRuns → OpenRuns → List ℕ → Type 0
 FollowsKindWithin limit kinds.Bd old new field = FollowsWithin limit old new Bd field
 FollowsKindWithin limit (kinds.Ad ns) old new field = new ≡ old

@@ -54,8 +54,8 @@ abbrev pub CountsUpInItsEraWithin : (ℕ → ℕ) → Settings → List Event �
 CountsUpInItsEraWithin limits s journal = (before later : List Event) (x : ℕ) → IsEraWithin limits s journal before later x → CountsUpWithin limits s journal before x
 
 -- The frame is one of a sender whose frame i, counted from 0, has N(S) = x + i modulo 256 and the data field `sent i`.
--- Here i is the field `number`. The frame comes when i and the number of accepted frames differ by less than 256, so
--- that no two frames are taken for one another.
+-- Here i is the field `number`. The frame comes when i and the number of accepted frames differ by less than 256, so no
+-- frame can be mistaken for another.
 pub record IsSent (x : ℕ) (sent : ℕ → List ℕ) (accepted : ℕ) (octets : List ℕ) : Type 0 where
   pub number : ℕ
   pub ns : (header_of octets).ns ≡ (x + number) % 256

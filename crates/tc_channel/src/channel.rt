@@ -58,7 +58,7 @@ pub type Channel = ChannelWith<Recorded>;
 /// simulations. It behaves like [`Channel`], by the same proof, but it can't return its journal.
 pub type CountingChannel = ChannelWith<Unrecorded>;
 
-/// The name that [`CountingChannel`] had before version 0.3.0. The next version no longer has it.
+/// The name that [`CountingChannel`] had before version 0.3.0. The next version no longer has this name.
 pub type FlightChannel = CountingChannel;
 
 impl<J: Journal> Model for ChannelWith<J> {

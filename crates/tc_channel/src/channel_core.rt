@@ -56,8 +56,8 @@ impl<R: Room> Model for ChannelCore<R> {
 }
 
 impl<R: Room> ChannelCore<R> {
-    /// Creates the core of a channel that starts. It has these runs, none of which is open, a room for each data field
-    /// of the buffer, and rooms of `size` octets for packets and units.
+    /// Creates the core of a channel that starts. The core has the runs `runs`, none of which is open. It has a room
+    /// for each data field of the buffer, and rooms of `size` octets for packets and units.
     pub fn new<C: Tick>(
         alloc: Global,
         settings: &Settings,

@@ -1,4 +1,4 @@
-//! Laws about the data that leaves a channel. It is part of the data that came in, in the same order.
+//! Laws about the data that leaves a channel. This data is part of the data that came in, and leaves in the same order.
 #![tactic(auto, using(crate::proofs::Closing::flow))]
 
 ghost use Rattle.std.specs.Prelude.{◌≡◌, ◌≤◌, ◌∷◌, ◌+◌, ◌%◌, ℕ, true, List, [], Some, length, map, take};
@@ -57,8 +57,8 @@ pub fn what_was_passed_on_is_admitted_in_order()
 /// fields that were sent. Their number is the number of released fields. If no Set V(R) was obeyed, the era is the
 /// whole journal.
 ///
-/// The packets ever taken for an application are, in order, packets made from the passed fields, whoever sent the
-/// frames. Some may be left out. This also holds for the units of a chosen MAP.
+/// The packets ever taken for an application are, in order, packets made from the passed fields, for frames of any
+/// sender. Some may be left out. This also holds for the units of a chosen MAP.
 pub fn what_was_sent_is_given_in_order()
     ensures fields { (limits : ℕ → ℕ) (s : Settings) (journal before later : List Event) (x : ℕ) (sent : ℕ → List ℕ) → IsLawfulWithin limits s journal
         → IsEraWithin limits s journal before later x → ComesFromWithin limits s before later x sent

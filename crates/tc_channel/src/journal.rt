@@ -9,8 +9,9 @@ use crate::lent::LentEvent;
 use crate::unrecorded::EventsSeen;
 use std::alloc::{AllocError, Global};
 
-/// The journal of a channel: all events of the channel, the oldest first. The contracts of a channel refer to them,
-/// whether the journal keeps them in memory ([`Recorded`](crate::Recorded)) or not ([`Unrecorded`](crate::Unrecorded)).
+/// The journal of a channel: all events of the channel, the oldest first. The contracts of a channel refer to these
+/// events, whether the journal keeps them in memory ([`Recorded`](crate::Recorded)) or not
+/// ([`Unrecorded`](crate::Unrecorded)).
 pub trait Journal: Drop {
     /// The entry of an event. It is created before the channel changes, so that nothing can be refused after the
     /// change.

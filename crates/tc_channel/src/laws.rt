@@ -165,7 +165,7 @@ pub fn a_sender_s_frames_may_come_so()
     ensures too_early { IsSent 0 (example.sent_as 256 (field_of (example.packet_octets 0))) 0 (example.packet_octets 0) → ⊥ }
 {}
 
-/// Whatever came before, an Unlock and then a Set V(R) to x lead a channel to S1 with V(R) x and no flag set.
+/// After any journal, an Unlock and then a Set V(R) to `x` lead a channel to S1, with V(R) at `x` and no flag set.
 pub fn unlock_and_set_v_r_open_a_channel()
     ensures { (limits : ℕ → ℕ) (s : Settings) (journal : List Event) (unlock set_v_r : List ℕ) (x : ℕ)
         → kind_of (header_of unlock) (field_of unlock) ≡ Kind.Bc Command.Unlock → kind_of (header_of set_v_r) (field_of set_v_r) ≡ Kind.Bc (Command.SetVr x)

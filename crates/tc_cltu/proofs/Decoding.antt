@@ -37,7 +37,6 @@ pub block-counted : (count : Option Fate → ℕ) (mode : Mode) (room : ℕ) (fr
 block-counted count mode room frame (a ∷ b ∷ c ∷ d ∷ e ∷ f ∷ g ∷ h ∷ []) none eight = omega (arith, none)
 block-counted count mode room frame _ none eight = absurd (omega arith)
 
--- after the eight octets of a block, the state is that after the block
 pub block-state : (mode : Mode) (room : ℕ) (frame block : List ℕ) → length block ≡ 8 → state_after mode room (Decoding frame []) block ≡ (after_block room frame (decoded mode block)).0
 block-state mode room frame (a ∷ b ∷ c ∷ d ∷ e ∷ f ∷ g ∷ h ∷ []) eight = refl
 block-state mode room frame _ eight = absurd (omega arith)
@@ -203,7 +202,7 @@ body-given mode room frame rest each some fits =
     ∙ blocks-taken mode room (filled frame) [] (tail_sequence ++ rest) (filled-octets frame each) (filled-sevens frame) (omega arith)
     ∙ tail-ends-some mode room (filled frame) rest (filled-some frame some)
 
--- a CLTU yields its frame, whatever octet came last before it
+-- a CLTU yields its frame after any octet
 pub cltu-given : (mode : Mode) (room last : ℕ) (frame rest : List ℕ) → IsOctets frame → 0 < length frame → length (filled frame) ≤ room
     → frames_of mode room (Searching last) (cltu frame ++ rest) ≡ filled frame ∷ frames_of mode room (Searching 0) rest
 cltu-given mode room last frame rest each some fits =
@@ -374,7 +373,6 @@ last-fate mode room octet last count frame block decoding value f on more less l
     subst (λ (v : Receiver). Some f ≡ fate_of v.mode room v.state octet) view
     (sym (ap (λ (x : Reception). fate_of mode room x octet) state ∙ ap (λ (t : Bool). if t then None else Some (fate_after mode room frame (take 7 block ++ octet ∷ []))) whole ∙ ap Some (sym is)))
 
--- a code block adds at most 1 to each count
 pub one-counted : (fate : Option Fate) → (corrections_of fate ≤ 1) × (rejections_of fate ≤ 1) × (overruns_of fate ≤ 1)
 one-counted None = (omega arith, omega arith, omega arith)
 one-counted (Some Right) = (omega arith, omega arith, omega arith)
@@ -429,11 +427,9 @@ taken-more room first before after os left rest given more mode t u =
           ∙ sym (ap (λ (m : Mode). frames_of m room before.state (take k left)) mode) ∙ u.frames);
     }
 
--- nothing has been processed yet
 pub taken-none : (room : ℕ) (first : Receiver) (os : List ℕ) → IsTaken room first first os os []
 taken-none room first os = record { count = 0; within = omega arith; left = refl; state = refl; frames = refl }
 
--- if no rest is left, all octets were processed
 pub taken-all : (room : ℕ) (first after : Receiver) (os rest : List ℕ) (given : List (List ℕ)) → rest ≡ [] → IsTaken room first after os rest given
     → (after.state ≡ state_after first.mode room first.state os) × (frames_of first.mode room first.state os ≡ given)
 taken-all room first after os rest given none t =

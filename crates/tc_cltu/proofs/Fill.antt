@@ -7,7 +7,6 @@ filled-few [] some few = absurd (omega arith)
 filled-few (a ∷ b ∷ c ∷ d ∷ e ∷ f ∷ g ∷ os) some few = absurd (omega arith)
 filled-few _ some few = refl
 
--- the first seven octets make the first code block
 pub first-block : (os : List ℕ) → 7 ≤ length os → code_blocks (filled os) ≡ code_block (take 7 os) ++ code_blocks (filled (drop 7 os))
 first-block (a ∷ b ∷ c ∷ d ∷ e ∷ f ∷ g ∷ os) some = refl
 first-block _ some = absurd (omega arith)

@@ -103,7 +103,6 @@ pub random-twice : (os : List ℕ) (r : ℕ) → randomised_from r (randomised_f
 random-twice [] r = refl
 random-twice (o ∷ os) r = ap (λ (x : ℕ). x ∷ randomised_from (octet_on r) (randomised_from (octet_on r) os)) (twice o r) ∙ ap (λ (x : List ℕ). o ∷ x) (random-twice os (octet_on r))
 
--- zeros become the sequence itself
 pub random-zeros : (n r : ℕ) → randomised_from r (replicate n 0) ≡ random_octets r n
 random-zeros zero r = refl
 random-zeros (suc n) r = ap (λ (x : ℕ). x ∷ randomised_from (octet_on r) (replicate n 0)) (xor_zero_l r) ∙ ap (λ (x : List ℕ). r ∷ x) (random-zeros n (octet_on r))

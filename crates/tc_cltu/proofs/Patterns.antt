@@ -104,7 +104,6 @@ differences-weight (b ∷ bs) (c ∷ cs) p q =
     let first = place b c p.0 q.0 in let rest = differences-weight bs cs p.1 q.1 in omega arith
 differences-weight _ _ p q = refl
 
--- lists without a difference are equal
 pub none-same : (bs cs : List ℕ) → length bs ≡ length cs → AreBits bs → AreBits cs → differences bs cs ≡ 0 → bs ≡ cs
 none-same [] [] l p q h = refl
 none-same (b ∷ bs) (c ∷ cs) l p q h =
@@ -128,7 +127,6 @@ by-way (b ∷ bs) (c ∷ cs) (d ∷ ds) l m p q r =
     let first = triple b c d p.0 q.0 r.0 in let rest = by-way bs cs ds (omega arith) (omega arith) p.1 q.1 r.1 in omega arith
 by-way _ _ _ l m p q r = absurd (omega arith)
 
--- adding a list twice changes nothing
 pub xors-back : (bs cs : List ℕ) → length bs ≡ length cs → xors bs (xors bs cs) ≡ cs
 unfolding xors
 xors-back [] [] l = refl

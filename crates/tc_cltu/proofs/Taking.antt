@@ -66,7 +66,6 @@ turned-last os last k l =
     turned-set (os ++ last ∷ []) k ∙ ap (λ (x : ℕ). set (os ++ last ∷ []) (k / 8) (bit_xor x (128 / 2 ^ (k % 8)))) (get_or_at os last [] 0 (k / 8) l)
     ∙ set_at os last [] _ (k / 8) l
 
--- a bit past the octets inverts nothing
 pub turned-past : (os : List ℕ) (k : ℕ) → 8 * length os ≤ k → flipped os k ≡ os
 turned-past os k past = turned-set os k ∙ set_past os (k / 8) _ (omega arith)
 

@@ -29,8 +29,8 @@ code_blocks _ = []
 abbrev pub cltu : List ℕ → List ℕ
 cltu frame = start_sequence ++ code_blocks (filled frame) ++ tail_sequence
 
--- the largest number of octets that a CLTU of this crate carries: those of 147 code blocks, which the longest frame
--- needs
+-- The largest number of octets that a CLTU of this crate carries. They fill 147 code blocks, as many as the longest
+-- frame needs.
 abbrev pub most_octets : ℕ
 most_octets = 1029
 

@@ -51,7 +51,7 @@ abbrev pub frames_of : Mode → ℕ → Reception → List ℕ → List (List �
 frames_of mode room state [] = []
 frames_of mode room state (octet ∷ octets) = (reception_step mode room state octet).1 ++ frames_of mode room (reception_step mode room state octet).0 octets
 
--- the fate of a code block that isn't accepted, and that of any code block
+-- The fate of a code block. `rejected_as` is the fate of a block that isn't accepted.
 abbrev pub rejected_as : List ℕ → Fate
 rejected_as block = if pointwise nat_eq block tail_sequence then Tail else Rejected
 
@@ -93,7 +93,7 @@ counted_in count mode room state [] = 0
 counted_in count mode room state (octet ∷ octets) =
     count (fate_of mode room state octet) + counted_in count mode room (reception_step mode room state octet).0 octets
 
--- the number of code blocks that are corrected, and of those that are rejected but aren't the tail sequence
+-- the number of corrected code blocks, and the number of rejected code blocks that aren't the tail sequence
 abbrev pub corrected_in : Mode → ℕ → Reception → List ℕ → ℕ
 corrected_in mode room state octets = counted_in corrections_of mode room state octets
 
@@ -140,7 +140,7 @@ abbrev pub IsSearching : Reception → Type 0
 IsSearching (Searching last) = Unit {0}
 IsSearching (Decoding frame block) = ⊥
 
--- a state that the receiving end can reach: less than a whole block waits
+-- the receiving end can reach this state, in which less than a whole block waits
 abbrev pub IsReception : Reception → Type 0
 IsReception (Searching last) = Unit {0}
 IsReception (Decoding frame block) = length block < 8

@@ -162,8 +162,8 @@ fn error_of(own: &[u8], last: u8, mode: Mode) -> Option<u64>
     }
 }
 
-/// Three counts: corrected code blocks, rejected code blocks that aren't the tail sequence, and CLTUs that carried too
-/// much.
+/// Three counts: corrected code blocks, rejected code blocks that aren't the tail sequence, and CLTUs that carried more
+/// than [`MOST_OCTETS`](crate::MOST_OCTETS).
 #[derive(Clone, Copy, Debug, PartialEq, Eq)]
 pub struct Blocks {
     pub corrected: u64,

@@ -8,8 +8,8 @@ use crate::block::parity;
 use std::alloc::{AllocError, Global};
 use thiserror::Error;
 
-/// The largest number of octets that a CLTU carries, fill included: those of 147 code blocks. The longest frame, of
-/// 1,024 octets, needs all of these blocks.
+/// The largest number of octets that a CLTU carries, fill included. They fill 147 code blocks, as many as the longest
+/// frame, of 1,024 octets, needs.
 pub const MOST_OCTETS: usize = 1029;
 
 /// The start sequence of a CLTU.

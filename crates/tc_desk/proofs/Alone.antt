@@ -29,7 +29,6 @@ placed-last : (at : ℕ) (es : List Event) (e : Event) → with_places at (es ++
 placed-last at [] e = ap (λ (n : ℕ). (n, e) ∷ []) (omega arith)
 placed-last at (x ∷ es) e = ap (λ l. (at, x) ∷ l) (placed-last (suc at) es e) ∙ ap (λ (n : ℕ). (at, x) ∷ (with_places (suc at) es ++ (n, e) ∷ [])) (omega arith)
 
--- a beginning that is as long as the whole is the whole
 whole-prefix : {A : Type 0} (xs ys : List A) → IsPrefix xs ys → length ys ≤ length xs → xs ≡ ys
 whole-prefix xs ys p le =
     let count : length xs + length p.0 ≡ length ys = sym (length-append xs p.0) ∙ ap (λ l. length l) p.1 in
@@ -67,7 +66,6 @@ alone-event before now e its later all =
 pub alone-look : (before : Own) (now : Moment) → HasSeenItsOwn before → IsBeginning before.seen now → HasMadeAll (looked now before) → HasMadeAll before × (now ≡ before.seen)
 alone-look before now its later all = same-moment before now its later all
 
--- at the moment of a call, the journal has at least as many events as the operator had seen
 longer : (before : Own) (now : Moment) → IsBeginning before.seen now → length before.seen.entries ≤ length now.entries
 longer before now later = omega (arith, sym (length-append before.seen.entries later.1.0) ∙ ap (λ l. length l) later.1.1)
 

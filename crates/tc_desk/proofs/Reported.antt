@@ -1,4 +1,5 @@
--- An owner learns of operators, one after the other, and of the number of events that they have made in all.
+-- The operators that are reported to an owner, one after the other, and the number of events that they have made in
+-- all.
 use Rattle.tc_desk.proofs.Names.{◌≡◌, ◌<◌, ◌≤◌, ◌+◌, ℕ, List, [], ◌∷◌, ◌++◌, length, map, take, get_or, min, refl, sym, ap, ◌∙◌, append_assoc, arith, ◌^◌, ◌-◌, length-map, total_made, Own, AtLock, AtHand, accounts_of, reported_at, column, nobody, sum_by, map_push, take_all}
 use Rattle.std.proofs.lemmas.List.Sums.{sum_by_more, sum_by-cons}
 use Rattle.std.proofs.lemmas.Simd.{map-map}

@@ -51,7 +51,7 @@ fresh-reverse hs all = λ k d lt.
     let long = length-reverse hs in let inside : k < length hs = omega (arith, long, lt) in
     subst IsFresh (sym (get_or-reverse hs k d inside)) (all (length hs - 1 - k) d (omega arith))
 
--- once all locks are taken, the guards in reverse are moments of the desks, in the order of the desks
+-- once all locks are taken, the reversed guards are moments of the desks, in the order of the desks
 pub all_guard : (owned_desks left : List AtLock) (guard back : List AtHand) → left ≡ [] → left ++ reverse (owners_of guard) ≡ owned_desks → back ≡ reverse guard → All IsFresh guard → AreMoments owned_desks back
 all_guard owned_desks left guard back none all is fresh = (
   ap owners_of is ∙ owners-reverse guard ∙ sym (ap (λ (l : List AtLock). l ++ reverse (owners_of guard)) none) ∙ all,

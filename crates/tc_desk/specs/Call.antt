@@ -1,4 +1,4 @@
--- The promises of a call by an operator.
+-- The definitions that the contracts of an operator's calls use.
 use Rattle.std.specs.Prelude.{◌≡◌, ◌≢◌, ◌-◌, ◌^◌, min, ⊤, ℕ, Bool, false, List, [], ◌∷◌, ◌++◌, length, Some, None, Result, MatchResult}
 use Rattle.tc_channel.specs.declared.event.Event.{Event}
 use Rattle.tc_channel.specs.declared.event.Event.TheVariants.{Frame}

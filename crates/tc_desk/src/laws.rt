@@ -41,7 +41,8 @@ pub fn each_event_stands_at_its_place()
         → (slice_get closed.entries (length now.entries) ≡ Some e) × (now ≡ record { head = closed.head; entries = take (length now.entries) closed.entries }) }
 {}
 
-/// A release is answered if a data field waits, and refused as empty if none does. It is never both.
+/// A release is answered if a data field waits, and refused as empty if none does. A release is never both answered and
+/// refused at one moment.
 pub fn a_release_finds_a_data_field()
     ensures { (m : Moment) (delivery : Delivery) → IsReleased m delivery → IsReleaseFault m ReleaseFault.Empty → ⊥ }
 {}

@@ -331,8 +331,8 @@ impl DeskOperator {
 }
 
 impl<J: Journal> LockedDesk<J> {
-    /// Creates a desk with a new channel behind a lock that is free, and its owner. It requests the memory of the desk
-    /// and of the lock.
+    /// Creates a desk with a new channel behind a lock that is free, and its owner. The call requests the memory of the
+    /// desk and of the lock.
     pub fn new(
         alloc: Global,
         settings: Settings,

@@ -280,9 +280,9 @@ pub fn close_together<J: Journal, C: OperatorList>(
     Ok(take_all_out(guards, room))
 }
 
-/// Takes the channels out of their locks, in the order of the desks, whoever made their events. The contract promises
-/// nothing about operators. Two lists are allocated before any lock is taken. The refusal is `NoMemory` or `InUse`, and
-/// all desks are returned with it.
+/// Takes the channels out of their locks, in the order of the desks, without a look at the operators. The contract
+/// promises nothing about operators. Two lists are allocated before any lock is taken. The refusal is `NoMemory` or
+/// `InUse`, and all desks are returned with it.
 pub fn take_out_together<J: Journal>(
     alloc: Global,
     owned_desks: Vec<OwnedDesk<J>>,

@@ -23,7 +23,6 @@ sum-is-remainder octets = record {
   divides = divides 15 12 5 4129 remainder register (bits_of octets) 65535 (bits-bits octets) (omega arith);
 }
 
--- a list of bits has only one remainder
 pub only-remainder : (r s : ℕ) (m : List ℕ) → IsRemainder r m → IsRemainder s m → r ≡ s
 unfolding times_generator
 only-remainder r s m one other =

@@ -15,7 +15,7 @@ use Rattle.tc_fixed.specs.declared.limits.LentLimits.{LentLimits}
 use Rattle.tc_fixed.specs.declared.limits.LimitsFault.{LimitsFault}
 use Rattle.tc_fixed.specs.declared.limits.LimitsFault.TheVariants as faults
 
--- the limit of a MAP, which is the one that is listed for it, or else that of the others
+-- the limit of a MAP: the listed limit if the MAP is listed, and otherwise `others`
 abbrev pub limit_in : List MapLimit → ℕ → ℕ → ℕ
 limit_in [] others map_id = others
 limit_in (m ∷ ms) others map_id = if m.map == map_id then m.octets else limit_in ms others map_id

@@ -30,8 +30,8 @@ pub struct MapLimit {
 #[derive(Debug, Drop, PartialEq, Eq)]
 pub struct Limits {
     /// The largest number of octets in a unit of each MAP that isn't listed, at most 65,542. If there are segment
-    /// headers, it may be 0, and such a MAP then completes only empty units. On a plain channel it is the limit of each
-    /// data field.
+    /// headers, this number may be 0, and such a MAP then completes only empty units. On a plain channel this is the
+    /// limit of each data field.
     pub others: u32,
     /// The MAPs with a limit of their own. No MAP is listed twice, and none is listed on a plain channel.
     pub maps: Items<MapLimit>,

@@ -16,7 +16,7 @@ const STREAMS: u128 = 128;
 /// Returns the number of bytes that [`FixedChannelWith::new`](crate::FixedChannelWith::new) requests from its allocator
 /// for these settings on a machine of 64 bits, provided that a channel can be created from them. The result is 2^64 - 1
 /// if the number is larger. No other call of the channel requests memory. The bytes that an allocator adds to a block
-/// aren't counted, and neither are the lists of the settings themselves, whose size the caller has chosen. The call
+/// aren't counted. The lists of the settings aren't counted either, since the caller has chosen their size. The call
 /// takes one step for each queue and each MAP, and no memory.
 pub fn storage(settings: &Settings) -> u64
     ensures { result ≡ min (storage_of settings.now) (2 ^ 64 - 1) }

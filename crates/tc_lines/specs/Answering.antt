@@ -19,7 +19,7 @@ lines_of (octet ∷ octets) = if octet == 10 then [] ∷ lines_of octets else li
 abbrev pub Writes : Option (List ℕ) → Option (List ℕ) → (List ℕ → Type 0) → Type 0
 Writes old new Is = (text : List ℕ) × Is text × Appends old new text
 
--- the answer to a line that is longer than a line may be
+-- the answer to a line of more octets than the limit
 abbrev pub too_long_text : List ℕ
 too_long_text = codes "bad too long\n"
 
@@ -44,11 +44,11 @@ IsReadAnswered Answers old read kept new text =
     ⊎ ((read.too_long ≡ false) × ((read.ended ≡ true) ⊎ (kept ≢ [])) × Answers old kept new text)
     ⊎ ((read.too_long ≡ false) × (read.ended ≡ false) × (kept ≡ []) × (new ≡ old) × (text ≡ []))
 
--- the answers of all lines of these octets were written, in their order, each once
+-- the answers to all lines of these octets were written, in their order, each once
 abbrev pub AreAllWritten : {S : Type 0} → ℕ → (S → List ℕ → S → List ℕ → Type 0) → S → List ℕ → S → Option (List ℕ) → Option (List ℕ) → Type 0
 AreAllWritten limit Answers old octets new before after = Writes before after (AreAnswered limit Answers old (lines_of octets) new)
 
--- the answers of the first lines of these octets were written, up to some line
+-- the answers to the first lines of these octets were written, up to some line
 abbrev pub AreFirstWritten : {S : Type 0} → ℕ → (S → List ℕ → S → List ℕ → Type 0) → S → List ℕ → S → Option (List ℕ) → Option (List ℕ) → Type 0
 AreFirstWritten limit Answers old octets new before after =
     (lines : List (List ℕ)) × (rest : List (List ℕ)) × (lines_of octets ≡ lines ++ rest)

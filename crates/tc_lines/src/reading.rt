@@ -14,7 +14,7 @@ pub(crate) struct LineRead {
     /// Whether a line feed ended the line. If not, the input ended. The line is then empty if nothing came after the
     /// last line feed.
     pub(crate) ended: bool,
-    /// Whether the line is longer than it may be. In that case only its front is kept.
+    /// Whether the line has more octets than the limit. In that case only its front is kept.
     pub(crate) too_long: bool,
 }
 

@@ -58,7 +58,6 @@ says true false scid vcid ns m one two three = grind arith
 says false true scid vcid ns m one two three = grind arith
 says false false scid vcid ns m one two three = grind arith
 
--- a header and a data field that fit a frame make a frame
 pub frame-of : (header : Header) (field : List ℕ) → IsHeader header → IsField field → (frame : List ℕ) × IsFrame frame header field
 frame-of header field fits is_field =
     let first = first_of header.bypass header.control header.scid in
@@ -110,7 +109,6 @@ only-frame _ _ field header f g = let l = f.whole.least in let m = g.whole.least
 octets-drop : (n : ℕ) (xs : List ℕ) → IsOctets xs → IsOctets (drop n xs)
 octets-drop n xs each i = subst (λ (x : ℕ). x < 256) (sym (get_or-drop n xs i 0)) (each (n + i))
 
--- the data field of a frame has 1 to 1,019 octets
 pub field-fits : (frame field : List ℕ) (header : Header) → IsFrame frame header field → IsField field
 field-fits frame field header f =
     let least = f.whole.least in let most = f.whole.most in

@@ -64,7 +64,7 @@ row_of width vr Release = E10
 abbrev pub counted : Report → Report
 counted r = record r { farm_b = (r.farm_b + 1) % 4 }
 
--- the entry of a row at a state, which leads from the six components before to those after
+-- The entry of a row in a state. It leads from the six components before an arrival to those after it.
 abbrev pub entry_at : Row → State → Report → Option Report
 entry_at E1 S1 r = Some (record r { vr = (r.vr + 1) % 256; retransmit = false })
 entry_at E1 S2 r = None
@@ -100,7 +100,7 @@ entry_at E10 S3 r = Some (record r { wait = false })
 abbrev pub entry : Row → Report → Option Report
 entry row r = entry_at row r.state r
 
--- the frames of row E1 are accepted in S1, and those of row E6 in every state
+-- whether a frame is accepted: in row E1 only in S1, and in row E6 in every state
 abbrev pub accepts_at : Row → State → Bool
 accepts_at E1 S1 = true
 accepts_at E6 state = true

@@ -56,7 +56,7 @@ pub record IsHeader (header : Header) : Type 0 where
   pub vcid : header.vcid < 64
   pub ns : header.ns < 256
 
--- a data field has at least one octet, and no more than a frame has room for
+-- a data field has 1 to 1,019 octets
 pub record IsField (field : List ℕ) : Type 0 where
   pub each : IsOctets field
   pub least : 1 ≤ length field

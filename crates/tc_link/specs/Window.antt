@@ -8,7 +8,7 @@ pub record IsWidth (width : ℕ) : Type 0 where
   pub most : width ≤ 254
   pub even : width % 2 ≡ 0
 
--- `passes` is true of some number from 1 to `n`
+-- whether `passes` is true of some number from 1 to `n`
 unfoldable pub some_of_first : ℕ → (ℕ → Bool) → Bool
 some_of_first zero passes = false
 some_of_first (suc n) passes = passes (n + 1) || some_of_first n passes

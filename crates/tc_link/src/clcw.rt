@@ -14,7 +14,7 @@ pub struct Link {
     pub no_bit_lock: bool,
 }
 
-/// Returns the CLCW that reports these components for a virtual channel (CCSDS 232.0-B, 4.2).
+/// Returns the CLCW that reports `report` and `link` for a virtual channel (CCSDS 232.0-B, 4.2).
 ///
 /// The status field is 0, and COP-1 is in effect.
 pub fn clcw_word(report: &Report, vcid: u8, link: Link) -> u32

@@ -22,7 +22,7 @@ pub enum Kind {
     Invalid,
 }
 
-/// Reads a data field as a control command. Returns `None` unless the whole field is one.
+/// Reads a data field as a control command. Returns `None` unless the whole field is a control command.
 pub fn read_command(field: &[u8]) -> Option<Command>
     ensures { result ≡ command_of field.now }
 {

@@ -64,15 +64,15 @@ pub fn some_of_the_first_is_some_number()
     ensures { (n : ℕ) (passes : ℕ → Bool) → IsTrue (some_of_first n passes) ↔ ((k : ℕ) × (1 ≤ k) × (k ≤ n) × IsTrue (passes k)) }
 {}
 
-/// If every AD frame that comes in S2 finds no room, the table has an entry for every arrival.
+/// If every Type-AD frame that comes in S2 finds no room, the table has an entry for every arrival.
 pub fn each_arrival_has_an_entry()
     ensures frame { (width : ℕ) (r : Report) (kind : Kind) (room : Bool) → ((ns : ℕ) → kind ≡ Kind.Ad ns → r.state ≡ S2 → room ≡ false)
         → IsSome (entry (frame_row width r.vr kind room) r) }
     ensures release { (r : Report) → IsSome (entry E10 r) }
 {}
 
-/// V(R) changes in two cases only. An expected frame that finds room in S1 raises it by one, modulo 256. A Set V(R)
-/// that comes in S1 or S2 sets it to the command's number.
+/// V(R) changes in two cases only. An expected frame that finds room in S1 raises V(R) by one, modulo 256. A Set V(R)
+/// that comes in S1 or S2 sets V(R) to the command's number.
 pub fn v_r_changes_by_acceptance_and_set_v_r_alone()
     ensures { (row : Row) (r : Report) → (after row r).vr ≢ r.vr
         → ((row ≡ E1) × (r.state ≡ S1) × ((after row r).vr ≡ (r.vr + 1) % 256))

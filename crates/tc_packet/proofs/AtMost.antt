@@ -11,7 +11,6 @@ at_most-some n octets h = rw (le-leb (length octets) n h) refl
 pub at_most-none : (n : ℕ) (octets : List ℕ) → n < length octets → at_most n (Some octets) ≡ None
 at_most-none n octets h = rw (lt-leb (length octets) n h) refl
 
--- `at_most` returns no unit that is over the limit
 pub at_most-within : (n : ℕ) (o : Option (List ℕ)) → IsAtMost n (at_most n o)
 at_most-within n None = tt
 at_most-within n (Some octets) = by (leb (length octets) n) refl where

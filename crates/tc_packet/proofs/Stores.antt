@@ -70,7 +70,6 @@ ended-there : (store : Store) (i : ℕ) (next : OpenRun) (t : EndedKind) (field 
 ended-there store i next ended_kinds.Whole field inside = ap (option_map (λ (r : OpenRun). r.room.octets)) (slice_get-set_same store.runs i next inside)
 ended-there store i next _ field inside = refl
 
--- delivery of a unit doesn't change the room of its run
 behind-room : (t : EndedKind) (next : OpenRun) → (behind t next).room ≡ next.room
 behind-room ended_kinds.Nothing next = refl
 behind-room _ next = refl
@@ -96,7 +95,6 @@ committed-is store i next ended_kinds.Nothing inside = refl
 committed-is store i next ended_kinds.Body inside = ap (λ (xs : List OpenRun). record store { runs = xs }) (over-written store.runs i next inside)
 committed-is store i next ended_kinds.Whole inside = ap (λ (xs : List OpenRun). record store { runs = xs }) (over-written store.runs i next inside)
 
--- ending a run changes no room's size
 over-sizes : (runs : List OpenRun) (i : ℕ) → sizes_of (over_at i runs) ≡ sizes_of runs
 over-sizes (r ∷ runs) (suc i) = ap (λ (xs : List ℕ). r.room.size ∷ xs) (over-sizes runs i)
 over-sizes _ _ = refl
@@ -183,7 +181,6 @@ module _ {store : Store} {i place : ℕ} {part : Part} {field body : List ℕ} {
 pub ended-nothing : (t : EndedKind) (i : ℕ) → (ended_by_stream t i ≡ ends.Nothing → ⊥) → t ≡ ended_kinds.Nothing → ⊥
 ended-nothing t i some is = some (ap (λ (x : EndedKind). ended_by_stream x i) is)
 
--- writing one run leaves the other runs as they were
 pub written-others : (store : Store) (i place other : ℕ) (later : List OpenRun) → IsWritten i store.runs later → i ≡ place → (other ≡ place → ⊥) → run_at (map open_in later) other ≡ run_at (map open_in store.runs) other
 written-others store i place other later w at apart = ap (λ (xs : List OpenRun). run_at (map open_in xs) other) w.is ∙ others-open store.runs i other w.next (λ e. apart (e ∙ at))
 

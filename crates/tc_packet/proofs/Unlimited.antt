@@ -40,12 +40,10 @@ none-first zero runs none = refl
 none-first (suc n) [] none = ap (λ (x : Runs). None ∷ x) (none-first n [] (λ place. refl))
 none-first (suc n) (run ∷ runs) none = rw (none 0) (ap (λ (x : Runs). None ∷ x) (none-first n runs (λ place. none (suc place))))
 
--- each field has its place among the streams
 pub place-inside : (service : Service) (field : List ℕ) → stream_place service field < 128
 place-inside Ad field = omega arith
 place-inside Bd field = omega arith
 
--- other streams keep their runs
 pub others-stay : (old new : Store) (place : ℕ) → ((other : ℕ) → other ≢ place → run_at (open_runs new).runs other ≡ run_at (open_runs old).runs other)
     → (other : ℕ) → other ≢ place → run_at (of_streams (open_runs new)).runs other ≡ run_at (of_streams (open_runs old)).runs other
 others-stay old new place same other apart = elim (cases_lt other 128) [
@@ -80,7 +78,6 @@ module _ (store : Store) (place : ℕ) (limit : limit_at store place ≡ 65542) 
   pub within-leave : (fields : List (List ℕ)) → LeaveWithin fields store place → Leave fields (of_streams (open_runs store)) place
   within-leave fields left = sym (whole-run fields) ∙ left ∙ sym (stream-at store place inside)
 
--- a new store has no open runs
 pub begun : (store : Store) → ((place : ℕ) → run_at (open_runs store).runs place ≡ None) → (of_streams (open_runs store)).runs ≡ replicate 128 None
 begun store none = none-first 128 (open_runs store).runs none
 

@@ -39,7 +39,7 @@ pub record IsCut (unit : List ℕ) (packets : List (List ℕ)) (rest : List ℕ)
   pub each : AllByRecursion IsPacket packets
   pub ends : (n : ℕ) → IsPacket (take n rest) → ⊥
 
--- the octets begin with a packet
+-- whether the octets begin with a packet
 abbrev pub begins : List ℕ → Bool
 begins octets = nat_le 7 (length octets) && (version_of octets == 0 && (nat_le (named_length octets) largest_packet && nat_le (named_length octets) (length octets)))
 
@@ -49,7 +49,7 @@ packets_within zero octets = []
 packets_within (suc n) octets =
     if begins octets then take (named_length octets) octets ∷ packets_within n (drop (named_length octets) octets) else []
 
--- the packets of a unit's cut, which has no more packets than the unit has octets
+-- The packets of a unit's cut. A unit has no more packets than octets.
 abbrev pub packets_of : List ℕ → List (List ℕ)
 packets_of unit = packets_within (length unit) unit
 

@@ -57,12 +57,12 @@ pub enum Ended {
     /// The unit lies in the field itself, after the given number of octets.
     Lying(usize),
     /// The unit lies in the room of the stream with this place, until the next field of that stream comes.
-    /// [`Runs::joined`] lends it.
+    /// [`Runs::joined`] lends the unit.
     Joined(usize),
 }
 
-/// The open run of each stream, each in a room of its own. If the rooms don't grow, memory is allocated only when they
-/// are created.
+/// The open run of each stream, each in a room of its own. If the rooms don't grow, memory is allocated only when the
+/// rooms are created.
 #[derive(Drop)]
 pub struct Runs<R: Room> {
     segmented: bool,
@@ -381,7 +381,7 @@ impl<R: Room> Runs<R> {
         Ok(ended_at(ended_kind, at))
     }
 
-    /// Ends the run of this stream if its field completed a unit. Call it once the unit is delivered.
+    /// Ends the run of this stream if its field completed a unit. Call this function once the unit is delivered.
     #[inline(always)]
     pub fn commit(&mut self, service: Service, map: u8, ended: Ended)
         requires { map < 64 }

@@ -1,4 +1,4 @@
--- Items are staged only in queues that a packet of the unit is for.
+-- Items are staged only in queues that want a packet of the unit.
 use Rattle.tc_queues.proofs.Names.{◌≡◌, ℕ, zero, suc, ◌<◌, true, false, List, [], ◌∷◌, length, map, get_or, ◌⊎◌, inl, inr, refl, sym, ap, subst, ◌∙◌, arith, set, append-nil, is_for, keys_of, AreDistinct, slotted, Keyed, rings_in, AreCommitted, committed, IsAmong, AreStagedOf}
 use Rattle.tc_queues.proofs.Counted.{for-one}
 use Rattle.tc_queues.proofs.Passes.{NoneFor, apart-at, none-others}
@@ -9,7 +9,7 @@ pub none-staged : (qs : List Keyed) (ps : List (List ℕ)) → AreCommitted qs �
 none-staged [] ps all = tt
 none-staged (q ∷ qs) ps all = (inl all.0, none-staged qs ps all.1)
 
--- staging one of the packets in the queue that it is for keeps `AreStagedOf`
+-- staging one of the packets in the queue that wants it keeps `AreStagedOf`
 pub staged-at : (qs : List Keyed) (i k : ℕ) (q next : Keyed) (ps : List (List ℕ)) → i < length qs → q ≡ get_or qs i q → next.key ≡ q.key → k ≡ get_or (keys_of (rings_in qs)) i k → IsAmong k ps → AreStagedOf ps qs → AreStagedOf ps (set qs i next)
 staged-at [] i k q next ps inside is key k_is among all = tt
 staged-at (r ∷ qs) zero k q next ps inside is key k_is among all = (inr (subst (λ (x : ℕ). IsAmong x ps) (k_is ∙ sym (key ∙ ap (λ (x : Keyed). x.key) is)) among), all.1)
@@ -23,7 +23,6 @@ all-committed-of (q ∷ qs) all = (by all.0, all-committed-of qs all.1) where
   by (inl none) = none
   by (inr among) = absurd among
 
--- if nothing is staged, committing changes nothing
 pub committed-same : (qs : List Keyed) → AreCommitted qs → map committed qs ≡ qs
 committed-same [] all = refl
 committed-same (q ∷ qs) all =
@@ -31,7 +30,6 @@ committed-same (q ∷ qs) all =
     let one : committed q ≡ q = rw all.0 (ap (λ (xs : List (List ℕ)). record { key = q.key; slots = slotted xs q.slots.ring.capacity [] q.slots.size }) whole) ∙ ap (λ (l : List (List ℕ)). record { key = q.key; slots = slotted q.slots.ring.items q.slots.ring.capacity l q.slots.size }) (sym all.0) in
     ap (λ (x : Keyed). x ∷ map committed qs) one ∙ ap (λ (x : List Keyed). q ∷ x) (committed-same qs all.1)
 
--- committing twice does the same as committing once
 committed-twice : (q : Keyed) → committed (committed q) ≡ committed q
 committed-twice q = ap (λ (xs : List (List ℕ)). record { key = q.key; slots = slotted xs q.slots.ring.capacity [] q.slots.size }) (append-nil (committed q).slots.ring.items)
 
@@ -40,7 +38,7 @@ committed-one [] i q next is next_is = refl
 committed-one (r ∷ qs) zero q next is next_is = ap (λ (x : Keyed). x ∷ map committed qs) (ap committed next_is ∙ committed-twice q ∙ ap committed is)
 committed-one (r ∷ qs) (suc i) q next is next_is = ap (λ (x : List Keyed). committed r ∷ x) (committed-one qs i q next is next_is)
 
--- if this packet isn't for a queue, items are staged in the queue only if one of the remaining packets is for it
+-- if a queue doesn't want this packet, items are staged in the queue only if it wants one of the remaining packets
 passed-over : (q : Keyed) (p : List ℕ) (ps : List (List ℕ)) → is_for q.key p ≡ false → (q.slots.staged ≡ []) ⊎ IsAmong q.key (p ∷ ps) → (q.slots.staged ≡ []) ⊎ IsAmong q.key ps
 passed-over q p ps other (inl none) = inl none
 passed-over q p ps other (inr (inl for_it)) = absurd cc
@@ -50,7 +48,7 @@ pub passed-none : (qs : List Keyed) (p : List ℕ) (ps : List (List ℕ)) → No
 passed-none [] p ps none all = tt
 passed-none (q ∷ qs) p ps none all = (passed-over q p ps none.0 all.0, passed-none qs p ps none.1 all.1)
 
--- once the queue of this packet is committed, items are staged only in queues that one of the remaining packets is for
+-- once the queue of this packet is committed, items are staged only in queues that want one of the remaining packets
 pub passed-one : (qs : List Keyed) (i k : ℕ) (q next : Keyed) (p : List ℕ) (ps : List (List ℕ)) → AreDistinct (keys_of (rings_in qs)) → i < length qs → q ≡ get_or qs i q → next ≡ committed q → k ≡ get_or (keys_of (rings_in qs)) i k
     → is_for k p ≡ true → AreStagedOf (p ∷ ps) qs → AreStagedOf ps (set qs i next)
 passed-one [] i k q next p ps distinct inside is next_is k_is for_it all = tt

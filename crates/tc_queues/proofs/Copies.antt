@@ -33,7 +33,6 @@ copies-places wanted n place ps [] le = tt
 copies-places wanted n place ps (w ∷ ws) le =
     places-append n (map (copied_to place) (share wanted ps w)) (copies_from wanted (place + 1) ps ws) (places-map n place (share wanted ps w) (omega arith)) (copies-places wanted n (place + 1) ps ws (omega arith))
 
--- the number of copies is the sum of the shares
 pub length-copies : (wanted : ℕ → List ℕ → Bool) (place : ℕ) (ps : List (List ℕ)) (ws : List StoredQueue) → length (copies_from wanted place ps ws) ≡ sum_by length (map (share wanted ps) ws)
 length-copies wanted place ps [] = refl
 length-copies wanted place ps (w ∷ ws) =
@@ -80,7 +79,6 @@ put-copies wanted done ps (w ∷ ws) place at fit =
 pub shares-put : (wanted : ℕ → List ℕ → Bool) (ps : List (List ℕ)) (ws : List StoredQueue) → Fit ws → put_all ws (copies_from wanted 0 ps ws) ≡ map (λ (w : StoredQueue). with_items w (share wanted ps w)) ws
 shares-put wanted ps ws fit = put-copies wanted [] ps ws 0 refl fit
 
--- if there are no items, no copies are made
 pub copies-none : (wanted : ℕ → List ℕ → Bool) (place : ℕ) (ws : List StoredQueue) → copies_from wanted place [] ws ≡ []
 copies-none wanted place [] = refl
 copies-none wanted place (w ∷ ws) = rw (take-nil {A = List ℕ} (w.ring.capacity - length w.ring.items), copies-none wanted (place + 1) ws) refl

@@ -15,7 +15,6 @@ looks-same a b (t ∷ table) same = refl
 pub same-count : (a b : List Keyed) → keys_of (rings_in a) ≡ keys_of (rings_in b) → length a ≡ length b
 same-count a b same = sym (keys-length a) ∙ ap length same ∙ keys-length b
 
--- one more packet takes one more cut, and the steps to find its queue
 pub pass-step : (n k : ℕ) → pass_steps (suc n) k ≡ pass_steps n k + (k + 1)
 pass-step n k = suc-mul n (k + 1)
 
@@ -25,7 +24,6 @@ cut-one before total s rest more one tick here after rest_is so_far tick_is cost
 pub cut-last : (before total s rest more one tick here after : ℕ) → rest ≡ more + (one + 1) → s + rest ≤ before + total → tick ≤ s + 1 → after ≤ tick + here → here ≡ one → after ≤ before + total
 cut-last before total s rest more one tick here after rest_is so_far tick_is cost same = omega arith
 
--- if more queues are looked at, no fewer steps are taken
 pass-more : (n a b : ℕ) → a ≤ b → pass_steps n a ≤ pass_steps n b
 pass-more n a b le = let more : a + 1 ≤ b + 1 = omega arith in mul-le-mul_left n more
 
@@ -78,7 +76,6 @@ few-packets unit =
     let long : length unit ≡ length (joined (packets_of unit) ++ rest_of unit) = ap length cut.parts in
     omega (arith, length-append (joined (packets_of unit)) (rest_of unit))
 
--- more packets take no fewer steps
 packets-more : (n m k : ℕ) → n ≤ m → pass_steps n k ≤ pass_steps m k
 packets-more n m k le = mul-le-mul_right (k + 1) le
 

@@ -54,7 +54,6 @@ popped-in key i qs q next inside is key_is slots first =
     let ring_is : ring_in next ≡ shorter (ring_in q) = rw (key_is, slots) refl in
     map-set ring_in qs i next ∙ ap (λ (x : StoredQueue). set (rings_in qs) i x) ring_is ∙ sym (popped-first key i (rings_in qs) (ring_in q) first (ring-at qs i q inside is))
 
--- if no item waits, dropping the oldest one changes nothing
 drop-none : (xs : List (List ℕ)) → length xs ≡ 0 → drop 1 xs ≡ xs
 drop-none [] none = refl
 drop-none (x ∷ xs) none = absurd (omega arith)
@@ -97,7 +96,6 @@ pub one-waits : (items : List (List ℕ)) → length items ≢ 0 → IsSome (sli
 one-waits [] some = absurd (some refl)
 one-waits (x ∷ items) some = refl
 
--- the keys stay the same when one queue is written
 pub keys-set : (qs : List Keyed) (i : ℕ) (q next : Keyed) → q ≡ get_or qs i q → next.key ≡ q.key → keys_of (rings_in (set qs i next)) ≡ keys_of (rings_in qs)
 keys-set [] i q next is same = refl
 keys-set (r ∷ qs) zero q next is same = ap (λ (k : ℕ). k ∷ keys_of (rings_in qs)) (same ∙ ap (λ (x : Keyed). x.key) is)

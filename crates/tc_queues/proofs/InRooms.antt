@@ -27,11 +27,9 @@ pub staged-none : (qs : List Keyed) → AreCommitted qs → all_staged_in qs ≡
 staged-none [] all = refl
 staged-none (q ∷ qs) all = ap (λ (x : StoredQueue). x ∷ all_staged_in qs) (staged-one q all.0) ∙ ap (λ (x : List StoredQueue). ring_in q ∷ x) (staged-none qs all.1)
 
--- the keys are the same with staged items and without
 pub same-keys : (qs : List Keyed) → keys_of (all_staged_in qs) ≡ keys_of (rings_in qs)
 same-keys qs = map-map (λ (w : StoredQueue). w.key) staged_in qs ∙ sym (map-map (λ (w : StoredQueue). w.key) ring_in qs)
 
--- the key of a queue is the key at its place
 pub key-in : (qs : List Keyed) (i k : ℕ) (q : Keyed) → i < length qs → q ≡ get_or qs i q → k ≡ q.key → k ≡ get_or (keys_of (rings_in qs)) i k
 key-in qs i k q inside is k_is =
     k_is ∙ sym (get_or-map (λ (x : StoredQueue). x.key) (rings_in qs) i (ring_in q) k (omega (arith, length-map qs ring_in))
@@ -69,7 +67,6 @@ staged-of-none-at (r ∷ qs) (suc i) q all inside is = staged-of-none-at qs i q 
 pub committed-set : (qs : List Keyed) (i : ℕ) (q next : Keyed) → AreCommitted qs → i < length qs → q ≡ get_or qs i q → next.slots.staged ≡ q.slots.staged → AreCommitted (set qs i next)
 committed-set qs i q next all inside is same = committed-at qs i next all (same ∙ staged-of-none-at qs i q all inside is)
 
--- a full queue has no room
 pub full-at : (qs : List Keyed) (i : ℕ) (q : Keyed) → i < length qs → q ≡ get_or qs i q → q.slots.ring.capacity ≤ length q.slots.ring.items → room_at i (all_staged_in qs) ≡ 0
 full-at qs i q inside is full =
     let here : staged_in q ≡ get_or (all_staged_in qs) i (staged_in q) = ap staged_in is ∙ sym (get_or-map staged_in qs i q (staged_in q) inside) in

@@ -104,25 +104,23 @@ rooms-put p (w ∷ ws) zero a n lt is for_it room some =
     ap (λ (x : ℕ). x ∷ map room_in ws) (ap (λ (x : ℕ). x - 1) room ∙ sym it.room)
 rooms-put p (w ∷ ws) (suc i) a n lt is for_it room some = ap (λ (x : List ℕ). room_in w ∷ x) (rooms-put p ws i a n (omega arith) is for_it room some)
 
--- if a packet goes nowhere, the pass is under way with the packets that are left
+-- if a packet goes nowhere, the pass goes on with the remaining packets
 pass-on : (qs : List StoredQueue) (p : List ℕ) (ps all : List (List ℕ)) (cs : List Placed) (rooms : List ℕ) → Goes p ps (put_all qs cs) (put_all qs cs) 0 → IsUnderWay qs (p ∷ ps) all cs rooms → IsUnderWay qs ps all cs rooms
 pass-on qs p ps all cs rooms g k =
     let count = g.count in
     let before = k.count in
     record { places = k.places; keys = k.keys; rooms = k.rooms; put = sym g.put ∙ k.put; count = omega arith }
 
--- if no queue takes the packet, the pass is under way with the packets that are left
 pub none-on : (qs : List StoredQueue) (p : List ℕ) (ps all : List (List ℕ)) (cs : List Placed) (rooms : List ℕ) → NoneFor p (keys_of qs) → IsUnderWay qs (p ∷ ps) all cs rooms → IsUnderWay qs ps all cs rooms
 none-on qs p ps all cs rooms none k = pass-on qs p ps all cs rooms (goes-none p ps (put_all qs cs) (rw k.keys none)) k
 
--- if the packet's queue is full, the pass is under way with the packets that are left
 pub full-on : (qs : List StoredQueue) (p : List ℕ) (ps all : List (List ℕ)) (cs : List Placed) (rooms : List ℕ) (i a n : ℕ) → AreDistinct (keys_of qs) → i < length qs → a ≡ get_or (keys_of qs) i a → is_for a p ≡ true
     → n ≡ get_or rooms i n → n ≡ 0 → IsUnderWay qs (p ∷ ps) all cs rooms → IsUnderWay qs ps all cs rooms
 full-on qs p ps all cs rooms i a n distinct lt is for_it room none k =
     let l = length-put_all qs cs in
     pass-on qs p ps all cs rooms (goes-full p ps (put_all qs cs) i a n (rw k.keys distinct) (omega arith) (rw k.keys is) for_it (rw k.rooms at room) none) k
 
--- if the packet is copied to its queue, the pass is under way with the packets that are left
+-- if the packet is copied to its queue, the pass goes on with the remaining packets
 pub copy-on : (qs : List StoredQueue) (p : List ℕ) (ps all : List (List ℕ)) (cs : List Placed) (rooms : List ℕ) (i a n : ℕ) → AreDistinct (keys_of qs) → i < length qs → a ≡ get_or (keys_of qs) i a → is_for a p ≡ true
     → n ≡ get_or rooms i n → 0 < n → IsUnderWay qs (p ∷ ps) all cs rooms → IsUnderWay qs ps all (cs ++ copied_to i p ∷ []) (set rooms i (n - 1))
 copy-on qs p ps all cs rooms i a n distinct lt is for_it room some k =

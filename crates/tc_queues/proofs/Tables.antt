@@ -27,7 +27,7 @@ shows-more : (keys : List ℕ) (none a b n : ℕ) → a ≢ b → ShowsFirst key
 shows-more keys none a b n other (inl at) = inl (first-push a b n keys at)
 shows-more keys none a b n other (inr away) = inr (away.0, all-append (λ x. a ≢ x) keys (b ∷ []) away.1 (other, tt))
 
--- an entry that shows no place is that of a key which no queue has
+-- if an entry shows no place, no queue has its key
 none-reported : (keys : List ℕ) (none a n : ℕ) → length keys ≤ none → n ≡ none → ShowsFirst keys none a n → AllByRecursion (λ x. a ≢ x) keys
 none-reported keys none a n le is (inl at) = let lt = first-within a n keys at in absurd (omega arith)
 none-reported keys none a n le is (inr away) = away.1

@@ -1,4 +1,4 @@
--- Rooms whose first ones are taken by items that wait, and the next ones by items that are staged behind them.
+-- A list of rooms. The first rooms hold items that wait, and the next rooms hold items that are staged.
 use Rattle.std.proofs.Common.{◌≡◌, ℕ, zero, suc, ◌+◌, ◌-◌, ◌<◌, true, get_or, List, [], ◌∷◌, ◌++◌, length, map, take, drop, Some, None, refl, sym, ap, ◌∙◌, arith}
 use Rattle.std.specs.Prelude.{set, slice_get}
 use Rattle.std.proofs.lemmas.List.{length-append, length-map, length-set, length-take-le, length-drop, map-append, take-set-le, take_more_set, take-take, take-append-drop, take-append-le, drop-take, drop-set-add, drop-append-le}
@@ -55,7 +55,6 @@ module _ (places waiting count size : ℕ) (rooms : List Contents) (k : AreSlots
       let l = length-staged in
       rw (← view, later_is) (record { done = λ yes. (staged-seen octets lt, omega arith); full = λ e. absurd cc })
 
-  -- if no item is staged, no room is taken by a staged item
   pub none-staged : (old : Slotted) → seen places waiting count size rooms ≡ old → old.staged ≡ [] → count ≡ 0
   none-staged old view none = sym length-staged ∙ ap length (ap (λ (s : Slotted). s.staged) view ∙ none)
 
@@ -83,13 +82,11 @@ pub committed-seen : (places waiting count size : ℕ) (rooms : List Contents)
     → seen places (waiting + count) 0 size rooms ≡ slotted (map octets_of (take waiting rooms) ++ map octets_of (take count (drop waiting rooms))) places [] size
 committed-seen places waiting count size rooms = rw (take-both waiting count rooms, map-append octets_of (take waiting rooms) (take count (drop waiting rooms))) refl
 
--- there is an item at each place below the length
 pub is-there : {A : Type 0} (xs : List A) (i : ℕ) → i < length xs → None ≡ slice_get xs i → ⊥
 is-there [] i inside none = absurd (omega arith)
 is-there (x ∷ xs) zero inside none = absurd cc
 is-there (x ∷ xs) (suc i) inside none = is-there xs i (omega arith) none
 
--- the item that was read is the item at its place
 pub got : {A : Type 0} (xs : List A) (i : ℕ) (x : A) → Some x ≡ slice_get xs i → x ≡ get_or xs i x
 got xs i x is = sym (get_or_from_slice_get xs i x x (sym is))
 
@@ -120,7 +117,6 @@ cleared-slots places waiting count size rooms later k some later_is =
       take-set-le waiting rooms (waiting + (count - 1)) (contents_of [] size) (omega arith),
     )
 
--- the room that was read has the size of all rooms
 pub size-got : {A : Type 0} (f : A → Contents) (n : ℕ) (xs : List A) (i : ℕ) (x : A) → HaveSize n (map f xs) → Some x ≡ slice_get xs i → (f x).size ≡ n
 size-got f n xs i x all is = size-at f n xs i x all (slice_get_within xs i x (sym is)) (got xs i x is)
 

@@ -18,7 +18,7 @@ others-take-none : (m place : ℕ) (u : List ℕ) (ws : List StoredQueue) → Al
 others-take-none m place u [] h = refl
 others-take-none m place u (w ∷ ws) h = rw (share-other m u w (λ e. h.0 (sym e)), others-take-none m (place + 1) u ws h.1) refl
 
--- if queue i is the one of the MAP, it alone has a copy of the unit
+-- if queue `i` is the queue of the MAP, only this queue has a copy of the unit
 one-takes : (m place i : ℕ) (u : List ℕ) (ws : List StoredQueue) (q : StoredQueue) → AreDistinct (keys_of ws) → i < length ws → q ≡ get_or ws i q → q.key ≡ m
     → copies_from (is_of_map m) place (u ∷ []) (drop i ws) ≡ map (copied_to place) (share (is_of_map m) (u ∷ []) q)
 one-takes m place i u [] q apart lt is same = absurd (omega arith)
@@ -72,11 +72,10 @@ way-put base now later p left all n i a distinct inside is for_it some put_is k 
       count = omega arith;
     }
 
--- the queue at the place of a key has this key
 key-at : (ws : List StoredQueue) (i : ℕ) (m : ℕ) (q : StoredQueue) → i < length ws → m ≡ get_or (keys_of ws) i m → q ≡ get_or ws i q → q.key ≡ m
 key-at ws i m q inside is q_is = ap (λ (x : StoredQueue). x.key) q_is ∙ sym (get_or-map (λ (x : StoredQueue). x.key) ws i q m inside) ∙ sym is
 
--- the queues before the one of its MAP take no copy of a unit
+-- the queues before the queue of a unit's MAP take no copy of the unit
 skip : (m p i : ℕ) (u : List ℕ) (ws : List StoredQueue) → AreDistinct (keys_of ws) → i < length ws → m ≡ get_or (keys_of ws) i m
     → copies_from (is_of_map m) p (u ∷ []) ws ≡ copies_from (is_of_map m) (p + i) (u ∷ []) (drop i ws)
 skip m p i u [] distinct inside is = absurd (omega arith)
@@ -85,7 +84,6 @@ skip m p (suc i) u (w ∷ ws) distinct inside is =
     let other : w.key ≢ m = apart-at w.key (keys_of ws) i m distinct.0 (omega (arith, length-map ws (λ (q : StoredQueue). q.key))) is in
     rw (share-other m u w other) (skip m (p + 1) i u ws distinct.1 (omega arith) is ∙ ap (λ (n : ℕ). copies_from (is_of_map m) n (u ∷ []) (drop i ws)) (let e : p + 1 + i ≡ p + suc i = omega arith in e))
 
--- there is a queue at each place
 at : (ws : List StoredQueue) (i : ℕ) → i < length ws → (q : StoredQueue) × (q ≡ get_or ws i q)
 at [] i inside = absurd (omega arith)
 at (w ∷ ws) zero inside = (w, refl)
@@ -177,7 +175,6 @@ at-end unit base now left n d none k d_is = record {
   delivery_is = d_is ∙ ap (λ (m : ℕ). delivered (Some unit) false m) k.count;
 }
 
--- a packet is no longer than its unit
 pub first-short : (unit p rest : List ℕ) (ps : List (List ℕ)) → unit ≡ joined (p ∷ ps) ++ rest → length p ≤ length unit
 first-short unit p rest ps is =
     let l : length unit ≡ length ((p ++ joined ps) ++ rest) = ap length is in

@@ -27,11 +27,11 @@ units_offered None chosen = []
 units_offered (Some unit) true = unit ∷ []
 units_offered (Some unit) false = []
 
--- a packet queue, whose key is its APID, wants each telecommand packet with this APID
+-- whether the packet queue with this APID as its key wants the packet
 abbrev pub is_for : ℕ → List ℕ → Bool
 is_for apid packet = is_telecommand packet && apid_of packet == apid
 
--- a unit queue, whose key is its MAP, wants each unit of this MAP
+-- whether the unit queue with this MAP as its key wants a unit of the MAP `map_id`
 abbrev pub is_of_map : ℕ → ℕ → List ℕ → Bool
 is_of_map map_id key unit = key == map_id
 

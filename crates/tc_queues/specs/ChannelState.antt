@@ -1,4 +1,4 @@
--- The state of a channel: FARM-1's components, and whole lists and counts that are never cut.
+-- The state of a channel: FARM-1's components, lists from which nothing is ever removed, and counts.
 use Rattle.std.specs.Prelude.{ℕ, Bool, List, [], ◌∷◌, length, map, drop, nat_lt, ◌==◌, Option, Some, None, if◌then◌else◌}
 use Rattle.tc_link.specs.declared.Report.{Report}
 use Rattle.tc_link.specs.Farm.{first_report}

@@ -60,11 +60,11 @@ pub record IsPutAt (place : ℕ) (item : List ℕ) (old new : List StoredQueue) 
   pub done : room ≡ true → (new ≡ put old place item) × (0 < room_at place old)
   pub full : room ≡ false → (new ≡ old) × (room_at place old ≡ 0)
 
--- one of the packets is for this key
+-- the packet queue with this key wants one of the packets
 abbrev pub IsAmong : ℕ → List (List ℕ) → Type 0
 IsAmong key [] = ⊥
 IsAmong key (packet ∷ packets) = (is_for key packet ≡ true) ⊎ IsAmong key packets
 
--- items are staged only in queues that one of these packets is for
+-- items are staged only in queues that want one of these packets
 abbrev pub AreStagedOf : List (List ℕ) → List Keyed → Type 0
 AreStagedOf packets queues = AllByRecursion (λ (q : Keyed). (q.slots.staged ≡ []) ⊎ IsAmong q.key packets) queues

@@ -26,7 +26,7 @@ AreApart queues = AllPairs (λ (p q : QueueSetting). p.apid ≢ q.apid) queues
 abbrev pub HaveCapacities : List QueueSetting → Type 0
 HaveCapacities queues = All (λ q. (1 ≤ q.capacity) × (q.capacity ≤ 256)) queues
 
--- each MAP has six bits (CCSDS 232.0-B, 4.1.3.2.2)
+-- each MAP id fits six bits (CCSDS 232.0-B, 4.1.3.2.2)
 abbrev pub AreMaps : List MapSetting → Type 0
 AreMaps maps = All (λ m. m.map ≤ 63) maps
 

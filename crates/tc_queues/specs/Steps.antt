@@ -32,7 +32,7 @@ unit_steps packets looks_for_one looks_for_map = looks_for_map + (pass_steps pac
 abbrev pub packet_steps : ℕ → ℕ → ℕ → ℕ
 packet_steps packets queues units = unit_steps packets (most_looks queues) (most_looks units)
 
--- the largest number of steps for a delivery: none if there is no unit, otherwise the number that its packets need
+-- the largest number of steps for a delivery, which is 0 if there is no unit
 abbrev pub delivery_steps : Option (List ℕ) → ℕ → ℕ → ℕ
 delivery_steps None queues units = 0
 delivery_steps (Some unit) queues units = packet_steps (length (packets_of unit)) queues units

@@ -8,9 +8,9 @@
 //! items behind the items that wait. Once all of them are staged, they are committed and count ([`Slots::commit`]). If
 //! memory runs out before, they are rolled back ([`Slots::roll_back`]), and everything is as it was before the call.
 //!
-//! The rooms of a queue are a ring made of the kit's `circular_buffer`, behind a type that has no call that grows the
-//! ring (`ring.rt`, the only file whose code could make the ring grow). So for rooms that are created at the start,
-//! memory is allocated only when they are created, and no other call can run out of memory.
+//! The rooms of a queue are a ring made of the kit's `circular_buffer`. The type around this ring has no call that
+//! grows the ring, and `ring.rt` is the only file whose code could make it grow. If rooms are created at the start,
+//! memory is therefore allocated only when they are created, and no other call can run out of memory.
 #![tactic(auto)]
 
 mod committing;

@@ -37,10 +37,10 @@ const STREAMS: u128 = 128;
 
 impl Settings {
     /// Returns the largest number of bytes that a `tc_channel::CountingChannel` of these settings holds at any moment
-    /// from the start of `new` on, on a machine of 64 bits. These are the bytes that it has requested from its
+    /// from the start of `new` on, on a machine of 64 bits. These are the bytes that the channel has requested from its
     /// allocator and not freed. The result is 2^64 - 1 if the number is larger. The bytes that an allocator adds to a
-    /// block aren't counted, and neither are the lists of these settings themselves, whose memory the caller has
-    /// chosen. The call takes a step for each queue and each MAP, and no memory.
+    /// block aren't counted. The lists of these settings aren't counted either, since the caller has chosen their size.
+    /// The call takes a step for each queue and each MAP, and no memory.
     pub fn memory_bound(&self) -> u64
         ensures { result ≡ min (memory_bound self.now) (2 ^ 64 - 1) }
     {
@@ -102,8 +102,8 @@ impl LentSettings<'_> {
         u128::from(self.buffer) * (ROOM_WORDS + LARGEST_FIELD as u128)
     }
 
-    /// Returns the number of bytes in the tables by which queues are found: one for the packet queues and one for the
-    /// unit queues, each if there are 8 queues or more.
+    /// Returns the number of bytes in the tables by which queues are found. The packet queues and the unit queues have
+    /// a table each, if there are 8 or more of them.
     pub fn table_octets(self) -> u128
         ensures value { result ≡ tables_memory (settings_of self.entry) }
         ensures within { result < 2 ^ 20 }

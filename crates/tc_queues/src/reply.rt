@@ -16,9 +16,9 @@ pub struct Delivery {
     /// The number of packets that were queued, or 1 for a unit that was queued whole.
     pub queued: u32,
     /// The number of packets that were dropped because they aren't telecommands, there is no queue with their APID, or
-    /// the queue has no room. It is 1 for a whole unit without room in its queue.
+    /// the queue has no room. The number is 1 for a whole unit without room in its queue.
     pub dropped: u32,
-    /// Whether octets were left after the last packet. It is never true for a whole unit.
+    /// Whether octets were left after the last packet. This is never true for a whole unit.
     pub rest: bool,
 }
 

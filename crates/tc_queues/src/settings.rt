@@ -14,7 +14,7 @@ use thiserror::Error;
 pub struct QueueSetting {
     /// The application process identifier of its packets, at most 2,046.
     pub apid: u16,
-    /// The largest number of packets that it holds, 1 to 256.
+    /// The largest number of packets that the queue holds, 1 to 256.
     pub capacity: u16,
 }
 
@@ -40,7 +40,8 @@ pub struct Settings {
     pub buffer: u8,
     /// V(R) at the start.
     pub first: u8,
-    /// Whether data fields begin with a segment header. On a plain channel they don't, and each is a unit by itself.
+    /// Whether data fields begin with a segment header. On a plain channel they don't, and each data field is a unit by
+    /// itself.
     pub segmented: bool,
     /// The packet queues, no two of which have the same APID.
     pub queues: Items<QueueSetting>,
@@ -105,7 +106,7 @@ impl Settings {
         }
     }
 
-    /// Checks whether a channel can be created from these settings. It never returns `NoMemory`.
+    /// Checks whether a channel can be created from these settings. `NoMemory` is never returned.
     pub fn check(&self) -> Result<(), SettingsFault>
         ensures { MatchResult result (λ _. IsAllowed self.now) (IsFault self.now) }
     {
@@ -133,7 +134,8 @@ impl LentSettings<'_> {
         })
     }
 
-    /// Checks whether a channel can be created from these settings. It never returns `NoMemory`, and takes no memory.
+    /// Checks whether a channel can be created from these settings. `NoMemory` is never returned, and no memory is
+    /// requested.
     #[tactic(auto, unfolding(crate::specs::Settings::IsFault))]
     pub fn check(self) -> Result<(), SettingsFault>
         ensures { MatchResult result (λ _. IsAllowed (settings_of self.entry)) (IsFault (settings_of self.entry)) }
@@ -214,7 +216,7 @@ fn have_unit_capacities(maps: &[MapSetting]) -> bool
         .all(|map| map.capacity >= 1 && map.capacity <= 256)
 }
 
-// Returns whether no two queues have the same APID. Each APID is marked when it is seen, so that this takes one step
+// Returns whether no two queues have the same APID. Each APID is marked when it is seen, so the check takes one step
 // for each queue.
 fn are_apart(queues: &[QueueSetting]) -> bool
     requires { HaveApids queues.now }

@@ -27,7 +27,7 @@ pub record Watching : Type 0 where
 abbrev pub IsEarlier : History → History → Type 0
 IsEarlier old new = (new.settings ≡ old.settings) × IsPrefix old.journal new.journal
 
--- both flags of the link are 0, because the reader of the word knows these flags and the channel doesn't
+-- The flags of the link, both 0. The reader of the word knows these flags, and the channel doesn't.
 abbrev pub no_flag : Link
 no_flag = record { no_rf = false; no_bit_lock = false }
 
@@ -74,8 +74,8 @@ pub record IsRead (before : Me Unit View) (found : ℕ) (after : Me Unit View) :
   pub word : found ≡ status_word after.0.seen
   pub later : IsEarlier before.0.seen after.0.seen
 
--- The reported history is a beginning of the history that was seen. The seat then has no other reported history than
--- the seen one.
+-- The reported history is a beginning of the history that was seen. The history that was seen then replaces the
+-- reported one.
 pub record IsCompared (before after : Me Unit View) : Type 0 where
   pub seat : after ≡ (view before.0.seen, before.1)
   pub later : IsEarlier before.0.reported before.0.seen

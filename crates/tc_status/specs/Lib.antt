@@ -1,4 +1,4 @@
 pub mod Board
 pub mod Desk
--- a board's identity, for the crates above
+-- the identity of a board, for the crates that use this one
 pub use Rattle.atomic_table.specs.Seated.{TableId}

@@ -66,8 +66,8 @@ impl Publisher {
         store::<Brand, J>(&self.board, &mut self.seat, channel);
     }
 
-    /// Creates a watcher of this board, which has seen the published history. It fails only if the board can count no
-    /// more owners.
+    /// Creates a watcher of this board, which has seen the published history. The call fails only if the board can
+    /// count no more owners.
     pub fn watcher(&mut self) -> Result<Watcher, NoMemory>
         ensures board { IfOk result (λ watcher. watcher.board ≡ self.old.board) }
         ensures seen { IfOk result (λ watcher. watcher.seen ≡ self.old.published) }

@@ -17,7 +17,6 @@ use Rattle.tc_write.specs.Segments.{AreSegments, MakeUnit}
 abbrev Places : List (List ℕ) → (ℕ → List ℕ → Type 0) → Type 0
 Places fields P = (k : ℕ) → k < length fields → P k (get_or fields k [])
 
--- the first `a` octets, followed by the next `b`, are the first `a + b`
 take-more : (a b : ℕ) (xs : List ℕ) → take a xs ++ take b (drop a xs) ≡ take (a + b) xs
 take-more zero b xs = let e : zero + b ≡ b = omega arith in ap (λ (n : ℕ). take n xs) (sym e)
 take-more (suc a) b [] = grind (arith, common_steps)

@@ -47,7 +47,7 @@ units-not : (a b n : ℕ) → ¬ ((1 ≤ n) × (n ≤ 256)) → ¬ HaveUnitCapac
 units-not a b n = first-not (λ (m : MapSetting). (1 ≤ m.capacity) × (m.capacity ≤ 256)) (chosen a n) (chosen b n ∷ [])
 
 -- The conditions on settings hold for the greatest values and for the least values. The first three conditions are
--- apart.
+-- stated apart from the others.
 
 abbrev Front : ℕ → ℕ → ℕ → Type 0 → Type 0
 Front v w b Later = IsVcid v × (IsWidth w × (IsBufferSize b × Later))

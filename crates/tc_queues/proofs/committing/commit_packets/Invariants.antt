@@ -1,7 +1,7 @@
 use Rattle.tc_queues.proofs.Names.{◌≡◌, ◌+◌, ◌≤◌, length, map, boxed_slice_items, packets_of, keys_of, AreStagedOf, rings_in, committed, looks, pass_steps}
 use Rattle.tc_queues.proofs.committing.commit_packets.Given as goal
 
--- items are staged only in queues that one of the remaining packets is for
+-- items are staged only in queues that want one of the remaining packets
 abbrev pub invariant-loop-packet : goal.invariant-loop-packet
 invariant-loop-packet g l = record {
   among : AreStagedOf (packets_of l.rest) (boxed_slice_items l.queues);
