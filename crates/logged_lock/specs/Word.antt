@@ -20,6 +20,6 @@ asking zero = 3
 asking (suc zero) = 3
 asking (suc (suc sleeps)) = 4
 
--- the word of the lock after its release, which leaves it to threads that have slept if that was requested
+-- The word of the lock after its release. The lock is left to threads that have slept if a thread requested this.
 abbrev pub given_back : ℕ → ℕ
 given_back word = if word == 4 then 1 else 0

@@ -21,9 +21,9 @@ const FREE: u64 = 0;
 
 const LEFT: u64 = 1;
 
-// The words of a taken lock. `TAKEN` means only that the lock is taken. `SLEEPERS` also means that a thread may sleep,
-// and `ASKED` that a thread has requested that the lock be left to threads that have slept. While the lock is taken,
-// its word only rises.
+// The words of a taken lock. `TAKEN` means only that the lock is taken. `SLEEPERS` also means that a thread may sleep.
+// `ASKED` also means that a thread has requested the lock for threads that have slept. While the lock is taken, its
+// word only rises.
 const TAKEN: u64 = 2;
 
 const SLEEPERS: u64 = 3;
@@ -43,8 +43,8 @@ const LOOKS: u32 = 6;
 
 const PAUSES: u32 = 32;
 
-// The number of times that a thread sleeps before it requests that the lock be left to threads that have slept. The
-// request makes starvation rare, but there is no bound on a thread's wait.
+// The number of times that a thread sleeps before it requests the lock for threads that have slept. The request makes
+// starvation rare, but there is no bound on a thread's wait.
 const LOST_WAKES: u64 = 2;
 
 // Returns whether a thread that has slept `sleeps` times may take a lock with this word.
@@ -278,7 +278,7 @@ impl<S: Logged<D, E>, D: Head, E> LoggedLock<S, D, E> {
         self.table.shared.load_new_seat::<Sits>(WORD).1
     }
 
-    /// Creates a seat that has made no entry, and that has seen the part of the log that the first seat has seen.
+    /// Creates a seat without entries. The new seat has seen the part of the log that the first seat has seen.
     pub fn issue(&self, first: &mut LockSeat<S, D, E>) -> LockSeat<S, D, E>
         requires own { first.old.table_id ≡ self.now.id }
         requires first { first.old.id ≡ 0 }

@@ -83,7 +83,7 @@ impl<S, D, E> Play<S, View<D, E>> for Accounts {
     ghost then = { λ _ before _ after. (after ≡ before) × IsAccountedFor before.0 };
 }
 
-/// The step that issues a new seat, which has seen the part of the log that the issuing seat has seen.
+/// The step that issues a new seat. The new seat has seen the part of the log that the issuing seat has seen.
 pub struct Issues;
 
 impl<D, E> Split<View<D, E>> for Issues {

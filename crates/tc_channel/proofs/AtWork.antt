@@ -76,8 +76,8 @@ can-pass k = record {
 pub none-touched : (store : Store) (queues units : List Keyed) → CanPassOn store queues units → KeepRooms store queues units store queues units
 none-touched store queues units k = record { limits_are = λ _. refl; segmented = refl; sizes = refl; unit_sizes = refl; committed = k.committed; units_committed = k.units_committed }
 
--- If the parts after a step belong to the longer journal, the rooms and limits are as before, and nothing is left
--- staged, then the core with its rooms belongs to the longer journal.
+-- Let the parts after a step belong to the longer journal. If rooms and limits are as before, and nothing is left
+-- staged, the core with its rooms belongs to the longer journal, too.
 pub holds-on : {limits : ℕ → ℕ} {s : Settings} {journal : List Event} {parts : Parts} (next : List Event) (later : Parts) → HoldsInRooms limits s journal parts → HoldsWithin limits s next (inside_of later)
     → later.fields.size ≡ parts.fields.size → later.fields.staged ≡ [] → KeepRooms parts.store parts.queues parts.units later.store later.queues later.units → HoldsInRooms limits s next later
 holds-on next later k holds size fields rooms = record {

@@ -219,7 +219,7 @@ sent-at sent n [] h i a e = absurd cc
 sent-at sent n (b ∷ xs) h zero a e = let q : b ≡ a = cc in rw (← q) (h.0 ∙ ap sent (omega arith))
 sent-at sent n (b ∷ xs) h (suc i) a e = sent-at sent (n + 1) xs h.1 i a e ∙ ap sent (omega arith)
 
--- a frame that is accepted as number n has the field that the sender sent as number n
+-- accepted frame number `n` has the data field of the sender's frame number `n`
 sender-so : (sent : ℕ → List ℕ) (x n : ℕ) (e : Event) → IsOfSender x sent n e → IsTakenSo (λ m a. a.field ≡ sent m) x n e
 sender-so sent x n (Frame octets) from = λ bypass control v.
     let is = from bypass control in is.field ∙ ap sent (let a = is.ns in let o = is.not_old in let w = is.not_new in omega arith)

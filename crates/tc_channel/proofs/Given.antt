@@ -1,5 +1,5 @@
--- Everything that leaves a channel came in, in order. Each packet and unit that is taken is the next one that was
--- admitted, and each Type-AD field that is passed on is the next one that was accepted.
+-- Everything that leaves a channel came in, in order. Packets and units are taken in the order in which they were
+-- admitted, and Type-AD fields are passed on in the order in which they were accepted.
 use Rattle.tc_channel.proofs.Names.{◌≡◌, ◌≢◌, ℕ, ◌+◌, ◌<◌, ◌≤◌, Bool, true, false, cond, eqb, List, [], ◌∷◌, ◌++◌, length, map, filter, take, drop, get_or, Some, None, refl, sym, ap, subst, ◌∙◌, inl, inr, append_assoc, arith, nat_lt, slice_get, eqb_tells, nat_tests, append-nil, map-append, length-append, take_more, filter-append, header_of, accepts, Bd, Passed, same_service, Settings, Event, Frame, Release, Take, TakeUnit, ChannelState, Accepted, Queue, first_state_within, empty_queue, empty_unit_queue, buffer, queue_of, is_for, is_of_map, map_of, is_chosen, packets_offered, units_offered, share_of, with_share, with_shares, step, row_of, unit_of, taken_from, first_of, HasStep, run_from, as_list, packets_given, units_given, Ad, passed_on, run_within, IsLawfulWithin}
 use Rattle.std.proofs.lemmas.List.{take-append-le, drop_more, drop_all}
 use Rattle.tc_channel.specs.Given.{oldest_in, packet_given, unit_given, fields_passed}

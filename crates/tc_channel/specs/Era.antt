@@ -1,4 +1,4 @@
--- The era of a journal: the events that came since V(R) was last set by a Set V(R) that was obeyed.
+-- The era of a journal: the events since the last Set V(R) that FARM-1 obeyed, or since the start.
 use Rattle.std.specs.Prelude.{◌≡◌, ℕ, ◌+◌, ◌%◌, ◌<◌, false, List, [], ◌∷◌, ◌++◌, length, take, drop, ◌⊎◌, slice_get, Option, Some, None}
 use Rattle.tc_link.specs.Frame.{header_of}
 use Rattle.tc_link.specs.Farm.{Row, E8}

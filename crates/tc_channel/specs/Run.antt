@@ -20,7 +20,7 @@ field_of octets = drop 5 octets
 abbrev pub row_of : Settings → ChannelState → List ℕ → Row
 row_of s state octets = frame_row s.width state.report.vr (kind_of (header_of octets) (field_of octets)) (has_room s state)
 
--- the unit that a data field ends when it is passed to reassembly, if the unit is no longer than the limit of its MAP
+-- the unit that a data field ends in reassembly, or none if the unit is over the limit of its MAP
 abbrev pub unit_of : ChannelState → Service → List ℕ → Option (List ℕ)
 unit_of state service field = at_most (state.limit (map_of field)) (unit_ended state.segmented (stream service (map_of field) state.passed) field)
 

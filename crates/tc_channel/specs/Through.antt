@@ -24,8 +24,8 @@ unit_made limits s before p = at_most (limits (map_of p.field)) (unit_ended s.se
 abbrev pub is_chosen_by : Settings → List ℕ → Bool
 is_chosen_by s field = is_some (queue_of (map_of field) (map empty_unit_queue s.maps))
 
--- the packets for an application that one more data field makes: those that its unit is cut into, unless the unit is
--- delivered whole
+-- The packets for an application that one more data field makes. They are cut from its unit, unless the unit is
+-- delivered whole.
 abbrev pub packets_ended : (ℕ → ℕ) → Settings → ℕ → List Passed → Passed → List (List ℕ)
 packets_ended limits s apid before p = filter (is_for apid) (packets_offered (unit_made limits s before p) (is_chosen_by s p.field))
 

@@ -105,8 +105,8 @@ impl<J: Journal> ChannelWith<J> {
     }
 
     /// Takes in a frame as [`frame`](ChannelWith::frame) does, and counts steps. One step is counted for each packet
-    /// that is cut from the unit that the frame ends, and one for each queue that is looked at. A frame that isn't of
-    /// Type-BD takes no steps.
+    /// that is cut from the frame's unit, and one for each queue that is looked at. A frame that isn't of Type-BD takes
+    /// no steps.
     pub fn frame_with_steps<C: Tick>(
         &mut self,
         frame: &Frame,

@@ -20,8 +20,7 @@ ghost use Rattle.tc_channel.specs.Through.{IsPartOf, packets_made, units_made, s
 
 use tc_link::a_written_clcw_reads_back;
 
-/// The data fields of Type-AD that were passed to reassembly are the accepted ones that were released, each once and in
-/// order.
+/// The Type-AD data fields passed to reassembly are the accepted and released ones, each once and in order.
 pub fn what_was_accepted_is_passed_on_in_order()
     ensures { (limits : ℕ → ℕ) (s : Settings) (journal : List Event) → IsLawfulWithin limits s journal
         → fields_passed Service.Ad (run_within limits s journal).passed ≡ map (λ (a : Accepted). a.field) (take (run_within limits s journal).released (run_within limits s journal).accepted) }

@@ -55,9 +55,9 @@ pub fn each_journal_has_an_era()
     ensures { (limits : ℕ → ℕ) (s : Settings) (journal : List Event) → (before : List Event) × (later : List Event) × (x : ℕ) × IsEraWithin limits s journal before later x }
 {}
 
-/// In a lawful journal of allowed settings, consider the AD frames that were accepted since the last Set V(R) that was
-/// obeyed, or since the start if none was. They have consecutive numbers modulo 256, from the V(R) of that moment on,
-/// and V(R) is the next number.
+/// In a lawful journal of allowed settings, the Type-AD frames accepted in the era count up. The era begins after the
+/// last Set V(R) that was obeyed, or at the start. The frames have consecutive numbers modulo 256, from the V(R) with
+/// which the era begins, and V(R) is the next number.
 pub fn accepted_frames_count_up()
     ensures { (limits : ℕ → ℕ) (s : Settings) (journal : List Event) → IsAllowed s → IsLawfulWithin limits s journal → CountsUpInItsEraWithin limits s journal }
 {}

@@ -111,7 +111,7 @@ IsReleaseFault m release_faults.NoMemory = ⊤
 abbrev pub IsOldestPacket : ℕ → Moment → List ℕ → Type 0
 IsOldestPacket apid m packet = take_reply m.head.settings m.entries apid ≡ Some packet
 
--- This is a reason why no packet was taken. It can be lack of memory only if the journal takes memory.
+-- This is a reason why no packet was taken. A lack of memory can be the reason only if the journal takes memory.
 abbrev pub IsTakeFault : Bool → ℕ → Moment → TakeFault → Type 0
 IsTakeFault grows apid m take_faults.NoQueue = waiting_packets m.head.settings m.entries apid ≡ None
 IsTakeFault grows apid m take_faults.Empty = waiting_packets m.head.settings m.entries apid ≡ Some []

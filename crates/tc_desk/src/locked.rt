@@ -63,8 +63,9 @@ impl Model for DeskOperator {
     ghost invariant = { λ o. IsResting o.badge.views × ((view_in o.badge.views).maker ≡ true) × (padded_value o.count ≡ count_of (view_in o.badge.views).own) };
 }
 
-/// The owner of a lock, through which operators are created and the channel is taken out. It counts the operators, and
-/// makes no events. Threads may share it, since nothing can be done with a `&` to it.
+/// The owner of a lock, through which operators are created and the channel is taken out. The number of operators is
+/// kept here, and no event is made through an owner. Threads may share an owner, since nothing can be done with a `&`
+/// to it.
 #[derive(Drop)]
 pub struct DeskOwner {
     badge: ResidentBadge<View<DeskHead, Event>>,

@@ -122,8 +122,8 @@ impl<N: Noted> FixedChannelWith<N> {
     }
 
     /// Processes a frame as [`frame`](FixedChannelWith::frame) does, and counts steps. One step is counted for each
-    /// packet that is cut from the unit that the frame completes, and one for each queue that is examined. A frame that
-    /// isn't of Type-BD takes no steps.
+    /// packet that is cut from the frame's unit, and one for each queue that is examined. A frame that isn't of Type-BD
+    /// takes no steps.
     pub fn frame_with_steps<C: Tick>(&mut self, frame: &Frame, steps: &mut C) -> FrameReply
         ensures allowed { IsAllowed self.old.settings }
         ensures lawful { IsLawfulWithin (limit_of self.old.limits) self.old.settings self.old.journal }

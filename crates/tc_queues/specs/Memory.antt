@@ -62,7 +62,7 @@ table_memory queues = if nat_lt queues 8 then 0 else 2048 * 2
 abbrev pub tables_memory : Settings → ℕ
 tables_memory s = table_memory (length s.queues) + table_memory (length s.maps)
 
--- The bytes of a first segment that lies beside the block of its run, because that block is too small for it.
+-- The bytes of a first segment. It lies beside the block of its run, because that block is too small for it.
 abbrev pub segment_memory : Settings → ℕ
 segment_memory s = if s.segmented then largest_field else 0
 

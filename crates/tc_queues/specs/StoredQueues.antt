@@ -99,7 +99,7 @@ abbrev pub popped : ℕ → List StoredQueue → List StoredQueue
 popped key [] = []
 popped key (q ∷ qs) = if q.key == key then shorter q ∷ qs else q ∷ popped key qs
 
--- the item that is put into a queue, as a list, which is empty if no item is put
+-- the item that is put into a queue, if any, as a list
 abbrev pub placed : Option Placed → List Placed
 placed None = []
 placed (Some one) = one ∷ []

@@ -5,8 +5,8 @@ ghost use Rattle.std.specs.Prelude.{◌≡◌, ◌≤◌, ◌+◌, ℕ, Bool, tr
 use std::marker::Model;
 use std::sync::ledger::{Blank, Book, Ledger, Share};
 
-/// A counter of steps. The functions that count are generic over it and can't create a counter of their own, so each
-/// step that they take is counted by the counter that they were given.
+/// A counter of steps. The functions that count steps are generic over this trait. They can't create a counter of their
+/// own, so each of their steps is counted by their caller's counter.
 pub trait Tick {
     // the number of steps that were counted
     ghost taken: { Self → ℕ };
