@@ -102,8 +102,8 @@ numbers-are x n [] h filled i a e = absurd cc
 numbers-are x n (b ∷ xs) h filled zero a e = let q : b ≡ a = cc in rw (← q) (let m = h.0 in let f = filled.0.1 in omega arith)
 numbers-are x n (b ∷ xs) h filled (suc i) a e = numbers-are x (n + 1) xs h.1 filled.1 i a e ∙ ap (λ m. (x + m) % 256) (omega arith)
 
--- The state `later` has the `n` accepted frames of `b`, and more of them. Each of the additional frames has the
--- property P.
+-- The state `later` has the accepted frames of `b`, and more of them. Each additional frame has the property P, with
+-- its number counted from `n` on.
 record GoesOn (P : ℕ → Accepted → Type 0) (x n : ℕ) (b later : ChannelState) : Type 0 where
   more : List Accepted
   grown : later.accepted ≡ b.accepted ++ more

@@ -182,7 +182,7 @@ different (suc (suc b)) c b_fits c_fits ne = absurd (omega arith)
 different b (suc (suc c)) b_fits c_fits ne = absurd (omega arith)
 different _ _ b_fits c_fits ne = absurd (ne refl)
 
--- two lists with equal remainders are equal if they may differ only at the places `i` and `i + n + 1`
+-- two lists with equal remainders are equal if they may differ only at two places that are less than 32,767 bits apart
 pub two : (i n : ℕ) → n < 32766 → (bs cs : List ℕ) → length bs ≡ length cs → AreBits bs → AreBits cs → (r : ℕ) → r < 2 ^ 16
     → ((k : ℕ) → k ≢ i → k ≢ i + suc n → Alike bs cs k) → remainder r bs ≡ remainder r cs → bs ≡ cs
 unfolding AreBits Alike
