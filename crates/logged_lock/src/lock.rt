@@ -316,8 +316,10 @@ impl<S: Logged<D, E>, D: Head, E> LoggedLock<S, D, E> {
         ensures same { (first.new.table_id ≡ first.old.table_id) × (first.new.id ≡ first.old.id) × (first.new.me ≡ first.old.me) }
         ensures accounted { IsAccountedFor first.old.me.0 }
         ensures behind { AreBehind first.old.me.0.reported first.old.me.0.own.seen }
-        ensures whole { first.old.me.0.own.made ≡ [] → first.old.me.0.own.issued ≤ length first.old.me.0.reported → total_made first.old.me.0.reported ≡ length first.old.me.0.own.seen.entries }
-        ensures merge { total_made first.old.me.0.reported ≡ length first.old.me.0.own.seen.entries → IsMergeOf first.old.me.0.own.seen.entries first.old.me.0.reported }
+        ensures whole { first.old.me.0.own.made ≡ [] → first.old.me.0.own.issued ≤ length first.old.me.0.reported
+            → total_made first.old.me.0.reported ≡ length first.old.me.0.own.seen.entries }
+        ensures merge { total_made first.old.me.0.reported ≡ length first.old.me.0.own.seen.entries
+            → IsMergeOf first.old.me.0.own.seen.entries first.old.me.0.reported }
     {
         self.table.shared.load::<Accounts>(first, WORD);
     }

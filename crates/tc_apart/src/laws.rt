@@ -27,14 +27,20 @@ use tc_link::each_input_begins_with_one_frame_at_most;
 /// between (`answers`). Each kind of operation is brought to the channel that it names (`own`) and to no other
 /// (`other`).
 pub fn channels_do_not_touch_each_other()
-    ensures own { (answer : Answer) (octets : List ℕ) (reply : FrameReply) → (is_on 1 (Operation.Frame octets) (Answer.Frame 1 reply) ≡ true) × (is_on 1 (Operation.Release 1) answer ≡ true)
+    ensures own { (answer : Answer) (octets : List ℕ) (reply : FrameReply)
+        → (is_on 1 (Operation.Frame octets) (Answer.Frame 1 reply) ≡ true) × (is_on 1 (Operation.Release 1) answer ≡ true)
         × (is_on 1 (Operation.Take 1 5) answer ≡ true) × (is_on 1 (Operation.Unit 1 3) answer ≡ true) × (is_on 1 (Operation.Clcw 1) answer ≡ true) }
-    ensures other { (answer : Answer) (octets : List ℕ) (reply : FrameReply) → (is_on 1 (Operation.Frame octets) (Answer.Frame 2 reply) ≡ false) × (is_on 1 (Operation.Release 2) answer ≡ false)
-        × (is_on 1 (Operation.Take 2 5) answer ≡ false) × (is_on 1 (Operation.Unit 2 3) answer ≡ false) × (is_on 1 (Operation.Clcw 2) answer ≡ false) }
-    ensures answers { (vcid : ℕ) (one other : List Answered) (a after b behind : Racked) (channel : Linked) → AreChannelsApart a.channels → AreChannelsApart b.channels
+    ensures other { (answer : Answer) (octets : List ℕ) (reply : FrameReply)
+        → (is_on 1 (Operation.Frame octets) (Answer.Frame 2 reply) ≡ false) × (is_on 1 (Operation.Release 2) answer ≡ false)
+        × (is_on 1 (Operation.Take 2 5) answer ≡ false) × (is_on 1 (Operation.Unit 2 3) answer ≡ false)
+        × (is_on 1 (Operation.Clcw 2) answer ≡ false) }
+    ensures answers { (vcid : ℕ) (one other : List Answered) (a after b behind : Racked) (channel : Linked)
+        → AreChannelsApart a.channels → AreChannelsApart b.channels
         → IsOf a vcid (λ c. c ≡ channel) → IsOf b vcid (λ c. c ≡ channel) → ArePerformed one a after → ArePerformed other b behind
-        → map operation_of (filter (is_own vcid) one) ≡ map operation_of (filter (is_own vcid) other) → filter (is_own vcid) one ≡ filter (is_own vcid) other }
-    ensures channel { (vcid : ℕ) (one other : List Answered) (a after b behind : Racked) (channel : Linked) → AreChannelsApart a.channels → AreChannelsApart b.channels
+        → map operation_of (filter (is_own vcid) one) ≡ map operation_of (filter (is_own vcid) other)
+        → filter (is_own vcid) one ≡ filter (is_own vcid) other }
+    ensures channel { (vcid : ℕ) (one other : List Answered) (a after b behind : Racked) (channel : Linked)
+        → AreChannelsApart a.channels → AreChannelsApart b.channels
         → IsOf a vcid (λ c. c ≡ channel) → IsOf b vcid (λ c. c ≡ channel) → ArePerformed one a after → ArePerformed other b behind
         → map operation_of (filter (is_own vcid) one) ≡ map operation_of (filter (is_own vcid) other)
         → (last : Linked) × IsOf after vcid (λ c. c ≡ last) × IsOf behind vcid (λ c. c ≡ last) }
@@ -49,14 +55,21 @@ pub fn channels_do_not_touch_each_other()
 /// (`answers`). All operations of the lines are performed on the channels that lines set up before them (`performed`).
 /// Those among them that are on a channel are the ones that the lines have performed there (`has`).
 pub fn channels_of_a_script_do_not_touch_each_other()
-    ensures has { (scid vcid : ℕ) (script rest : List ℕ) (answers : List (Option Answer)) (progress : Progress) (channel : Linked) (lines : AreAnswers (IsPerformed scid) script answers progress rest)
+    ensures has { (scid vcid : ℕ) (script rest : List ℕ) (answers : List (Option Answer)) (progress : Progress) (channel : Linked)
+        (lines : AreAnswers (IsPerformed scid) script answers progress rest)
         → IsOf (rack_for scid progress) vcid (λ c. c ≡ channel) → HasPerformed scid script vcid (filter (is_own vcid) (operations_of lines)) channel }
-    ensures performed { (scid : ℕ) (script rest : List ℕ) (answers : List (Option Answer)) (progress : Progress) (lines : AreAnswers (IsPerformed scid) script answers progress rest)
-        → (list : List Settings) × LeadsTo scid script (SettingUp list) × ArePerformed (operations_of lines) (new_rack scid list) (rack_for scid progress) }
-    ensures answers { (scid vcid : ℕ) (script another : List ℕ) (one other : List Answered) (channel last : Linked) → HasPerformed scid script vcid one channel
-        → HasPerformed scid another vcid other last → channel.history.settings ≡ last.history.settings → map operation_of one ≡ map operation_of other → one ≡ other }
-    ensures channel { (scid vcid : ℕ) (script another : List ℕ) (one other : List Answered) (channel last : Linked) → HasPerformed scid script vcid one channel
-        → HasPerformed scid another vcid other last → channel.history.settings ≡ last.history.settings → map operation_of one ≡ map operation_of other → channel ≡ last }
+    ensures performed { (scid : ℕ) (script rest : List ℕ) (answers : List (Option Answer)) (progress : Progress)
+        (lines : AreAnswers (IsPerformed scid) script answers progress rest)
+        → (list : List Settings) × LeadsTo scid script (SettingUp list)
+        × ArePerformed (operations_of lines) (new_rack scid list) (rack_for scid progress) }
+    ensures answers { (scid vcid : ℕ) (script another : List ℕ) (one other : List Answered) (channel last : Linked)
+        → HasPerformed scid script vcid one channel
+        → HasPerformed scid another vcid other last → channel.history.settings ≡ last.history.settings
+        → map operation_of one ≡ map operation_of other → one ≡ other }
+    ensures channel { (scid vcid : ℕ) (script another : List ℕ) (one other : List Answered) (channel last : Linked)
+        → HasPerformed scid script vcid one channel
+        → HasPerformed scid another vcid other last → channel.history.settings ≡ last.history.settings
+        → map operation_of one ≡ map operation_of other → channel ≡ last }
 {
     each_input_begins_with_one_frame_at_most();
 }
@@ -68,7 +81,9 @@ pub fn channels_of_a_script_do_not_touch_each_other()
 /// journal up to the call (`from_a_sender_to_packets` of tc_station).
 pub fn channels_of_a_station_do_not_touch_each_other()
     ensures { (station other : Roster) (operators others : List AtStation) (closed shut : List History) (place at : ℕ) (one two : History)
-        → AreClosedTogether station operators closed → AreClosedTogether other others shut → slice_get closed place ≡ Some one → slice_get shut at ≡ Some two
+        → AreClosedTogether station operators closed → AreClosedTogether other others shut → slice_get closed place ≡ Some one
+        → slice_get shut at ≡ Some two
         → slice_get (settings_in station) place ≡ slice_get (settings_in other) at
-        → ((k : ℕ) → made_by (accounts_of (column place (operator_lists_of operators))) k ≡ made_by (accounts_of (column at (operator_lists_of others))) k) → one ≡ two }
+        → ((k : ℕ) → made_by (accounts_of (column place (operator_lists_of operators))) k
+        ≡ made_by (accounts_of (column at (operator_lists_of others))) k) → one ≡ two }
 {}

@@ -15,10 +15,13 @@ ghost use Rattle.tc_apart.specs.Making.{AskFor, AreSpelled, HasBadLine};
 /// (`none_bad`). Two lines that were worked out by hand order a unit, with segment headers (`asked`) and without
 /// (`asked_plainly`).
 pub fn tcmake_writes_numbered_frames()
-    ensures written { (ending : Ending) (segmented : Bool) (stream : Stream) (units : List UnitSent) (octets : List ℕ) (before after : Option (List ℕ)) → stream.ns < 256
+    ensures written { (ending : Ending) (segmented : Bool) (stream : Stream) (units : List UnitSent) (octets : List ℕ)
+        (before after : Option (List ℕ)) → stream.ns < 256
         → AskFor segmented stream units (lines_of octets) → AreWritten ending octets before after
         → Writes before after (λ text. AreSpelled ending segmented stream units text ⊎ HasBadLine text) }
     ensures none_bad { HasBadLine [] → ⊥ }
-    ensures asked { AskFor true (record { scid = 42; vcid = 1; ns = 9 }) example.one_unit (lines_of (codes "segments 42 1 9 0 249 1005c0000000aa\n")) }
-    ensures asked_plainly { AskFor false (record { scid = 42; vcid = 1; ns = 9 }) example.one_unit (lines_of (codes "ad 42 1 9 plain 1005c0000000aa\n")) }
+    ensures asked { AskFor true (record { scid = 42; vcid = 1; ns = 9 }) example.one_unit
+        (lines_of (codes "segments 42 1 9 0 249 1005c0000000aa\n")) }
+    ensures asked_plainly { AskFor false (record { scid = 42; vcid = 1; ns = 9 }) example.one_unit
+        (lines_of (codes "ad 42 1 9 plain 1005c0000000aa\n")) }
 {}

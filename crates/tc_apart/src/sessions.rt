@@ -25,10 +25,14 @@ ghost use Rattle.tc_apart.specs.Sessions.{AreSaid};
 /// - `fault`: If the next line is bad, its text gives the number of the line and the reason, as `tcrx run` prints them.
 pub fn a_session_does_a_script_as_tcrx_does()
     ensures answers { (scid : ℕ) (script texts rest : List ℕ) (engine : Engine) → AreSaid scid script texts engine rest
-        → (answers : List (Option Answer)) × (progress : Progress) × AreAnswers (IsPerformed scid) script answers progress rest × (texts ≡ answers_text answers) }
-    ensures written { (scid : ℕ) (script texts report : List ℕ) (engine : Engine) (old new : Option (List ℕ)) → AreSaid scid script texts engine [] → IsEngineEnded Done engine report
+        → (answers : List (Option Answer)) × (progress : Progress) × AreAnswers (IsPerformed scid) script answers progress rest
+        × (texts ≡ answers_text answers) }
+    ensures written { (scid : ℕ) (script texts report : List ℕ) (engine : Engine) (old new : Option (List ℕ))
+        → AreSaid scid script texts engine [] → IsEngineEnded Done engine report
         → Appends old new (texts ++ report) → IsScriptWritten scid script old new }
-    ensures fault { (scid : ℕ) (script texts rest line text : List ℕ) (engine left : Engine) → AreSaid scid script texts engine rest → IsEngineSaid false engine line left text
+    ensures fault { (scid : ℕ) (script texts rest line text : List ℕ) (engine left : Engine)
+        → AreSaid scid script texts engine rest → IsEngineSaid false engine line left text
         → (answers : List (Option Answer)) × (progress : Progress) × (reason : Reason) × AreAnswers (IsPerformed scid) script answers progress rest
-        × (text ≡ fault_text (Line (min (length answers + 1) (2 ^ 32 - 1)) reason) ++ codes "\n") × ((reason ≡ NoMemory) ⊎ IsBadLine (phase_of progress) line reason) }
+        × (text ≡ fault_text (Line (min (length answers + 1) (2 ^ 32 - 1)) reason) ++ codes "\n")
+        × ((reason ≡ NoMemory) ⊎ IsBadLine (phase_of progress) line reason) }
 {}

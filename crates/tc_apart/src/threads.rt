@@ -32,18 +32,31 @@ use tc_write::the_segments_of_a_unit_make_the_unit;
 ///   CLTUs with wrong bits, to the packets that were taken. The premises are those of `packets_in_cltus_are_given`
 ///   (tc_ends).
 pub fn a_station_gives_out_what_a_loop_sent()
-    ensures passed { (station : Roster) (operators : List AtStation) (closed : List History) (place : ℕ) (channel : History) (l : Loop) (session : List Action)
-        → AreClosedTogether station operators closed → slice_get closed place ≡ Some channel → slice_get (settings_in station) place ≡ Some l.settings → l.limits ≡ no_limits
+    ensures passed { (station : Roster) (operators : List AtStation) (closed : List History) (place : ℕ) (channel : History)
+        (l : Loop) (session : List Action)
+        → AreClosedTogether station operators closed → slice_get closed place ≡ Some channel
+        → slice_get (settings_in station) place ≡ Some l.settings → l.limits ≡ no_limits
         → IsLoop l session → channel.journal ≡ journal l session
-        → passed_since no_limits channel.settings l.before (run channel.settings channel.journal).passed ≡ sent_from (sent l) 0 (released_since no_limits channel.settings l.before channel.journal) }
-    ensures given { (station : Roster) (operators : List AtStation) (closed : List History) (place : ℕ) (channel : History) (l : Loop) (session : List Action) (header : Header) (units : List UnitSent) (frames : List (List ℕ)) (apid : ℕ) (q : Queue)
-        → AreClosedTogether station operators closed → slice_get closed place ≡ Some channel → slice_get (settings_in station) place ≡ Some l.settings → l.limits ≡ no_limits
-        → IsLoop l session → channel.journal ≡ journal l session → AllByRecursion (CanBeSent l.limits l.settings.segmented) units → AreNumbered l.settings.segmented header units frames → AreFrom l.frames frames → SendsOnly (length frames) session
+        → passed_since no_limits channel.settings l.before (run channel.settings channel.journal).passed
+        ≡ sent_from (sent l) 0 (released_since no_limits channel.settings l.before channel.journal) }
+    ensures given { (station : Roster) (operators : List AtStation) (closed : List History) (place : ℕ) (channel : History)
+        (l : Loop) (session : List Action) (header : Header) (units : List UnitSent) (frames : List (List ℕ)) (apid : ℕ)
+        (q : Queue)
+        → AreClosedTogether station operators closed → slice_get closed place ≡ Some channel
+        → slice_get (settings_in station) place ≡ Some l.settings → l.limits ≡ no_limits
+        → IsLoop l session → channel.journal ≡ journal l session → AllByRecursion (CanBeSent l.limits l.settings.segmented) units
+        → AreNumbered l.settings.segmented header units frames → AreFrom l.frames frames → SendsOnly (length frames) session
         → queue_of apid (receiver l session).queues ≡ Some q
         → AreGivenOf no_limits channel.settings apid l.before channel.journal (length frames) (units_on units) }
-    ensures in_cltus { (station : Roster) (operators : List AtStation) (closed : List History) (place : ℕ) (channel : History) (s : Start) (header : Header) (units : List UnitSent) (frames : List (List ℕ)) (apid : ℕ) (q : Queue) (end : LinkEnd) (state : Reception) (coming : List Coming) (came : List Event)
-        → AreClosedTogether station operators closed → slice_get closed place ≡ Some channel → slice_get (settings_in station) place ≡ Some s.loop.settings → s.loop.limits ≡ no_limits
-        → IsStart s → channel.journal ≡ s.loop.before ++ came → AllByRecursion (CanBeSent s.loop.limits s.loop.settings.segmented) units → AreNumbered s.loop.settings.segmented header units frames → AreFrom (era s).frames frames → SendsOnly (length frames) (era_session s)
+    ensures in_cltus { (station : Roster) (operators : List AtStation) (closed : List History) (place : ℕ) (channel : History)
+        (s : Start) (header : Header) (units : List UnitSent) (frames : List (List ℕ)) (apid : ℕ) (q : Queue) (end : LinkEnd)
+        (state : Reception) (coming : List Coming) (came : List Event)
+        → AreClosedTogether station operators closed → slice_get closed place ≡ Some channel
+        → slice_get (settings_in station) place ≡ Some s.loop.settings → s.loop.limits ≡ no_limits
+        → IsStart s → channel.journal ≡ s.loop.before ++ came
+        → AllByRecursion (CanBeSent s.loop.limits s.loop.settings.segmented) units
+        → AreNumbered s.loop.settings.segmented header units frames → AreFrom (era s).frames frames
+        → SendsOnly (length frames) (era_session s)
         → AltersNothing end s.loop.frames state s.session coming → AreEventsOf end state coming came
         → queue_of apid (run_within s.loop.limits s.loop.settings (s.loop.before ++ came)).queues ≡ Some q
         → AreGivenOf no_limits channel.settings apid (era s).before channel.journal (length frames) (units_on units) }

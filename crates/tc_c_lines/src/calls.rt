@@ -127,9 +127,14 @@ pub extern "C" fn tcrx_lines_answer_at(
     line: &[u8],
     buffer: &mut [u8],
 ) -> WrittenRecord
-    ensures answered { IfSome seat.old.place.session (λ old. old.waits ≡ None → (new : SessionValue) × (seat.new.place.session ≡ Some new) × IsAnswerGiven old line.now new buffer.old buffer.new result) }
-    ensures waits { IfSome seat.old.place.session (λ old. old.waits ≢ None → (result ≡ no_octets Status.Waiting) × (seat.new.place.session ≡ seat.old.place.session) × (buffer.new ≡ buffer.old)) }
-    ensures no_session { IfNone seat.old.place.session ((result ≡ no_octets Status.NoSession) × (seat.new.place.session ≡ None) × (buffer.new ≡ buffer.old)) }
+    ensures answered { IfSome seat.old.place.session
+        (λ old. old.waits ≡ None → (new : SessionValue) × (seat.new.place.session ≡ Some new)
+        × IsAnswerGiven old line.now new buffer.old buffer.new result) }
+    ensures waits { IfSome seat.old.place.session
+        (λ old. old.waits ≢ None → (result ≡ no_octets Status.Waiting) × (seat.new.place.session ≡ seat.old.place.session)
+        × (buffer.new ≡ buffer.old)) }
+    ensures no_session { IfNone seat.old.place.session
+        ((result ≡ no_octets Status.NoSession) × (seat.new.place.session ≡ None) × (buffer.new ≡ buffer.old)) }
 {
     match seat.lend() {
         Some(session) => answer(alloc, session, line, buffer),
@@ -154,9 +159,15 @@ fn answer(alloc: Global, session: &mut Session, line: &[u8], buffer: &mut [u8]) 
 /// text stands, and NoRoom. After NoRoom the text still waits.
 #[unsafe(no_mangle)]
 pub extern "C" fn tcrx_lines_text_at(seat: &mut Seat, buffer: &mut [u8]) -> WrittenRecord
-    ensures given { IfSome seat.old.place.session (λ old. IfSome old.waits (λ said. (new : SessionValue) × (seat.new.place.session ≡ Some new) × (new ≡ record old { waits = new.waits }) × IsGiven said old.text.items buffer.old buffer.new new.waits result)) }
-    ensures none { IfSome seat.old.place.session (λ old. old.waits ≡ None → (result ≡ no_octets Status.Done) × (seat.new.place.session ≡ seat.old.place.session) × (buffer.new ≡ buffer.old)) }
-    ensures no_session { IfNone seat.old.place.session ((result ≡ no_octets Status.NoSession) × (seat.new.place.session ≡ None) × (buffer.new ≡ buffer.old)) }
+    ensures given { IfSome seat.old.place.session
+        (λ old. IfSome old.waits (λ said. (new : SessionValue) × (seat.new.place.session ≡ Some new)
+        × (new ≡ record old { waits = new.waits })
+        × IsGiven said old.text.items buffer.old buffer.new new.waits result)) }
+    ensures none { IfSome seat.old.place.session
+        (λ old. old.waits ≡ None → (result ≡ no_octets Status.Done) × (seat.new.place.session ≡ seat.old.place.session)
+        × (buffer.new ≡ buffer.old)) }
+    ensures no_session { IfNone seat.old.place.session
+        ((result ≡ no_octets Status.NoSession) × (seat.new.place.session ≡ None) × (buffer.new ≡ buffer.old)) }
 {
     match seat.lend() {
         Some(session) => text(session, buffer),
@@ -165,7 +176,9 @@ pub extern "C" fn tcrx_lines_text_at(seat: &mut Seat, buffer: &mut [u8]) -> Writ
 }
 
 fn text(session: &mut Session, buffer: &mut [u8]) -> WrittenRecord
-    ensures given { IfSome session.old.waits (λ said. (session.new ≡ record session.old { waits = session.new.waits }) × IsGiven said session.old.text.items buffer.old buffer.new session.new.waits result) }
+    ensures given { IfSome session.old.waits
+        (λ said. (session.new ≡ record session.old { waits = session.new.waits })
+        × IsGiven said session.old.text.items buffer.old buffer.new session.new.waits result) }
     ensures none { session.old.waits ≡ None → (result ≡ no_octets Status.Done) × (session.new ≡ session.old) × (buffer.new ≡ buffer.old) }
 {
     match session.waits {
@@ -185,9 +198,14 @@ pub extern "C" fn tcrx_lines_end_at(
     seat: &mut Seat,
     buffer: &mut [u8],
 ) -> WrittenRecord
-    ensures ended { IfSome seat.old.place.session (λ old. old.waits ≡ None → (new : SessionValue) × (seat.new.place.session ≡ Some new) × IsReportGiven old new buffer.old buffer.new result) }
-    ensures waits { IfSome seat.old.place.session (λ old. old.waits ≢ None → (result ≡ no_octets Status.Waiting) × (seat.new.place.session ≡ seat.old.place.session) × (buffer.new ≡ buffer.old)) }
-    ensures no_session { IfNone seat.old.place.session ((result ≡ no_octets Status.NoSession) × (seat.new.place.session ≡ None) × (buffer.new ≡ buffer.old)) }
+    ensures ended { IfSome seat.old.place.session
+        (λ old. old.waits ≡ None → (new : SessionValue) × (seat.new.place.session ≡ Some new)
+        × IsReportGiven old new buffer.old buffer.new result) }
+    ensures waits { IfSome seat.old.place.session
+        (λ old. old.waits ≢ None → (result ≡ no_octets Status.Waiting) × (seat.new.place.session ≡ seat.old.place.session)
+        × (buffer.new ≡ buffer.old)) }
+    ensures no_session { IfNone seat.old.place.session
+        ((result ≡ no_octets Status.NoSession) × (seat.new.place.session ≡ None) × (buffer.new ≡ buffer.old)) }
 {
     match seat.lend() {
         Some(session) => end(alloc, session, buffer),

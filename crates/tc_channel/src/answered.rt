@@ -16,18 +16,25 @@ ghost use Rattle.tc_channel.specs.Examples as example;
 /// is about one journal and the result of the next call after it.
 pub fn short_journals_are_answered_so()
     ensures accepted { clcw (example.buffer_of 1) (example.one_packet 0 ∷ []) example.link_up ≡ 0x01040001 }
-    ensures one_queued_one_dropped { release_reply (example.buffer_of 1) (example.two_packets ∷ []) ≡ record { queued = 1; dropped = 1; rest = false } }
+    ensures one_queued_one_dropped { release_reply (example.buffer_of 1) (example.two_packets ∷ [])
+        ≡ record { queued = 1; dropped = 1; rest = false } }
     ensures rest { release_reply (example.buffer_of 1) (example.packet_and_rest ∷ []) ≡ record { queued = 1; dropped = 0; rest = true } }
-    ensures telemetry_and_idle { release_reply (example.buffer_of 1) (example.telemetry_and_idle ∷ []) ≡ record { queued = 0; dropped = 2; rest = false } }
-    ensures two_segments { release_reply (example.buffer_of 2) (example.first_segment ∷ example.last_segment ∷ Release ∷ []) ≡ record { queued = 1; dropped = 0; rest = false } }
-    ensures taken { take_reply (example.buffer_of 2) (example.first_segment ∷ example.last_segment ∷ Release ∷ Release ∷ []) 5 ≡ Some (0x10 ∷ 0x05 ∷ 0xc0 ∷ 0x01 ∷ 0x00 ∷ 0x01 ∷ 0xaa ∷ 0xbb ∷ []) }
-    ensures no_first_segment { release_reply (example.buffer_of 1) (example.lone_last_segment ∷ []) ≡ record { queued = 0; dropped = 0; rest = false } }
-    ensures services_apart { frame_reply (example.buffer_of 1) (example.first_segment ∷ Release ∷ []) example.bypass_last_segment ≡ record { act = record { event = 6; accepted = true }; delivery = record { queued = 0; dropped = 0; rest = false } } }
+    ensures telemetry_and_idle { release_reply (example.buffer_of 1) (example.telemetry_and_idle ∷ [])
+        ≡ record { queued = 0; dropped = 2; rest = false } }
+    ensures two_segments { release_reply (example.buffer_of 2) (example.first_segment ∷ example.last_segment ∷ Release ∷ [])
+        ≡ record { queued = 1; dropped = 0; rest = false } }
+    ensures taken { take_reply (example.buffer_of 2) (example.first_segment ∷ example.last_segment ∷ Release ∷ Release ∷ []) 5
+        ≡ Some (0x10 ∷ 0x05 ∷ 0xc0 ∷ 0x01 ∷ 0x00 ∷ 0x01 ∷ 0xaa ∷ 0xbb ∷ []) }
+    ensures no_first_segment { release_reply (example.buffer_of 1) (example.lone_last_segment ∷ [])
+        ≡ record { queued = 0; dropped = 0; rest = false } }
+    ensures services_apart { frame_reply (example.buffer_of 1) (example.first_segment ∷ Release ∷ []) example.bypass_last_segment
+        ≡ record { act = record { event = 6; accepted = true }; delivery = record { queued = 0; dropped = 0; rest = false } } }
     ensures plain { release_reply example.plain (example.plain_packet ∷ []) ≡ record { queued = 1; dropped = 0; rest = false } }
     ensures plain_keeps_the_first_octet { release_reply example.plain (example.one_packet 0 ∷ []) ≡ record { queued = 0; dropped = 0; rest = true } }
     ensures unit { unit_reply example.map_3_chosen (example.map_3_octets ∷ Release ∷ []) 3 ≡ Some (0xaa ∷ 0xbb ∷ 0xcc ∷ []) }
     ensures unit_queued { release_reply example.map_3_chosen (example.map_3_octets ∷ []) ≡ record { queued = 1; dropped = 0; rest = false } }
-    ensures unit_dropped { frame_reply example.map_3_chosen (example.map_3_octets ∷ Release ∷ []) example.bypass_map_3_octets ≡ record { act = record { event = 6; accepted = true }; delivery = record { queued = 0; dropped = 1; rest = false } } }
+    ensures unit_dropped { frame_reply example.map_3_chosen (example.map_3_octets ∷ Release ∷ []) example.bypass_map_3_octets
+        ≡ record { act = record { event = 6; accepted = true }; delivery = record { queued = 0; dropped = 1; rest = false } } }
     ensures empty_unit { unit_reply example.map_3_chosen (example.bypass_map_3_empty ∷ []) 3 ≡ Some [] }
     ensures wait { clcw (example.buffer_of 1) (example.one_packet 0 ∷ example.one_packet 1 ∷ []) example.link_up ≡ 0x01041801 }
 {}
@@ -35,15 +42,24 @@ pub fn short_journals_are_answered_so()
 /// States the results after further journals, worked out by hand. The journals cover CLCWs, the buffer, the queues, and
 /// each row of FARM-1's table that a frame can lead to.
 pub fn further_journals_are_answered_so()
-    ensures expected { frame_reply (example.buffer_of 1) [] (example.packet_octets 0) ≡ record { act = record { event = 1; accepted = true }; delivery = record { queued = 0; dropped = 0; rest = false } } }
-    ensures no_room { frame_reply (example.buffer_of 1) (example.one_packet 0 ∷ []) (example.packet_octets 1) ≡ record { act = record { event = 2; accepted = false }; delivery = record { queued = 0; dropped = 0; rest = false } } }
-    ensures ahead { frame_reply (example.buffer_of 1) [] (example.packet_octets 4) ≡ record { act = record { event = 3; accepted = false }; delivery = record { queued = 0; dropped = 0; rest = false } } }
-    ensures behind { frame_reply (example.buffer_of 1) [] (example.packet_octets 251) ≡ record { act = record { event = 4; accepted = false }; delivery = record { queued = 0; dropped = 0; rest = false } } }
-    ensures outside { frame_reply (example.buffer_of 1) [] (example.packet_octets 5) ≡ record { act = record { event = 5; accepted = false }; delivery = record { queued = 0; dropped = 0; rest = false } } }
-    ensures bypassed { frame_reply (example.buffer_of 1) [] example.bypass_packet ≡ record { act = record { event = 6; accepted = true }; delivery = record { queued = 1; dropped = 0; rest = false } } }
-    ensures unlocked { frame_reply (example.buffer_of 1) [] example.unlock ≡ record { act = record { event = 7; accepted = false }; delivery = record { queued = 0; dropped = 0; rest = false } } }
-    ensures set_v_r { frame_reply (example.buffer_of 1) [] example.set_v_r_to_9 ≡ record { act = record { event = 8; accepted = false }; delivery = record { queued = 0; dropped = 0; rest = false } } }
-    ensures reserved_type { frame_reply (example.buffer_of 1) [] example.reserved ≡ record { act = record { event = 9; accepted = false }; delivery = record { queued = 0; dropped = 0; rest = false } } }
+    ensures expected { frame_reply (example.buffer_of 1) [] (example.packet_octets 0)
+        ≡ record { act = record { event = 1; accepted = true }; delivery = record { queued = 0; dropped = 0; rest = false } } }
+    ensures no_room { frame_reply (example.buffer_of 1) (example.one_packet 0 ∷ []) (example.packet_octets 1)
+        ≡ record { act = record { event = 2; accepted = false }; delivery = record { queued = 0; dropped = 0; rest = false } } }
+    ensures ahead { frame_reply (example.buffer_of 1) [] (example.packet_octets 4)
+        ≡ record { act = record { event = 3; accepted = false }; delivery = record { queued = 0; dropped = 0; rest = false } } }
+    ensures behind { frame_reply (example.buffer_of 1) [] (example.packet_octets 251)
+        ≡ record { act = record { event = 4; accepted = false }; delivery = record { queued = 0; dropped = 0; rest = false } } }
+    ensures outside { frame_reply (example.buffer_of 1) [] (example.packet_octets 5)
+        ≡ record { act = record { event = 5; accepted = false }; delivery = record { queued = 0; dropped = 0; rest = false } } }
+    ensures bypassed { frame_reply (example.buffer_of 1) [] example.bypass_packet
+        ≡ record { act = record { event = 6; accepted = true }; delivery = record { queued = 1; dropped = 0; rest = false } } }
+    ensures unlocked { frame_reply (example.buffer_of 1) [] example.unlock
+        ≡ record { act = record { event = 7; accepted = false }; delivery = record { queued = 0; dropped = 0; rest = false } } }
+    ensures set_v_r { frame_reply (example.buffer_of 1) [] example.set_v_r_to_9
+        ≡ record { act = record { event = 8; accepted = false }; delivery = record { queued = 0; dropped = 0; rest = false } } }
+    ensures reserved_type { frame_reply (example.buffer_of 1) [] example.reserved
+        ≡ record { act = record { event = 9; accepted = false }; delivery = record { queued = 0; dropped = 0; rest = false } } }
     ensures unlock_counted { clcw (example.buffer_of 1) (Frame example.unlock ∷ []) example.link_up ≡ 0x01040200 }
     ensures number_set { clcw (example.buffer_of 1) (Frame example.set_v_r_to_9 ∷ []) example.link_up ≡ 0x01040209 }
     ensures retransmit { clcw (example.buffer_of 1) (example.one_packet 4 ∷ []) example.link_up ≡ 0x01040800 }
@@ -57,16 +73,28 @@ pub fn further_journals_are_answered_so()
     ensures taken_once { waiting_packets (example.buffer_of 1) (example.one_packet 0 ∷ Release ∷ Take 5 ∷ []) 5 ≡ Some [] }
     ensures unit_taken_once { waiting_units example.map_3_chosen (example.map_3_octets ∷ Release ∷ TakeUnit 3 ∷ []) 3 ≡ Some [] }
     ensures not_chosen { waiting_units example.map_3_chosen [] 4 ≡ None }
-    ensures queue_is_full { release_reply (example.buffer_of 1) (example.one_packet 0 ∷ Release ∷ example.one_packet 1 ∷ []) ≡ record { queued = 0; dropped = 1; rest = false } }
-    ensures queue_has_room_again { release_reply (example.buffer_of 1) (example.one_packet 0 ∷ Release ∷ Take 5 ∷ example.one_packet 1 ∷ []) ≡ record { queued = 1; dropped = 0; rest = false } }
-    ensures other_application { release_reply (example.buffer_of 1) (example.packet_of_another ∷ []) ≡ record { queued = 0; dropped = 1; rest = false } }
-    ensures expected_in_lockout { frame_reply (example.buffer_of 1) (example.one_packet 5 ∷ []) (example.packet_octets 0) ≡ record { act = record { event = 1; accepted = false }; delivery = record { queued = 0; dropped = 0; rest = false } } }
-    ensures bypassed_in_lockout { frame_reply (example.buffer_of 1) (example.one_packet 5 ∷ []) example.bypass_packet ≡ record { act = record { event = 6; accepted = true }; delivery = record { queued = 1; dropped = 0; rest = false } } }
-    ensures expected_after_unlock { frame_reply (example.buffer_of 1) (example.one_packet 5 ∷ Frame example.unlock ∷ []) (example.packet_octets 0) ≡ record { act = record { event = 1; accepted = true }; delivery = record { queued = 0; dropped = 0; rest = false } } }
+    ensures queue_is_full { release_reply (example.buffer_of 1) (example.one_packet 0 ∷ Release ∷ example.one_packet 1 ∷ [])
+        ≡ record { queued = 0; dropped = 1; rest = false } }
+    ensures queue_has_room_again { release_reply (example.buffer_of 1)
+        (example.one_packet 0 ∷ Release ∷ Take 5 ∷ example.one_packet 1 ∷ []) ≡ record { queued = 1; dropped = 0; rest = false } }
+    ensures other_application { release_reply (example.buffer_of 1) (example.packet_of_another ∷ [])
+        ≡ record { queued = 0; dropped = 1; rest = false } }
+    ensures expected_in_lockout { frame_reply (example.buffer_of 1) (example.one_packet 5 ∷ []) (example.packet_octets 0)
+        ≡ record { act = record { event = 1; accepted = false }; delivery = record { queued = 0; dropped = 0; rest = false } } }
+    ensures bypassed_in_lockout { frame_reply (example.buffer_of 1) (example.one_packet 5 ∷ []) example.bypass_packet
+        ≡ record { act = record { event = 6; accepted = true }; delivery = record { queued = 1; dropped = 0; rest = false } } }
+    ensures expected_after_unlock { frame_reply (example.buffer_of 1) (example.one_packet 5 ∷ Frame example.unlock ∷ [])
+        (example.packet_octets 0) ≡ record {
+          act = record { event = 1; accepted = true };
+          delivery = record { queued = 0; dropped = 0; rest = false };
+        } }
     ensures not_buffered_in_lockout { buffered_fields (example.buffer_of 1) (example.one_packet 5 ∷ example.one_packet 0 ∷ []) ≡ [] }
-    ensures oldest_leaves_first { buffered_fields (example.buffer_of 2) (example.first_segment ∷ example.last_segment ∷ Release ∷ []) ≡ (0x80 ∷ 0x01 ∷ 0x00 ∷ 0x01 ∷ 0xaa ∷ 0xbb ∷ []) ∷ [] }
-    ensures two_applications { release_reply (example.two_queues true) (example.two_applications ∷ []) ≡ record { queued = 2; dropped = 0; rest = false } }
-    ensures second_application { waiting_packets (example.two_queues true) (example.two_applications ∷ Release ∷ []) 6 ≡ Some ((0x10 ∷ 0x06 ∷ 0xc0 ∷ 0x00 ∷ 0x00 ∷ 0x00 ∷ 0xbb ∷ []) ∷ []) }
+    ensures oldest_leaves_first { buffered_fields (example.buffer_of 2)
+        (example.first_segment ∷ example.last_segment ∷ Release ∷ []) ≡ (0x80 ∷ 0x01 ∷ 0x00 ∷ 0x01 ∷ 0xaa ∷ 0xbb ∷ []) ∷ [] }
+    ensures two_applications { release_reply (example.two_queues true) (example.two_applications ∷ [])
+        ≡ record { queued = 2; dropped = 0; rest = false } }
+    ensures second_application { waiting_packets (example.two_queues true) (example.two_applications ∷ Release ∷ []) 6
+        ≡ Some ((0x10 ∷ 0x06 ∷ 0xc0 ∷ 0x00 ∷ 0x00 ∷ 0x00 ∷ 0xbb ∷ []) ∷ []) }
     ensures nothing_to_release { IsLawful (example.buffer_of 1) (Release ∷ []) → ⊥ }
     ensures map_that_is_cut { release_reply example.map_3_chosen (example.one_packet 0 ∷ []) ≡ record { queued = 1; dropped = 0; rest = false } }
 {}
@@ -74,12 +102,18 @@ pub fn further_journals_are_answered_so()
 /// States the results after journals of a channel with limits by MAP, worked out by hand. They are about a packet of 7
 /// octets on MAP 0, a packet of 8 octets in two segments, and a unit of 3 octets on MAP 3.
 pub fn journals_within_limits_are_answered_so()
-    ensures of_the_limit { release_reply_within (example.limited 0 7) (example.buffer_of 1) (example.one_packet 0 ∷ []) ≡ record { queued = 1; dropped = 0; rest = false } }
-    ensures over_the_limit { release_reply_within (example.limited 0 6) (example.buffer_of 1) (example.one_packet 0 ∷ []) ≡ record { queued = 0; dropped = 0; rest = false } }
-    ensures limit_of_another_map { release_reply_within (example.limited 3 6) (example.buffer_of 1) (example.one_packet 0 ∷ []) ≡ record { queued = 1; dropped = 0; rest = false } }
-    ensures run_of_the_limit { release_reply_within (example.limited 0 8) (example.buffer_of 2) (example.first_segment ∷ example.last_segment ∷ Release ∷ []) ≡ record { queued = 1; dropped = 0; rest = false } }
-    ensures run_over_the_limit { release_reply_within (example.limited 0 7) (example.buffer_of 2) (example.first_segment ∷ example.last_segment ∷ Release ∷ []) ≡ record { queued = 0; dropped = 0; rest = false } }
-    ensures unit_of_the_limit { unit_reply_within (example.limited 3 3) example.map_3_chosen (example.map_3_octets ∷ Release ∷ []) 3 ≡ Some (0xaa ∷ 0xbb ∷ 0xcc ∷ []) }
+    ensures of_the_limit { release_reply_within (example.limited 0 7) (example.buffer_of 1) (example.one_packet 0 ∷ [])
+        ≡ record { queued = 1; dropped = 0; rest = false } }
+    ensures over_the_limit { release_reply_within (example.limited 0 6) (example.buffer_of 1) (example.one_packet 0 ∷ [])
+        ≡ record { queued = 0; dropped = 0; rest = false } }
+    ensures limit_of_another_map { release_reply_within (example.limited 3 6) (example.buffer_of 1) (example.one_packet 0 ∷ [])
+        ≡ record { queued = 1; dropped = 0; rest = false } }
+    ensures run_of_the_limit { release_reply_within (example.limited 0 8) (example.buffer_of 2)
+        (example.first_segment ∷ example.last_segment ∷ Release ∷ []) ≡ record { queued = 1; dropped = 0; rest = false } }
+    ensures run_over_the_limit { release_reply_within (example.limited 0 7) (example.buffer_of 2)
+        (example.first_segment ∷ example.last_segment ∷ Release ∷ []) ≡ record { queued = 0; dropped = 0; rest = false } }
+    ensures unit_of_the_limit { unit_reply_within (example.limited 3 3) example.map_3_chosen
+        (example.map_3_octets ∷ Release ∷ []) 3 ≡ Some (0xaa ∷ 0xbb ∷ 0xcc ∷ []) }
     ensures unit_over_the_limit { unit_reply_within (example.limited 3 2) example.map_3_chosen (example.map_3_octets ∷ Release ∷ []) 3 ≡ None }
     ensures empty_unit { unit_reply_within (example.limited 3 0) example.map_3_chosen (example.bypass_map_3_empty ∷ []) 3 ≡ Some [] }
 {}
@@ -95,7 +129,12 @@ pub fn memory_is_counted_so()
 /// came by Type-BD and wait, and the first Type-AD frame fills the buffer.
 pub fn a_journal_comes_to_this()
     ensures { holding_of example.map_3_chosen (Frame example.bypass_packet ∷ Frame example.bypass_map_3_octets ∷ example.one_packet 0 ∷ [])
-        ≡ record { report = record { state = S1; vr = 1; lockout = false; wait = false; retransmit = false; farm_b = 2 }; buffered = 1; queues = record { apid = 5; packets = 1 } ∷ []; maps = record { map = 3; units = 1 } ∷ [] } }
+        ≡ record {
+          report = record { state = S1; vr = 1; lockout = false; wait = false; retransmit = false; farm_b = 2 };
+          buffered = 1;
+          queues = record { apid = 5; packets = 1 } ∷ [];
+          maps = record { map = 3; units = 1 } ∷ [];
+        } }
 {}
 
 /// States the first fault of settings, worked out by hand. The settings of the first clause have every fault. Each
@@ -106,7 +145,8 @@ pub fn settings_are_refused_so()
     ensures window { IsFault (example.channel_of false 63 255 65 (example.two_apids 2047 2047 257) (example.two_maps 64 64 257)) faults.BadWindow }
     ensures buffer { IsFault (example.channel_of false 63 254 65 (example.two_apids 2047 2047 257) (example.two_maps 64 64 257)) faults.BadBuffer }
     ensures apid { IsFault (example.channel_of false 63 254 64 (example.two_apids 2047 2047 257) (example.two_maps 64 64 257)) faults.BadApid }
-    ensures double_apid { IsFault (example.channel_of false 63 254 64 (example.two_apids 2046 2046 257) (example.two_maps 64 64 257)) faults.DoubleApid }
+    ensures double_apid { IsFault (example.channel_of false 63 254 64 (example.two_apids 2046 2046 257)
+        (example.two_maps 64 64 257)) faults.DoubleApid }
     ensures capacity { IsFault (example.channel_of false 63 254 64 (example.two_apids 2046 0 257) (example.two_maps 64 64 257)) faults.BadCapacity }
     ensures map { IsFault (example.channel_of false 63 254 64 (example.two_apids 2046 0 256) (example.two_maps 64 64 257)) faults.BadMap }
     ensures double_map { IsFault (example.channel_of false 63 254 64 (example.two_apids 2046 0 256) (example.two_maps 63 63 257)) faults.DoubleMap }

@@ -119,7 +119,8 @@ impl<J: Journal> ChannelWith<J> {
         ensures refused { OnErr result (self.new ≡ self.old) }
         ensures answered { J.grows ≡ false → OnErr result (IsBypassData frame.now) }
         ensures cost { OnOk result (C.taken steps.new ≤ C.taken steps.old + frame_steps self.old.settings self.old.journal frame.now) }
-        ensures refused_cost { OnErr result (C.taken steps.new ≤ C.taken steps.old + (frame_steps self.old.settings self.old.journal frame.now + length self.old.settings.queues)) }
+        ensures refused_cost { OnErr result (C.taken steps.new ≤ C.taken steps.old +
+            (frame_steps self.old.settings self.old.journal frame.now + length self.old.settings.queues)) }
         ensures quiet { (IsBypassData frame.now → ⊥) → C.taken steps.new ≡ C.taken steps.old }
     {
         let event = LentEvent::Frame(frame.octets());
@@ -152,7 +153,8 @@ impl<J: Journal> ChannelWith<J> {
         ensures done { OnOk result (self.new ≡ with_event self.old Event.Release) }
         ensures refused { OnErr result (self.new ≡ self.old) }
         ensures cost { OnOk result (C.taken steps.new ≤ C.taken steps.old + release_steps self.old.settings self.old.journal) }
-        ensures refused_cost { OnErr result (C.taken steps.new ≤ C.taken steps.old + (release_steps self.old.settings self.old.journal + length self.old.settings.queues)) }
+        ensures refused_cost { OnErr result (C.taken steps.new ≤ C.taken steps.old +
+            (release_steps self.old.settings self.old.journal + length self.old.settings.queues)) }
     {
         if self.channel_core.buffered() == 0 {
             return Err(ReleaseFault::Empty);

@@ -104,8 +104,11 @@ impl<R: Room> ChannelCore<R> {
         ensures refused { OnErr result (Stay self.old self.new) }
         ensures bypass { OnErr result (IsBypassData frame.now) }
         ensures answered { R.grows ≡ false → IsOk result }
-        ensures cost { OnOk result (WhereverItHolds self.old (λ limits s journal. C.taken steps.new ≤ C.taken steps.old + frame_steps_within limits s journal frame.now)) }
-        ensures refused_cost { OnErr result (WhereverItHolds self.old (λ limits s journal. C.taken steps.new ≤ C.taken steps.old + (frame_steps_within limits s journal frame.now + length s.queues))) }
+        ensures cost { OnOk result (WhereverItHolds self.old
+            (λ limits s journal. C.taken steps.new ≤ C.taken steps.old + frame_steps_within limits s journal frame.now)) }
+        ensures refused_cost { OnErr result (WhereverItHolds self.old
+            (λ limits s journal. C.taken steps.new ≤ C.taken steps.old +
+            (frame_steps_within limits s journal frame.now + length s.queues))) }
         ensures quiet { (IsBypassData frame.now → ⊥) → C.taken steps.new ≡ C.taken steps.old }
     {
         each_arrival_has_an_entry();
@@ -134,8 +137,11 @@ impl<R: Room> ChannelCore<R> {
         ensures done { OnOk result (GoOn Event.Release self.old self.new) }
         ensures refused { OnErr result (Stay self.old self.new) }
         ensures answered { R.grows ≡ false → IsOk result }
-        ensures cost { OnOk result (WhereverItHolds self.old (λ limits s journal. C.taken steps.new ≤ C.taken steps.old + release_steps_within limits s journal)) }
-        ensures refused_cost { OnErr result (WhereverItHolds self.old (λ limits s journal. C.taken steps.new ≤ C.taken steps.old + (release_steps_within limits s journal + length s.queues))) }
+        ensures cost { OnOk result (WhereverItHolds self.old
+            (λ limits s journal. C.taken steps.new ≤ C.taken steps.old + release_steps_within limits s journal)) }
+        ensures refused_cost { OnErr result (WhereverItHolds self.old
+            (λ limits s journal. C.taken steps.new ≤ C.taken steps.old +
+            (release_steps_within limits s journal + length s.queues))) }
     {
         let field = self.fields.front().unwrap();
         let delivery = pass(
@@ -182,8 +188,11 @@ impl<R: Room> ChannelCore<R> {
         into: &mut [u8],
         steps: &mut C,
     ) -> Result<usize, NotCopied>
-        ensures count { WhereverItHolds self.old (λ limits s journal. result ≡ copied_out (length into.old) (waiting_packets_within limits s journal apid)) }
-        ensures packet { WhereverItHolds self.old (λ limits s journal. IfOk result (λ count. IsCopiedIn (take_reply_within limits s journal apid) count into.old into.new)) }
+        ensures count { WhereverItHolds self.old
+            (λ limits s journal. result ≡ copied_out (length into.old) (waiting_packets_within limits s journal apid)) }
+        ensures packet { WhereverItHolds self.old
+            (λ limits s journal. IfOk result (λ count. IsCopiedIn
+            (take_reply_within limits s journal apid) count into.old into.new)) }
         ensures done { OnOk result (GoOn (Event.Take apid) self.old self.new) }
         ensures refused { OnErr result ((self.new ≡ self.old) × (into.new ≡ into.old)) }
         ensures cost { C.taken steps.new ≤ C.taken steps.old + looks_for apid (length self.old.queues) }
@@ -200,8 +209,10 @@ impl<R: Room> ChannelCore<R> {
         into: &mut [u8],
         steps: &mut C,
     ) -> Result<usize, NotCopied>
-        ensures count { WhereverItHolds self.old (λ limits s journal. result ≡ copied_out (length into.old) (waiting_units_within limits s journal map)) }
-        ensures unit { WhereverItHolds self.old (λ limits s journal. IfOk result (λ count. IsCopiedIn (unit_reply_within limits s journal map) count into.old into.new)) }
+        ensures count { WhereverItHolds self.old
+            (λ limits s journal. result ≡ copied_out (length into.old) (waiting_units_within limits s journal map)) }
+        ensures unit { WhereverItHolds self.old (λ limits s journal. IfOk result
+            (λ count. IsCopiedIn (unit_reply_within limits s journal map) count into.old into.new)) }
         ensures done { OnOk result (GoOn (Event.TakeUnit map) self.old self.new) }
         ensures refused { OnErr result ((self.new ≡ self.old) × (into.new ≡ into.old)) }
         ensures cost { C.taken steps.new ≤ C.taken steps.old + looks_for map (length self.old.units) }
@@ -212,7 +223,8 @@ impl<R: Room> ChannelCore<R> {
     /// Lends the oldest packet of the queue with this APID.
     #[tactic(auto, using(crate::proofs::Closing::at_work))]
     pub fn oldest<C: Tick>(&self, apid: u16, steps: &mut C) -> Option<&[u8]>
-        ensures packet { WhereverItHolds self.now (λ limits s journal. option_map (λ octets. octets.now) result ≡ take_reply_within limits s journal apid) }
+        ensures packet { WhereverItHolds self.now
+            (λ limits s journal. option_map (λ octets. octets.now) result ≡ take_reply_within limits s journal apid) }
         ensures cost { C.taken steps.new ≤ C.taken steps.old + looks_for apid (length self.now.queues) }
     {
         self.queues.oldest(apid, steps)
@@ -221,7 +233,8 @@ impl<R: Room> ChannelCore<R> {
     /// Lends the oldest unit of the queue of this chosen MAP.
     #[tactic(auto, using(crate::proofs::Closing::at_work))]
     pub fn oldest_unit<C: Tick>(&self, map: u8, steps: &mut C) -> Option<&[u8]>
-        ensures unit { WhereverItHolds self.now (λ limits s journal. option_map (λ octets. octets.now) result ≡ unit_reply_within limits s journal map) }
+        ensures unit { WhereverItHolds self.now (λ limits s journal. option_map (λ octets. octets.now) result
+            ≡ unit_reply_within limits s journal map) }
         ensures cost { C.taken steps.new ≤ C.taken steps.old + looks_for map (length self.now.units) }
     {
         self.units.oldest(map as u16, steps)
@@ -265,7 +278,8 @@ impl ChannelCore<GrowingRoom> {
     /// empty.
     #[tactic(auto, using(crate::proofs::Closing::at_work))]
     pub fn take<C: Tick>(&mut self, apid: u16, steps: &mut C) -> Option<Vec<u8>>
-        ensures packet { WhereverItHolds self.old (λ limits s journal. option_map (λ packet. packet.items) result ≡ take_reply_within limits s journal apid) }
+        ensures packet { WhereverItHolds self.old
+            (λ limits s journal. option_map (λ packet. packet.items) result ≡ take_reply_within limits s journal apid) }
         ensures done { IsSome result → GoOn (Event.Take apid) self.old self.new }
         ensures refused { result ≡ None → self.new ≡ self.old }
         ensures cost { C.taken steps.new ≤ C.taken steps.old + looks_for apid (length self.old.queues) }
@@ -277,7 +291,8 @@ impl ChannelCore<GrowingRoom> {
     /// is empty.
     #[tactic(auto, using(crate::proofs::Closing::at_work))]
     pub fn take_unit<C: Tick>(&mut self, map: u8, steps: &mut C) -> Option<Vec<u8>>
-        ensures unit { WhereverItHolds self.old (λ limits s journal. option_map (λ unit. unit.items) result ≡ unit_reply_within limits s journal map) }
+        ensures unit { WhereverItHolds self.old (λ limits s journal. option_map (λ unit. unit.items) result
+            ≡ unit_reply_within limits s journal map) }
         ensures done { IsSome result → GoOn (Event.TakeUnit map) self.old self.new }
         ensures refused { result ≡ None → self.new ≡ self.old }
         ensures cost { C.taken steps.new ≤ C.taken steps.old + looks_for map (length self.old.units) }
@@ -316,15 +331,21 @@ fn pass<R: Room, C: Tick>(
     requires field { 0 < length field.now }
     requires within { length field.now ≤ largest_field }
     requires rooms { CanPassOn runs.old queues.old units.old }
-    ensures follows { OnOk result (FollowsWithin (limit_at runs.old (stream_place service field.now)) (open_runs runs.old) (open_runs runs.new) service field.now) }
-    ensures delivered { IfOk result (λ delivery. (unit : Option (List ℕ)) × EndsWithin (limit_at runs.old (stream_place service field.now)) (open_runs runs.old) service field.now unit
+    ensures follows { OnOk result (FollowsWithin (limit_at runs.old (stream_place service field.now)) (open_runs runs.old)
+        (open_runs runs.new) service field.now) }
+    ensures delivered { IfOk result (λ delivery. (unit : Option (List ℕ))
+        × EndsWithin (limit_at runs.old (stream_place service field.now)) (open_runs runs.old) service field.now unit
         × IsDelivered (map_of field.now) unit (rings_in queues.old) (rings_in queues.new) (rings_in units.old) (rings_in units.new) delivery) }
-    ensures refused { OnErr result ((open_runs runs.new ≡ open_runs runs.old) × (rings_in queues.new ≡ rings_in queues.old) × (rings_in units.new ≡ rings_in units.old)) }
+    ensures refused { OnErr result ((open_runs runs.new ≡ open_runs runs.old) × (rings_in queues.new ≡ rings_in queues.old)
+        × (rings_in units.new ≡ rings_in units.old)) }
     ensures rooms { KeepRooms runs.old queues.old units.old runs.new queues.new units.new }
     ensures answered { R.grows ≡ false → IsOk result }
-    ensures cost { OnOk result ((unit : Option (List ℕ)) × EndsWithin (limit_at runs.old (stream_place service field.now)) (open_runs runs.old) service field.now unit
+    ensures cost { OnOk result ((unit : Option (List ℕ))
+        × EndsWithin (limit_at runs.old (stream_place service field.now)) (open_runs runs.old) service field.now unit
         × (C.taken steps.new ≤ C.taken steps.old + delivery_steps unit (length queues.old) (length units.old))) }
-    ensures refused_cost { OnErr result ((C.taken steps.new ≡ C.taken steps.old) ⊎ ((unit : Option (List ℕ)) × EndsWithin (limit_at runs.old (stream_place service field.now)) (open_runs runs.old) service field.now unit
+    ensures refused_cost { OnErr result ((C.taken steps.new ≡ C.taken steps.old) ⊎
+        ((unit : Option (List ℕ)) × EndsWithin (limit_at runs.old (stream_place service field.now))
+        (open_runs runs.old) service field.now unit
         × (C.taken steps.new ≤ C.taken steps.old + (delivery_steps unit (length queues.old) (length units.old) + length queues.old)))) }
 {
     let map = read_segment(field[0]).map;
@@ -348,16 +369,22 @@ fn pass_bypass<R: Room, C: Tick>(
     requires field { 0 < length field.now }
     requires within { length field.now ≤ largest_field }
     requires rooms { CanPassOn runs.old queues.old units.old }
-    ensures follows { OnOk result (FollowsKindWithin (limit_at runs.old (stream_place Bd field.now)) kind (open_runs runs.old) (open_runs runs.new) field.now) }
-    ensures delivered { IfOk result (λ delivery. (unit : Option (List ℕ)) × EndsAtOnceWithin (limit_at runs.old (stream_place Bd field.now)) kind (open_runs runs.old) field.now unit
+    ensures follows { OnOk result (FollowsKindWithin (limit_at runs.old (stream_place Bd field.now)) kind (open_runs runs.old)
+        (open_runs runs.new) field.now) }
+    ensures delivered { IfOk result (λ delivery. (unit : Option (List ℕ))
+        × EndsAtOnceWithin (limit_at runs.old (stream_place Bd field.now)) kind (open_runs runs.old) field.now unit
         × IsDelivered (map_of field.now) unit (rings_in queues.old) (rings_in queues.new) (rings_in units.old) (rings_in units.new) delivery) }
-    ensures refused { OnErr result ((open_runs runs.new ≡ open_runs runs.old) × (rings_in queues.new ≡ rings_in queues.old) × (rings_in units.new ≡ rings_in units.old)) }
+    ensures refused { OnErr result ((open_runs runs.new ≡ open_runs runs.old) × (rings_in queues.new ≡ rings_in queues.old)
+        × (rings_in units.new ≡ rings_in units.old)) }
     ensures bypass { OnErr result (kind ≡ Kind.Bd) }
     ensures rooms { KeepRooms runs.old queues.old units.old runs.new queues.new units.new }
     ensures answered { R.grows ≡ false → IsOk result }
-    ensures cost { OnOk result ((unit : Option (List ℕ)) × EndsAtOnceWithin (limit_at runs.old (stream_place Bd field.now)) kind (open_runs runs.old) field.now unit
+    ensures cost { OnOk result ((unit : Option (List ℕ))
+        × EndsAtOnceWithin (limit_at runs.old (stream_place Bd field.now)) kind (open_runs runs.old) field.now unit
         × (C.taken steps.new ≤ C.taken steps.old + delivery_steps unit (length queues.old) (length units.old))) }
-    ensures refused_cost { OnErr result ((C.taken steps.new ≡ C.taken steps.old) ⊎ ((unit : Option (List ℕ)) × EndsAtOnceWithin (limit_at runs.old (stream_place Bd field.now)) kind (open_runs runs.old) field.now unit
+    ensures refused_cost { OnErr result ((C.taken steps.new ≡ C.taken steps.old) ⊎
+        ((unit : Option (List ℕ)) × EndsAtOnceWithin (limit_at runs.old (stream_place Bd field.now)) kind
+        (open_runs runs.old) field.now unit
         × (C.taken steps.new ≤ C.taken steps.old + (delivery_steps unit (length queues.old) (length units.old) + length queues.old)))) }
     ensures quiet { (kind ≡ Kind.Bd → ⊥) → C.taken steps.new ≡ C.taken steps.old }
 {

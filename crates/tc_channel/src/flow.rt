@@ -23,28 +23,35 @@ use tc_link::a_written_clcw_reads_back;
 /// The Type-AD data fields passed to reassembly are the accepted and released ones, each once and in order.
 pub fn what_was_accepted_is_passed_on_in_order()
     ensures { (limits : ℕ → ℕ) (s : Settings) (journal : List Event) → IsLawfulWithin limits s journal
-        → fields_passed Service.Ad (run_within limits s journal).passed ≡ map (λ (a : Accepted). a.field) (take (run_within limits s journal).released (run_within limits s journal).accepted) }
+        → fields_passed Service.Ad (run_within limits s journal).passed
+        ≡ map (λ (a : Accepted). a.field) (take (run_within limits s journal).released (run_within limits s journal).accepted) }
 {}
 
 /// The packets taken for an application are, in order, the first ones that its queue ever admitted: each packet once,
 /// and none left out. This also holds for the units of a chosen MAP. The reply to a take is the oldest item that waits.
 #[tactic(auto, using(crate::proofs::Closing::flow), unfolding(crate::specs::Reply::waiting_packets_within, crate::specs::Reply::waiting_units_within))]
 pub fn what_was_admitted_is_given_in_order()
-    ensures packets { (limits : ℕ → ℕ) (s : Settings) (journal : List Event) (apid : ℕ) (q : Queue) → queue_of apid (run_within limits s journal).queues ≡ Some q
+    ensures packets { (limits : ℕ → ℕ) (s : Settings) (journal : List Event) (apid : ℕ) (q : Queue)
+        → queue_of apid (run_within limits s journal).queues ≡ Some q
         → packets_given s apid (first_state_within limits s) journal ≡ take q.taken q.admitted }
-    ensures units { (limits : ℕ → ℕ) (s : Settings) (journal : List Event) (map_id : ℕ) (q : Queue) → queue_of map_id (run_within limits s journal).units ≡ Some q
+    ensures units { (limits : ℕ → ℕ) (s : Settings) (journal : List Event) (map_id : ℕ) (q : Queue)
+        → queue_of map_id (run_within limits s journal).units ≡ Some q
         → units_given s map_id (first_state_within limits s) journal ≡ take q.taken q.admitted }
-    ensures packet { (limits : ℕ → ℕ) (s : Settings) (journal : List Event) (apid : ℕ) → take_reply_within limits s journal apid ≡ oldest_in apid (run_within limits s journal).queues }
-    ensures unit { (limits : ℕ → ℕ) (s : Settings) (journal : List Event) (map_id : ℕ) → unit_reply_within limits s journal map_id ≡ oldest_in map_id (run_within limits s journal).units }
+    ensures packet { (limits : ℕ → ℕ) (s : Settings) (journal : List Event) (apid : ℕ)
+        → take_reply_within limits s journal apid ≡ oldest_in apid (run_within limits s journal).queues }
+    ensures unit { (limits : ℕ → ℕ) (s : Settings) (journal : List Event) (map_id : ℕ)
+        → unit_reply_within limits s journal map_id ≡ oldest_in map_id (run_within limits s journal).units }
 {}
 
 /// All packets that a packet queue ever admitted are, in order, packets made from the data fields that were passed to
 /// reassembly. Some may be left out. If the queue admitted as many packets as the fields make, none is left out. This
 /// also holds for the units of a chosen MAP.
 pub fn what_was_passed_on_is_admitted_in_order()
-    ensures packets { (limits : ℕ → ℕ) (s : Settings) (journal : List Event) (apid : ℕ) (q : Queue) → queue_of apid (run_within limits s journal).queues ≡ Some q
+    ensures packets { (limits : ℕ → ℕ) (s : Settings) (journal : List Event) (apid : ℕ) (q : Queue)
+        → queue_of apid (run_within limits s journal).queues ≡ Some q
         → IsPartOf q.admitted (packets_made limits s apid (run_within limits s journal).passed) }
-    ensures units { (limits : ℕ → ℕ) (s : Settings) (journal : List Event) (map_id : ℕ) (q : Queue) → queue_of map_id (run_within limits s journal).units ≡ Some q
+    ensures units { (limits : ℕ → ℕ) (s : Settings) (journal : List Event) (map_id : ℕ) (q : Queue)
+        → queue_of map_id (run_within limits s journal).units ≡ Some q
         → IsPartOf q.admitted (units_made limits s map_id (run_within limits s journal).passed) }
     ensures whole { (one other : List (List ℕ)) → IsPartOf one other → length other ≤ length one → one ≡ other }
 {}
@@ -62,9 +69,11 @@ pub fn what_was_sent_is_given_in_order()
     ensures fields { (limits : ℕ → ℕ) (s : Settings) (journal before later : List Event) (x : ℕ) (sent : ℕ → List ℕ) → IsLawfulWithin limits s journal
         → IsEraWithin limits s journal before later x → ComesFromWithin limits s before later x sent
         → passed_since limits s before (run_within limits s journal).passed ≡ sent_from sent 0 (released_since limits s before journal) }
-    ensures packets { (limits : ℕ → ℕ) (s : Settings) (journal : List Event) (apid : ℕ) (q : Queue) → queue_of apid (run_within limits s journal).queues ≡ Some q
+    ensures packets { (limits : ℕ → ℕ) (s : Settings) (journal : List Event) (apid : ℕ) (q : Queue)
+        → queue_of apid (run_within limits s journal).queues ≡ Some q
         → IsPartOf (packets_given s apid (first_state_within limits s) journal) (packets_made limits s apid (run_within limits s journal).passed) }
-    ensures units { (limits : ℕ → ℕ) (s : Settings) (journal : List Event) (map_id : ℕ) (q : Queue) → queue_of map_id (run_within limits s journal).units ≡ Some q
+    ensures units { (limits : ℕ → ℕ) (s : Settings) (journal : List Event) (map_id : ℕ) (q : Queue)
+        → queue_of map_id (run_within limits s journal).units ≡ Some q
         → IsPartOf (units_given s map_id (first_state_within limits s) journal) (units_made limits s map_id (run_within limits s journal).passed) }
 {}
 
@@ -72,14 +81,19 @@ pub fn what_was_sent_is_given_in_order()
 /// packets for its application that the passed data fields make. If nothing waits in the queue any more, exactly these
 /// packets were taken: each once, in order. This also holds for the units of a chosen MAP.
 pub fn nothing_is_lost_that_no_reply_reports()
-    ensures packets_admitted { (limits : ℕ → ℕ) (s : Settings) (journal : List Event) (apid : ℕ) (q : Queue) → IsAllowed s → DropsNone s (first_state_within limits s) journal
+    ensures packets_admitted { (limits : ℕ → ℕ) (s : Settings) (journal : List Event) (apid : ℕ) (q : Queue) → IsAllowed s
+        → DropsNone s (first_state_within limits s) journal
         → queue_of apid (run_within limits s journal).queues ≡ Some q → q.admitted ≡ packets_made limits s apid (run_within limits s journal).passed }
-    ensures packets_given { (limits : ℕ → ℕ) (s : Settings) (journal : List Event) (apid : ℕ) (q : Queue) → IsAllowed s → DropsNone s (first_state_within limits s) journal
+    ensures packets_given { (limits : ℕ → ℕ) (s : Settings) (journal : List Event) (apid : ℕ) (q : Queue) → IsAllowed s
+        → DropsNone s (first_state_within limits s) journal
         → queue_of apid (run_within limits s journal).queues ≡ Some q → waiting q ≡ []
         → packets_given s apid (first_state_within limits s) journal ≡ packets_made limits s apid (run_within limits s journal).passed }
-    ensures units_admitted { (limits : ℕ → ℕ) (s : Settings) (journal : List Event) (map_id : ℕ) (q : Queue) → IsAllowed s → DropsNone s (first_state_within limits s) journal
-        → queue_of map_id (run_within limits s journal).units ≡ Some q → q.admitted ≡ units_made limits s map_id (run_within limits s journal).passed }
-    ensures units_given { (limits : ℕ → ℕ) (s : Settings) (journal : List Event) (map_id : ℕ) (q : Queue) → IsAllowed s → DropsNone s (first_state_within limits s) journal
+    ensures units_admitted { (limits : ℕ → ℕ) (s : Settings) (journal : List Event) (map_id : ℕ) (q : Queue) → IsAllowed s
+        → DropsNone s (first_state_within limits s) journal
+        → queue_of map_id (run_within limits s journal).units ≡ Some q
+        → q.admitted ≡ units_made limits s map_id (run_within limits s journal).passed }
+    ensures units_given { (limits : ℕ → ℕ) (s : Settings) (journal : List Event) (map_id : ℕ) (q : Queue) → IsAllowed s
+        → DropsNone s (first_state_within limits s) journal
         → queue_of map_id (run_within limits s journal).units ≡ Some q → waiting q ≡ []
         → units_given s map_id (first_state_within limits s) journal ≡ units_made limits s map_id (run_within limits s journal).passed }
 {}
@@ -101,19 +115,22 @@ pub fn each_passed_field_is_accounted_for()
 /// itself.
 #[tactic(auto, unfolding(tc_queues::specs::ChannelState::no_limits))]
 pub fn passed_fields_make_so()
-    ensures two_segments { packets_made no_limits (example.buffer_of 2) 5 (example.in_two_segments Service.Ad Service.Ad) ≡ example.joined_packet ∷ [] }
+    ensures two_segments { packets_made no_limits (example.buffer_of 2) 5 (example.in_two_segments Service.Ad Service.Ad)
+        ≡ example.joined_packet ∷ [] }
     ensures other_application { packets_made no_limits (example.buffer_of 2) 6 (example.in_two_segments Service.Ad Service.Ad) ≡ [] }
     ensures services_apart { packets_made no_limits (example.buffer_of 2) 5 (example.in_two_segments Service.Ad Service.Bd) ≡ [] }
     ensures over_its_limit { packets_made (example.limited 3 7) (example.buffer_of 2) 5 (example.in_two_segments Service.Ad Service.Ad) ≡ [] }
     ensures whole_unit { units_made no_limits example.map_3_chosen 3 (example.in_two_segments Service.Bd Service.Bd) ≡ example.joined_packet ∷ [] }
     ensures not_cut { packets_made no_limits example.map_3_chosen 5 (example.in_two_segments Service.Ad Service.Ad) ≡ [] }
-    ensures plain_field { packets_made no_limits example.plain 5 (record { service = Service.Bd; field = example.joined_packet } ∷ []) ≡ example.joined_packet ∷ [] }
+    ensures plain_field { packets_made no_limits example.plain 5
+        (record { service = Service.Bd; field = example.joined_packet } ∷ []) ≡ example.joined_packet ∷ [] }
 {}
 
 /// The report value of a CLCW tells the sender how many frames were accepted. It is the number with which the era
 /// began, plus one for each Type-AD frame that was accepted since, modulo 256.
 pub fn a_clcw_reports_how_many_were_accepted()
-    ensures { (limits : ℕ → ℕ) (s : Settings) (journal before later : List Event) (x : ℕ) (link : Link) → IsAllowed s → IsLawfulWithin limits s journal → IsEraWithin limits s journal before later x
+    ensures { (limits : ℕ → ℕ) (s : Settings) (journal before later : List Event) (x : ℕ) (link : Link) → IsAllowed s
+        → IsLawfulWithin limits s journal → IsEraWithin limits s journal before later x
         → (fields_of (clcw_within limits s journal link)).vr ≡ (x + length (accepted_since_within limits s before journal)) % 256 }
 {
     a_written_clcw_reads_back();

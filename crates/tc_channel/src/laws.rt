@@ -45,21 +45,24 @@ pub fn wait_means_no_room()
 /// After any journal, FARM-1's table has an entry for each frame that may come next. The one case without an entry
 /// never occurs: a frame that is expected and finds room in S2.
 pub fn each_frame_has_a_step()
-    ensures { (limits : ℕ → ℕ) (s : Settings) (journal : List Event) (octets : List ℕ) → IsWhole octets → HasStep s (run_within limits s journal) (Event.Frame octets) }
+    ensures { (limits : ℕ → ℕ) (s : Settings) (journal : List Event) (octets : List ℕ) → IsWhole octets
+        → HasStep s (run_within limits s journal) (Event.Frame octets) }
 {
     each_arrival_has_an_entry();
 }
 
 /// Each journal can be split into its era and the events before it.
 pub fn each_journal_has_an_era()
-    ensures { (limits : ℕ → ℕ) (s : Settings) (journal : List Event) → (before : List Event) × (later : List Event) × (x : ℕ) × IsEraWithin limits s journal before later x }
+    ensures { (limits : ℕ → ℕ) (s : Settings) (journal : List Event)
+        → (before : List Event) × (later : List Event) × (x : ℕ) × IsEraWithin limits s journal before later x }
 {}
 
 /// In a lawful journal of allowed settings, the Type-AD frames accepted in the era count up. The era begins after the
 /// last Set V(R) that was obeyed, or at the start. The frames have consecutive numbers modulo 256, from the V(R) with
 /// which the era begins, and V(R) is the next number.
 pub fn accepted_frames_count_up()
-    ensures { (limits : ℕ → ℕ) (s : Settings) (journal : List Event) → IsAllowed s → IsLawfulWithin limits s journal → CountsUpInItsEraWithin limits s journal }
+    ensures { (limits : ℕ → ℕ) (s : Settings) (journal : List Event) → IsAllowed s → IsLawfulWithin limits s journal
+        → CountsUpInItsEraWithin limits s journal }
 {}
 
 /// No queue ever holds more items than its capacity, or gives out more items than it admitted.
@@ -70,10 +73,14 @@ pub fn queues_keep_to_their_capacity()
 
 /// The run of a longer journal continues the run of its beginning, and loses nothing from it.
 pub fn a_longer_run_goes_on()
-    ensures run { (limits : ℕ → ℕ) (s : Settings) (past future : List Event) → run_within limits s (past ++ future) ≡ run_from s (run_within limits s past) future }
-    ensures grows { (limits : ℕ → ℕ) (s : Settings) (past future : List Event) → Grows (run_within limits s past) (run_within limits s (past ++ future)) }
-    ensures lawful_before { (limits : ℕ → ℕ) (s : Settings) (past future : List Event) → IsLawfulWithin limits s (past ++ future) → IsLawfulWithin limits s past }
-    ensures lawful_after { (limits : ℕ → ℕ) (s : Settings) (past future : List Event) → IsLawfulWithin limits s (past ++ future) → AreSteps s (run_within limits s past) future }
+    ensures run { (limits : ℕ → ℕ) (s : Settings) (past future : List Event)
+        → run_within limits s (past ++ future) ≡ run_from s (run_within limits s past) future }
+    ensures grows { (limits : ℕ → ℕ) (s : Settings) (past future : List Event)
+        → Grows (run_within limits s past) (run_within limits s (past ++ future)) }
+    ensures lawful_before { (limits : ℕ → ℕ) (s : Settings) (past future : List Event) → IsLawfulWithin limits s (past ++ future)
+        → IsLawfulWithin limits s past }
+    ensures lawful_after { (limits : ℕ → ℕ) (s : Settings) (past future : List Event) → IsLawfulWithin limits s (past ++ future)
+        → AreSteps s (run_within limits s past) future }
 {}
 
 /// The buffer never holds more data fields than its size.
@@ -87,13 +94,16 @@ pub fn buffer_keeps_to_its_size()
 pub fn each_packet_is_queued_or_dropped()
     ensures count { (limits : ℕ → ℕ) (s : Settings) (journal : List Event) (field : List ℕ) (unit : Option (List ℕ)) → IsAllowed s
         → (delivery_of field unit (run_within limits s journal)).queued + (delivery_of field unit (run_within limits s journal)).dropped
-        ≡ length (packets_offered unit (is_chosen (run_within limits s journal) field)) + length (units_offered unit (is_chosen (run_within limits s journal) field)) }
-    ensures apid { (packets : List (List ℕ)) (one other : Queue) (packet : List ℕ) → Contains (share_of is_for packets one) packet → Contains (share_of is_for packets other) packet → one.key ≡ other.key }
+        ≡ length (packets_offered unit (is_chosen (run_within limits s journal) field)) + length
+        (units_offered unit (is_chosen (run_within limits s journal) field)) }
+    ensures apid { (packets : List (List ℕ)) (one other : Queue) (packet : List ℕ) → Contains (share_of is_for packets one) packet
+        → Contains (share_of is_for packets other) packet → one.key ≡ other.key }
 {}
 
 /// The CLCW of a lawful journal of allowed settings fits 32 bits.
 pub fn each_clcw_fits_its_word()
-    ensures { (limits : ℕ → ℕ) (s : Settings) (journal : List Event) (link : Link) → IsAllowed s → IsLawfulWithin limits s journal → clcw_within limits s journal link < 2 ^ 32 }
+    ensures { (limits : ℕ → ℕ) (s : Settings) (journal : List Event) (link : Link) → IsAllowed s → IsLawfulWithin limits s journal
+        → clcw_within limits s journal link < 2 ^ 32 }
 {}
 
 /// No event makes a plain channel segmented or a segmented channel plain. On a plain channel each data field within the
@@ -101,7 +111,8 @@ pub fn each_clcw_fits_its_word()
 pub fn a_plain_channel_takes_each_field_as_a_unit()
     ensures stays { (limits : ℕ → ℕ) (s : Settings) (journal : List Event) → (run_within limits s journal).segmented ≡ s.segmented }
     ensures unit { (limits : ℕ → ℕ) (s : Settings) (journal : List Event) (service : Service) (field octets : List ℕ) → s.segmented ≡ false
-        → (unit_of (run_within limits s journal) service field ≡ Some octets) ↔ ((octets ≡ field) × (length field ≤ largest_unit) × (length field ≤ limits (map_of field))) }
+        → (unit_of (run_within limits s journal) service field ≡ Some octets) ↔
+        ((octets ≡ field) × (length field ≤ largest_unit) × (length field ≤ limits (map_of field))) }
     ensures run { (limits : ℕ → ℕ) (s : Settings) (journal : List Event) (service : Service) (map_id : ℕ) → s.segmented ≡ false
         → run_left (run_within limits s journal).segmented (stream service map_id (run_within limits s journal).passed) ≡ None }
 {
@@ -110,7 +121,8 @@ pub fn a_plain_channel_takes_each_field_as_a_unit()
 
 /// After any journal, the chosen MAPs are those of the settings.
 pub fn chosen_maps_stay()
-    ensures { (limits : ℕ → ℕ) (s : Settings) (journal : List Event) (field : List ℕ) → IsTrue (is_chosen (run_within limits s journal) field) ↔ IsOfChosenMap s field }
+    ensures { (limits : ℕ → ℕ) (s : Settings) (journal : List Event) (field : List ℕ)
+        → IsTrue (is_chosen (run_within limits s journal) field) ↔ IsOfChosenMap s field }
 {}
 
 /// A unit of a chosen MAP is appended whole to the queue of its MAP if that queue has room. Otherwise it is dropped.
@@ -123,8 +135,10 @@ pub fn a_unit_is_kept_where_its_queue_has_room()
 /// A data field of a chosen MAP gives no packet to an application, and a data field of another MAP gives no unit to a
 /// unit queue.
 pub fn a_unit_is_delivered_whole_or_by_packets()
-    ensures whole { (state : ChannelState) (service : Service) (field : List ℕ) → IsTrue (is_chosen state field) → (passed_on service field state).queues ≡ state.queues }
-    ensures by_packets { (state : ChannelState) (service : Service) (field : List ℕ) → ¬ IsTrue (is_chosen state field) → (passed_on service field state).units ≡ state.units }
+    ensures whole { (state : ChannelState) (service : Service) (field : List ℕ) → IsTrue (is_chosen state field)
+        → (passed_on service field state).queues ≡ state.queues }
+    ensures by_packets { (state : ChannelState) (service : Service) (field : List ℕ) → ¬ IsTrue (is_chosen state field)
+        → (passed_on service field state).units ≡ state.units }
 {}
 
 /// This law is about an era in which every Type-AD frame comes from one sender, whose frames are numbered from `x` on
@@ -132,14 +146,19 @@ pub fn a_unit_is_delivered_whole_or_by_packets()
 /// early or too late. Then the accepted data fields are the fields that were sent: each once, in order, and none left
 /// out.
 pub fn what_was_sent_is_accepted_once_and_in_order()
-    ensures { (limits : ℕ → ℕ) (s : Settings) (journal before later : List Event) (x : ℕ) (sent : ℕ → List ℕ) → IsEraWithin limits s journal before later x → ComesFromWithin limits s before later x sent
+    ensures { (limits : ℕ → ℕ) (s : Settings) (journal before later : List Event) (x : ℕ) (sent : ℕ → List ℕ)
+        → IsEraWithin limits s journal before later x → ComesFromWithin limits s before later x sent
         → (i : ℕ) (a : Accepted) → slice_get (accepted_since_within limits s before journal) i ≡ Some a → a.field ≡ sent i }
 {}
 
 /// After any journal, the queues of a channel are those of its settings, in their order, each with its capacity.
 pub fn queues_are_those_of_the_settings()
-    ensures queues { (limits : ℕ → ℕ) (s : Settings) (journal : List Event) → map {B = ℕ × ℕ} (λ (q : Queue). (q.key, q.capacity)) (run_within limits s journal).queues ≡ map {B = ℕ × ℕ} (λ (q : QueueSetting). (q.apid, q.capacity)) s.queues }
-    ensures units { (limits : ℕ → ℕ) (s : Settings) (journal : List Event) → map {B = ℕ × ℕ} (λ (q : Queue). (q.key, q.capacity)) (run_within limits s journal).units ≡ map {B = ℕ × ℕ} (λ (m : MapSetting). (m.map, m.capacity)) s.maps }
+    ensures queues { (limits : ℕ → ℕ) (s : Settings) (journal : List Event)
+        → map {B = ℕ × ℕ} (λ (q : Queue). (q.key, q.capacity)) (run_within limits s journal).queues
+        ≡ map {B = ℕ × ℕ} (λ (q : QueueSetting). (q.apid, q.capacity)) s.queues }
+    ensures units { (limits : ℕ → ℕ) (s : Settings) (journal : List Event)
+        → map {B = ℕ × ℕ} (λ (q : Queue). (q.key, q.capacity)) (run_within limits s journal).units
+        ≡ map {B = ℕ × ℕ} (λ (m : MapSetting). (m.map, m.capacity)) s.maps }
 {}
 
 /// No event changes the limits. A unit that reassembly makes is passed to the queues if and only if it is no longer
@@ -168,9 +187,17 @@ pub fn a_sender_s_frames_may_come_so()
 /// After any journal, an Unlock and then a Set V(R) to `x` lead a channel to S1, with V(R) at `x` and no flag set.
 pub fn unlock_and_set_v_r_open_a_channel()
     ensures { (limits : ℕ → ℕ) (s : Settings) (journal : List Event) (unlock set_v_r : List ℕ) (x : ℕ)
-        → kind_of (header_of unlock) (field_of unlock) ≡ Kind.Bc Command.Unlock → kind_of (header_of set_v_r) (field_of set_v_r) ≡ Kind.Bc (Command.SetVr x)
+        → kind_of (header_of unlock) (field_of unlock) ≡ Kind.Bc Command.Unlock
+        → kind_of (header_of set_v_r) (field_of set_v_r) ≡ Kind.Bc (Command.SetVr x)
         → (run_within limits s (journal ++ Event.Frame unlock ∷ Event.Frame set_v_r ∷ [])).report
-        ≡ record { state = S1; vr = x; lockout = false; wait = false; retransmit = false; farm_b = (((run_within limits s journal).report.farm_b + 1) % 4 + 1) % 4 } }
+        ≡ record {
+          state = S1;
+          vr = x;
+          lockout = false;
+          wait = false;
+          retransmit = false;
+          farm_b = (((run_within limits s journal).report.farm_b + 1) % 4 + 1) % 4;
+        } }
 {
     unlock_and_set_v_r_open_farm_1();
 }
@@ -179,6 +206,8 @@ pub fn unlock_and_set_v_r_open_a_channel()
 /// unit, of 65,542 octets, has at most 9,363.
 pub fn a_unit_takes_steps_by_its_octets()
     ensures packets { (unit : List ℕ) → 7 * length (packets_of unit) ≤ length unit }
-    ensures steps { (unit : List ℕ) (packets queues units : ℕ) → length unit < 7 * (packets + 1) → delivery_steps (Some unit) queues units ≤ packet_steps packets queues units }
-    ensures largest { (unit : List ℕ) (queues units : ℕ) → length unit ≤ largest_unit → delivery_steps (Some unit) queues units ≤ packet_steps most_packets queues units }
+    ensures steps { (unit : List ℕ) (packets queues units : ℕ) → length unit < 7 * (packets + 1)
+        → delivery_steps (Some unit) queues units ≤ packet_steps packets queues units }
+    ensures largest { (unit : List ℕ) (queues units : ℕ) → length unit ≤ largest_unit
+        → delivery_steps (Some unit) queues units ≤ packet_steps most_packets queues units }
 {}

@@ -13,16 +13,21 @@ ghost use Rattle.tc_queues.specs.Memory.{largest_field, memory_bound, memory_wai
 /// has no more octets than if it were full of the largest data fields.
 #[tactic(auto, using(crate::proofs::Closing::memory))]
 pub fn no_more_items_wait_than_memory_counts()
-    ensures packets { (limits : ℕ → ℕ) (s : Settings) (journal : List Event) → waiting_in_all (run_within limits s journal).queues ≤ packets_stored s }
+    ensures packets { (limits : ℕ → ℕ) (s : Settings) (journal : List Event)
+        → waiting_in_all (run_within limits s journal).queues ≤ packets_stored s }
     ensures units { (limits : ℕ → ℕ) (s : Settings) (journal : List Event) → waiting_in_all (run_within limits s journal).units ≤ units_stored s }
-    ensures packet_octets { (limits : ℕ → ℕ) (s : Settings) (journal : List Event) → octets_waiting (run_within limits s journal).queues ≤ packets_stored s * largest_unit }
-    ensures unit_octets { (limits : ℕ → ℕ) (s : Settings) (journal : List Event) → octets_waiting (run_within limits s journal).units ≤ units_stored s * largest_unit }
-    ensures field_octets { (limits : ℕ → ℕ) (s : Settings) (journal : List Event) → IsLawfulWithin limits s journal → octets_in (buffer (run_within limits s journal)) ≤ s.buffer * largest_field }
+    ensures packet_octets { (limits : ℕ → ℕ) (s : Settings) (journal : List Event)
+        → octets_waiting (run_within limits s journal).queues ≤ packets_stored s * largest_unit }
+    ensures unit_octets { (limits : ℕ → ℕ) (s : Settings) (journal : List Event)
+        → octets_waiting (run_within limits s journal).units ≤ units_stored s * largest_unit }
+    ensures field_octets { (limits : ℕ → ℕ) (s : Settings) (journal : List Event) → IsLawfulWithin limits s journal
+        → octets_in (buffer (run_within limits s journal)) ≤ s.buffer * largest_field }
 {}
 
 /// After each lawful journal, the items that wait in a channel with segment headers are within the bound of its memory:
 /// the octets of packets, units and data fields, and the words of each item and of each queue.
 #[tactic(auto, using(crate::proofs::Closing::memory))]
 pub fn what_waits_is_within_the_bound_of_memory()
-    ensures { (limits : ℕ → ℕ) (s : Settings) (journal : List Event) → s.segmented ≡ true → IsLawfulWithin limits s journal → memory_waiting s (run_within limits s journal) ≤ memory_bound s }
+    ensures { (limits : ℕ → ℕ) (s : Settings) (journal : List Event) → s.segmented ≡ true → IsLawfulWithin limits s journal
+        → memory_waiting s (run_within limits s journal) ≤ memory_bound s }
 {}

@@ -27,7 +27,8 @@ pub fn what_a_script_does_follows_from_its_lines()
         → AreAnswers (IsPerformed scid) script answers progress [] → AreAnswers (IsPerformed scid) script others other []
         → (progress ≡ other) × (answers ≡ others) }
     ensures report { (scid : ℕ) (script : List ℕ) (answers : List (Option Answer)) (progress : Progress) (text another : List ℕ)
-        → AreAnswers (IsPerformed scid) script answers progress [] → IsScriptReport scid progress text → IsScriptReport scid progress another → text ≡ another }
+        → AreAnswers (IsPerformed scid) script answers progress [] → IsScriptReport scid progress text
+        → IsScriptReport scid progress another → text ≡ another }
 {
     each_input_begins_with_one_frame_at_most();
 }
@@ -35,8 +36,10 @@ pub fn what_a_script_does_follows_from_its_lines()
 /// States that the report on the channels that a script's workers leave is the report of the script when its lines are
 /// carried out in order.
 pub(crate) fn the_workers_report_is_that_of_the_lines_in_order()
-    ensures { (scid : ℕ) (script : List ℕ) (channels : List History) (text : List ℕ) → AreWorkedChannels scid script channels → IsReportOf channels text
-        → (answers : List (Option Answer)) × (progress : Progress) × AreAnswers (IsPerformed scid) script answers progress [] × IsScriptReport scid progress text }
+    ensures { (scid : ℕ) (script : List ℕ) (channels : List History) (text : List ℕ) → AreWorkedChannels scid script channels
+        → IsReportOf channels text
+        → (answers : List (Option Answer)) × (progress : Progress) × AreAnswers (IsPerformed scid) script answers progress []
+        × IsScriptReport scid progress text }
 {
     each_input_begins_with_one_frame_at_most();
     one_alone_is_answered_after_its_own_events();

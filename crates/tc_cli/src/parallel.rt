@@ -44,7 +44,8 @@ pub fn parallel_script<T: Threads + Wait + Sync, G: Gate + Sync, R: Read, W: Wri
     ensures good { OnOk result (IfSome (R.remaining reader.old) (λ script. (length script ≤ script_limit) × IsGood script)) }
     ensures fault { IfErr result (λ fault. IfSome (R.remaining reader.old) (λ script. IsScriptFault script fault)) }
     ensures cause { IfErr result (λ fault. IfSome (R.remaining reader.old) (λ script. HasCause scid script fault)) }
-    ensures written { OnOk result (IfSome (R.remaining reader.old) (λ script. IsWrittenInParallel scid script (W.contents writer.old) (W.contents writer.new))) }
+    ensures written { OnOk result (IfSome (R.remaining reader.old)
+        (λ script. IsWrittenInParallel scid script (W.contents writer.old) (W.contents writer.new))) }
     ensures kept { IfErr result (λ fault. (fault ≡ ScriptFault.Write) ⊎ Keeps (W.contents writer.old) (W.contents writer.new)) }
 {
     match parallel_and_give_back(rt, alloc, gate, scid, reader, writer) {
@@ -68,7 +69,8 @@ pub fn parallel_and_give_back<T: Threads + Wait + Sync, G: Gate + Sync, R: Read,
     ensures good { OnOk result (IfSome (R.remaining reader.old) (λ script. (length script ≤ script_limit) × IsGood script)) }
     ensures fault { IfErr result (λ fault. IfSome (R.remaining reader.old) (λ script. IsScriptFault script fault)) }
     ensures cause { IfErr result (λ fault. IfSome (R.remaining reader.old) (λ script. HasCause scid script fault)) }
-    ensures written { OnOk result (IfSome (R.remaining reader.old) (λ script. IsWrittenInParallel scid script (W.contents writer.old) (W.contents writer.new))) }
+    ensures written { OnOk result (IfSome (R.remaining reader.old)
+        (λ script. IsWrittenInParallel scid script (W.contents writer.old) (W.contents writer.new))) }
     ensures kept { IfErr result (λ fault. (fault ≡ ScriptFault.Write) ⊎ Keeps (W.contents writer.old) (W.contents writer.new)) }
 {
     the_workers_report_is_that_of_the_lines_in_order();

@@ -40,8 +40,10 @@ pub fn run_script<T: Wait, R: Read, W: Write>(
     requires { scid ≤ 1023 }
     ensures good { OnOk result (IfSome (R.remaining reader.old) (λ script. (length script ≤ script_limit) × IsGood script)) }
     ensures fault { IfErr result (λ fault. IfSome (R.remaining reader.old) (λ script. IsScriptFault script fault)) }
-    ensures written { OnOk result (IfSome (R.remaining reader.old) (λ script. IsScriptWritten scid script (W.contents writer.old) (W.contents writer.new))) }
-    ensures cut_short { IfErr result (λ fault. IfSome (R.remaining reader.old) (λ script. IsScriptCutShort scid script (W.contents writer.old) (W.contents writer.new) fault)) }
+    ensures written { OnOk result (IfSome (R.remaining reader.old)
+        (λ script. IsScriptWritten scid script (W.contents writer.old) (W.contents writer.new))) }
+    ensures cut_short { IfErr result (λ fault. IfSome (R.remaining reader.old)
+        (λ script. IsScriptCutShort scid script (W.contents writer.old) (W.contents writer.new) fault)) }
 {
     match run_and_give_back(rt, alloc, scid, reader, writer) {
         Ok(_) => Ok(()),
@@ -61,8 +63,10 @@ pub fn run_and_give_back<T: Wait, R: Read, W: Write>(
     ensures script { IfOk result (λ script. IfSome (R.remaining reader.old) (λ octets. script.items ≡ octets)) }
     ensures good { OnOk result (IfSome (R.remaining reader.old) (λ script. (length script ≤ script_limit) × IsGood script)) }
     ensures fault { IfErr result (λ fault. IfSome (R.remaining reader.old) (λ script. IsScriptFault script fault)) }
-    ensures written { OnOk result (IfSome (R.remaining reader.old) (λ script. IsScriptWritten scid script (W.contents writer.old) (W.contents writer.new))) }
-    ensures cut_short { IfErr result (λ fault. IfSome (R.remaining reader.old) (λ script. IsScriptCutShort scid script (W.contents writer.old) (W.contents writer.new) fault)) }
+    ensures written { OnOk result (IfSome (R.remaining reader.old)
+        (λ script. IsScriptWritten scid script (W.contents writer.old) (W.contents writer.new))) }
+    ensures cut_short { IfErr result (λ fault. IfSome (R.remaining reader.old)
+        (λ script. IsScriptCutShort scid script (W.contents writer.old) (W.contents writer.new) fault)) }
 {
     let script = read_whole(alloc, reader)?;
     match run_read(rt, alloc, scid, script.as_slice(), writer) {

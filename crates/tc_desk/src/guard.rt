@@ -99,7 +99,8 @@ impl<J: Journal> DeskGuard<J> {
     /// they are all operators that were issued, or if the journal has `count` events. A count of 2^64 - 1 stands for
     /// that number or more, and the result is then false.
     pub(crate) fn can_close(&self, operators: usize, count: u64) -> bool
-        ensures { (makers : List Own) → operators ≡ length makers → count ≡ min (total_made makers) (2 ^ 64 - 1) → (IsTrue result ↔ CanClose self.now.owner.own.issued makers self.now.now.entries) }
+        ensures { (makers : List Own) → operators ≡ length makers → count ≡ min (total_made makers) (2 ^ 64 - 1)
+            → (IsTrue result ↔ CanClose self.now.owner.own.issued makers self.now.now.entries) }
     {
         count != u64::MAX && (self.issued <= operators as u128 || self.events == count)
     }

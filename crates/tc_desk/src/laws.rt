@@ -12,24 +12,30 @@ ghost use Rattle.tc_desk.specs.Alone.{HasMadeAll, HasSeenItsOwn};
 /// If a journal is a merge of the events of one operator alone, that operator has made, and has seen, all events of the
 /// journal.
 pub fn the_only_operator_made_the_whole_journal()
-    ensures { (own : Own) (journal : List Event) → HasSeenItsOwn own → IsBeginning own.seen (record { head = own.seen.head; entries = journal }) → IsMergeOf journal (own ∷ [])
+    ensures { (own : Own) (journal : List Event) → HasSeenItsOwn own
+        → IsBeginning own.seen (record { head = own.seen.head; entries = journal }) → IsMergeOf journal (own ∷ [])
         → HasMadeAll own × (own.seen.entries ≡ journal) }
 {}
 
 /// If a journal is a merge of the events of several operators, and only one of them made any, that operator has made,
 /// and has seen, all events of the journal.
 pub fn the_only_maker_made_the_whole_journal()
-    ensures { (makers : List Own) (k : ℕ) (own : Own) (journal : List Event) → made_by makers k ≡ own.made → ((j : ℕ) → j ≢ k → made_by makers j ≡ []) → HasSeenItsOwn own
-        → IsBeginning own.seen (record { head = own.seen.head; entries = journal }) → IsMergeOf journal makers → HasMadeAll own × (own.seen.entries ≡ journal) }
+    ensures { (makers : List Own) (k : ℕ) (own : Own) (journal : List Event) → made_by makers k ≡ own.made
+        → ((j : ℕ) → j ≢ k → made_by makers j ≡ []) → HasSeenItsOwn own
+        → IsBeginning own.seen (record { head = own.seen.head; entries = journal }) → IsMergeOf journal makers
+        → HasMadeAll own × (own.seen.entries ≡ journal) }
 {}
 
 /// Suppose that after a call an operator has made all events that it has seen. Then it had made all events that it had
 /// seen before the call, too, and the call was answered at exactly the moment that it had seen. An operator that works
 /// alone is therefore answered after the journal of its own events so far.
 pub fn one_alone_is_answered_after_its_own_events()
-    ensures event { (before : Own) (now : Moment) (e : Event) → HasSeenItsOwn before → IsBeginning before.seen now → HasMadeAll (made e now before) → HasMadeAll before × (now ≡ before.seen) }
-    ensures look { (before : Own) (now : Moment) → HasSeenItsOwn before → IsBeginning before.seen now → HasMadeAll (looked now before) → HasMadeAll before × (now ≡ before.seen) }
-    ensures seen { (before : Own) (now : Moment) (e : Event) → HasSeenItsOwn before → IsBeginning before.seen now → HasSeenItsOwn (made e now before) × HasSeenItsOwn (looked now before) }
+    ensures event { (before : Own) (now : Moment) (e : Event) → HasSeenItsOwn before → IsBeginning before.seen now
+        → HasMadeAll (made e now before) → HasMadeAll before × (now ≡ before.seen) }
+    ensures look { (before : Own) (now : Moment) → HasSeenItsOwn before → IsBeginning before.seen now
+        → HasMadeAll (looked now before) → HasMadeAll before × (now ≡ before.seen) }
+    ensures seen { (before : Own) (now : Moment) (e : Event) → HasSeenItsOwn before → IsBeginning before.seen now
+        → HasSeenItsOwn (made e now before) × HasSeenItsOwn (looked now before) }
 {}
 
 /// An event that an operator made is at its place in each later journal of the desk. The moment at which the call was
@@ -38,7 +44,8 @@ pub fn one_alone_is_answered_after_its_own_events()
 /// determines.
 pub fn each_event_stands_at_its_place()
     ensures { (before : Own) (now : Moment) (e : Event) (closed : Moment) → IsBeginning (made e now before).seen closed
-        → (slice_get closed.entries (length now.entries) ≡ Some e) × (now ≡ record { head = closed.head; entries = take (length now.entries) closed.entries }) }
+        → (slice_get closed.entries (length now.entries) ≡ Some e)
+        × (now ≡ record { head = closed.head; entries = take (length now.entries) closed.entries }) }
 {}
 
 /// A release is answered if a data field waits, and refused as empty if none does. A release is never both answered and

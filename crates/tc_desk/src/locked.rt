@@ -60,7 +60,8 @@ impl Model for DeskOperator {
 
     ghost view = { λ o. at_lock o.badge.table_id o.badge.views };
 
-    ghost invariant = { λ o. IsResting o.badge.views × ((view_in o.badge.views).maker ≡ true) × (padded_value o.count ≡ count_of (view_in o.badge.views).own) };
+    ghost invariant = { λ o. IsResting o.badge.views × ((view_in o.badge.views).maker ≡ true)
+        × (padded_value o.count ≡ count_of (view_in o.badge.views).own) };
 }
 
 /// The owner of a lock, through which operators are created and the channel is taken out. The number of operators is
@@ -99,7 +100,8 @@ fn operate_by<P: Occasion, J: Journal, O: Operation<J>, R: Wait>(
     requires maker { (view_in badge.old.views).maker ≡ true }
     ensures resting { IsResting badge.new.views }
     ensures maker { (view_in badge.new.views).maker ≡ true }
-    ensures call { IsCall (O.event operation.now) (O.answers operation.now) (O.refuses operation.now) (at_lock badge.old.table_id badge.old.views) result (at_lock badge.new.table_id badge.new.views) }
+    ensures call { IsCall (O.event operation.now) (O.answers operation.now) (O.refuses operation.now)
+        (at_lock badge.old.table_id badge.old.views) result (at_lock badge.new.table_id badge.new.views) }
 {
     let mut seat: DeskSeat<J> = mem::replace(badge, Badge::blank()).into_seat();
     lock.lock(rt, &mut seat);
@@ -131,7 +133,8 @@ fn operate_met_by<P: Occasion, J: Journal, O: Operation<J>, R: Wait>(
     requires board { watcher.old.board ≡ (view_in badge.old.views).own.seen.head.board }
     ensures resting { IsResting badge.new.views }
     ensures maker { (view_in badge.new.views).maker ≡ true }
-    ensures call { IsMetCall (O.event operation.now) (O.answers operation.now) (O.refuses operation.now) watcher.old (at_lock badge.old.table_id badge.old.views) result watcher.new (at_lock badge.new.table_id badge.new.views) }
+    ensures call { IsMetCall (O.event operation.now) (O.answers operation.now) (O.refuses operation.now) watcher.old
+        (at_lock badge.old.table_id badge.old.views) result watcher.new (at_lock badge.new.table_id badge.new.views) }
 {
     let mut guard: DeskSeat<J> = mem::replace(badge, Badge::blank()).into_seat();
     lock.lock(rt, &mut guard);
@@ -303,7 +306,8 @@ impl DeskOperator {
     ) -> Result<O::Answer, O::Fault>
         requires ours { self.old.lock ≡ desk.now.id }
         requires board { watcher.old.board ≡ self.old.own.seen.head.board }
-        ensures call { IsMetCall (O.event operation.now) (O.answers operation.now) (O.refuses operation.now) watcher.old self.old result watcher.new self.new }
+        ensures call { IsMetCall (O.event operation.now) (O.answers operation.now)
+            (O.refuses operation.now) watcher.old self.old result watcher.new self.new }
     {
         let answer = operate_met_by::<Brand, J, O, R>(
             &desk.lock,

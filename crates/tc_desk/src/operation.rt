@@ -63,7 +63,8 @@ pub(crate) fn run_met<J: Journal, O: Operation<J>>(
     operation: &O,
 ) -> Result<O::Answer, O::Fault>
     requires board { watcher.old.board ≡ desk.old.board }
-    ensures step { IsStep (O.event operation.now) (λ m r. O.answers operation.now m r × HasSeenNoMore watcher.old m) (λ m f. O.refuses operation.now m f × HasSeenNoMore watcher.old m) (moment_of desk.old) result (moment_of desk.new) }
+    ensures step { IsStep (O.event operation.now) (λ m r. O.answers operation.now m r × HasSeenNoMore watcher.old m)
+        (λ m f. O.refuses operation.now m f × HasSeenNoMore watcher.old m) (moment_of desk.old) result (moment_of desk.new) }
     ensures met { HasMet (moment_of desk.new) watcher.new }
 {
     desk.meet(watcher);

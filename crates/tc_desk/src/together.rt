@@ -151,7 +151,8 @@ fn can_close_each<J: Journal, C: OperatorList>(
     operator_lists: &[C],
 ) -> bool
     requires { AreOurs (owners_of guards.now) (map C.at_desks operator_lists.now) }
-    ensures { MatchBool result (CanCloseEach guards.now (map C.at_desks operator_lists.now)) (CannotCloseOne guards.now (map C.at_desks operator_lists.now)) }
+    ensures { MatchBool result (CanCloseEach guards.now (map C.at_desks operator_lists.now))
+        (CannotCloseOne guards.now (map C.at_desks operator_lists.now)) }
 {
     for (place, desk) in guards.iter().enumerate() {
         if !desk.can_close(operator_lists.len(), count_at(operator_lists, place)) {

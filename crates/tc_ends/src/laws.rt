@@ -43,7 +43,8 @@ pub fn the_segments_of_a_unit_end_it_once()
 
 /// Packets that are joined are cut into exactly these packets, with no rest.
 pub fn joined_packets_are_cut_into_them()
-    ensures { (packets : List (List ℕ)) → AllByRecursion IsPacket packets → (packets_of (joined packets) ≡ packets) × (rest_of (joined packets) ≡ []) }
+    ensures { (packets : List (List ℕ)) → AllByRecursion IsPacket packets
+        → (packets_of (joined packets) ≡ packets) × (rest_of (joined packets) ≡ []) }
 {}
 
 /// Suppose that a sender sends packets in units, which are divided into segments, or which are whole on a channel
@@ -53,7 +54,8 @@ pub fn joined_packets_are_cut_into_them()
 pub fn packets_that_are_sent_are_made()
     ensures { (limits : ℕ → ℕ) (s : Settings) (apid : ℕ) (sent : PacketsSent) (before passed : List Passed) → HasMapsByHeaders s
         → ((service : Service) (map_id : ℕ) → AreAllPackets (sent service map_id)) → CarrySent limits s.segmented (joined_on sent) passed
-        → (merged : List (List ℕ)) × AreMerged merged (packets_sent_on s apid sent) × (packets_made limits s apid (before ++ passed) ≡ packets_made limits s apid before ++ merged) }
+        → (merged : List (List ℕ)) × AreMerged merged (packets_sent_on s apid sent)
+        × (packets_made limits s apid (before ++ passed) ≡ packets_made limits s apid before ++ merged) }
 {
     the_segments_of_a_unit_make_the_unit();
 }
@@ -98,9 +100,12 @@ pub fn written_frames_carry_the_segments()
 /// before it (`start`). Some packets may be left out, such as those dropped at a full queue (`given`).
 pub fn packets_that_are_sent_are_given()
     ensures start { (limits : ℕ → ℕ) (s : Settings) (journal : List Event) → passed_before limits s [] journal ≡ [] }
-    ensures given { (limits : ℕ → ℕ) (s : Settings) (journal before later : List Event) (x : ℕ) (sent : ℕ → List ℕ) (apid n : ℕ) (units : ℕ → List (List (List ℕ))) (q : Queue)
-        → IsLawfulWithin limits s journal → IsEraWithin limits s journal before later x → ComesFromWithin limits s before later x sent → HasMapsByHeaders s → SendsPackets limits s.segmented sent n units
-        → released_since limits s before journal ≤ n → queue_of apid (run_within limits s journal).queues ≡ Some q → AreGivenOf limits s apid before journal n units }
+    ensures given { (limits : ℕ → ℕ) (s : Settings) (journal before later : List Event) (x : ℕ) (sent : ℕ → List ℕ) (apid n : ℕ)
+        (units : ℕ → List (List (List ℕ))) (q : Queue)
+        → IsLawfulWithin limits s journal → IsEraWithin limits s journal before later x
+        → ComesFromWithin limits s before later x sent → HasMapsByHeaders s → SendsPackets limits s.segmented sent n units
+        → released_since limits s before journal ≤ n → queue_of apid (run_within limits s journal).queues ≡ Some q
+        → AreGivenOf limits s apid before journal n units }
 {
     the_segments_of_a_unit_make_the_unit();
 }
@@ -109,12 +114,16 @@ pub fn packets_that_are_sent_are_given()
 /// units that were sent on the MAP. Some may be left out. The condition is that no Type-BD data field of the era makes
 /// a unit of this MAP.
 pub fn units_that_are_sent_are_given()
-    ensures { (limits : ℕ → ℕ) (s : Settings) (journal before later : List Event) (x : ℕ) (sent : ℕ → List ℕ) (n : ℕ) (units : List (List ℕ)) (map_id : ℕ) (q : Queue)
+    ensures { (limits : ℕ → ℕ) (s : Settings) (journal before later : List Event) (x : ℕ) (sent : ℕ → List ℕ) (n : ℕ)
+        (units : List (List ℕ)) (map_id : ℕ) (q : Queue)
         → IsLawfulWithin limits s journal → IsEraWithin limits s journal before later x → ComesFromWithin limits s before later x sent
-        → s.segmented ≡ true → is_chosen_map s map_id ≡ true → CarryUnits true map_id units (on_map true map_id (sent_from sent 0 n)) → AllByRecursion (IsSendable limits true map_id) units
+        → s.segmented ≡ true → is_chosen_map s map_id ≡ true
+        → CarryUnits true map_id units (on_map true map_id (sent_from sent 0 n))
+        → AllByRecursion (IsSendable limits true map_id) units
         → all_made (unit_on limits s Service.Bd map_id) (passed_before limits s before journal) (passed_in limits s before journal) ≡ []
         → released_since limits s before journal ≤ n → queue_of map_id (run_within limits s journal).units ≡ Some q
-        → IsPartOf (units_given s map_id (first_state_within limits s) journal) (units_made limits s map_id (passed_before limits s before journal) ++ units) }
+        → IsPartOf (units_given s map_id (first_state_within limits s) journal)
+        (units_made limits s map_id (passed_before limits s before journal) ++ units) }
 {
     the_segments_of_a_unit_make_the_unit();
 }
@@ -123,9 +132,11 @@ pub fn units_that_are_sent_are_given()
 /// Then the sender sends the packets of each MAP in order (`sends`). The N(S) of each frame is that of the first frame
 /// plus the frame's place, modulo 256, as a loop requires (`numbers`).
 pub fn numbered_frames_send_packets()
-    ensures sends { (limits : ℕ → ℕ) (segmented : Bool) (header : Header) (units : List UnitSent) (frames : List (List ℕ)) (sent : ℕ → List ℕ) → AllByRecursion (CanBeSent limits segmented) units → AreNumbered segmented header units frames
+    ensures sends { (limits : ℕ → ℕ) (segmented : Bool) (header : Header) (units : List UnitSent) (frames : List (List ℕ))
+        (sent : ℕ → List ℕ) → AllByRecursion (CanBeSent limits segmented) units → AreNumbered segmented header units frames
         → sent_from sent 0 (length frames) ≡ map field_of frames → SendsPackets limits segmented sent (length frames) (units_on units) }
-    ensures numbers { (segmented : Bool) (header : Header) (units : List UnitSent) (frames : List (List ℕ)) → header.bypass ≡ false → AreNumbered segmented header units frames
+    ensures numbers { (segmented : Bool) (header : Header) (units : List UnitSent) (frames : List (List ℕ))
+        → header.bypass ≡ false → AreNumbered segmented header units frames
         → (k : ℕ) → k < length frames → (header_of (slice_index_or frames k [])).ns ≡ (header.ns + k) % 256 }
 {}
 
@@ -136,7 +147,9 @@ pub fn numbered_frames_send_packets()
 /// promises.
 pub fn packets_from_a_start_are_given()
     ensures { (s : Start) (header : Header) (units : List UnitSent) (frames : List (List ℕ)) (apid : ℕ) (q : Queue) → IsStart s
-        → AllByRecursion (CanBeSent s.loop.limits s.loop.settings.segmented) units → AreNumbered s.loop.settings.segmented header units frames → AreFrom (era s).frames frames → SendsOnly (length frames) (era_session s)
+        → AllByRecursion (CanBeSent s.loop.limits s.loop.settings.segmented) units
+        → AreNumbered s.loop.settings.segmented header units frames → AreFrom (era s).frames frames
+        → SendsOnly (length frames) (era_session s)
         → queue_of apid (receiver s.loop s.session).queues ≡ Some q
         → AreGivenOf s.loop.limits s.loop.settings apid (era s).before (journal s.loop s.session) (length frames) (units_on units) }
 {
@@ -148,9 +161,12 @@ pub fn packets_from_a_start_are_given()
 /// received, is rejected as a code block. Then these frames arrive (`arrives`), and the receiver searches for a start
 /// sequence again (`searches`). An input brings about only one list of events in each state of the decoder (`alone`).
 pub fn a_cltu_with_few_wrong_bits_brings_its_frames()
-    ensures arrives { (end : LinkEnd) (last : ℕ) (frames : List (List ℕ)) (octets : List ℕ) → CarriesWell end last frames octets → AreEventsAt end (Searching last) (Octets octets) (map Frame frames) }
-    ensures searches { (end : LinkEnd) (last : ℕ) (frames : List (List ℕ)) (octets : List ℕ) → CarriesWell end last frames octets → state_behind end (Searching last) (Octets octets) ≡ Searching 0 }
-    ensures alone { (end : LinkEnd) (state : Reception) (c : Coming) (one other : List Event) → AreEventsAt end state c one → AreEventsAt end state c other → one ≡ other }
+    ensures arrives { (end : LinkEnd) (last : ℕ) (frames : List (List ℕ)) (octets : List ℕ) → CarriesWell end last frames octets
+        → AreEventsAt end (Searching last) (Octets octets) (map Frame frames) }
+    ensures searches { (end : LinkEnd) (last : ℕ) (frames : List (List ℕ)) (octets : List ℕ) → CarriesWell end last frames octets
+        → state_behind end (Searching last) (Octets octets) ≡ Searching 0 }
+    ensures alone { (end : LinkEnd) (state : Reception) (c : Coming) (one other : List Event) → AreEventsAt end state c one
+        → AreEventsAt end state c other → one ≡ other }
 {}
 
 /// Octets bring nothing, and the receiver searches again after them, in three cases. Nothing in them counts as a start
@@ -158,7 +174,8 @@ pub fn a_cltu_with_few_wrong_bits_brings_its_frames()
 /// nothing (`refused`), because they don't begin with a frame, or because the frame error control field is wrong.
 pub fn a_link_may_lose_this()
     ensures idle { (end : LinkEnd) (last : ℕ) (octets : List ℕ) → HasNoStart end.mode last octets → (later : ℕ) × IsLost end last octets later }
-    ensures cut { (end : LinkEnd) (last one two : ℕ) (block : List ℕ) (parity : ℕ) → is_start end.mode last one ≡ false → is_start end.mode one two ≡ true → length block ≡ 7
+    ensures cut { (end : LinkEnd) (last one two : ℕ) (block : List ℕ) (parity : ℕ) → is_start end.mode last one ≡ false
+        → is_start end.mode one two ≡ true → length block ≡ 7
         → decoded end.mode (block ++ parity ∷ []) ≡ None → IsLost end last (one ∷ two ∷ (block ++ parity ∷ [])) 0 }
     ensures refused { (end : LinkEnd) (last : ℕ) (carried octets : List ℕ) → cltu_fault_of carried ≡ None → IsNearCltu end.mode last carried octets
         → AreBrought end.several end.field (filled carried ∷ []) [] → IsLost end last octets 0 }
@@ -172,8 +189,11 @@ pub fn a_link_may_lose_this()
 /// that were taken are then those that [`packets_that_are_sent_are_given`] promises.
 /// [`a_link_that_idles_and_loses_alters_nothing`] discharges the premise about detection.
 pub fn packets_in_cltus_are_given()
-    ensures { (s : Start) (header : Header) (units : List UnitSent) (frames : List (List ℕ)) (apid : ℕ) (q : Queue) (end : LinkEnd) (state : Reception) (coming : List Coming) (came : List Event)
-        → IsStart s → AllByRecursion (CanBeSent s.loop.limits s.loop.settings.segmented) units → AreNumbered s.loop.settings.segmented header units frames → AreFrom (era s).frames frames → SendsOnly (length frames) (era_session s)
+    ensures { (s : Start) (header : Header) (units : List UnitSent) (frames : List (List ℕ)) (apid : ℕ) (q : Queue)
+        (end : LinkEnd) (state : Reception) (coming : List Coming) (came : List Event)
+        → IsStart s → AllByRecursion (CanBeSent s.loop.limits s.loop.settings.segmented) units
+        → AreNumbered s.loop.settings.segmented header units frames → AreFrom (era s).frames frames
+        → SendsOnly (length frames) (era_session s)
         → AltersNothing end s.loop.frames state s.session coming → AreEventsOf end state coming came
         → queue_of apid (run_within s.loop.limits s.loop.settings (s.loop.before ++ came)).queues ≡ Some q
         → AreGivenOf s.loop.limits s.loop.settings apid (era s).before (s.loop.before ++ came) (length frames) (units_on units) }
@@ -186,9 +206,11 @@ pub fn packets_in_cltus_are_given()
 /// error detection lets no altered frame through (`unaltered`), and the events of the receiver are those of the session
 /// (`events`).
 pub fn a_link_that_idles_and_loses_alters_nothing()
-    ensures unaltered { (end : LinkEnd) (frames : ℕ → List ℕ) (last : ℕ) (session : List Action) (coming : List Coming) → AreCarriedOrLost end frames last session coming
+    ensures unaltered { (end : LinkEnd) (frames : ℕ → List ℕ) (last : ℕ) (session : List Action) (coming : List Coming)
+        → AreCarriedOrLost end frames last session coming
         → AltersNothing end frames (Searching last) session coming }
-    ensures events { (end : LinkEnd) (frames : ℕ → List ℕ) (last : ℕ) (session : List Action) (coming : List Coming) → AreCarriedOrLost end frames last session coming
+    ensures events { (end : LinkEnd) (frames : ℕ → List ℕ) (last : ℕ) (session : List Action) (coming : List Coming)
+        → AreCarriedOrLost end frames last session coming
         → AreEventsOf end (Searching last) coming (events_of frames session) }
 {}
 
@@ -204,7 +226,8 @@ pub fn all_premises_are_met_at_once()
     ensures can_be_in_small_segments { CanBeSent no_limits true example.in_small_segments }
     ensures fields { (enclosed true (start.around 9 0) ≡ 0x00 ∷ 0x00 ∷ 0x00 ∷ 0x07 ∷ 0x00 ∷ 0x00 ∷ 0x8b ∷ 0x80 ∷ [])
         × (enclosed true (start.around 9 1) ≡ 0x30 ∷ 0x2a ∷ 0x04 ∷ 0x09 ∷ 0x00 ∷ 0x82 ∷ 0x00 ∷ 0x09 ∷ 0x80 ∷ 0x94 ∷ [])
-        × (enclosed true example.first_frame ≡ 0x00 ∷ 0x2a ∷ 0x04 ∷ 0x0e ∷ 0x09 ∷ 0xc0 ∷ 0x10 ∷ 0x05 ∷ 0xc0 ∷ 0x00 ∷ 0x00 ∷ 0x00 ∷ 0xaa ∷ 0xa9 ∷ 0xb2 ∷ [])
+        × (enclosed true example.first_frame ≡ 0x00 ∷ 0x2a ∷ 0x04 ∷ 0x0e ∷ 0x09 ∷ 0xc0 ∷ 0x10 ∷ 0x05 ∷ 0xc0 ∷ 0x00 ∷ 0x00 ∷ 0x00
+        ∷ 0xaa ∷ 0xa9 ∷ 0xb2 ∷ [])
         × (enclosed true start.by_bd ≡ 0x20 ∷ 0x2a ∷ 0x04 ∷ 0x08 ∷ 0x00 ∷ 0xc1 ∷ 0x00 ∷ 0x05 ∷ 0x92 ∷ []) }
     ensures numbered { AreNumbered true example.first_header example.one_unit (example.first_frame ∷ []) }
     ensures frames_sent { AreFrom (era start.learnt_by_9).frames (example.first_frame ∷ []) }
@@ -215,12 +238,23 @@ pub fn all_premises_are_met_at_once()
     ensures headers { start.learnt_by_9.loop.settings.segmented ≡ true }
     ensures queue { (q : Queue) × (queue_of 5 (receiver start.learnt_by_9.loop start.learnt_by_9.session).queues ≡ Some q) }
     ensures asked { packets_to 5 (units_on example.one_unit 0) ≡ example.packet ∷ [] }
-    ensures drops_none { DropsNone start.learnt_by_9.loop.settings (first_state_within start.learnt_by_9.loop.limits start.learnt_by_9.loop.settings) (events start.learnt_by_9.loop start.learnt_by_9.session) }
+    ensures drops_none { DropsNone start.learnt_by_9.loop.settings
+        (first_state_within start.learnt_by_9.loop.limits start.learnt_by_9.loop.settings)
+        (events start.learnt_by_9.loop start.learnt_by_9.session) }
     ensures whole { (g : AreGivenOf start.learnt_by_9.loop.limits start.learnt_by_9.loop.settings 5 (era start.learnt_by_9).before (journal start.learnt_by_9.loop start.learnt_by_9.session) 1 (units_on example.one_unit))
-        → packets_made start.learnt_by_9.loop.limits start.learnt_by_9.loop.settings 5 (receiver start.learnt_by_9.loop start.learnt_by_9.session).passed
-        ≡ packets_made start.learnt_by_9.loop.limits start.learnt_by_9.loop.settings 5 (passed_before start.learnt_by_9.loop.limits start.learnt_by_9.loop.settings (era start.learnt_by_9).before (journal start.learnt_by_9.loop start.learnt_by_9.session)) ++ g.merged }
+        → packets_made start.learnt_by_9.loop.limits start.learnt_by_9.loop.settings 5
+        (receiver start.learnt_by_9.loop start.learnt_by_9.session).passed
+        ≡ packets_made start.learnt_by_9.loop.limits start.learnt_by_9.loop.settings 5
+        (passed_before start.learnt_by_9.loop.limits start.learnt_by_9.loop.settings (era start.learnt_by_9).before
+        (journal start.learnt_by_9.loop start.learnt_by_9.session)) ++ g.merged }
     ensures all { (g : AreGivenOf start.learnt_by_9.loop.limits start.learnt_by_9.loop.settings 5 (era start.learnt_by_9).before (journal start.learnt_by_9.loop start.learnt_by_9.session) 1 (units_on example.one_unit))
-        → packets_given start.learnt_by_9.loop.settings 5 (first_state_within start.learnt_by_9.loop.limits start.learnt_by_9.loop.settings) (journal start.learnt_by_9.loop start.learnt_by_9.session)
-        ≡ packets_made start.learnt_by_9.loop.limits start.learnt_by_9.loop.settings 5 (passed_before start.learnt_by_9.loop.limits start.learnt_by_9.loop.settings (era start.learnt_by_9).before (journal start.learnt_by_9.loop start.learnt_by_9.session)) ++ g.merged }
-    ensures given { packets_given start.learnt_by_9.loop.settings 5 (first_state_within start.learnt_by_9.loop.limits start.learnt_by_9.loop.settings) (events start.learnt_by_9.loop start.learnt_by_9.session) ≡ example.packet ∷ [] }
+        → packets_given start.learnt_by_9.loop.settings 5
+        (first_state_within start.learnt_by_9.loop.limits start.learnt_by_9.loop.settings)
+        (journal start.learnt_by_9.loop start.learnt_by_9.session)
+        ≡ packets_made start.learnt_by_9.loop.limits start.learnt_by_9.loop.settings 5
+        (passed_before start.learnt_by_9.loop.limits start.learnt_by_9.loop.settings (era start.learnt_by_9).before
+        (journal start.learnt_by_9.loop start.learnt_by_9.session)) ++ g.merged }
+    ensures given { packets_given start.learnt_by_9.loop.settings 5
+        (first_state_within start.learnt_by_9.loop.limits start.learnt_by_9.loop.settings)
+        (events start.learnt_by_9.loop start.learnt_by_9.session) ≡ example.packet ∷ [] }
 {}

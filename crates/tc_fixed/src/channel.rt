@@ -129,7 +129,8 @@ impl<N: Noted> FixedChannelWith<N> {
         ensures lawful { IsLawfulWithin (limit_of self.old.limits) self.old.settings self.old.journal }
         ensures reply { result ≡ frame_reply_within (limit_of self.old.limits) self.old.settings self.old.journal frame.now }
         ensures done { self.new ≡ with_limited_event self.old (Event.Frame frame.now) }
-        ensures cost { C.taken steps.new ≤ C.taken steps.old + frame_steps_within (limit_of self.old.limits) self.old.settings self.old.journal frame.now }
+        ensures cost { C.taken steps.new ≤ C.taken steps.old + frame_steps_within
+            (limit_of self.old.limits) self.old.settings self.old.journal frame.now }
         ensures quiet { (IsBypassData frame.now → ⊥) → C.taken steps.new ≡ C.taken steps.old }
     {
         let reply = self.channel_core.frame(frame, steps).unwrap();
@@ -142,7 +143,8 @@ impl<N: Noted> FixedChannelWith<N> {
     pub fn release(&mut self) -> Result<Delivery, NothingReleased>
         ensures allowed { IsAllowed self.old.settings }
         ensures lawful { IsLawfulWithin (limit_of self.old.limits) self.old.settings self.old.journal }
-        ensures empty { IsErrOf result NothingReleased.Empty ↔ (buffered_fields_within (limit_of self.old.limits) self.old.settings self.old.journal ≡ []) }
+        ensures empty { IsErrOf result NothingReleased.Empty ↔
+            (buffered_fields_within (limit_of self.old.limits) self.old.settings self.old.journal ≡ []) }
         ensures reply { IfOk result (λ delivery. delivery ≡ release_reply_within (limit_of self.old.limits) self.old.settings self.old.journal) }
         ensures done { OnOk result (self.new ≡ with_limited_event self.old Event.Release) }
         ensures refused { OnErr result (self.new ≡ self.old) }
@@ -158,7 +160,8 @@ impl<N: Noted> FixedChannelWith<N> {
     ) -> Result<Delivery, NothingReleased>
         ensures allowed { IsAllowed self.old.settings }
         ensures lawful { IsLawfulWithin (limit_of self.old.limits) self.old.settings self.old.journal }
-        ensures empty { IsErrOf result NothingReleased.Empty ↔ (buffered_fields_within (limit_of self.old.limits) self.old.settings self.old.journal ≡ []) }
+        ensures empty { IsErrOf result NothingReleased.Empty ↔
+            (buffered_fields_within (limit_of self.old.limits) self.old.settings self.old.journal ≡ []) }
         ensures reply { IfOk result (λ delivery. delivery ≡ release_reply_within (limit_of self.old.limits) self.old.settings self.old.journal) }
         ensures done { OnOk result (self.new ≡ with_limited_event self.old Event.Release) }
         ensures refused { OnErr result (self.new ≡ self.old) }
@@ -177,10 +180,14 @@ impl<N: Noted> FixedChannelWith<N> {
     pub fn take(&mut self, apid: u16, into: &mut [u8]) -> Result<usize, NothingTaken>
         ensures allowed { IsAllowed self.old.settings }
         ensures lawful { IsLawfulWithin (limit_of self.old.limits) self.old.settings self.old.journal }
-        ensures no_queue { IsErrOf result NothingTaken.NoQueue ↔ (waiting_packets_within (limit_of self.old.limits) self.old.settings self.old.journal apid ≡ None) }
-        ensures empty { IsErrOf result NothingTaken.Empty ↔ (waiting_packets_within (limit_of self.old.limits) self.old.settings self.old.journal apid ≡ Some []) }
-        ensures no_room { (needed : ℕ) → IsErrOf result (NothingTaken.NoRoom needed) ↔ IsOver (length into.old) needed (take_reply_within (limit_of self.old.limits) self.old.settings self.old.journal apid) }
-        ensures reply { IfOk result (λ count. IsCopiedIn (take_reply_within (limit_of self.old.limits) self.old.settings self.old.journal apid) count into.old into.new) }
+        ensures no_queue { IsErrOf result NothingTaken.NoQueue ↔
+            (waiting_packets_within (limit_of self.old.limits) self.old.settings self.old.journal apid ≡ None) }
+        ensures empty { IsErrOf result NothingTaken.Empty ↔
+            (waiting_packets_within (limit_of self.old.limits) self.old.settings self.old.journal apid ≡ Some []) }
+        ensures no_room { (needed : ℕ) → IsErrOf result (NothingTaken.NoRoom needed) ↔ IsOver (length into.old) needed
+            (take_reply_within (limit_of self.old.limits) self.old.settings self.old.journal apid) }
+        ensures reply { IfOk result (λ count. IsCopiedIn
+            (take_reply_within (limit_of self.old.limits) self.old.settings self.old.journal apid) count into.old into.new) }
         ensures done { OnOk result (self.new ≡ with_limited_event self.old (Event.Take apid)) }
         ensures refused { OnErr result ((self.new ≡ self.old) × (into.new ≡ into.old)) }
     {
@@ -196,10 +203,14 @@ impl<N: Noted> FixedChannelWith<N> {
     ) -> Result<usize, NothingTaken>
         ensures allowed { IsAllowed self.old.settings }
         ensures lawful { IsLawfulWithin (limit_of self.old.limits) self.old.settings self.old.journal }
-        ensures no_queue { IsErrOf result NothingTaken.NoQueue ↔ (waiting_packets_within (limit_of self.old.limits) self.old.settings self.old.journal apid ≡ None) }
-        ensures empty { IsErrOf result NothingTaken.Empty ↔ (waiting_packets_within (limit_of self.old.limits) self.old.settings self.old.journal apid ≡ Some []) }
-        ensures no_room { (needed : ℕ) → IsErrOf result (NothingTaken.NoRoom needed) ↔ IsOver (length into.old) needed (take_reply_within (limit_of self.old.limits) self.old.settings self.old.journal apid) }
-        ensures reply { IfOk result (λ count. IsCopiedIn (take_reply_within (limit_of self.old.limits) self.old.settings self.old.journal apid) count into.old into.new) }
+        ensures no_queue { IsErrOf result NothingTaken.NoQueue ↔
+            (waiting_packets_within (limit_of self.old.limits) self.old.settings self.old.journal apid ≡ None) }
+        ensures empty { IsErrOf result NothingTaken.Empty ↔
+            (waiting_packets_within (limit_of self.old.limits) self.old.settings self.old.journal apid ≡ Some []) }
+        ensures no_room { (needed : ℕ) → IsErrOf result (NothingTaken.NoRoom needed) ↔ IsOver (length into.old) needed
+            (take_reply_within (limit_of self.old.limits) self.old.settings self.old.journal apid) }
+        ensures reply { IfOk result (λ count. IsCopiedIn
+            (take_reply_within (limit_of self.old.limits) self.old.settings self.old.journal apid) count into.old into.new) }
         ensures done { OnOk result (self.new ≡ with_limited_event self.old (Event.Take apid)) }
         ensures refused { OnErr result ((self.new ≡ self.old) × (into.new ≡ into.old)) }
         ensures once { C.taken steps.new ≤ C.taken steps.old + looks_for apid (length self.old.settings.queues) }
@@ -214,10 +225,14 @@ impl<N: Noted> FixedChannelWith<N> {
     pub fn take_unit(&mut self, map: u8, into: &mut [u8]) -> Result<usize, NoUnitTaken>
         ensures allowed { IsAllowed self.old.settings }
         ensures lawful { IsLawfulWithin (limit_of self.old.limits) self.old.settings self.old.journal }
-        ensures no_map { IsErrOf result NoUnitTaken.NoMap ↔ (waiting_units_within (limit_of self.old.limits) self.old.settings self.old.journal map ≡ None) }
-        ensures empty { IsErrOf result NoUnitTaken.Empty ↔ (waiting_units_within (limit_of self.old.limits) self.old.settings self.old.journal map ≡ Some []) }
-        ensures no_room { (needed : ℕ) → IsErrOf result (NoUnitTaken.NoRoom needed) ↔ IsOver (length into.old) needed (unit_reply_within (limit_of self.old.limits) self.old.settings self.old.journal map) }
-        ensures reply { IfOk result (λ count. IsCopiedIn (unit_reply_within (limit_of self.old.limits) self.old.settings self.old.journal map) count into.old into.new) }
+        ensures no_map { IsErrOf result NoUnitTaken.NoMap ↔
+            (waiting_units_within (limit_of self.old.limits) self.old.settings self.old.journal map ≡ None) }
+        ensures empty { IsErrOf result NoUnitTaken.Empty ↔
+            (waiting_units_within (limit_of self.old.limits) self.old.settings self.old.journal map ≡ Some []) }
+        ensures no_room { (needed : ℕ) → IsErrOf result (NoUnitTaken.NoRoom needed) ↔ IsOver (length into.old) needed
+            (unit_reply_within (limit_of self.old.limits) self.old.settings self.old.journal map) }
+        ensures reply { IfOk result (λ count. IsCopiedIn
+            (unit_reply_within (limit_of self.old.limits) self.old.settings self.old.journal map) count into.old into.new) }
         ensures done { OnOk result (self.new ≡ with_limited_event self.old (Event.TakeUnit map)) }
         ensures refused { OnErr result ((self.new ≡ self.old) × (into.new ≡ into.old)) }
     {
@@ -234,10 +249,14 @@ impl<N: Noted> FixedChannelWith<N> {
     ) -> Result<usize, NoUnitTaken>
         ensures allowed { IsAllowed self.old.settings }
         ensures lawful { IsLawfulWithin (limit_of self.old.limits) self.old.settings self.old.journal }
-        ensures no_map { IsErrOf result NoUnitTaken.NoMap ↔ (waiting_units_within (limit_of self.old.limits) self.old.settings self.old.journal map ≡ None) }
-        ensures empty { IsErrOf result NoUnitTaken.Empty ↔ (waiting_units_within (limit_of self.old.limits) self.old.settings self.old.journal map ≡ Some []) }
-        ensures no_room { (needed : ℕ) → IsErrOf result (NoUnitTaken.NoRoom needed) ↔ IsOver (length into.old) needed (unit_reply_within (limit_of self.old.limits) self.old.settings self.old.journal map) }
-        ensures reply { IfOk result (λ count. IsCopiedIn (unit_reply_within (limit_of self.old.limits) self.old.settings self.old.journal map) count into.old into.new) }
+        ensures no_map { IsErrOf result NoUnitTaken.NoMap ↔
+            (waiting_units_within (limit_of self.old.limits) self.old.settings self.old.journal map ≡ None) }
+        ensures empty { IsErrOf result NoUnitTaken.Empty ↔
+            (waiting_units_within (limit_of self.old.limits) self.old.settings self.old.journal map ≡ Some []) }
+        ensures no_room { (needed : ℕ) → IsErrOf result (NoUnitTaken.NoRoom needed) ↔ IsOver (length into.old) needed
+            (unit_reply_within (limit_of self.old.limits) self.old.settings self.old.journal map) }
+        ensures reply { IfOk result (λ count. IsCopiedIn
+            (unit_reply_within (limit_of self.old.limits) self.old.settings self.old.journal map) count into.old into.new) }
         ensures done { OnOk result (self.new ≡ with_limited_event self.old (Event.TakeUnit map)) }
         ensures refused { OnErr result ((self.new ≡ self.old) × (into.new ≡ into.old)) }
         ensures once { C.taken steps.new ≤ C.taken steps.old + looks_for map (length self.old.settings.maps) }
@@ -282,7 +301,8 @@ impl<N: Noted> FixedChannelWith<N> {
     /// Lends the octets of the packet that the next [`take`](FixedChannelWith::take) with this APID will copy. Returns
     /// `None` if there is no such queue, or if it is empty. The call isn't an event.
     pub fn oldest(&self, apid: u16) -> Option<&[u8]>
-        ensures packet { option_map (λ octets. octets.now) result ≡ take_reply_within (limit_of self.now.limits) self.now.settings self.now.journal apid }
+        ensures packet { option_map (λ octets. octets.now) result
+            ≡ take_reply_within (limit_of self.now.limits) self.now.settings self.now.journal apid }
         ensures allowed { IsAllowed self.now.settings }
         ensures lawful { IsLawfulWithin (limit_of self.now.limits) self.now.settings self.now.journal }
     {
@@ -292,7 +312,8 @@ impl<N: Noted> FixedChannelWith<N> {
     /// Lends a packet as [`oldest`](FixedChannelWith::oldest) does, and counts one step for each queue that is
     /// examined.
     pub fn oldest_with_steps<C: Tick>(&self, apid: u16, steps: &mut C) -> Option<&[u8]>
-        ensures packet { option_map (λ octets. octets.now) result ≡ take_reply_within (limit_of self.now.limits) self.now.settings self.now.journal apid }
+        ensures packet { option_map (λ octets. octets.now) result
+            ≡ take_reply_within (limit_of self.now.limits) self.now.settings self.now.journal apid }
         ensures allowed { IsAllowed self.now.settings }
         ensures lawful { IsLawfulWithin (limit_of self.now.limits) self.now.settings self.now.journal }
         ensures cost { C.taken steps.new ≤ C.taken steps.old + looks_for apid (length self.now.settings.queues) }
@@ -303,7 +324,8 @@ impl<N: Noted> FixedChannelWith<N> {
     /// Lends the octets of the unit that the next [`take_unit`](FixedChannelWith::take_unit) with this MAP will copy.
     /// Returns `None` if the MAP isn't chosen, or if its queue is empty. The call isn't an event.
     pub fn oldest_unit(&self, map: u8) -> Option<&[u8]>
-        ensures unit { option_map (λ octets. octets.now) result ≡ unit_reply_within (limit_of self.now.limits) self.now.settings self.now.journal map }
+        ensures unit { option_map (λ octets. octets.now) result
+            ≡ unit_reply_within (limit_of self.now.limits) self.now.settings self.now.journal map }
         ensures allowed { IsAllowed self.now.settings }
         ensures lawful { IsLawfulWithin (limit_of self.now.limits) self.now.settings self.now.journal }
     {
@@ -313,7 +335,8 @@ impl<N: Noted> FixedChannelWith<N> {
     /// Lends a unit as [`oldest_unit`](FixedChannelWith::oldest_unit) does, and counts one step for each queue that is
     /// examined.
     pub fn oldest_unit_with_steps<C: Tick>(&self, map: u8, steps: &mut C) -> Option<&[u8]>
-        ensures unit { option_map (λ octets. octets.now) result ≡ unit_reply_within (limit_of self.now.limits) self.now.settings self.now.journal map }
+        ensures unit { option_map (λ octets. octets.now) result
+            ≡ unit_reply_within (limit_of self.now.limits) self.now.settings self.now.journal map }
         ensures allowed { IsAllowed self.now.settings }
         ensures lawful { IsLawfulWithin (limit_of self.now.limits) self.now.settings self.now.journal }
         ensures cost { C.taken steps.new ≤ C.taken steps.old + looks_for map (length self.now.settings.maps) }

@@ -16,7 +16,8 @@ ghost use Rattle.tc_fixed.specs.Storage.{storage_of, storage_within};
 /// over the largest one.
 pub fn a_listed_map_has_its_own_limit()
     ensures listed { (limits : Limits) (m : MapLimit) → AreLimitedMapsApart limits.maps → Contains limits.maps m → limit_of limits m.map ≡ m.octets }
-    ensures others { (limits : Limits) (map_id : ℕ) → AllByRecursion (λ (m : MapLimit). m.map ≢ map_id) limits.maps → limit_of limits map_id ≡ limits.others }
+    ensures others { (limits : Limits) (map_id : ℕ) → AllByRecursion (λ (m : MapLimit). m.map ≢ map_id) limits.maps
+        → limit_of limits map_id ≡ limits.others }
     ensures largest { (limits : Limits) (map_id : ℕ) → limit_of limits map_id ≤ largest_limit limits }
 {}
 

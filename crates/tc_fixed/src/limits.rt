@@ -162,7 +162,9 @@ impl LentLimits<'_> {
     /// Checks whether a channel can be created with these settings and limits. `NoMemory` is never returned, and no
     /// memory is requested.
     pub fn check(self, settings: LentSettings<'_>) -> Result<(), LimitsFault>
-        ensures { MatchResult result (λ _. IsAllowed (settings_of settings.entry) × AreLimits (settings_of settings.entry) (limits_of self.entry)) (IsFaultWithLimits (settings_of settings.entry) (limits_of self.entry)) }
+        ensures { MatchResult result (λ _. IsAllowed (settings_of settings.entry)
+            × AreLimits (settings_of settings.entry) (limits_of self.entry))
+            (IsFaultWithLimits (settings_of settings.entry) (limits_of self.entry)) }
     {
         settings.check()?;
         self.check_alone(settings)
@@ -171,7 +173,8 @@ impl LentLimits<'_> {
     // Checks whether a channel with these settings can have these limits.
     #[tactic(auto, unfolding(crate::specs::Limits::IsLimitsFault))]
     fn check_alone(self, settings: LentSettings<'_>) -> Result<(), LimitsFault>
-        ensures { MatchResult result (λ _. AreLimits (settings_of settings.entry) (limits_of self.entry)) (IsLimitsFault (settings_of settings.entry) (limits_of self.entry)) }
+        ensures { MatchResult result (λ _. AreLimits (settings_of settings.entry) (limits_of self.entry))
+            (IsLimitsFault (settings_of settings.entry) (limits_of self.entry)) }
     {
         if !is_others(self.others, settings.segmented) {
             return Err(LimitsFault::BadOthers);

@@ -58,7 +58,8 @@ pub fn storage_with_lent(settings: LentSettings<'_>, limits: LentLimits<'_>) -> 
 fn all_octets(settings: LentSettings<'_>, runs: u128, item: u128) -> u64
     requires runs { runs < 2 ^ 100 }
     requires item { item < 2 ^ 20 }
-    ensures { result ≡ min (buffer_memory (settings_of settings.entry) + runs + queues_in_rooms (settings_of settings.entry) item + tables_memory (settings_of settings.entry)) (2 ^ 64 - 1) }
+    ensures { result ≡ min (buffer_memory (settings_of settings.entry) + runs + queues_in_rooms
+        (settings_of settings.entry) item + tables_memory (settings_of settings.entry)) (2 ^ 64 - 1) }
 {
     let all = settings.buffer_octets()
         + runs

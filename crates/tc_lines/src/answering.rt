@@ -50,8 +50,12 @@ pub fn answer_lines<A: LineAnswerer, R: BufRead, W: Write>(
     reader: &mut R,
     writer: &mut W,
 ) -> Result<(), ServingFault>
-    ensures written { OnOk result (IfSome (R.remaining reader.old) (λ octets. AreAllWritten limit A.answers answerer.old octets answerer.new (W.contents writer.old) (W.contents writer.new))) }
-    ensures cut_short { IfErr result (λ fault. IfSome (R.remaining reader.old) (λ octets. IsCutShort limit A.answers answerer.old octets answerer.new (W.contents writer.old) (W.contents writer.new) fault)) }
+    ensures written { OnOk result (IfSome (R.remaining reader.old)
+        (λ octets. AreAllWritten limit A.answers answerer.old octets answerer.new (W.contents writer.old)
+        (W.contents writer.new))) }
+    ensures cut_short { IfErr result (λ fault. IfSome (R.remaining reader.old)
+        (λ octets. IsCutShort limit A.answers answerer.old octets answerer.new (W.contents writer.old)
+        (W.contents writer.new) fault)) }
 {
     let Ok(mut line) = Vec::with_capacity(alloc, limit) else {
         return Err(ServingFault::NoMemory);
@@ -75,7 +79,8 @@ fn answer_and_flush<A: LineAnswerer, W: Write>(
     kept: &[u8],
     writer: &mut W,
 ) -> Result<(), ServingFault>
-    ensures written { OnOk result (Writes (W.contents writer.old) (W.contents writer.new) (IsReadAnswered A.answers answerer.old read kept.now answerer.new)) }
+    ensures written { OnOk result (Writes (W.contents writer.old) (W.contents writer.new)
+        (IsReadAnswered A.answers answerer.old read kept.now answerer.new)) }
     ensures fault { IfErr result (λ fault. fault ≡ ServingFault.Write) }
 {
     answer_read(alloc, answerer, read, kept, writer).map_err(|_| ServingFault::Write)?;
@@ -89,7 +94,8 @@ fn answer_read<A: LineAnswerer, W: Write>(
     kept: &[u8],
     writer: &mut W,
 ) -> io::Result<()>
-    ensures { OnOk result (Writes (W.contents writer.old) (W.contents writer.new) (IsReadAnswered A.answers answerer.old read kept.now answerer.new)) }
+    ensures { OnOk result (Writes (W.contents writer.old) (W.contents writer.new)
+        (IsReadAnswered A.answers answerer.old read kept.now answerer.new)) }
 {
     if read.too_long {
         return writeln!(writer, "bad too long");

@@ -50,13 +50,15 @@ pub fn frames_are_so()
     ensures scid { write_fault_of (record { bypass = false; control = false; scid = 1024; vcid = 63; ns = 0 }) [] ≡ Some writing.BadField }
     ensures vcid { write_fault_of (record { bypass = false; control = false; scid = 1023; vcid = 64; ns = 0 }) (0xaa ∷ []) ≡ Some writing.BadField }
     ensures empty { write_fault_of (record { bypass = false; control = false; scid = 42; vcid = 1; ns = 0 }) [] ≡ Some writing.EmptyData }
-    ensures too_long { write_fault_of (record { bypass = false; control = false; scid = 42; vcid = 1; ns = 0 }) (replicate 1020 0) ≡ Some writing.TooLong }
+    ensures too_long { write_fault_of (record { bypass = false; control = false; scid = 42; vcid = 1; ns = 0 }) (replicate 1020 0)
+        ≡ Some writing.TooLong }
 {}
 
 /// A header and a data field have no write fault exactly when both fit a frame. N(S) and each octet must be below 256,
 /// as their types ensure.
 pub fn just_what_fits_a_frame_has_no_write_fault()
-    ensures { (header : Header) (field : List ℕ) → header.ns < 256 → IsOctets field → (write_fault_of header field ≡ None) ↔ (IsHeader header × IsField field) }
+    ensures { (header : Header) (field : List ℕ) → header.ns < 256 → IsOctets field
+        → (write_fault_of header field ≡ None) ↔ (IsHeader header × IsField field) }
 {}
 
 /// `some_of_first n passes` is true exactly when `passes` is true of some number from 1 to `n`.
@@ -83,20 +85,45 @@ pub fn v_r_changes_by_acceptance_and_set_v_r_alone()
 pub fn a_written_clcw_reads_back()
     ensures fits { (r : Report) (vcid : ℕ) (link : Link) → vcid < 64 → r.farm_b < 4 → r.vr < 256 → word_of r vcid link < 2 ^ 32 }
     ensures clcw { (r : Report) (vcid : ℕ) (link : Link) → vcid < 64 → r.farm_b < 4 → r.vr < 256 → IsClcw (word_of r vcid link) }
-    ensures fields { (r : Report) (vcid : ℕ) (link : Link) → vcid < 64 → r.farm_b < 4 → r.vr < 256 → fields_of (word_of r vcid link) ≡ reported r vcid link }
+    ensures fields { (r : Report) (vcid : ℕ) (link : Link) → vcid < 64 → r.farm_b < 4 → r.vr < 256
+        → fields_of (word_of r vcid link) ≡ reported r vcid link }
 {}
 
 /// States examples of CLCWs, worked out by hand: words in which single fields are set, the fields of two words, and
 /// words that aren't a CLCW.
 pub fn clcws_are_so()
-    ensures plain { word_of (record { state = S1; vr = 1; lockout = false; wait = false; retransmit = false; farm_b = 0 }) 1 (record { no_rf = false; no_bit_lock = false }) ≡ 0x01040001 }
-    ensures no_rf { word_of (record { state = S1; vr = 0; lockout = false; wait = false; retransmit = false; farm_b = 0 }) 1 (record { no_rf = true; no_bit_lock = false }) ≡ 0x01048000 }
-    ensures no_bit_lock { word_of (record { state = S1; vr = 0; lockout = false; wait = false; retransmit = false; farm_b = 0 }) 1 (record { no_rf = false; no_bit_lock = true }) ≡ 0x01044000 }
-    ensures lockout { word_of (record { state = S3; vr = 0; lockout = true; wait = false; retransmit = false; farm_b = 0 }) 63 (record { no_rf = false; no_bit_lock = false }) ≡ 0x01fc2000 }
-    ensures wait { word_of (record { state = S2; vr = 255; lockout = false; wait = true; retransmit = true; farm_b = 3 }) 1 (record { no_rf = false; no_bit_lock = false }) ≡ 0x01041eff }
-    ensures retransmit { word_of (record { state = S1; vr = 0; lockout = false; wait = false; retransmit = true; farm_b = 0 }) 1 (record { no_rf = false; no_bit_lock = false }) ≡ 0x01040800 }
-    ensures fields { fields_of 0x01041801 ≡ record { status = 0; vcid = 1; link = record { no_rf = false; no_bit_lock = false }; lockout = false; wait = true; retransmit = true; farm_b = 0; vr = 1 } }
-    ensures status { fields_of 0x0504a6ff ≡ record { status = 1; vcid = 1; link = record { no_rf = true; no_bit_lock = false }; lockout = true; wait = false; retransmit = false; farm_b = 3; vr = 255 } }
+    ensures plain { word_of (record { state = S1; vr = 1; lockout = false; wait = false; retransmit = false; farm_b = 0 }) 1
+        (record { no_rf = false; no_bit_lock = false }) ≡ 0x01040001 }
+    ensures no_rf { word_of (record { state = S1; vr = 0; lockout = false; wait = false; retransmit = false; farm_b = 0 }) 1
+        (record { no_rf = true; no_bit_lock = false }) ≡ 0x01048000 }
+    ensures no_bit_lock { word_of (record { state = S1; vr = 0; lockout = false; wait = false; retransmit = false; farm_b = 0 }) 1
+        (record { no_rf = false; no_bit_lock = true }) ≡ 0x01044000 }
+    ensures lockout { word_of (record { state = S3; vr = 0; lockout = true; wait = false; retransmit = false; farm_b = 0 }) 63
+        (record { no_rf = false; no_bit_lock = false }) ≡ 0x01fc2000 }
+    ensures wait { word_of (record { state = S2; vr = 255; lockout = false; wait = true; retransmit = true; farm_b = 3 }) 1
+        (record { no_rf = false; no_bit_lock = false }) ≡ 0x01041eff }
+    ensures retransmit { word_of (record { state = S1; vr = 0; lockout = false; wait = false; retransmit = true; farm_b = 0 }) 1
+        (record { no_rf = false; no_bit_lock = false }) ≡ 0x01040800 }
+    ensures fields { fields_of 0x01041801 ≡ record {
+      status = 0;
+      vcid = 1;
+      link = record { no_rf = false; no_bit_lock = false };
+      lockout = false;
+      wait = true;
+      retransmit = true;
+      farm_b = 0;
+      vr = 1;
+    } }
+    ensures status { fields_of 0x0504a6ff ≡ record {
+      status = 1;
+      vcid = 1;
+      link = record { no_rf = true; no_bit_lock = false };
+      lockout = true;
+      wait = false;
+      retransmit = false;
+      farm_b = 3;
+      vr = 255;
+    } }
     ensures clcw { IsClcw 0x0504a6ff }
     ensures kind { IsClcw 0x81040000 → ⊥ }
     ensures version { IsClcw 0x21040000 → ⊥ }
@@ -109,5 +136,12 @@ pub fn clcws_are_so()
 /// any in which Lockout is set only in S3 and Wait is never set in S1.
 pub fn unlock_and_set_v_r_open_farm_1()
     ensures { (r : Report) (x : ℕ) → (r.lockout ≡ true → r.state ≡ S3) → (r.wait ≡ true → r.state ≢ S1)
-        → after (E8 x) (after E7 r) ≡ record { state = S1; vr = x; lockout = false; wait = false; retransmit = false; farm_b = ((r.farm_b + 1) % 4 + 1) % 4 } }
+        → after (E8 x) (after E7 r) ≡ record {
+          state = S1;
+          vr = x;
+          lockout = false;
+          wait = false;
+          retransmit = false;
+          farm_b = ((r.farm_b + 1) % 4 + 1) % 4;
+        } }
 {}

@@ -62,7 +62,8 @@ pub fn carries_more(octets: &[u8]) -> bool
 // Returns the line of the frame at the front of the octets, without the frame error control field. Returns `None` if
 // this field is wrong, or if the octets don't begin with a frame.
 fn take_frame_off(alloc: Global, octets: &[u8]) -> Result<Option<Line>, Reason>
-    ensures passed { IfOk result (λ passed. MatchOption passed (FailsCandidate FrameCheck.ErrorControl octets.now) (IsCandidatePassed FrameCheck.ErrorControl octets.now)) }
+    ensures passed { IfOk result (λ passed. MatchOption passed (FailsCandidate FrameCheck.ErrorControl octets.now)
+        (IsCandidatePassed FrameCheck.ErrorControl octets.now)) }
     ensures reason { IfErr result (λ reason. reason ≡ Reason.NoMemory) }
 {
     match delimit(octets) {

@@ -12,5 +12,8 @@ ghost use Rattle.tc_live.specs.declared.check.FrameCheck.TheVariants.{Nothing};
 /// answer. The second line sets the first flag of the channel's link, which reports that no radio frequency signal is
 /// available. The third line requests the channel's CLCW, in which only this flag is set.
 pub fn lines_are_answered_so()
-    ensures { AreAnswered line_limit IsLineSaid (new_receiver Nothing 42) (lines_of (codes "channel 1 10 1 0 plain\nlink 1 1 0\nclcw 1\n")) (example.receiver_with (record { no_rf = true; no_bit_lock = false })) (codes "link 1 1 0\nclcw 1 " ++ word_text 0x01048000 ++ codes "\n") }
+    ensures { AreAnswered line_limit IsLineSaid (new_receiver Nothing 42)
+        (lines_of (codes "channel 1 10 1 0 plain\nlink 1 1 0\nclcw 1\n"))
+        (example.receiver_with (record { no_rf = true; no_bit_lock = false }))
+        (codes "link 1 1 0\nclcw 1 " ++ word_text 0x01048000 ++ codes "\n") }
 {}

@@ -111,8 +111,10 @@ pub fn answer_lines<R: BufRead, W: Write>(
     reader: &mut R,
     writer: &mut W,
 ) -> Result<FrameEnds, ServingFault>
-    ensures written { IfOk result (λ ends. IfSome (R.remaining reader.old) (λ octets. IsReceptionWritten receiver octets (W.contents writer.old) (W.contents writer.new) ends)) }
-    ensures cut_short { IfErr result (λ fault. IfSome (R.remaining reader.old) (λ octets. IsReceptionCutShort receiver octets (W.contents writer.old) (W.contents writer.new) fault)) }
+    ensures written { IfOk result (λ ends. IfSome (R.remaining reader.old)
+        (λ octets. IsReceptionWritten receiver octets (W.contents writer.old) (W.contents writer.new) ends)) }
+    ensures cut_short { IfErr result (λ fault. IfSome (R.remaining reader.old)
+        (λ octets. IsReceptionCutShort receiver octets (W.contents writer.old) (W.contents writer.new) fault)) }
 {
     let mut receiver = receiver;
     match tc_lines::answer_lines(alloc, MAX_LINE, &mut receiver, reader, writer) {

@@ -20,13 +20,15 @@ ghost use Rattle.tc_loop.specs.Examples as example;
 
 /// In a loop no frame comes 256 numbers early or late, because links keep order and the sender keeps its window.
 pub fn frames_of_a_loop_come_in_their_time()
-    ensures { (l : Loop) (session : List Action) → IsLoop l session → ComesFromWithin l.limits l.settings l.before (events l session) l.first (sent l) }
+    ensures { (l : Loop) (session : List Action) → IsLoop l session
+        → ComesFromWithin l.limits l.settings l.before (events l session) l.first (sent l) }
 {}
 
 /// A loop accepts the data fields that were sent: each once, in order, and none left out.
 pub fn a_loop_accepts_what_was_sent_once_and_in_order()
     ensures { (l : Loop) (session : List Action) → IsLoop l session
-        → (i : ℕ) (a : Accepted) → slice_get (accepted_since_within l.limits l.settings l.before (journal l session)) i ≡ Some a → a.field ≡ sent l i }
+        → (i : ℕ) (a : Accepted) → slice_get (accepted_since_within l.limits l.settings l.before (journal l session)) i ≡ Some a
+        → a.field ≡ sent l i }
 {}
 
 /// The data fields that a loop passes on to reassembly are the first that were sent, and their number is the number of
@@ -34,7 +36,8 @@ pub fn a_loop_accepts_what_was_sent_once_and_in_order()
 /// takes return.
 pub fn a_loop_passes_on_what_was_sent_in_order()
     ensures { (l : Loop) (session : List Action) → IsLoop l session
-        → passed_since l.limits l.settings l.before (receiver l session).passed ≡ sent_from (sent l) 0 (released_since l.limits l.settings l.before (journal l session)) }
+        → passed_since l.limits l.settings l.before (receiver l session).passed
+        ≡ sent_from (sent l) 0 (released_since l.limits l.settings l.before (journal l session)) }
 {}
 
 /// At each moment, each frame that the sender of a loop takes for accepted is accepted. Each accepted frame was sent.
@@ -47,7 +50,8 @@ pub fn a_sender_knows_what_is_accepted()
 /// A receiver that isn't locked out at first is never locked out.
 pub fn a_loop_is_never_locked_out()
     ensures place { (l : Loop) (session : List Action) (t i s : ℕ) → IsLoop l session → l.window ≤ l.settings.width / 2
-        → slice_get session t ≡ Some (Arrive i s) → place_of l.settings.width (receiver l (take t session)).report.vr (header_of (l.frames i)).ns ≢ Outside }
+        → slice_get session t ≡ Some (Arrive i s)
+        → place_of l.settings.width (receiver l (take t session)).report.vr (header_of (l.frames i)).ns ≢ Outside }
     ensures state { (l : Loop) (session : List Action) (t : ℕ) → IsLoop l session → l.window ≤ l.settings.width / 2
         → (receiver l []).report.state ≢ S3 → (receiver l (take t session)).report.state ≢ S3 }
 {}
@@ -55,7 +59,8 @@ pub fn a_loop_is_never_locked_out()
 /// The bound on the sender's window is sharp. If the window is wider by one, and all frames before the last one of the
 /// window are lost, that frame alone locks out a new receiver.
 pub fn a_wider_window_can_lock_out()
-    ensures { (limits : ℕ → ℕ) (s : Settings) (links : ℕ → Link) → IsAllowed s → LocksOut (new_loop limits s links (s.width / 2 + 1)) (last_of (s.width / 2)) }
+    ensures { (limits : ℕ → ℕ) (s : Settings) (links : ℕ → Link) → IsAllowed s
+        → LocksOut (new_loop limits s links (s.width / 2 + 1)) (last_of (s.width / 2)) }
 {}
 
 /// If the sender's window is no wider than half the receiver's, a loop is never stuck. The window must be at least 1,
@@ -72,8 +77,10 @@ pub fn a_loop_can_always_go_on()
 /// Each new receiver with allowed settings can be in a loop, with any sender's window below 256. A new receiver isn't
 /// locked out.
 pub fn each_receiver_can_be_in_a_loop()
-    ensures begins { (limits : ℕ → ℕ) (s : Settings) (links : ℕ → Link) (window : ℕ) → IsAllowed s → window < 256 → IsLoop (new_loop limits s links window) [] }
-    ensures state { (limits : ℕ → ℕ) (s : Settings) (links : ℕ → Link) (window : ℕ) → (receiver (new_loop limits s links window) []).report.state ≢ S3 }
+    ensures begins { (limits : ℕ → ℕ) (s : Settings) (links : ℕ → Link) (window : ℕ) → IsAllowed s → window < 256
+        → IsLoop (new_loop limits s links window) [] }
+    ensures state { (limits : ℕ → ℕ) (s : Settings) (links : ℕ → Link) (window : ℕ)
+        → (receiver (new_loop limits s links window) []).report.state ≢ S3 }
 {}
 
 /// The era that a sender's own Set V(R) starts is a loop, too, even if earlier frames and CLCWs are still on their way.
@@ -92,8 +99,10 @@ pub fn an_era_that_set_v_r_starts_is_a_loop()
 /// V(R)'s number that the sender hears after it sends Set V(R) was made after Set V(R) was obeyed.
 pub fn a_number_of_its_own_shows_that_set_v_r_was_obeyed()
     ensures { (s : Start) (first window : ℕ) (frames : ℕ → List ℕ) (asked made : ℕ) → ((i : ℕ) → i < s.directive → frames i ≡ s.loop.frames i)
-        → IsLoop (era_before s first window frames) (session_before s) → KeepOrder s.session → IsObeyed s s.obeyed → asked ≤ s.obeyed → asked ≤ s.believed
-        → NamesAnother s first window frames asked → slice_get s.session s.believed ≡ Some (Hear made) → reported s.loop s.session made ≡ s.loop.first → s.obeyed < made }
+        → IsLoop (era_before s first window frames) (session_before s) → KeepOrder s.session → IsObeyed s s.obeyed
+        → asked ≤ s.obeyed → asked ≤ s.believed
+        → NamesAnother s first window frames asked → slice_get s.session s.believed ≡ Some (Hear made)
+        → reported s.loop s.session made ≡ s.loop.first → s.obeyed < made }
 {}
 
 /// These starts come to the results that were worked out by hand. By FOP-1's rule alone, a sender believes that Set
@@ -149,7 +158,8 @@ pub fn a_window_twice_as_wide_shows_a_sender()
     ensures hears { (window first known report : ℕ) (room : Bool) → 1 ≤ window → window ≤ 127 → report < 256
         → IsTrue (is_here_or_behind (event_at window report ((first + known) % 256) room)) ↔ (above first known report ≤ window) }
     ensures known { (window first known report : ℕ) (room : Bool) → 1 ≤ window → window ≤ 127 → report < 256
-        → (first + heard first window known report) % 256 ≡ (if is_here_or_behind (event_at window report ((first + known) % 256) room) then report else (first + known) % 256) }
+        → (first + heard first window known report) % 256
+        ≡ (if is_here_or_behind (event_at window report ((first + known) % 256) room) then report else (first + known) % 256) }
 {}
 
 /// Each premise on the window and on links is needed. If the window is 256, the sender's first 256 frames may be

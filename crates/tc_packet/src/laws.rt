@@ -62,17 +62,20 @@ pub fn each_run_within_the_limit_is_left_by_fields()
 /// The run after one more field depends only on the run before that field, and on the field's part and body. A first
 /// segment begins a run, and a continuing segment extends the open run. After any other segment no run is open.
 pub fn one_more_field_moves_its_run_on()
-    ensures { (fields : List (List ℕ)) (field : List ℕ) → open_run (fields ++ field ∷ []) ≡ next_run (header_of field).part (open_run fields) (body_of field) }
+    ensures { (fields : List (List ℕ)) (field : List ℕ)
+        → open_run (fields ++ field ∷ []) ≡ next_run (header_of field).part (open_run fields) (body_of field) }
 {}
 
 /// Without segment headers, no run is ever open, and a field is a unit by itself exactly when it is within the limit.
 pub fn a_plain_field_is_a_unit_by_itself()
-    ensures unit { (fields : List (List ℕ)) (field octets : List ℕ) → (unit_ended false fields field ≡ Some octets) ↔ ((octets ≡ field) × (length field ≤ largest_unit)) }
+    ensures unit { (fields : List (List ℕ)) (field octets : List ℕ)
+        → (unit_ended false fields field ≡ Some octets) ↔ ((octets ≡ field) × (length field ≤ largest_unit)) }
     ensures run { (fields : List (List ℕ)) → run_left false fields ≡ None }
 {}
 
 /// Each stream has its own place among the open runs.
 pub fn each_stream_has_a_place_of_its_own()
     ensures within { (service : Service) (map : ℕ) → map < 64 → place_of service map < stream_count }
-    ensures own { (service other : Service) (map id : ℕ) → map < 64 → id < 64 → place_of service map ≡ place_of other id → (service ≡ other) × (map ≡ id) }
+    ensures own { (service other : Service) (map id : ℕ) → map < 64 → id < 64 → place_of service map ≡ place_of other id
+        → (service ≡ other) × (map ≡ id) }
 {}

@@ -98,7 +98,9 @@ impl<R: Room> Run<R> {
     // Stages a body behind the open run. Returns false, without staging it, if no run is open or the body doesn't fit
     // the room.
     fn extend(&mut self, body: &[u8]) -> Result<bool, AllocError>
-        ensures contents_of { IfOk result (λ done. done ≡ true → (self.old.is_open ≡ true) × (at_most self.old.room.size (extended (open_in self.old) body.now) ≡ Some self.new.room.octets)) }
+        ensures contents_of { IfOk result (λ done. done ≡ true
+            → (self.old.is_open ≡ true) × (at_most self.old.room.size (extended (open_in self.old) body.now)
+            ≡ Some self.new.room.octets)) }
         ensures none { IfOk result (λ done. done ≡ false → at_most self.old.room.size (extended (open_in self.old) body.now) ≡ None) }
         ensures same { open_in self.new ≡ open_in self.old }
         ensures open { self.new.is_open ≡ self.old.is_open }
@@ -309,7 +311,8 @@ fn with_rooms<R: Room>(
     requires limits { AllByRecursion (λ n. n ≤ largest_unit) limits.now }
     ensures segmented { IfOk result (λ r. r.segmented ≡ segmented) }
     ensures none { IfOk result (λ r. (place : ℕ) → run_at (open_runs r).runs place ≡ None) }
-    ensures limits { IfOk result (λ r. (place : ℕ) → place < 128 → limit_at r place ≡ (if segmented then get_or limits.now (place % 64) 0 else plain_limit)) }
+    ensures limits { IfOk result (λ r. (place : ℕ) → place < 128
+        → limit_at r place ≡ (if segmented then get_or limits.now (place % 64) 0 else plain_limit)) }
 {
     let count = if segmented { STREAMS } else { 0 };
     let runs = empty_runs(alloc, count, limits)?.into_boxed_slice();
@@ -341,7 +344,8 @@ impl<R: Room> Runs<R> {
         requires limits { AllByRecursion (λ n. n ≤ largest_unit) limits.now }
         ensures segmented { IfOk result (λ r. r.segmented ≡ true) }
         ensures none { IfOk result (λ r. (place : ℕ) → run_at (open_runs r).runs place ≡ None) }
-        ensures limits { IfOk result (λ r. (service : Service) (map_id : ℕ) → map_id < 64 → limit_at r (place_of service map_id) ≡ get_or limits.now map_id 0) }
+        ensures limits { IfOk result (λ r. (service : Service) (map_id : ℕ) → map_id < 64
+            → limit_at r (place_of service map_id) ≡ get_or limits.now map_id 0) }
     {
         with_rooms(alloc, true, 0, limits)
     }
@@ -357,7 +361,8 @@ impl<R: Room> Runs<R> {
             → IfOk result (λ ended. unit_in ended self.new field.now
             ≡ at_most (limit_at self.old (stream_place service field.now)) (unit_ended self.old.segmented fields field.now)) }
         ensures run { (fields : List (List ℕ)) → LeaveWithin fields self.old (stream_place service field.now)
-            → IfOk result (λ ended. LeaveWithin (fields ++ field.now ∷ []) (committed ended (stream_place service field.now) self.new) (stream_place service field.now)) }
+            → IfOk result (λ ended. LeaveWithin (fields ++ field.now ∷ [])
+            (committed ended (stream_place service field.now) self.new) (stream_place service field.now)) }
         ensures contents { IfOk result (λ ended. (ended ≡ Ended.Nothing → ⊥) → open_runs self.new ≡ open_runs self.old) }
         ensures refused { OnErr result (open_runs self.new ≡ open_runs self.old) }
         ensures others { (other : ℕ) → (other ≡ stream_place service field.now → ⊥)
@@ -432,7 +437,8 @@ impl Runs<GrowingRoom> {
     ) -> Result<Option<Vec<u8>>, AllocError>
         requires { 0 < length field.now }
         ensures { (fields : List (List ℕ)) → LeaveWithin fields self.now (stream_place service field.now)
-            → IfOk result (λ unit. octets_in unit ≡ at_most (limit_at self.now (stream_place service field.now)) (unit_ended self.now.segmented fields field.now)) }
+            → IfOk result (λ unit. octets_in unit ≡ at_most (limit_at self.now (stream_place service field.now))
+            (unit_ended self.now.segmented fields field.now)) }
     {
         if !self.segmented {
             return self.copied(alloc, whole_field(field, self.plain_limit), field);

@@ -39,7 +39,8 @@ fn commit_packet<R: Room, C: Tick>(
     requires table { IsTableOf (keys_of (rings_in (boxed_slice_items queues.old))) table.now }
     requires fields { HasFields packet.now }
     requires distinct { AreDistinct (keys_of (rings_in (boxed_slice_items queues.old))) }
-    ensures among { (left : List (List ℕ)) → AreStagedOf (packet.now.octets.now ∷ left) (boxed_slice_items queues.old) → AreStagedOf left (boxed_slice_items queues.new) }
+    ensures among { (left : List (List ℕ)) → AreStagedOf (packet.now.octets.now ∷ left) (boxed_slice_items queues.old)
+        → AreStagedOf left (boxed_slice_items queues.new) }
     ensures committed { map committed (boxed_slice_items queues.new) ≡ map committed (boxed_slice_items queues.old) }
     ensures keys { keys_of (rings_in (boxed_slice_items queues.new)) ≡ keys_of (rings_in (boxed_slice_items queues.old)) }
     ensures cost { C.taken steps.new ≤ C.taken steps.old + looks (boxed_slice_items queues.old) table.now }
@@ -69,7 +70,9 @@ pub(crate) fn commit_packets<R: Room, C: Tick>(
     requires few { staged ≤ length (packets_of unit.now) }
     requires among { AreStagedOf (packets_of unit.now) (boxed_slice_items queues.old) }
     ensures committed { boxed_slice_items queues.new ≡ map committed (boxed_slice_items queues.old) }
-    ensures cost { C.taken steps.new ≤ C.taken steps.old + (pass_steps (length (packets_of unit.now)) (looks (boxed_slice_items queues.old) table.now) + looks (boxed_slice_items queues.old) table.now) }
+    ensures cost { C.taken steps.new ≤ C.taken steps.old +
+        (pass_steps (length (packets_of unit.now)) (looks (boxed_slice_items queues.old) table.now) + looks
+        (boxed_slice_items queues.old) table.now) }
 {
     if !R::may_ask() {
         return;

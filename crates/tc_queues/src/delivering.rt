@@ -93,8 +93,13 @@ fn deliver_packets<R: Room, C: Tick>(
     ensures keys { keys_of (rings_in (boxed_slice_items queues.new)) ≡ keys_of (rings_in (boxed_slice_items queues.old)) }
     ensures sizes { room_sizes (boxed_slice_items queues.new) ≡ room_sizes (boxed_slice_items queues.old) }
     ensures answered { R.grows ≡ false → IsOk result }
-    ensures cost { IfOk result (λ _. C.taken steps.new ≤ C.taken steps.old + (pass_steps (length (packets_of unit.now)) (looks (boxed_slice_items queues.old) table.now) + (pass_steps (length (packets_of unit.now)) (looks (boxed_slice_items queues.old) table.now) + looks (boxed_slice_items queues.old) table.now))) }
-    ensures refused_cost { OnErr result (C.taken steps.new ≤ C.taken steps.old + (pass_steps (length (packets_of unit.now)) (looks (boxed_slice_items queues.old) table.now) + length (boxed_slice_items queues.old))) }
+    ensures cost { IfOk result (λ _. C.taken steps.new ≤ C.taken steps.old +
+        (pass_steps (length (packets_of unit.now)) (looks (boxed_slice_items queues.old) table.now) +
+        (pass_steps (length (packets_of unit.now)) (looks (boxed_slice_items queues.old) table.now) + looks
+        (boxed_slice_items queues.old) table.now))) }
+    ensures refused_cost { OnErr result (C.taken steps.new ≤ C.taken steps.old +
+        (pass_steps (length (packets_of unit.now)) (looks (boxed_slice_items queues.old) table.now) + length
+        (boxed_slice_items queues.old))) }
 {
     match stage_packets(queues, table, unit, steps) {
         Ok(delivery) => {
@@ -129,9 +134,11 @@ pub(crate) fn deliver<R: Room, C: Tick>(
     requires units_fit { Fit unit.now (room_sizes (boxed_slice_items units.old)) }
     requires committed { AreCommitted (boxed_slice_items queues.old) }
     requires units_committed { AreCommitted (boxed_slice_items units.old) }
-    ensures delivered { IfOk result (IsDelivered map (Some unit.now) (rings_in (boxed_slice_items queues.old)) (rings_in (boxed_slice_items queues.new))
+    ensures delivered { IfOk result (IsDelivered map (Some unit.now) (rings_in (boxed_slice_items queues.old))
+        (rings_in (boxed_slice_items queues.new))
         (rings_in (boxed_slice_items units.old)) (rings_in (boxed_slice_items units.new))) }
-    ensures refused { OnErr result ((rings_in (boxed_slice_items queues.new) ≡ rings_in (boxed_slice_items queues.old)) × (rings_in (boxed_slice_items units.new) ≡ rings_in (boxed_slice_items units.old))) }
+    ensures refused { OnErr result ((rings_in (boxed_slice_items queues.new) ≡ rings_in (boxed_slice_items queues.old))
+        × (rings_in (boxed_slice_items units.new) ≡ rings_in (boxed_slice_items units.old))) }
     ensures committed { AreCommitted (boxed_slice_items queues.new) }
     ensures units_committed { AreCommitted (boxed_slice_items units.new) }
     ensures keys { keys_of (rings_in (boxed_slice_items queues.new)) ≡ keys_of (rings_in (boxed_slice_items queues.old)) }
@@ -139,8 +146,11 @@ pub(crate) fn deliver<R: Room, C: Tick>(
     ensures sizes { room_sizes (boxed_slice_items queues.new) ≡ room_sizes (boxed_slice_items queues.old) }
     ensures unit_sizes { room_sizes (boxed_slice_items units.new) ≡ room_sizes (boxed_slice_items units.old) }
     ensures answered { R.grows ≡ false → IsOk result }
-    ensures cost { IfOk result (λ _. C.taken steps.new ≤ C.taken steps.old + unit_steps (length (packets_of unit.now)) (looks (boxed_slice_items queues.old) table.now) (looks (boxed_slice_items units.old) unit_table.now)) }
-    ensures refused_cost { OnErr result (C.taken steps.new ≤ C.taken steps.old + (unit_steps (length (packets_of unit.now)) (looks (boxed_slice_items queues.old) table.now) (looks (boxed_slice_items units.old) unit_table.now) + length (boxed_slice_items queues.old))) }
+    ensures cost { IfOk result (λ _. C.taken steps.new ≤ C.taken steps.old + unit_steps (length (packets_of unit.now))
+        (looks (boxed_slice_items queues.old) table.now) (looks (boxed_slice_items units.old) unit_table.now)) }
+    ensures refused_cost { OnErr result (C.taken steps.new ≤ C.taken steps.old +
+        (unit_steps (length (packets_of unit.now)) (looks (boxed_slice_items queues.old) table.now)
+        (looks (boxed_slice_items units.old) unit_table.now) + length (boxed_slice_items queues.old))) }
 {
     match place_of(units, unit_table, map as u16, steps) {
         Some(place) => deliver_whole(units, place, map, unit),

@@ -128,7 +128,8 @@ impl<R: Room> Queue<R> {
     #[inline(always)]
     pub(crate) fn pop_front(&mut self)
         ensures key { self.new.key ≡ self.old.key }
-        ensures slots { self.new.slots ≡ slotted (drop 1 self.old.slots.ring.items) self.old.slots.ring.capacity self.old.slots.staged self.old.slots.size }
+        ensures slots { self.new.slots ≡ slotted
+            (drop 1 self.old.slots.ring.items) self.old.slots.ring.capacity self.old.slots.staged self.old.slots.size }
     {
         self.slots.pop_front();
     }
@@ -139,7 +140,8 @@ impl Queue<GrowingRoom> {
     pub(crate) fn take_front(&mut self) -> Option<Vec<u8>>
         ensures key { self.new.key ≡ self.old.key }
         ensures item { option_map (λ block. block.items) result ≡ slice_get self.old.slots.ring.items 0 }
-        ensures slots { self.new.slots ≡ slotted (drop 1 self.old.slots.ring.items) self.old.slots.ring.capacity self.old.slots.staged self.old.slots.size }
+        ensures slots { self.new.slots ≡ slotted
+            (drop 1 self.old.slots.ring.items) self.old.slots.ring.capacity self.old.slots.staged self.old.slots.size }
         ensures refused { result ≡ None → self.new ≡ self.old }
     {
         self.slots.take_front()

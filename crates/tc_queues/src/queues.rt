@@ -143,15 +143,18 @@ fn deliver_unit<R: Room, C: Tick>(
     requires units_fit { Fit unit.now (room_sizes units.old) }
     requires committed { AreCommitted queues.old }
     requires units_committed { AreCommitted units.old }
-    ensures delivered { IfOk result (IsDelivered map (Some unit.now) (rings_in queues.old) (rings_in queues.new) (rings_in units.old) (rings_in units.new)) }
+    ensures delivered { IfOk result (IsDelivered map (Some unit.now) (rings_in queues.old) (rings_in queues.new)
+        (rings_in units.old) (rings_in units.new)) }
     ensures refused { OnErr result ((rings_in queues.new ≡ rings_in queues.old) × (rings_in units.new ≡ rings_in units.old)) }
     ensures committed { AreCommitted queues.new }
     ensures units_committed { AreCommitted units.new }
     ensures sizes { room_sizes queues.new ≡ room_sizes queues.old }
     ensures unit_sizes { room_sizes units.new ≡ room_sizes units.old }
     ensures answered { R.grows ≡ false → IsOk result }
-    ensures cost { IfOk result (λ _. C.taken steps.new ≤ C.taken steps.old + packet_steps (length (packets_of unit.now)) (length queues.old) (length units.old)) }
-    ensures refused_cost { OnErr result (C.taken steps.new ≤ C.taken steps.old + (packet_steps (length (packets_of unit.now)) (length queues.old) (length units.old) + length queues.old)) }
+    ensures cost { IfOk result (λ _. C.taken steps.new ≤ C.taken steps.old + packet_steps (length (packets_of unit.now))
+        (length queues.old) (length units.old)) }
+    ensures refused_cost { OnErr result (C.taken steps.new ≤ C.taken steps.old +
+        (packet_steps (length (packets_of unit.now)) (length queues.old) (length units.old) + length queues.old)) }
 {
     deliver(
         &mut queues.queues,
@@ -209,8 +212,10 @@ pub fn deliver_ended<R: Room, C: Tick>(
     ensures sizes { room_sizes queues.new ≡ room_sizes queues.old }
     ensures unit_sizes { room_sizes units.new ≡ room_sizes units.old }
     ensures answered { R.grows ≡ false → IsOk result }
-    ensures cost { IfOk result (λ _. C.taken steps.new ≤ C.taken steps.old + delivery_steps (unit_in ended runs.now field.now) (length queues.old) (length units.old)) }
-    ensures refused_cost { OnErr result (C.taken steps.new ≤ C.taken steps.old + (delivery_steps (unit_in ended runs.now field.now) (length queues.old) (length units.old) + length queues.old)) }
+    ensures cost { IfOk result (λ _. C.taken steps.new ≤ C.taken steps.old + delivery_steps (unit_in ended runs.now field.now)
+        (length queues.old) (length units.old)) }
+    ensures refused_cost { OnErr result (C.taken steps.new ≤ C.taken steps.old +
+        (delivery_steps (unit_in ended runs.now field.now) (length queues.old) (length units.old) + length queues.old)) }
 {
     match unit_of(runs, field, ended) {
         Some(unit) => deliver_unit(queues, units, map, unit, steps),

@@ -31,9 +31,11 @@ fn stage_at<R: Room>(
     requires place { place < length (boxed_slice_items queues.old) }
     requires fits { Fit octets.now (room_sizes (boxed_slice_items queues.old)) }
     requires committed { R.grows ≡ false → AreCommitted (boxed_slice_items queues.old) }
-    ensures among { (key : ℕ) (packets : List (List ℕ)) → key ≡ get_or (keys_of (rings_in (boxed_slice_items queues.old))) place key → IsAmong key packets
+    ensures among { (key : ℕ) (packets : List (List ℕ))
+        → key ≡ get_or (keys_of (rings_in (boxed_slice_items queues.old))) place key → IsAmong key packets
         → AreStagedOf packets (boxed_slice_items queues.old) → AreStagedOf packets (boxed_slice_items queues.new) }
-    ensures put { IfOk result (IsPutAt place octets.now (all_staged_in (boxed_slice_items queues.old)) (all_staged_in (boxed_slice_items queues.new))) }
+    ensures put { IfOk result (IsPutAt place octets.now (all_staged_in (boxed_slice_items queues.old))
+        (all_staged_in (boxed_slice_items queues.new))) }
     ensures rings { R.grows ≡ true → rings_in (boxed_slice_items queues.new) ≡ rings_in (boxed_slice_items queues.old) }
     ensures keys { keys_of (rings_in (boxed_slice_items queues.new)) ≡ keys_of (rings_in (boxed_slice_items queues.old)) }
     ensures committed { R.grows ≡ false → AreCommitted (boxed_slice_items queues.new) }
@@ -122,7 +124,8 @@ pub(crate) fn stage_packets<R: Room, C: Tick>(
     ensures committed { R.grows ≡ false → AreCommitted (boxed_slice_items queues.new) }
     ensures sizes { room_sizes (boxed_slice_items queues.new) ≡ room_sizes (boxed_slice_items queues.old) }
     ensures answered { R.grows ≡ false → IsOk result }
-    ensures cost { C.taken steps.new ≤ C.taken steps.old + pass_steps (length (packets_of unit.now)) (looks (boxed_slice_items queues.old) table.now) }
+    ensures cost { C.taken steps.new ≤ C.taken steps.old + pass_steps (length (packets_of unit.now))
+        (looks (boxed_slice_items queues.old) table.now) }
 {
     each_unit_has_one_cut();
     let mut packets = 0;

@@ -19,8 +19,10 @@ use tc_packet::{GrowingRoom, Room};
 #[tactic(auto, using(crate::proofs::Closing::at_place))]
 fn pop_at<R: Room>(queues: &mut BoxedSlice<Queue<R>>, place: usize) -> bool
     requires { place < length (boxed_slice_items queues.old) }
-    ensures waits { (key : ℕ) → IsFirst key place (keys_of (rings_in (boxed_slice_items queues.old))) → IsTrue result ↔ IsSome (oldest_for key (rings_in (boxed_slice_items queues.old))) }
-    ensures rings { (key : ℕ) → IsFirst key place (keys_of (rings_in (boxed_slice_items queues.old))) → rings_in (boxed_slice_items queues.new) ≡ popped key (rings_in (boxed_slice_items queues.old)) }
+    ensures waits { (key : ℕ) → IsFirst key place (keys_of (rings_in (boxed_slice_items queues.old)))
+        → IsTrue result ↔ IsSome (oldest_for key (rings_in (boxed_slice_items queues.old))) }
+    ensures rings { (key : ℕ) → IsFirst key place (keys_of (rings_in (boxed_slice_items queues.old)))
+        → rings_in (boxed_slice_items queues.new) ≡ popped key (rings_in (boxed_slice_items queues.old)) }
     ensures keys { keys_of (rings_in (boxed_slice_items queues.new)) ≡ keys_of (rings_in (boxed_slice_items queues.old)) }
     ensures sizes { room_sizes (boxed_slice_items queues.new) ≡ room_sizes (boxed_slice_items queues.old) }
     ensures committed { AreCommitted (boxed_slice_items queues.old) → AreCommitted (boxed_slice_items queues.new) }
@@ -37,8 +39,10 @@ fn pop_at<R: Room>(queues: &mut BoxedSlice<Queue<R>>, place: usize) -> bool
 #[tactic(auto, using(crate::proofs::Closing::at_place))]
 fn take_at(queues: &mut BoxedSlice<Queue<GrowingRoom>>, place: usize) -> Option<Vec<u8>>
     requires { place < length (boxed_slice_items queues.old) }
-    ensures item { (key : ℕ) → IsFirst key place (keys_of (rings_in (boxed_slice_items queues.old))) → option_map (λ block. block.items) result ≡ oldest_for key (rings_in (boxed_slice_items queues.old)) }
-    ensures rings { (key : ℕ) → IsFirst key place (keys_of (rings_in (boxed_slice_items queues.old))) → rings_in (boxed_slice_items queues.new) ≡ popped key (rings_in (boxed_slice_items queues.old)) }
+    ensures item { (key : ℕ) → IsFirst key place (keys_of (rings_in (boxed_slice_items queues.old)))
+        → option_map (λ block. block.items) result ≡ oldest_for key (rings_in (boxed_slice_items queues.old)) }
+    ensures rings { (key : ℕ) → IsFirst key place (keys_of (rings_in (boxed_slice_items queues.old)))
+        → rings_in (boxed_slice_items queues.new) ≡ popped key (rings_in (boxed_slice_items queues.old)) }
     ensures keys { keys_of (rings_in (boxed_slice_items queues.new)) ≡ keys_of (rings_in (boxed_slice_items queues.old)) }
     ensures sizes { room_sizes (boxed_slice_items queues.new) ≡ room_sizes (boxed_slice_items queues.old) }
     ensures committed { AreCommitted (boxed_slice_items queues.old) → AreCommitted (boxed_slice_items queues.new) }

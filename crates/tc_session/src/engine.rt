@@ -126,7 +126,8 @@ fn answer_in_script<W: Write>(
     line: &[u8],
     writer: &mut W,
 ) -> io::Result<bool>
-    ensures { IfOk result (λ good. Writes (W.contents writer.old) (W.contents writer.new) (IsScriptLineSaid good number receiver.old line.now receiver.new)) }
+    ensures { IfOk result (λ good. Writes (W.contents writer.old) (W.contents writer.new)
+        (IsScriptLineSaid good number receiver.old line.now receiver.new)) }
 {
     match receiver.do_script_line(alloc, line) {
         Ok(answer) => {

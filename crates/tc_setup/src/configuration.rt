@@ -181,7 +181,9 @@ fn add_checked(
 // Checks whether a queue can be added to a channel whose queues have these APIDs. The settings without the queue are
 // allowed, so only the queue is checked.
 fn check_queue(apids: &Apids, queue: QueueSetting) -> Result<(), SettingsFault>
-    ensures { (s : Settings) → IsAllowed s → AreApidsOf s.queues apids.now → MatchResult result (λ _. IsAllowed (with_addition s (Addition.Queue queue))) (IsFault (with_addition s (Addition.Queue queue))) }
+    ensures { (s : Settings) → IsAllowed s → AreApidsOf s.queues apids.now
+        → MatchResult result (λ _. IsAllowed (with_addition s (Addition.Queue queue)))
+        (IsFault (with_addition s (Addition.Queue queue))) }
 {
     if queue.apid > 2046 {
         return Err(SettingsFault::BadApid);
@@ -198,7 +200,8 @@ fn check_queue(apids: &Apids, queue: QueueSetting) -> Result<(), SettingsFault>
 // Checks whether a chosen MAP can be added to a channel with these settings.
 fn check_map(settings: &Settings, map: MapSetting) -> Result<(), SettingsFault>
     requires { IsAllowed settings.now }
-    ensures { MatchResult result (λ _. IsAllowed (with_addition settings.now (Addition.Map map))) (IsFault (with_addition settings.now (Addition.Map map))) }
+    ensures { MatchResult result (λ _. IsAllowed (with_addition settings.now (Addition.Map map)))
+        (IsFault (with_addition settings.now (Addition.Map map))) }
 {
     if map.map > 63 {
         return Err(SettingsFault::BadMap);

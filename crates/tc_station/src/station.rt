@@ -89,9 +89,16 @@ impl<J: Journal> Model for StationOf<J> {
 
     ghost Value = { Roster };
 
-    ghost view = { λ s. record { scid = s.scid; vcids = s.vcids; issued = s.issued; locks = locks_of s.desks.items; heads = heads_of s.desks.items } };
+    ghost view = { λ s. record {
+      scid = s.scid;
+      vcids = s.vcids;
+      issued = s.issued;
+      locks = locks_of s.desks.items;
+      heads = heads_of s.desks.items;
+    } };
 
-    ghost invariant = { λ s. (vec_len s.desks ≡ length s.vcids) × (vcids_of (settings_of_desks s.desks.items) ≡ s.vcids) × HaveIssued s.issued s.desks.items };
+    ghost invariant = { λ s. (vec_len s.desks ≡ length s.vcids) × (vcids_of (settings_of_desks s.desks.items) ≡ s.vcids)
+        × HaveIssued s.issued s.desks.items };
 }
 
 impl<J: Journal> StationOf<J> {
@@ -128,7 +135,8 @@ impl<J: Journal> StationOf<J> {
     /// Returns the result of [`locate`](StationOf::locate), with the place of the channel in the list of the station's
     /// channels.
     pub fn place_frame<'a>(&self, octets: &'a [u8]) -> Result<(usize, Located<'a>), LocateFault>
-        ensures { MatchResult result (λ placed. IsPlaced self.now octets.now placed.0 placed.1.vcid placed.1.frame) (IsLocateFault self.now octets.now) }
+        ensures { MatchResult result (λ placed. IsPlaced self.now octets.now placed.0 placed.1.vcid placed.1.frame)
+            (IsLocateFault self.now octets.now) }
     {
         let frame = read_frame(octets).map_err(LocateFault::Frame)?;
         let header = frame.header();
@@ -232,7 +240,8 @@ impl<J: Journal> StationOf<J> {
     ) -> Result<Vec<u8>, TakeRefused>
         requires ours { IsOurs self.now operator.old }
         ensures answer { MatchResult result (λ packet. IsTakenAtStation self.now vcid apid packet.items) (IsTakeRefused self.now vcid apid) }
-        ensures call { IsCallOn self.now vcid (Event.Take apid) (λ m packet. at_desk.IsOldestPacket apid m packet.items) (IsNotTaken J.grows apid) TakeRefused.UnknownChannel operator.old result operator.new }
+        ensures call { IsCallOn self.now vcid (Event.Take apid) (λ m packet. at_desk.IsOldestPacket apid m packet.items)
+            (IsNotTaken J.grows apid) TakeRefused.UnknownChannel operator.old result operator.new }
         ensures counted { OnOk result (tally operator.new ≡ tallied vcid (tally operator.old)) }
         ensures refused { OnErr result (tally operator.new ≡ tally operator.old) }
         ensures ours { IsOurs self.now operator.new }
@@ -257,7 +266,8 @@ impl<J: Journal> StationOf<J> {
     ) -> Result<Vec<u8>, TakeUnitRefused>
         requires ours { IsOurs self.now operator.old }
         ensures answer { MatchResult result (λ unit. IsUnitTakenAtStation self.now vcid map unit.items) (IsTakeUnitRefused self.now vcid map) }
-        ensures call { IsCallOn self.now vcid (Event.TakeUnit map) (λ m unit. at_desk.IsOldestUnit map m unit.items) (IsUnitNotTaken J.grows map) TakeUnitRefused.UnknownChannel operator.old result operator.new }
+        ensures call { IsCallOn self.now vcid (Event.TakeUnit map) (λ m unit. at_desk.IsOldestUnit map m unit.items)
+            (IsUnitNotTaken J.grows map) TakeUnitRefused.UnknownChannel operator.old result operator.new }
         ensures counted { OnOk result (tally operator.new ≡ tallied vcid (tally operator.old)) }
         ensures refused { OnErr result (tally operator.new ≡ tally operator.old) }
         ensures ours { IsOurs self.now operator.new }
@@ -346,7 +356,9 @@ impl<J: Journal> StationOf<J> {
         requires ours { IsOurs self.now operator.old }
         requires knows { KnowsDesks self.now operator.old }
         requires watcher { IsWatcherAt self.now place watcher.old }
-        ensures call { (vcid : ℕ) → IsPlace self.now vcid place → IsMetCallAt place vcid (O.event operation.now) (O.answers operation.now) (O.refuses operation.now) watcher.old operator.old result watcher.new operator.new }
+        ensures call { (vcid : ℕ) → IsPlace self.now vcid place
+            → IsMetCallAt place vcid (O.event operation.now) (O.answers operation.now)
+            (O.refuses operation.now) watcher.old operator.old result watcher.new operator.new }
         ensures counted { (vcid : ℕ) → IsPlace self.now vcid place → OnOk result (tally operator.new ≡ tallied vcid (tally operator.old)) }
         ensures refused { OnErr result (tally operator.new ≡ tally operator.old) }
         ensures ours { IsOurs self.now operator.new }
@@ -389,7 +401,8 @@ impl<J: Journal> StationOf<J> {
     ) -> Result<O::Answer, O::Fault>
         requires ours { IsOurs self.now operator.old }
         requires place { IsPlace self.now vcid place }
-        ensures { IsCounted self.now place vcid (O.event operation.now) (O.answers operation.now) (O.refuses operation.now) operator.old result operator.new }
+        ensures { IsCounted self.now place vcid (O.event operation.now) (O.answers operation.now)
+            (O.refuses operation.now) operator.old result operator.new }
     {
         let desk = self.desks[place].desk();
         operator.desks[place].operate(desk, rt, operation)
@@ -404,7 +417,8 @@ impl<J: Journal> StationOf<J> {
         question: &Q,
     ) -> Q::Answer
         requires place { IsPlace self.now vcid place }
-        ensures { (now : Moment) × IsMoment now × (now.head.settings.vcid ≡ vcid) × IsDeskOf self.now vcid now.head × Q.answers question.now now result }
+        ensures { (now : Moment) × IsMoment now × (now.head.settings.vcid ≡ vcid) × IsDeskOf self.now vcid now.head
+            × Q.answers question.now now result }
     {
         self.desks[place].desk().ask_as_guest(rt, question)
     }

@@ -57,32 +57,40 @@ pub fn from_a_sender_to_packets()
     ensures merge { (station : Roster) (operators : List AtStation) (closed : List History) (place : ℕ) (channel : History)
         → AreClosedTogether station operators closed → slice_get closed place ≡ Some channel
         → IsMergeOf channel.journal (accounts_of (column place (operator_lists_of operators))) }
-    ensures frames { (station : Roster) (place vcid : ℕ) (frame : List ℕ) (grows : Bool) (before after : AtStation) (brought : Brought) (channel : History)
+    ensures frames { (station : Roster) (place vcid : ℕ) (frame : List ℕ) (grows : Bool) (before after : AtStation)
+        (brought : Brought) (channel : History)
         → IsCallAt place vcid (Event.Frame frame) (IsReplied vcid frame) (IsNotBrought grows frame) before (Ok brought) after
         → IsClosedSince station place after channel
         → IsAnsweredIn place after channel (Event.Frame frame) (λ journal. brought.reply ≡ frame_reply channel.settings journal frame) }
     ensures releases { (station : Roster) (place vcid : ℕ) (before after : AtStation) (delivery : Delivery) (channel : History)
         → IsCallAt place vcid Event.Release at_desk.IsReleased IsNotReleased before (Ok delivery) after
         → IsClosedSince station place after channel
-        → IsAnsweredIn place after channel Event.Release (λ journal. (buffered_fields channel.settings journal ≢ []) × (delivery ≡ release_reply channel.settings journal)) }
+        → IsAnsweredIn place after channel Event.Release
+        (λ journal. (buffered_fields channel.settings journal ≢ []) × (delivery ≡ release_reply channel.settings journal)) }
     ensures takes { (station : Roster) (place vcid apid : ℕ) (grows : Bool) (before after : AtStation) (packet : Vec ℕ) (channel : History)
         → IsCallAt place vcid (Event.Take apid) (λ m p. at_desk.IsOldestPacket apid m p.items) (IsNotTaken grows apid) before (Ok packet) after
         → IsClosedSince station place after channel
         → IsAnsweredIn place after channel (Event.Take apid) (λ journal. take_reply channel.settings journal apid ≡ Some packet.items) }
     ensures units { (station : Roster) (place vcid map_id : ℕ) (grows : Bool) (before after : AtStation) (unit : Vec ℕ) (channel : History)
-        → IsCallAt place vcid (Event.TakeUnit map_id) (λ m u. at_desk.IsOldestUnit map_id m u.items) (IsUnitNotTaken grows map_id) before (Ok unit) after
+        → IsCallAt place vcid (Event.TakeUnit map_id) (λ m u. at_desk.IsOldestUnit map_id m u.items)
+        (IsUnitNotTaken grows map_id) before (Ok unit) after
         → IsClosedSince station place after channel
         → IsAnsweredIn place after channel (Event.TakeUnit map_id) (λ journal. unit_reply channel.settings journal map_id ≡ Some unit.items) }
-    ensures words { (station : Roster) (place vcid : ℕ) (link : Link) (early mid late met : Watching) (word : ℕ) (before after : AtStation) (channel : History)
-        → IsWordRead link early word mid → IsEarlier mid.seen late.seen → IsMetAt place vcid late before met after → IsClosedSince station place after channel
+    ensures words { (station : Roster) (place vcid : ℕ) (link : Link) (early mid late met : Watching) (word : ℕ)
+        (before after : AtStation) (channel : History)
+        → IsWordRead link early word mid → IsEarlier mid.seen late.seen → IsMetAt place vcid late before met after
+        → IsClosedSince station place after channel
         → IsShownIn channel early link word }
     ensures sent { (channel : History) (before later : List Event) (x : ℕ) (sent : ℕ → List ℕ) → IsLawful channel.settings channel.journal
         → IsEra channel.settings channel.journal before later x → ComesFromWithin no_limits channel.settings before later x sent
-        → passed_since no_limits channel.settings before (run channel.settings channel.journal).passed ≡ sent_from sent 0 (released_since no_limits channel.settings before channel.journal) }
+        → passed_since no_limits channel.settings before (run channel.settings channel.journal).passed
+        ≡ sent_from sent 0 (released_since no_limits channel.settings before channel.journal) }
     ensures given { (channel : History) (apid : ℕ) (q : Queue) → queue_of apid (run channel.settings channel.journal).queues ≡ Some q
-        → IsPartOf (packets_given channel.settings apid (first_state_within no_limits channel.settings) channel.journal) (packets_made no_limits channel.settings apid (run channel.settings channel.journal).passed) }
+        → IsPartOf (packets_given channel.settings apid (first_state_within no_limits channel.settings) channel.journal)
+        (packets_made no_limits channel.settings apid (run channel.settings channel.journal).passed) }
     ensures given_units { (channel : History) (map_id : ℕ) (q : Queue) → queue_of map_id (run channel.settings channel.journal).units ≡ Some q
-        → IsPartOf (units_given channel.settings map_id (first_state_within no_limits channel.settings) channel.journal) (units_made no_limits channel.settings map_id (run channel.settings channel.journal).passed) }
+        → IsPartOf (units_given channel.settings map_id (first_state_within no_limits channel.settings) channel.journal)
+        (units_made no_limits channel.settings map_id (run channel.settings channel.journal).passed) }
     ensures whole { (one other : List (List ℕ)) → IsPartOf one other → length other ≤ length one → one ≡ other }
 {
     each_event_stands_at_its_place();
@@ -94,7 +102,8 @@ pub fn from_a_sender_to_packets()
 /// state to a second, and from there to a third, it has gone on from the first to the third (`both`).
 pub fn calls_go_on_one_after_another()
     ensures none { (operator : AtStation) → HasGoneOnAtEach operator operator }
-    ensures both { (before between after : AtStation) → HasGoneOnAtEach before between → HasGoneOnAtEach between after → HasGoneOnAtEach before after }
+    ensures both { (before between after : AtStation) → HasGoneOnAtEach before between → HasGoneOnAtEach between after
+        → HasGoneOnAtEach before after }
 {}
 
 /// The event of each answered call is in the closed journal of its channel, and the call's answer is the one at the
@@ -111,28 +120,38 @@ pub fn calls_go_on_one_after_another()
 /// has gone on (`later` of [`StationOf`](crate::StationOf)'s calls), and [`calls_go_on_one_after_another`] joins the
 /// promises.
 pub fn what_calls_answered_stands_in_the_closed_journals()
-    ensures frames { (station : Roster) (octets : List ℕ) (grows : Bool) (before after last : AtStation) (brought : Brought) (operators : List AtStation) (closed : List History) (number : ℕ)
+    ensures frames { (station : Roster) (octets : List ℕ) (grows : Bool) (before after last : AtStation) (brought : Brought)
+        (operators : List AtStation) (closed : List History) (number : ℕ)
         → IsOurs station before → IsBringCall station octets IsReplied (IsNotBrought grows) before (Ok brought) after
         → HasGoneOnAtEach after last → slice_get operators number ≡ Some last → AreClosedTogether station operators closed
         → IsBroughtAmong station octets brought after closed }
-    ensures watched { (station : Roster) (octets : List ℕ) (before after last : AtStation) (answer : Brought × Watching) (operators : List AtStation) (closed : List History) (number : ℕ)
+    ensures watched { (station : Roster) (octets : List ℕ) (before after last : AtStation) (answer : Brought × Watching)
+        (operators : List AtStation) (closed : List History) (number : ℕ)
         → IsOurs station before → IsBringCall station octets IsRepliedWatched IsNotBroughtWatched before (Ok answer) after
         → HasGoneOnAtEach after last → slice_get operators number ≡ Some last → AreClosedTogether station operators closed
         → IsBroughtAmong station octets answer.0 after closed }
-    ensures releases { (station : Roster) (vcid : ℕ) (before after last : AtStation) (delivery : Delivery) (operators : List AtStation) (closed : List History) (number : ℕ)
+    ensures releases { (station : Roster) (vcid : ℕ) (before after last : AtStation) (delivery : Delivery)
+        (operators : List AtStation) (closed : List History) (number : ℕ)
         → IsOurs station before → IsCallOn station vcid Event.Release at_desk.IsReleased IsNotReleased ReleaseRefused.UnknownChannel before (Ok delivery) after
         → HasGoneOnAtEach after last → slice_get operators number ≡ Some last → AreClosedTogether station operators closed
-        → IsAnsweredAmong station vcid after closed Event.Release (λ s journal. (buffered_fields s journal ≢ []) × (delivery ≡ release_reply s journal)) }
-    ensures takes { (station : Roster) (vcid apid : ℕ) (grows : Bool) (before after last : AtStation) (packet : Vec ℕ) (operators : List AtStation) (closed : List History) (number : ℕ)
-        → IsOurs station before → IsCallOn station vcid (Event.Take apid) (λ m p. at_desk.IsOldestPacket apid m p.items) (IsNotTaken grows apid) TakeRefused.UnknownChannel before (Ok packet) after
+        → IsAnsweredAmong station vcid after closed Event.Release
+        (λ s journal. (buffered_fields s journal ≢ []) × (delivery ≡ release_reply s journal)) }
+    ensures takes { (station : Roster) (vcid apid : ℕ) (grows : Bool) (before after last : AtStation) (packet : Vec ℕ)
+        (operators : List AtStation) (closed : List History) (number : ℕ)
+        → IsOurs station before → IsCallOn station vcid (Event.Take apid) (λ m p. at_desk.IsOldestPacket apid m p.items)
+        (IsNotTaken grows apid) TakeRefused.UnknownChannel before (Ok packet) after
         → HasGoneOnAtEach after last → slice_get operators number ≡ Some last → AreClosedTogether station operators closed
         → IsAnsweredAmong station vcid after closed (Event.Take apid) (λ s journal. take_reply s journal apid ≡ Some packet.items) }
-    ensures units { (station : Roster) (vcid map_id : ℕ) (grows : Bool) (before after last : AtStation) (unit : Vec ℕ) (operators : List AtStation) (closed : List History) (number : ℕ)
-        → IsOurs station before → IsCallOn station vcid (Event.TakeUnit map_id) (λ m u. at_desk.IsOldestUnit map_id m u.items) (IsUnitNotTaken grows map_id) TakeUnitRefused.UnknownChannel before (Ok unit) after
+    ensures units { (station : Roster) (vcid map_id : ℕ) (grows : Bool) (before after last : AtStation) (unit : Vec ℕ)
+        (operators : List AtStation) (closed : List History) (number : ℕ)
+        → IsOurs station before → IsCallOn station vcid (Event.TakeUnit map_id) (λ m u. at_desk.IsOldestUnit map_id m u.items)
+        (IsUnitNotTaken grows map_id) TakeUnitRefused.UnknownChannel before (Ok unit) after
         → HasGoneOnAtEach after last → slice_get operators number ≡ Some last → AreClosedTogether station operators closed
         → IsAnsweredAmong station vcid after closed (Event.TakeUnit map_id) (λ s journal. unit_reply s journal map_id ≡ Some unit.items) }
-    ensures words { (station : Roster) (vcid : ℕ) (link : Link) (early mid late met : Watching) (word : ℕ) (before after last : AtStation) (operators : List AtStation) (closed : List History) (number : ℕ)
-        → IsOurs station before → IsWordRead link early word mid → IsEarlier mid.seen late.seen → ((place : ℕ) × IsPlace station vcid place × IsMetAt place vcid late before met after)
+    ensures words { (station : Roster) (vcid : ℕ) (link : Link) (early mid late met : Watching) (word : ℕ)
+        (before after last : AtStation) (operators : List AtStation) (closed : List History) (number : ℕ)
+        → IsOurs station before → IsWordRead link early word mid → IsEarlier mid.seen late.seen
+        → ((place : ℕ) × IsPlace station vcid place × IsMetAt place vcid late before met after)
         → HasGoneOnAtEach after last → slice_get operators number ≡ Some last → AreClosedTogether station operators closed
         → (place : ℕ) × (channel : History) × IsGivenOut station vcid closed place channel × IsShownIn channel early link word }
 {

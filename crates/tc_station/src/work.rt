@@ -79,11 +79,15 @@ where
             × MatchResult result (λ _. line ≡ None) (λ fault. line ≡ Some (line_of_fault fault)) }
         ensures kept { map (λ o. o.vcids) operators.new.items ≡ map (λ o. o.vcids) operators.old.items }
         ensures ours { All (IsOurs self.now) operators.new.items }
-        ensures knows { (k : ℕ) (o : AtStation) → k < length lists.now → KnowsTheSame (slice_index_or operators.old.items k o) (slice_index_or operators.new.items k o) }
-        ensures later { (k : ℕ) (o : AtStation) → k < length lists.now → HasGoneOnAtEach (slice_index_or operators.old.items k o) (slice_index_or operators.new.items k o) }
-        ensures risen { (k : ℕ) (o : AtStation) → k < length lists.now → NoCountFalls (tally (slice_index_or operators.old.items k o)) (tally (slice_index_or operators.new.items k o)) }
+        ensures knows { (k : ℕ) (o : AtStation) → k < length lists.now
+            → KnowsTheSame (slice_index_or operators.old.items k o) (slice_index_or operators.new.items k o) }
+        ensures later { (k : ℕ) (o : AtStation) → k < length lists.now
+            → HasGoneOnAtEach (slice_index_or operators.old.items k o) (slice_index_or operators.new.items k o) }
+        ensures risen { (k : ℕ) (o : AtStation) → k < length lists.now
+            → NoCountFalls (tally (slice_index_or operators.old.items k o)) (tally (slice_index_or operators.new.items k o)) }
         ensures raised { OnOk result ((k : ℕ) (l : WorkList) (o : AtStation) → k < length lists.now →
-            IsRaised self.now (slice_index_or lists.now k l) (tally (slice_index_or operators.old.items k o)) (tally (slice_index_or operators.new.items k o))) }
+            IsRaised self.now (slice_index_or lists.now k l) (tally (slice_index_or operators.old.items k o))
+            (tally (slice_index_or operators.new.items k o))) }
     {
         match self.work_all(rt, gate, lists, operators.as_mut_slice()) {
             None => Ok(()),

@@ -14,8 +14,10 @@ ghost use Rattle.tc_channel.specs.Reply.{clcw};
 /// flags of the link 0. The history that each seat has seen has the published settings, and its journal is a beginning
 /// of the published one. Only a seat that was joined to another is excepted.
 pub fn each_seat_is_behind_the_publisher()
-    ensures word { (words : List ℕ) (views : List View) (p : View) → IsBoard words views → get_elem? views 0 ≡ some p → words ≡ status_word p.seen ∷ [] }
-    ensures behind { (words : List ℕ) (views : List View) (p : View) (id : ℕ) (v : View) → IsBoard words views → get_elem? views 0 ≡ some p → get_elem? views id ≡ some v → v.live ≡ true → IsEarlier v.seen p.seen }
+    ensures word { (words : List ℕ) (views : List View) (p : View) → IsBoard words views → get_elem? views 0 ≡ some p
+        → words ≡ status_word p.seen ∷ [] }
+    ensures behind { (words : List ℕ) (views : List View) (p : View) (id : ℕ) (v : View) → IsBoard words views
+        → get_elem? views 0 ≡ some p → get_elem? views id ≡ some v → v.live ≡ true → IsEarlier v.seen p.seen }
 {}
 
 /// The two flags of the link have bits of their own in the CLCW of a channel, so that they can be set in a word that was read.

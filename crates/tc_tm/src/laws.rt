@@ -14,9 +14,11 @@ ghost use Rattle.tc_tm.specs.Examples as example;
 pub fn a_written_frame_reads_back()
     ensures long { (error : ErrorControl) (header : TmHeader) (control : List ℕ) (n : ℕ) → length control ≡ 4 → least_length error ≤ n
         → length (tm_frame error header control n) ≡ n }
-    ensures read { (error : ErrorControl) (header : TmHeader) (control : List ℕ) (n : ℕ) → IsTmHeader header → length control ≡ 4 → least_length error ≤ n
+    ensures read { (error : ErrorControl) (header : TmHeader) (control : List ℕ) (n : ℕ) → IsTmHeader header → length control ≡ 4
+        → least_length error ≤ n
         → read_fault_of error (tm_frame error header control n) ≡ None }
-    ensures fields { (error : ErrorControl) (header : TmHeader) (control : List ℕ) (n : ℕ) → IsTmHeader header → length control ≡ 4 → least_length error ≤ n
+    ensures fields { (error : ErrorControl) (header : TmHeader) (control : List ℕ) (n : ℕ) → IsTmHeader header
+        → length control ≡ 4 → least_length error ≤ n
         → tm_fields_of error (tm_frame error header control n) ≡ record { header = header; pointer = only_idle; control = control } }
 {}
 
@@ -27,7 +29,8 @@ pub fn a_telemetry_frame_is_so()
     ensures header { primary_header example.header ≡ 0x02 ∷ 0xa3 ∷ 0xff ∷ 0x07 ∷ 0x1f ∷ 0xfe ∷ [] }
     ensures frame { tm_frame Absent example.header example.control 11 ≡ example.frame }
     ensures with_sum { tm_frame Present example.header example.control 13 ≡ example.frame_with_sum }
-    ensures two_idle_octets { tm_frame Absent example.header example.control 12 ≡ 0x02 ∷ 0xa3 ∷ 0xff ∷ 0x07 ∷ 0x1f ∷ 0xfe ∷ 0x55 ∷ 0x55 ∷ example.control }
+    ensures two_idle_octets { tm_frame Absent example.header example.control 12
+        ≡ 0x02 ∷ 0xa3 ∷ 0xff ∷ 0x07 ∷ 0x1f ∷ 0xfe ∷ 0x55 ∷ 0x55 ∷ example.control }
     ensures read { tm_fields_of Absent example.frame ≡ example.fields }
     ensures read_with_sum { tm_fields_of Present example.frame_with_sum ≡ example.fields }
     ensures readable { read_fault_of Absent example.frame ≡ None }
@@ -49,7 +52,8 @@ pub fn telemetry_frames_are_bounded_so()
     ensures few_octets { read_fault_of Absent (0x42 ∷ 0xa2 ∷ 0xff ∷ 0x07 ∷ 0x1f ∷ 0xfe ∷ example.control) ≡ Some Short }
     ensures version { read_fault_of Absent (0x42 ∷ 0xa2 ∷ 0xff ∷ 0x07 ∷ 0x1f ∷ 0xfe ∷ 0x55 ∷ example.control) ≡ Some Version }
     ensures no_control { read_fault_of Absent (0x02 ∷ 0xa2 ∷ 0xff ∷ 0x07 ∷ 0x1f ∷ 0xfe ∷ 0x55 ∷ example.control) ≡ Some NoControl }
-    ensures wrong_sum { read_fault_of Present (0x02 ∷ 0xa3 ∷ 0xff ∷ 0x07 ∷ 0x1f ∷ 0xfe ∷ 0x55 ∷ 0x01 ∷ 0x04 ∷ 0x00 ∷ 0x01 ∷ 0x73 ∷ 0xd3 ∷ []) ≡ Some WrongSum }
+    ensures wrong_sum { read_fault_of Present
+        (0x02 ∷ 0xa3 ∷ 0xff ∷ 0x07 ∷ 0x1f ∷ 0xfe ∷ 0x55 ∷ 0x01 ∷ 0x04 ∷ 0x00 ∷ 0x01 ∷ 0x73 ∷ 0xd3 ∷ []) ≡ Some WrongSum }
 {}
 
 /// States examples, worked out by hand, of the counts of telemetry frames: they count by spacecraft and by virtual
@@ -59,6 +63,7 @@ pub fn telemetry_frames_are_counted_so()
     ensures first { next_header none_yet 42 1 ≡ record { scid = 42; vcid = 1; master_count = 0; channel_count = 0 } }
     ensures next { next_header (frame_counted none_yet 42 1) 42 1 ≡ record { scid = 42; vcid = 1; master_count = 1; channel_count = 1 } }
     ensures other_channel { next_header (frame_counted none_yet 42 1) 42 2 ≡ record { scid = 42; vcid = 2; master_count = 1; channel_count = 0 } }
-    ensures from_255 { next_header (frame_counted (record { masters = replicate 43 255; channels = replicate 338 255 }) 42 1) 42 1 ≡ record { scid = 42; vcid = 1; master_count = 0; channel_count = 0 } }
+    ensures from_255 { next_header (frame_counted (record { masters = replicate 43 255; channels = replicate 338 255 }) 42 1) 42 1
+        ≡ record { scid = 42; vcid = 1; master_count = 0; channel_count = 0 } }
     ensures other_spacecraft { next_header (frame_counted none_yet 42 1) 43 1 ≡ record { scid = 43; vcid = 1; master_count = 0; channel_count = 0 } }
 {}

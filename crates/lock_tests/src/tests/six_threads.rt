@@ -90,8 +90,10 @@ impl Six {
             ensures { IsWriter lock.entry.now one.exit.now.one.seat × IsWriter lock.entry.now one.exit.now.two.seat }
         { one.work(rt, lock) };
         let mut rest = || -> bool
-            requires { IsSync R.row × IsWriter lock.now two.now.one.seat × IsWriter lock.now two.now.two.seat × IsWriter lock.now three.now.one.seat × IsWriter lock.now three.now.two.seat }
-            ensures { IsWriter lock.entry.now two.exit.now.one.seat × IsWriter lock.entry.now two.exit.now.two.seat × IsWriter lock.entry.now three.exit.now.one.seat × IsWriter lock.entry.now three.exit.now.two.seat }
+            requires { IsSync R.row × IsWriter lock.now two.now.one.seat × IsWriter lock.now two.now.two.seat
+                × IsWriter lock.now three.now.one.seat × IsWriter lock.now three.now.two.seat }
+            ensures { IsWriter lock.entry.now two.exit.now.one.seat × IsWriter lock.entry.now two.exit.now.two.seat
+                × IsWriter lock.entry.now three.exit.now.one.seat × IsWriter lock.entry.now three.exit.now.two.seat }
         { work_by_four(rt, lock, two, three) };
         let (a, b) = join_mut(rt, &mut first, &mut rest);
         a && b

@@ -16,7 +16,8 @@ fn write_with<P: Number>(lock: &BookLock, seat: &mut BookSeat, number: u32) -> b
     requires unchanged { HasLock log_of IsAny seat.old.me seat.old.me.0.own.seen }
     ensures rest { IsWriter lock.now seat.new }
     ensures same { seat.new.id ≡ seat.old.id }
-    ensures made { MatchBool result ((at : ℕ) × (seat.new.me.0.own.made ≡ seat.old.me.0.own.made ++ (at, number) ∷ [])) (seat.new.me.0.own.made ≡ seat.old.me.0.own.made) }
+    ensures made { MatchBool result ((at : ℕ) × (seat.new.me.0.own.made ≡ seat.old.me.0.own.made ++ (at, number) ∷ []))
+        (seat.new.me.0.own.made ≡ seat.old.me.0.own.made) }
 {
     let book = seat.slot_mut(lock.table(), 0);
     match book.numbers.push(number) {
@@ -36,7 +37,8 @@ pub(super) fn write<R: Wait>(rt: &R, lock: &BookLock, seat: &mut BookSeat, numbe
     requires { IsWriter lock.now seat.old }
     ensures rest { IsWriter lock.now seat.new }
     ensures same { seat.new.id ≡ seat.old.id }
-    ensures made { MatchBool result ((at : ℕ) × (seat.new.me.0.own.made ≡ seat.old.me.0.own.made ++ (at, number) ∷ [])) (seat.new.me.0.own.made ≡ seat.old.me.0.own.made) }
+    ensures made { MatchBool result ((at : ℕ) × (seat.new.me.0.own.made ≡ seat.old.me.0.own.made ++ (at, number) ∷ []))
+        (seat.new.me.0.own.made ≡ seat.old.me.0.own.made) }
 {
     lock.lock(rt, seat);
     write_with::<Brand>(lock, seat, number)

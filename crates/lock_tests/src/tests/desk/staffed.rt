@@ -35,7 +35,8 @@ impl Staffed {
     // Issues another operator of the same desk.
     pub(super) fn other(&mut self) -> DeskOperator
         ensures other { result.lock ≡ self.new.owned_desk.lock }
-        ensures same { (self.new.owned_desk.lock ≡ self.old.owned_desk.lock) × (self.new.owned_desk.own.seen ≡ self.old.owned_desk.own.seen) × (self.new.operator ≡ self.old.operator) }
+        ensures same { (self.new.owned_desk.lock ≡ self.old.owned_desk.lock)
+            × (self.new.owned_desk.own.seen ≡ self.old.owned_desk.own.seen) × (self.new.operator ≡ self.old.operator) }
     {
         self.owned_desk.operator()
     }
