@@ -1,4 +1,5 @@
--- Two runs of octets in the place of two others leave the octets behind them as they were.
+-- If two runs of octets at the front of a buffer are overwritten by two of the same lengths, the octets behind them
+-- stay as they were.
 use Rattle.tc_c.proofs.Names.{◌≡◌, ◌+◌, ℕ, List, ◌++◌, length, drop, sym, drop-append-add, drop-append_seam}
 
 after-two : (xs ys rest : List ℕ) → drop (length xs + length ys) (xs ++ (ys ++ rest)) ≡ rest

@@ -24,7 +24,7 @@ FromParts = plain (λ _. Parts.the_row channel_row Heap.the_row ghosts)
 abbrev pub FromPlace : Slot 0
 FromPlace = plain (λ _. Place.the_row)
 
--- the value that an option has
+-- an option that isn't `None` has a value
 pub found : {X : Type 0} (o : Option X) → IsSome o → (x : X) × (o ≡ Some x)
 found (Some x) e = (x, refl)
 found None e = absurd cc

@@ -1,4 +1,4 @@
--- Seats in an array: the channel in each, and the first one with an id.
+-- Lemmas about the channels in an array of seats, and about the first channel with a virtual channel id.
 use Rattle.tc_c.proofs.Names.{◌≡◌, ◌≢◌, ◌≤◌, ◌<◌, ◌+◌, ◌∙◌, ℕ, List, length, get_or, set, sym, ap, refl, Option, Some, None, false, arith, eqb, map-set_same, map-set, get_or-map, length-map, option_map, slice_get, LimitedHistory, channels_in, IsHeldAt, IsFirstWithVcid, IsHeld}
 use Rattle.std.specs.Option.{option_eq}
 use Rattle.std.proofs.lemmas.Bool.Decides.{nat_tests}
@@ -21,14 +21,14 @@ there seats i d here =
     let inside : i < length (channels_in seats) = omega (arith, here, length-map seats channel_of) in
     slice_get-get_or (channels_in seats) i d.place.channel inside ∙ ap Some (get_or-map channel_of seats i d d.place.channel here)
 
--- a seat holds the channel that the list of channels has at its place
+-- if the list of channels has a channel at the place of a seat, the seat holds that channel
 pub held : (seats : List Seat) (i : ℕ) (d : Seat) (old : List (Option LimitedHistory)) (h : LimitedHistory) → i < length seats
     → channels_in seats ≡ old → slice_get old i ≡ Some (Some h) → (get_or seats i d).place.channel ≡ Some h
 held seats i d old h here same is =
     let e : Some (get_or seats i d).place.channel ≡ Some (Some h) = sym (there seats i d here) ∙ (ap (λ (cs : List (Option LimitedHistory)). slice_get cs i) same ∙ is) in
     cc
 
--- if one seat gets another channel, the channels change at this place
+-- if one seat gets another channel, the list of channels changes at the place of that seat
 pub changed : (seats : List Seat) (i : ℕ) (new : Seat) (old : List (Option LimitedHistory)) (after : Option LimitedHistory)
     → channels_in seats ≡ old → new.place.channel ≡ after → channels_in (set seats i new) ≡ set old i after
 changed seats i new old after same is =
@@ -45,7 +45,7 @@ differs None vcid e = λ is. cc
 abbrev pub AreLater : List (Option LimitedHistory) → ℕ → ℕ → Type 0
 AreLater channels vcid place = (at : ℕ) (other : LimitedHistory) → IsHeldAt channels vcid at other → place ≤ at
 
--- if the channel in a seat has the id, and none before it has, it is the first one with the id
+-- the channel in a seat is the first one with the id, if it has the id and no channel before it has
 pub first : (seats : List Seat) (i : ℕ) (d : Seat) (old : List (Option LimitedHistory)) (vcid : ℕ) → i < length seats
     → channels_in seats ≡ old → option_map (λ (h : LimitedHistory). h.settings.vcid) (get_or seats i d).place.channel ≡ Some vcid → AreLater old vcid i
     → (h : LimitedHistory) × IsFirstWithVcid old vcid i h
@@ -54,7 +54,7 @@ first seats i d old vcid inside same is later =
     let here : slice_get old i ≡ Some (Some named.0) = sym (ap (λ (cs : List (Option LimitedHistory)). slice_get cs i) same) ∙ (there seats i d inside ∙ ap Some named.1) in
     (named.0, ((here, named.2), later))
 
--- if the channel in this seat doesn't have the id either, the first channel with the id comes later
+-- if the channel in this seat doesn't have the id either, the first channel with the id can only come later
 pub passed : (seats : List Seat) (i : ℕ) (d : Seat) (old : List (Option LimitedHistory)) (vcid : ℕ) → i < length seats → channels_in seats ≡ old
     → option_map (λ (h : LimitedHistory). h.settings.vcid) (get_or seats i d).place.channel ≢ Some vcid → AreLater old vcid i → AreLater old vcid (i + 1)
 passed seats i d old vcid inside same not later = λ place other is.

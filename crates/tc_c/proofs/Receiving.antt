@@ -1,17 +1,18 @@
--- A decoder whose octets are in a buffer, from one octet to the next.
+-- Lemmas about the step that a decoder takes for an octet, and about its steps for several octets. The decoder's octets
+-- are in a buffer.
 use Rattle.tc_c.proofs.Names.{◌≡◌, ℕ, ◌+◌, ◌<◌, ◌≤◌, false, List, ◌∷◌, [], ◌++◌, Option, Some, length, take, drop, set, refl, ap, sym, ◌∙◌, arith, append_assoc, length-append, ltb, length-drop, length-take-le, take-set-le, drop-set-add, take_more_set, take_at, take-append-drop, take-take, drop-take, decoded, Reception, Decoding, reception_step, after_block, fate_after, fate_of, state_after, frames_of, counted_in, state-append, frames-append, counted-append, reception_of}
 use Rattle.std.proofs.lemmas.Bool.{le-ltb, lt-ltb}
 use Rattle.tc_cltu.specs.declared.block.Mode.{Mode}
 use Rattle.tc_cltu.specs.declared.block.Fate.{Fate}
 use Rattle.tc_c.specs.declared.decoder.DecoderRecord.{DecoderRecord}
 
--- the next octet of a block stands behind those that have come
+-- a new octet of a block stands behind the octets of the block that have come before it
 block-more : (h c o : ℕ) (f : List ℕ) → h + c < length f → take (c + 1) (drop h (set f (h + c) o)) ≡ take c (drop h f) ++ o ∷ []
 block-more h c o f room =
     let rest = length-drop h f in
     ap (take (c + 1)) (drop-set-add h f c o) ∙ take_more_set (drop h f) c o (omega arith)
 
--- the octets that were carried stay the same
+-- when a new octet is stored, the octets that the code blocks carried stay the same
 carried-stays : (h c o : ℕ) (f : List ℕ) → take h (set f (h + c) o) ≡ take h f
 carried-stays h c o f = take-set-le h f (h + c) o (omega arith)
 
@@ -27,7 +28,7 @@ more-state mode o d n f g on less room made next =
     let short = lt-ltb (length (take d.count (drop d.carried f))) 7 (omega arith) in
     rw (next, made, on, short, carried-stays d.carried d.count o f, block-more d.carried d.count o f room)
 
--- after its eighth octet, a block is complete
+-- if the buffer has room for a block at `h`, at least seven octets stand there
 full : (h : ℕ) (f : List ℕ) → h + 7 < length f → ltb (length (take 7 (drop h f))) 7 ≡ false
 full h f room =
     let long = block-length h 7 f room in
@@ -43,7 +44,7 @@ pub last-fate : (mode : Mode) (o : ℕ) (d : DecoderRecord) (f g : List ℕ) →
 last-fate mode o d f g on last room made =
     rw (on, made, last, full d.carried f room, carried-stays d.carried 7 o f, block-more d.carried 7 o f room)
 
--- the octets of a block that is taken go behind those that were carried
+-- the octets that an accepted block carries go behind those that were carried before
 pub taken-state : (d n : DecoderRecord) (f x rest information : List ℕ) (o : Option (List ℕ)) → d.decoding ≡ 1 → d.carried + 7 ≤ 1029 → d.carried ≤ length f
     → length information ≡ 7 → o ≡ Some information → n ≡ record d { count = 0; carried = d.carried + 7 } → x ≡ take d.carried f ++ (information ++ rest)
     → reception_of n x ≡ (after_block 1029 (take d.carried f) o).0

@@ -1,4 +1,4 @@
--- A seat's channel, once the borrow of it has ended.
+-- Lemmas about the channel in a seat, once the borrow of the channel has ended.
 use Rattle.tc_c.proofs.Names.{◌≡◌, ◌≤◌, ◌∙◌, ℕ, List, length, Option, Some, None, OnSome, IfSome, IfNone, ap, BeginsWith, frame_reply_within, LimitedHistory, with_limited_event, limit_of}
 use Rattle.tc_channel.specs.declared.event.Event.TheVariants as Event
 use Rattle.std.proofs.Common.{◌<◌, arith}
@@ -13,8 +13,8 @@ pub left-so : {A : Type 0} (lent : Option A) (held : A) (left : Option LimitedHi
 left-so (Some x) held left new is holds = holds
 left-so None held left new is holds = absurd cc
 
--- if the seat holds the channel that a call left, the clause about that channel after a frame, or after a take, holds
--- for the seat
+-- The clause about the channel after a frame, or after a take, holds for the seat. The condition is that the seat holds
+-- the channel that the call left.
 pub frame-left : {A : Type 0} (fault : Option A) (octets : List ℕ) (result : ReplyRecord) (held new : LimitedHistory) (left : Option LimitedHistory) → left ≡ Some new
     → IfNone fault ((frame : List ℕ) × BeginsWith octets frame × (result ≡ reply_record (frame_reply_within (limit_of held.limits) held.settings held.journal frame))
     × (new ≡ with_limited_event held (Event.Frame frame)))

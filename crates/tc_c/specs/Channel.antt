@@ -66,12 +66,13 @@ count_record count = record { status = code_of Done; count = count }
 abbrev pub no_count : Status → CountRecord
 no_count fault = record { status = code_of fault; count = 0 }
 
--- the reason why no channel can be created from these records: a flag, otherwise the first fault of the settings
+-- the reason why no channel can be created from these records: a number that is no flag, otherwise the first fault of
+-- the settings
 abbrev pub IsUnfit : Result Settings Status → Status → Type 0
 IsUnfit (Err flag) fault = fault ≡ flag
 IsUnfit (Ok s) fault = (f : SettingsFault) × IsFault s f × (fault ≡ settings_status f)
 
--- the reason why no channel is created: the reason of `IsUnfit` or, if a channel can be created, running out of memory
+-- the reason why no channel is created: that of `IsUnfit`, or `NoMemory` if the settings have no fault
 abbrev pub IsRefusedBy : Result Settings Status → Status → Type 0
 IsRefusedBy given fault = IsUnfit given fault ⊎ ((fault ≡ NoMemory) × (s : Settings) × (given ≡ Ok s) × IsAllowed s)
 
@@ -79,13 +80,13 @@ IsRefusedBy given fault = IsUnfit given fault ⊎ ((fault ≡ NoMemory) × (s : 
 abbrev pub limits_given : ℕ → List MapLimit → Limits
 limits_given others maps = record { others = others; maps = maps }
 
--- the reason why no channel can be created from these records within these limits: a flag, otherwise the first fault of
--- the settings, otherwise the first fault of the limits
+-- the reason why no channel can be created from these records within these limits: a number that is no flag, otherwise
+-- the first fault of the settings, otherwise the first fault of the limits
 abbrev pub IsUnfitWithin : Result Settings Status → Limits → Status → Type 0
 IsUnfitWithin (Err flag) limits fault = fault ≡ flag
 IsUnfitWithin (Ok s) limits fault = (f : LimitsFault) × IsFaultWithLimits s limits f × (fault ≡ limits_status f)
 
--- the reason why no channel is created within these limits: the reason of `IsUnfitWithin` or, if a channel can be
--- created, running out of memory
+-- the reason why no channel is created within these limits: that of `IsUnfitWithin`, or `NoMemory` if the settings and
+-- the limits have no fault
 abbrev pub IsRefusedWithin : Result Settings Status → Limits → Status → Type 0
 IsRefusedWithin given limits fault = IsUnfitWithin given limits fault ⊎ ((fault ≡ NoMemory) × (s : Settings) × (given ≡ Ok s) × IsAllowed s × AreLimits s limits)

@@ -1,4 +1,4 @@
--- A decoder of CLTUs as a record of numbers, and a buffer with the octets that it holds.
+-- A decoder of CLTUs, as a record of numbers and a buffer. The buffer has the octets that the decoder holds.
 use Rattle.std.specs.Prelude.{ℕ, ◌==◌, ◌||◌, Bool, true, false, List, [], ◌∷◌, take, drop, Result, Ok, Err, nat_lt, if◌then◌else◌}
 use Rattle.tc_cltu.specs.declared.block.Mode.{Mode}
 use Rattle.tc_cltu.specs.declared.block.Mode.TheVariants.{Detect, Correct}
@@ -32,14 +32,14 @@ decoder_given decoder room =
     with_ok (flag_of decoder.decoding) (λ decoding.
     decoder_allowed decoder room (mode_of correct)))
 
--- The state of a decoder. While it decodes, the buffer has the octets that the code blocks carried, and behind them the
--- octets of the next block that have come.
+-- The state of a decoder. While the decoder decodes, the buffer begins with the octets that the code blocks carried.
+-- The octets of the next block that have come stand behind them.
 abbrev pub reception_of : DecoderRecord → List ℕ → Reception
 reception_of decoder frame =
     if decoder.decoding == 0 then Searching decoder.last
     else Decoding (take decoder.carried frame) (take decoder.count (drop decoder.carried frame))
 
--- the candidate frames that a call has ended, by its record and its buffer: one, or none
+-- the list of the candidate frames, one or none, that a call has ended, given its record and the buffer
 abbrev pub given_by : DecodedRecord → List ℕ → List (List ℕ)
 given_by answer frame = if answer.ended == 0 then [] else take answer.decoder.carried frame ∷ []
 
@@ -47,6 +47,6 @@ given_by answer frame = if answer.ended == 0 then [] else take answer.decoder.ca
 abbrev pub none_taken : Status → DecoderRecord → DecodedRecord
 none_taken fault decoder = record { status = code_of fault; decoder = decoder; ended = 0; taken = 0; corrected = 0; rejected = 0; overlong = 0 }
 
--- the decoder that looks for a start sequence, before its first octet
+-- the decoder when it begins to look for a start sequence
 abbrev pub searching : DecoderRecord → DecoderRecord
 searching decoder = record { correct = decoder.correct; decoding = 0; last = 0; count = 0; carried = 0 }

@@ -44,8 +44,8 @@ state_of number = if number == 1 then Ok S1 else if number == 2 then Ok S2 else 
 abbrev pub flag_of : ℕ → Result Bool Status
 flag_of number = if number == 0 then Ok false else if number == 1 then Ok true else Err BadFlag
 
--- The flags that FARM-1 can have in a state, in the order Lockout, Wait, Retransmit. Lockout is set in S3 alone. Wait
--- is set in S2 and not in S1. When Wait is set, Retransmit is.
+-- Whether FARM-1 can have these flags in a state. The flags are Lockout, Wait and Retransmit, in this order. Lockout is
+-- set in S3 alone. Wait is set in S2, and isn't set in S1. If Wait is set, Retransmit is set too.
 abbrev pub agrees : State → Bool → Bool → Bool → Bool
 agrees S1 false false retransmit = true
 agrees S2 false true true = true
@@ -53,7 +53,7 @@ agrees S3 true false retransmit = true
 agrees S3 true true true = true
 agrees _ _ _ _ = false
 
--- the next result if there is a value, otherwise the fault
+-- the result of `next` for the value, or the fault if there is no value
 abbrev pub with_ok : {A : Type 0} {B : Type 0} → Result A Status → (A → Result B Status) → Result B Status
 with_ok (Ok x) next = next x
 with_ok (Err fault) next = Err fault
@@ -79,7 +79,7 @@ farm_of kept =
 abbrev pub first_farm : ℕ → ℕ → Result Machine Status
 first_farm width first = if is_width width then Ok (record { width = width; report = first_report first }) else Err BadWidth
 
--- the arrival with this number: a kind of frame, with an N(S) or a V(R), or a release
+-- the arrival with this number: a release, or a frame of some kind, for which `value` is the N(S) or the new V(R)
 abbrev pub arrival_by : ℕ → ℕ → Bool → Result Arrival Status
 arrival_by number value room =
     if number == 1 then Ok (Frame (Ad value) room)
@@ -104,7 +104,7 @@ asked_of kept number value room =
 abbrev pub left : Machine → Arrival → Machine
 left farm arrival = record { width = farm.width; report = after (row_of farm.width farm.report.vr arrival) farm.report }
 
--- this is a FARM-1 that a run can leave
+-- a FARM-1 that the steps of a run can lead to
 pub record IsFarm (farm : Machine) : Type 0 where
   pub width : IsWidth farm.width
   pub farm_b : farm.report.farm_b < 4

@@ -24,7 +24,7 @@ frame_record frame = record { status = code_of Done; header = header_record (hea
 abbrev pub no_frame : Status → FrameRecord
 no_frame fault = record { status = code_of fault; header = record { scid = 0; vcid = 0; ns = 0; bypass = 0; control = 0 }; length = 0 }
 
--- the numbers of kinds, which are those of the arrivals at FARM-1
+-- the numbers of kinds, which are also the numbers of their arrivals at FARM-1
 abbrev pub kind_number : Kind → ℕ
 kind_number (Ad ns) = 1
 kind_number Bd = 2

@@ -26,7 +26,7 @@ use Rattle.tc_c.specs.Status.{frame_status, locate_status, field_status}
 abbrev pub channels_in : List Seat → List (Option LimitedHistory)
 channels_in seats = map (λ (seat : Seat). seat.place.channel) seats
 
--- the channel at this place, which has this virtual channel id
+-- the channel at this place is `h`, which has this virtual channel id
 abbrev pub IsHeldAt : List (Option LimitedHistory) → ℕ → ℕ → LimitedHistory → Type 0
 IsHeldAt channels vcid place h = (slice_get channels place ≡ Some (Some h)) × (h.settings.vcid ≡ vcid)
 
@@ -86,15 +86,15 @@ IsUnlocated old scid octets reply new =
 abbrev pub IsRackReplied : List (Option LimitedHistory) → ℕ → List ℕ → RackReplyRecord → List (Option LimitedHistory) → Type 0
 IsRackReplied old scid octets reply new = IsTakenIn old scid octets reply new ⊎ IsUnlocated old scid octets reply new
 
--- The reply to a frame that may end with a frame error control field. If the field is right, the frame is brought
--- without it.
+-- The reply to a frame. If the flag is set, the frame must end with a frame error control field, and it is brought to
+-- its channel without this field.
 abbrev pub IsEndedReplied : List (Option LimitedHistory) → ℕ → Bool → List ℕ → RackReplyRecord → List (Option LimitedHistory) → Type 0
 IsEndedReplied old scid false frame reply new = IsRackReplied old scid frame reply new
 IsEndedReplied old scid true frame reply new =
     ((plain : List ℕ) × IsWhole plain × (frame ≡ frame_with_field plain) × IsRackReplied old scid plain reply new)
     ⊎ ((fault : FieldFault) × (taking_fault_of frame ≡ Some fault) × (reply ≡ no_rack_reply (field_status fault)) × (new ≡ old))
 
--- a reply with the length of the frame, and a flag that is set if more than fill follows the frame
+-- the reply with the length of the frame, and with a flag that is set if more than fill follows the frame
 abbrev pub candidate_reply : RackReplyRecord → ℕ → Bool → CandidateReplyRecord
 candidate_reply reply length more = record {
   status = reply.status;
@@ -111,8 +111,8 @@ candidate_reply reply length more = record {
 abbrev pub no_candidate_reply : Status → CandidateReplyRecord
 no_candidate_reply fault = candidate_reply (no_rack_reply fault) 0 false
 
--- either the frame at the front of the octets is taken off by its length field and brought to its channel, or the
--- octets begin with no frame
+-- Either the octets begin with a frame, whose length field says where it ends, and this frame is brought to its
+-- channel. Or the octets begin with no frame.
 abbrev pub IsCandidateReplied : List (Option LimitedHistory) → ℕ → Bool → List ℕ → CandidateReplyRecord → List (Option LimitedHistory) → Type 0
 IsCandidateReplied old scid ends octets reply new =
     ((frame : List ℕ) × (rest : List ℕ) × (brought : RackReplyRecord) × IsDelimited octets frame rest × IsEndedReplied old scid ends frame brought new

@@ -66,8 +66,8 @@ tm_to_write header fecf size = with_ok (error_given fecf) (tm_allowed header siz
 abbrev pub tm_frame_carrying : ErrorControl → TmHeaderRecord → ℕ → ℕ → List ℕ
 tm_frame_carrying error header clcw size = tm_frame error (tm_header_in header) (to_be_bytes w32 clcw) size
 
--- the fields of the frame that the octets are, or the first reason why they aren't a frame (a frame is no longer than
--- the longest that can be written)
+-- The fields of the octets as a telemetry frame, or the first reason why they aren't one. No frame is longer than the
+-- longest one that can be written.
 abbrev pub tm_read : List ℕ → ErrorControl → Result TmFields Status
 tm_read octets error =
     if nat_lt most_length (length octets) then Err st.BadLength

@@ -1,4 +1,5 @@
--- The octets that are written from records of numbers, or the first reason why none are, in the order given.
+-- The octets that are written from records of numbers, or the first reason why no octets are written. The reasons are
+-- tried in the order below.
 use Rattle.std.specs.Prelude.{ℕ, ◌+◌, ◌==◌, ◌||◌, List, length, Some, Result, Ok, Err, nat_lt, if◌then◌else◌}
 use Rattle.tc_link.specs.declared.frame.Header.{Header}
 use Rattle.tc_link.specs.declared.command.Command.{Command}
@@ -20,7 +21,7 @@ packet_header_in header =
     with_ok (flag_of header.secondary) (λ secondary.
     Ok (record { telecommand = telecommand; secondary = secondary; apid = header.apid; flags = header.sequence; count = header.count })))
 
--- the header with which a packet with this packet data field can be written, or the first reason why none can
+-- the header of a packet with this packet data field, or the first reason why this packet can't be written
 abbrev pub packet_allowed : List ℕ → PacketHeader → Result PacketHeader Status
 packet_allowed field header =
     if nat_lt 2047 header.apid || (nat_lt 16383 header.count || nat_lt 3 header.flags) then Err BadField
@@ -31,8 +32,8 @@ packet_allowed field header =
 abbrev pub packet_to_write : PacketHeaderRecord → List ℕ → Result PacketHeader Status
 packet_to_write header field = with_ok (packet_header_in header) (packet_allowed field)
 
--- the header of the frame that carries the segment at a place of a unit, given the header of the unit's first frame (no
--- Type-C frame has a segment header)
+-- The header of the frame that carries the segment at a place of a unit. The header of the unit's first frame is given.
+-- Type-C frames have no segment header.
 abbrev pub segment_allowed : ℕ → ℕ → ℕ → List ℕ → Header → Result Header Status
 segment_allowed map size place unit header =
     if header.control || (nat_lt 1023 header.scid || nat_lt 63 header.vcid) then Err BadField
@@ -54,7 +55,7 @@ IsSegmentFrame frame header map size place unit = IsMadeFrame frame header (Some
 abbrev pub segment_length : ℕ → ℕ → List ℕ → ℕ
 segment_length size place unit = length (piece_at size unit place) + 6
 
--- the command of the kind with this number, which for a Set V(R) has this new V(R)
+-- the command whose kind has this number (for Set V(R), `number` is the new V(R))
 abbrev pub command_by : ℕ → ℕ → Result Command Status
 command_by kind number = if kind == 3 then Ok Unlock else if kind == 4 then Ok (SetVr number) else Err BadCommand
 

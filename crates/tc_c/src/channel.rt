@@ -97,9 +97,9 @@ fn delivery_refused(fault: Status) -> DeliveryRecord
     }
 }
 
-/// Does the work of [`tcrx_channel_frame_at`], which runs this function once with the channel of its seat and with a
-/// counter that counts nothing. A step is a packet that is cut from the unit that the frame ends, or a queue that is
-/// looked at. A call that fails takes no steps.
+/// Does the work of [`tcrx_channel_frame_at`]. That call runs this function once, with the channel of its seat and a
+/// counter that counts nothing. A step is either one packet cut from the unit that the frame completes, or one queue
+/// that is looked at. A call that fails takes no steps.
 pub fn frame_with_steps<C: Tick>(
     channel: &mut FixedChannel,
     octets: &[u8],
@@ -120,8 +120,8 @@ pub fn frame_with_steps<C: Tick>(
 /// Brings the frame at the front of the octets to the channel, whatever virtual channel the frame names (CCSDS 232.0-B,
 /// 232.1-B). Octets that follow the frame are fill.
 ///
-/// The call fails with NoChannel if the seat holds no channel, and with the first fault of the octets if no frame
-/// begins with them. It never runs out of memory, because only the call that creates the channel requests memory.
+/// The call fails with NoChannel if the seat holds no channel, and with the first fault of the octets if they begin
+/// with no frame. It never runs out of memory, because only the call that creates the channel requests memory.
 #[unsafe(no_mangle)]
 pub extern "C" fn tcrx_channel_frame_at(seat: &mut Seat, octets: &[u8]) -> ReplyRecord
     ensures done { IfSome seat.old.place.channel (λ h. IfNone (fault_of octets.now) ((frame : List ℕ) × BeginsWith octets.now frame × (result ≡ reply_record (frame_reply_within (limit_of h.limits) h.settings h.journal frame)) × (seat.new.place.channel ≡ Some (with_limited_event h (Event.Frame frame))))) }
@@ -135,7 +135,7 @@ pub extern "C" fn tcrx_channel_frame_at(seat: &mut Seat, octets: &[u8]) -> Reply
     }
 }
 
-/// Does the work of [`tcrx_channel_release_at`], which runs this function once with the channel of its seat and with a
+/// Does the work of [`tcrx_channel_release_at`]. That call runs this function once, with the channel of its seat and a
 /// counter that counts nothing. Steps are counted as in [`frame_with_steps`].
 pub fn release_with_steps<C: Tick>(channel: &mut FixedChannel, steps: &mut C) -> DeliveryRecord
     ensures done { buffered_fields_within (limit_of channel.old.limits) channel.old.settings channel.old.journal ≢ [] → (result ≡ delivery_record (release_reply_within (limit_of channel.old.limits) channel.old.settings channel.old.journal)) × (channel.new ≡ with_limited_event channel.old Event.Release) }
@@ -149,8 +149,8 @@ pub fn release_with_steps<C: Tick>(channel: &mut FixedChannel, steps: &mut C) ->
     }
 }
 
-/// Releases the oldest data field from the buffer, and queues the unit that the field ends: whole if its MAP is chosen,
-/// otherwise as its packets.
+/// Releases the oldest data field from the buffer. If the field completes a unit, the unit is queued: whole if its MAP
+/// is chosen, otherwise as its packets.
 ///
 /// The call fails with NoChannel if the seat holds no channel, and with Empty if the buffer is empty. The channel then
 /// stays as it was.
@@ -167,7 +167,7 @@ pub extern "C" fn tcrx_channel_release_at(seat: &mut Seat) -> DeliveryRecord
     }
 }
 
-/// Frees the channel with all that it holds, after which the seat holds none. The call fails with NoChannel if the seat
+/// Frees the channel with all that it holds. The seat then holds no channel. The call fails with NoChannel if the seat
 /// holds no channel.
 #[unsafe(no_mangle)]
 pub extern "C" fn tcrx_channel_free_at(seat: &mut Seat) -> u32

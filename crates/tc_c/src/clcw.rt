@@ -1,4 +1,4 @@
-//! CLCWs, which are made from a record of FARM-1 and read into a record of their own.
+//! CLCWs, which are built from a record of FARM-1, or read into a record of their fields.
 
 ghost use Rattle.std.specs.Prelude.{◌≡◌, ◌↔◌, IfOk, IfErr};
 ghost use Rattle.tc_link.specs.Clcw.{IsClcw, fields_of};
@@ -41,9 +41,9 @@ pub struct ClcwFieldsRecord {
 
 /// Returns the CLCW that reports this FARM-1 for a virtual channel (CCSDS 232.0-B, 4.2).
 ///
-/// Its status field is 0, and COP-1 is in effect. The channel's id is 0 to 63, and the flags of the link are 0 or 1. If
-/// no FARM-1 has this record, the call fails as `tcrx_farm_step` does. It fails with BadVcid for another id, and with
-/// BadFlag for another flag. The word then is 0.
+/// The CLCW's status field is 0, and COP-1 is in effect. `vcid` is 0 to 63, and `no_rf` and `no_bit_lock` are 0 or 1.
+/// If no FARM-1 has this record, the call fails as `tcrx_farm_step` does. It fails with BadVcid for another `vcid`, and
+/// with BadFlag for another flag. If it fails, the word is 0.
 #[unsafe(no_mangle)]
 pub extern "C" fn tcrx_clcw(kept: FarmRecord, vcid: u8, no_rf: u8, no_bit_lock: u8) -> ClcwRecord
     ensures word { IfOk (clcw_or_status kept vcid no_rf no_bit_lock) (λ word. result ≡ record { status = code_of Status.Done; word = word }) }
@@ -88,7 +88,7 @@ pub(crate) fn link(no_rf: u8, no_bit_lock: u8) -> Result<Link, Status>
     })
 }
 
-/// Reads a word, if it is a CLCW of COP-1: type and version are 0, COP is 1, and both spares are 0.
+/// Reads the fields of a CLCW of COP-1. Such a word has type 0, version 0, COP 1 and zeros in both spare fields.
 ///
 /// For another word the call fails with NoClcw, and each other number of the record is 0.
 #[unsafe(no_mangle)]

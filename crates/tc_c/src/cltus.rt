@@ -13,10 +13,10 @@ use tc_cltu::{MOST_OCTETS, START, TAIL, encode_block, randomise};
 /// Writes the CLTU that carries a frame, or other octets, to the front of a buffer. The CLTU has the start sequence,
 /// the code blocks, with fill in the last one if it needs some, and the tail sequence (CCSDS 231.0-B).
 ///
-/// A CLTU carries 1 to 1,029 octets. Its length is 10 octets and 8 for each code block, which carries up to 7 of them.
-/// For other numbers of octets the call fails with EmptyData or LongCltu. The returned length is 0 in these cases.
-/// Otherwise, if the buffer is too short, the call fails with NoRoom and returns the length that is needed. If the call
-/// fails, the buffer stays as it was.
+/// A CLTU carries 1 to 1,029 octets, up to 7 in each code block. It is 10 octets long, and 8 more for each code block.
+/// For other numbers of octets the call fails with EmptyData or LongCltu, and the returned length is 0. Otherwise, if
+/// the buffer is too short, the call fails with NoRoom and returns the length that is needed. If the call fails, the
+/// buffer stays as it was.
 #[unsafe(no_mangle)]
 pub extern "C" fn tcrx_write_cltu_at(frame: &[u8], octets: &mut [u8]) -> WrittenRecord
     ensures written { IfNone (cltu_fault_of frame.now) (length (cltu frame.now) ≤ length octets.old → result ≡ taken (length (cltu frame.now))) }
@@ -127,13 +127,13 @@ fn with_fill(octets: &[u8]) -> [u8; 7]
     information
 }
 
-/// Writes octets with the random sequence added, from its start on, to the front of a buffer (CCSDS 231.0-B). A sender
-/// calls it with the octets that a CLTU is to carry, and a receiver with each candidate frame, because a sequence that
-/// is added twice changes nothing.
+/// Adds the random sequence to octets, from its start on, and writes the result to the front of a buffer (CCSDS
+/// 231.0-B). A sender calls it with the octets that a CLTU is to carry, and a receiver with each candidate frame.
+/// Adding the sequence twice changes nothing.
 ///
-/// There are 1 to 1,029 octets, as in a CLTU. For other numbers of octets the call fails with EmptyData or LongCltu.
-/// The returned length is 0 in these cases. Otherwise, if the buffer is too short, the call fails with NoRoom and
-/// returns the length that is needed. If the call fails, the buffer stays as it was.
+/// `given` has 1 to 1,029 octets, as many as a CLTU can carry. For other numbers of octets the call fails with
+/// EmptyData or LongCltu, and the returned length is 0. Otherwise, if the buffer is too short, the call fails with
+/// NoRoom and returns the length that is needed. If the call fails, the buffer stays as it was.
 #[unsafe(no_mangle)]
 pub extern "C" fn tcrx_randomise_at(given: &[u8], octets: &mut [u8]) -> WrittenRecord
     ensures written { IfNone (cltu_fault_of given.now) (length given.now ≤ length octets.old → result ≡ taken (length given.now)) }

@@ -56,10 +56,10 @@ fn clcw(channel: &FixedChannel, no_rf: u8, no_bit_lock: u8) -> ClcwRecord
     }
 }
 
-/// Returns the CLCW of the channel, with the two flags of the link, 0 or 1 (CCSDS 232.0-B, 4.2).
+/// Returns the CLCW of the channel, with the two flags of the link (CCSDS 232.0-B, 4.2). Each flag is 0 or 1.
 ///
-/// The call fails with NoChannel if the seat holds no channel, and with BadFlag for another flag. The word then is 0.
-/// The channel stays as it was.
+/// The call fails with NoChannel if the seat holds no channel, and with BadFlag for another flag. If it fails, the word
+/// is 0. The channel stays as it was.
 #[unsafe(no_mangle)]
 pub extern "C" fn tcrx_channel_clcw_at(seat: &mut Seat, no_rf: u8, no_bit_lock: u8) -> ClcwRecord
     ensures word { IfSome seat.old.place.channel (λ h. IfOk (link_of no_rf no_bit_lock) (λ link. result ≡ record { status = code_of Status.Done; word = clcw_within (limit_of h.limits) h.settings h.journal link })) }
@@ -168,8 +168,8 @@ pub extern "C" fn tcrx_channel_units_at(seat: &mut Seat, map: u8) -> CountRecord
     }
 }
 
-/// Returns the number of frames, releases and takes so far, or 2^64 - 1 if there were more. The call fails with
-/// NoChannel if the seat holds no channel. The channel stays as it was.
+/// Returns the number of frames, releases and takes so far, or 2^64 - 1 if there were more than that. The call fails
+/// with NoChannel if the seat holds no channel. The channel stays as it was.
 #[unsafe(no_mangle)]
 pub extern "C" fn tcrx_channel_events_at(seat: &mut Seat) -> CountRecord
     ensures count { IfSome seat.old.place.channel (λ h. result ≡ count_record (min (length h.journal) (2 ^ 64 - 1))) }

@@ -1,4 +1,4 @@
-//! The receiving end of CLTUs, as a record of numbers that the caller keeps, and a buffer of the caller's.
+//! The receiving end of CLTUs. The caller keeps it as a record of numbers and a buffer.
 
 ghost use Rattle.std.specs.Prelude.{◌≡◌, ◌<◌, ◌≤◌, ◌+◌, ◌-◌, ◌∷◌, [], ℕ, Option, Ok, Err, Some, None, length, take, IfOk, IfErr, MatchResult, if◌then◌else◌};
 ghost use Rattle.tc_cltu.specs.Cltu.{most_octets};
@@ -12,13 +12,13 @@ use crate::farm::flag;
 use tc_c_base::{Status, code};
 use tc_cltu::{Blocks, Fate, Judged, MOST_OCTETS, Mode, begins, judge};
 
-/// A decoder of CLTUs, apart from the octets that it holds, which are in a buffer. Flags are 0 or 1.
+/// A decoder of CLTUs without the octets that it holds, which are in a buffer. Flags are 0 or 1.
 #[repr(C)]
 #[derive(Clone, Copy)]
 pub struct DecoderRecord {
     /// Whether one wrong bit of a code block is corrected. If not, wrong bits are only detected.
     pub correct: u8,
-    /// Whether a start sequence has come, and code blocks are decoded.
+    /// Whether a start sequence has come, so that code blocks are being decoded.
     pub decoding: u8,
     /// The last octet so far, while a start sequence is looked for.
     pub last: u8,
@@ -49,14 +49,16 @@ pub struct DecodedRecord {
     pub overlong: u64,
 }
 
-/// Takes the next octets of a stream (CCSDS 231.0-B), as the `Decoder` of tc_cltu does: all of them, or those up to the
-/// first octet that ends a candidate frame, that octet included. In the record of a new decoder each field is zero,
-/// except its mode.
+/// Takes the next octets of a stream (CCSDS 231.0-B), as the `Decoder` of tc_cltu does. The call takes all octets, or
+/// those up to and including the first one that ends a candidate frame. In the record of a new decoder each field
+/// except `correct` is zero.
 ///
-/// The buffer has 1,037 octets: the most that a CLTU carries, and one code block. Its octets belong to the decoder
-/// until a candidate frame has ended. The call fails with BadFlag for a flag that is neither 0 nor 1, with BadDecoder
-/// for another record that no decoder has, and with NoRoom for a shorter buffer. The record and the buffer then stay as
-/// they were.
+/// The buffer has 1,037 octets, for the most that a CLTU carries and one code block. Its octets belong to the decoder
+/// until a candidate frame has ended.
+///
+/// The call fails with BadFlag for a flag that is neither 0 nor 1. It fails with BadDecoder if the record is otherwise
+/// one that no decoder has, and with NoRoom for a shorter buffer. If it fails, the record and the buffer stay as they
+/// were.
 #[unsafe(no_mangle)]
 pub extern "C" fn tcrx_cltu_octets_at(
     decoder: DecoderRecord,
@@ -81,12 +83,11 @@ pub extern "C" fn tcrx_cltu_octets_at(
     }
 }
 
-/// Makes a decoder look for a start sequence anew, as after a loss of bit lock (CCSDS 231.0-B). Code blocks that were
-/// taken since the last start sequence end no candidate frame. Returns the decoder after that, with zeros in all other
-/// fields.
+/// Makes a decoder look for a start sequence anew, as after a loss of bit lock (CCSDS 231.0-B). The code blocks since
+/// the last start sequence then end no candidate frame. Returns the decoder after that, with zeros in all other fields.
 ///
-/// The call fails with BadFlag for a flag that is neither 0 nor 1, and with BadDecoder for another record that no
-/// decoder has.
+/// The call fails with BadFlag for a flag that is neither 0 nor 1. It fails with BadDecoder if the record is otherwise
+/// one that no decoder has.
 #[unsafe(no_mangle)]
 pub extern "C" fn tcrx_cltu_search(decoder: DecoderRecord) -> DecodedRecord
     ensures searching { IfOk (decoder_given decoder decoder_room) (λ mode. result ≡ none_taken Status.Done (searching decoder)) }
@@ -112,7 +113,7 @@ fn nothing_taken(status: Status, decoder: DecoderRecord) -> DecodedRecord
     }
 }
 
-// Returns the decoder that looks for a start sequence, before its first octet.
+// Returns the decoder when it begins to look for a start sequence.
 fn searching(decoder: DecoderRecord) -> DecoderRecord
     ensures { result ≡ searching decoder }
 {
@@ -125,7 +126,7 @@ fn searching(decoder: DecoderRecord) -> DecoderRecord
     }
 }
 
-// Takes octets up to the first that ends a candidate frame, that octet included, or all of them.
+// Takes all octets, or those up to and including the first one that ends a candidate frame.
 fn take_octets(mode: Mode, decoder: DecoderRecord, octets: &[u8], frame: &mut [u8]) -> DecodedRecord
     requires count { decoder.count < 8 }
     requires carried { decoder.carried ≤ most_octets }
@@ -186,13 +187,14 @@ fn take_octets(mode: Mode, decoder: DecoderRecord, octets: &[u8], frame: &mut [u
 struct Taken {
     // the decoder after the octets
     decoder: DecoderRecord,
-    // the outcome for the code block that they ended, if any
+    // the fate of the code block that the octets ended, if they ended one
     fate: Option<Fate>,
-    // whether they ended a candidate frame
+    // whether the octets ended a candidate frame
     ended: bool,
 }
 
-// Takes the first octets, and returns how many it took: eight if a whole code block begins with them, otherwise one.
+// Takes eight octets if a whole code block begins with them, otherwise one octet. Returns the number of octets with the
+// outcome.
 #[inline(always)]
 fn take_front(mode: Mode, decoder: DecoderRecord, octets: &[u8], frame: &mut [u8]) -> (Taken, usize)
     requires some { 0 < length octets.now }
@@ -259,7 +261,7 @@ fn take_octet(mode: Mode, decoder: DecoderRecord, octet: u8, frame: &mut [u8]) -
     }
 }
 
-// Returns the mode in which the decoder takes code blocks.
+// Returns the mode in which the decoder takes code blocks, or the first reason why no decoder has this record.
 fn read_decoder(decoder: DecoderRecord, room: usize) -> Result<Mode, Status>
     ensures mode { MatchResult result (λ mode. decoder_given decoder room ≡ Ok mode) (λ fault. decoder_given decoder room ≡ Err fault) }
     ensures count { IfOk result (λ mode. decoder.count < 8) }
@@ -278,7 +280,7 @@ fn read_decoder(decoder: DecoderRecord, room: usize) -> Result<Mode, Status>
     Ok(if correct { Mode::Correct } else { Mode::Detect })
 }
 
-// Takes an octet while a start sequence is looked for.
+// Takes an octet of a decoder that looks for a start sequence.
 fn search(mode: Mode, decoder: DecoderRecord, octet: u8) -> DecoderRecord
     ensures { result ≡ (if is_start mode decoder.last octet then record decoder { decoding = 1; count = 0; carried = 0 } else record decoder { last = octet }) }
 {

@@ -21,7 +21,7 @@ pub struct FarmRecord {
     pub vr: u8,
     /// The FARM-B counter, 0 to 3.
     pub farm_b: u8,
-    /// The Lockout flag. It is 0 or 1, as the two flags after it are.
+    /// The Lockout flag. It is 0 or 1, and so are the two flags after it.
     pub lockout: u8,
     pub wait: u8,
     pub retransmit: u8,
@@ -47,7 +47,7 @@ pub struct StepAnswer {
     pub accepted: u8,
 }
 
-/// Starts FARM-1 in S1, with every flag and the FARM-B counter at 0, and with this first V(R) (CCSDS 232.1-B, 6.1).
+/// Starts FARM-1 in S1 with this first V(R). Every flag and the FARM-B counter are 0 (CCSDS 232.1-B, 6.1).
 ///
 /// The width is even and 2 to 254. For another width the call fails with BadWidth, and each number of the record is 0.
 #[unsafe(no_mangle)]
@@ -88,9 +88,9 @@ pub(crate) fn no_farm(fault: Status) -> FarmAnswer
 /// of an AD frame or the new V(R) of a Set V(R), and has no meaning for other arrivals. `room` is 1 if the buffer has
 /// room for an AD frame, otherwise 0.
 ///
-/// The call fails if no FARM-1 can have this record, if `arrival` or `room` has another value, and if the table has no
-/// entry for the arrival. The table has none for an expected AD frame that comes in S2 with `room` 1. Each of these
-/// cases has its own status. The record then stays as it was.
+/// The call fails if no FARM-1 has this record, if `arrival` or `room` has another value, or if the table has no entry
+/// for the arrival. The only arrival without an entry is an expected AD frame that comes in S2 with `room` 1. Each of
+/// these faults has its own status. If the call fails, the record stays as it was.
 #[unsafe(no_mangle)]
 pub extern "C" fn tcrx_farm_step(
     before: FarmRecord,
@@ -226,7 +226,8 @@ fn arrival(number: u8, value: u8, room: u8) -> Result<Arrival, Status>
     Ok(Arrival::Frame { kind, room })
 }
 
-// Returns whether the table has an entry. It has none for an expected AD frame that comes in S2 and finds room.
+// Returns whether the table has an entry for the arrival. An expected AD frame that comes in S2 and finds room has
+// none.
 fn has_entry(window: &Window, report: &Report, arrival: Arrival) -> bool
     ensures { result ≡ is_some (entry (row_of window.now report.now.vr arrival) report.now) }
 {

@@ -55,8 +55,8 @@ pub struct KindRecord {
 /// Reads the frame at the front of the octets (CCSDS 232.0-B, 4.1). Octets that follow the frame are fill, whatever
 /// they are.
 ///
-/// If the octets begin with no frame, the call fails with the first fault of the octets, which is Short, Version,
-/// Spare, LengthSmall or Truncated. Each other number of the record is then 0.
+/// If the octets begin with no frame, the call fails with their first fault, which is Short, Version, Spare,
+/// LengthSmall or Truncated. Each other number of the record is then 0.
 #[unsafe(no_mangle)]
 pub extern "C" fn tcrx_read_frame_at(octets: &[u8]) -> FrameRecord
     ensures frame { IfNone (fault_of octets.now) ((frame : List ℕ) × BeginsWith octets.now frame × (result ≡ frame_record frame)) }
@@ -155,7 +155,7 @@ pub extern "C" fn tcrx_write_frame_at(
     }
 }
 
-// Returns the octets of the header before this data field.
+// Returns the octets of the header of a frame with this data field.
 fn front(header: HeaderRecord, field: &[u8]) -> Result<[u8; 5], Status>
     ensures five { IfOk result (λ front. length front ≡ 5) }
     ensures frame { IfOk result (λ front. IfOk (header_to_write header field.now) (λ h. IsFrame (front ++ field.now) h field.now)) }

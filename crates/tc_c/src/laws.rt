@@ -61,9 +61,9 @@ pub fn each_status_has_a_number()
     ensures { (st : Status) → status_of (code_of st) ≡ Some st }
 {}
 
-/// No two faults of one kind have the same status. The kinds are the faults of octets with which no frame begins, of
-/// octets that are for none of the channels, of frames that aren't written, of frame error control fields, of settings,
-/// and of settings with limits.
+/// No two faults of one kind have the same status. There is a kind for octets that begin with no frame, for octets that
+/// are for none of the channels, and for frames that aren't written. There is one for frame error control fields, one
+/// for settings, and one for settings with limits.
 pub fn each_fault_has_a_status_of_its_own()
     ensures frames { (one other : FrameFault) → frame_status one ≡ frame_status other → one ≡ other }
     ensures locations { (one other : LocateFault) → locate_status one ≡ locate_status other → one ≡ other }
@@ -73,9 +73,10 @@ pub fn each_fault_has_a_status_of_its_own()
     ensures limits { (one other : LimitsFault) → limits_status one ≡ limits_status other → one ≡ other }
 {}
 
-/// The numbers of statuses are those of `dist/tcrx.h`, in its order. First come the statuses for frames that are read,
-/// then for octets that are written, then for FARM-1, CLCWs, packets and buffers, then for channels, their settings and
-/// their limits, and then for CLTUs and telemetry frames. The last ones are for sessions, in `dist/tcrx_lines.h`.
+/// The numbers of statuses are those of `dist/tcrx.h`, in its order. First come the statuses for frames that are read, and
+/// for octets that are written. Then come those for FARM-1, CLCWs, packets and buffers, those for channels, their
+/// settings and their limits, and those for CLTUs and telemetry frames. The last ones are for sessions, in
+/// `dist/tcrx_lines.h`.
 pub fn statuses_have_these_numbers()
     ensures frames { map code_of (st.Done ∷ st.Short ∷ st.Version ∷ st.Spare ∷ st.LengthSmall ∷ st.Truncated ∷ st.Fill ∷ st.NoFecf ∷ st.WrongFecf ∷ []) ≡ 0 ∷ 1 ∷ 2 ∷ 3 ∷ 4 ∷ 5 ∷ 6 ∷ 7 ∷ 8 ∷ [] }
     ensures writing { map code_of (st.BadField ∷ st.EmptyData ∷ st.TooLong ∷ st.NoMemory ∷ st.LongPacket ∷ st.LongUnit ∷ st.LongFrame ∷ st.BadSize ∷ st.NoSegment ∷ st.BadCommand ∷ []) ≡ 10 ∷ 11 ∷ 12 ∷ 13 ∷ 14 ∷ 15 ∷ 16 ∷ 17 ∷ 18 ∷ 19 ∷ [] }
@@ -87,9 +88,8 @@ pub fn statuses_have_these_numbers()
     ensures sessions { map code_of (st.NoSession ∷ st.SessionInUse ∷ st.BadScid ∷ st.BadLine ∷ st.Waiting ∷ st.Lost ∷ st.Over ∷ []) ≡ 100 ∷ 101 ∷ 102 ∷ 103 ∷ 104 ∷ 105 ∷ 106 ∷ [] }
 {}
 
-/// FARM-1 sets Retransmit when it has no room for a frame, and Wait stays set together with Retransmit until there is
-/// room. So Wait is never set without Retransmit in S2. This also holds in S3, into which a frame outside the window
-/// leads.
+/// In S2 and S3, Wait is never set without Retransmit. FARM-1 sets both when it has no room for a frame, and both stay
+/// set until there is room. A frame outside the window leads from S2 to S3, with both flags as they were.
 pub fn no_farm_waits_without_retransmit()
     ensures wait { farm_of (record { width = 10; state = 2; vr = 0; farm_b = 0; lockout = 0; wait = 1; retransmit = 0 }) ≡ Err st.FlagsDisagree }
     ensures lockout { farm_of (record { width = 10; state = 3; vr = 0; farm_b = 0; lockout = 1; wait = 1; retransmit = 0 }) ≡ Err st.FlagsDisagree }

@@ -11,8 +11,8 @@ use std::ptr;
 use tc_c_base::Parts;
 use tc_fixed::FixedChannel;
 
-/// The place of a channel, or the place of no channel. C passes it on, and never reads or copies it. It is dropped only
-/// if it has no channel.
+/// The place of a channel, or the place of no channel. The code in C only passes it on, and never reads or copies it.
+/// It is dropped only if it has no channel.
 #[repr(C)]
 #[derive(Drop)]
 pub struct Place {
@@ -49,7 +49,7 @@ impl Place {
         }
     }
 
-    /// Returns the parts of the channel that lies here.
+    /// Returns the parts of the channel at this place.
     pub(crate) fn into_parts(self) -> Parts<FixedChannel, Global>
         requires { IsSome self.channel }
         ensures { self.channel ≡ Some result.value }
@@ -61,7 +61,7 @@ impl Place {
         }
     }
 
-    /// Lends the channel that lies here.
+    /// Lends the channel at this place.
     pub(crate) fn lend(&mut self) -> &mut FixedChannel
         requires { IsSome self.old.channel }
         ensures* writes_back { sem 𝓛 (LendsOfPlace self.entry result) }

@@ -1,4 +1,4 @@
-//! The channels of a spacecraft in the caller's memory, and finding the one that a frame is for.
+//! The channels of a spacecraft in the caller's memory, and the search for the one that a frame is for.
 
 ghost use Rattle.std.specs.Prelude.{◌≡◌, ◌<◌, ℕ, List, true, false, length, Some, None, IfSome, IfNone, IfOk, MatchOption, MatchResult, option_map};
 ghost use Rattle.tc_link.specs.Frame.{IsWhole, BeginsWith, header_of, fault_of};
@@ -39,8 +39,8 @@ pub struct RackReplyRecord {
     pub vcid: u8,
 }
 
-/// The outcome for the frame at the front of a candidate, and a flag for the octets behind it. Flags are 0 or 1. If the
-/// call fails, each number is 0, except that the last two are set if a frame was found.
+/// The outcome for the frame at the front of a candidate. Flags are 0 or 1. If the call fails, each number is 0, except
+/// `more` and `length`, which are set if a frame was found.
 #[repr(C)]
 #[derive(Clone, Copy)]
 pub struct CandidateReplyRecord {
@@ -52,7 +52,7 @@ pub struct CandidateReplyRecord {
     pub accepted: u8,
     pub rest: u8,
     pub vcid: u8,
-    /// Whether more octets follow the frame than can be fill.
+    /// Whether more than fill follows the frame.
     pub more: u8,
     /// The number of octets in the frame, with its frame error control field.
     pub length: u16,
@@ -124,8 +124,8 @@ fn located(seats: &mut [Seat], scid: u16, octets: &[u8]) -> Result<(usize, u8), 
     }
 }
 
-// Brings the frame at the front of the octets to the channel in a seat, which has this id. It does so by the call for
-// one channel, so that the library has the code for a frame only once.
+// Brings the frame at the front of the octets to the channel in a seat, whose id is `vcid`. It uses the call for one
+// channel, so that the library has the code for a frame only once.
 fn answer(seat: &mut Seat, vcid: u8, octets: &[u8]) -> RackReplyRecord
     ensures answer { IfSome seat.old.place.channel (λ h. IfNone (fault_of octets.now) ((frame : List ℕ) × BeginsWith octets.now frame × (result ≡ rack_reply vcid (frame_reply_within (limit_of h.limits) h.settings h.journal frame)) × (seat.new.place.channel ≡ Some (with_limited_event h (Event.Frame frame))))) }
 {
@@ -145,7 +145,7 @@ fn answer(seat: &mut Seat, vcid: u8, octets: &[u8]) -> RackReplyRecord
 fn bring(seats: &mut [Seat], scid: u16, octets: &[u8]) -> RackReplyRecord
     ensures answer { IsRackReplied (channels_in seats.old) scid octets.now result (channels_in seats.new) }
 {
-    // The frame that the channel takes in is the one that was located.
+    // `answer` takes in the frame that was located.
     each_input_begins_with_one_frame_at_most();
     match located(seats, scid, octets) {
         Ok((place, vcid)) => answer(&mut seats[place], vcid, octets),
@@ -153,7 +153,7 @@ fn bring(seats: &mut [Seat], scid: u16, octets: &[u8]) -> RackReplyRecord
     }
 }
 
-// Brings a frame that ends with a frame error control field to its channel, without the field.
+// Checks the frame error control field with which a frame ends, and brings the frame without it to its channel.
 fn bring_checked(seats: &mut [Seat], scid: u16, octets: &[u8]) -> RackReplyRecord
     ensures right { IfNone (taking_fault_of octets.now) ((frame : List ℕ) × IsWhole frame × (octets.now ≡ frame_with_field frame) × IsRackReplied (channels_in seats.old) scid frame result (channels_in seats.new)) }
     ensures wrong { IfSome (taking_fault_of octets.now) (λ fault. (result ≡ no_rack_reply (field_status fault)) × (channels_in seats.new ≡ channels_in seats.old)) }
@@ -167,15 +167,15 @@ fn bring_checked(seats: &mut [Seat], scid: u16, octets: &[u8]) -> RackReplyRecor
     bring(seats, scid, plain)
 }
 
-/// Brings the frame at the front of the octets to the first channel with its virtual channel id among those that the
-/// seats hold, if the frame is for the spacecraft (CCSDS 232.0-B, 232.1-B). If `fecf` is 1, the octets must be one
-/// frame that ends with a frame error control field, which is checked first and removed. If `fecf` is 0, octets that
-/// follow the frame are fill.
+/// Brings the frame at the front of the octets to its channel, if the frame is for the spacecraft (CCSDS 232.0-B,
+/// 232.1-B). The frame's channel is the first one in the seats with the frame's virtual channel id. If `fecf` is 1, the
+/// octets must be one frame that ends with a frame error control field. That field is checked first and removed. If
+/// `fecf` is 0, octets that follow the frame are fill.
 ///
 /// The call fails with BadFlag for another `fecf`. Then, if `fecf` is 1, it fails as `tcrx_check_fecf_at` does. It
-/// fails with the first fault of the octets if no frame begins with them, with OtherSpacecraft if the frame is for
-/// another spacecraft, and with UnknownChannel if it is for none of the channels. Each channel then stays as it was.
-/// Only the calls that create channels request memory.
+/// fails with the first fault of the octets if they begin with no frame, with OtherSpacecraft if the frame is for
+/// another spacecraft, and with UnknownChannel if no channel has its id. Each channel then stays as it was. Only the
+/// calls that create channels request memory.
 #[unsafe(no_mangle)]
 pub extern "C" fn tcrx_rack_frame_at(
     seats: &mut [Seat],
@@ -237,13 +237,12 @@ fn bring_candidate(seats: &mut [Seat], scid: u16, ends: bool, octets: &[u8]) -> 
     }
 }
 
-/// Brings the frame at the front of a candidate, which is the octets that a CLTU carried, to the first channel with its
-/// virtual channel id, as [`tcrx_rack_frame_at`] does. First the length field is read, which gives the length of the
-/// frame. The octets that follow are fill, or the next frame (frame delimiting and fill removal, and then frame
-/// validation: CCSDS 232.0-B).
+/// Brings the frame at the front of a candidate to its channel, as [`tcrx_rack_frame_at`] does. A candidate is the
+/// octets that a CLTU carried. The length field says where the frame ends, and the octets after it are fill, or the
+/// next frame (frame delimiting and fill removal, and then frame validation: CCSDS 232.0-B).
 ///
-/// The call fails with BadFlag for another `fecf`, then with the first fault of the octets if no frame begins with
-/// them, and then as `tcrx_rack_frame_at` does for the frame. Each channel then stays as it was.
+/// The call fails with BadFlag for another `fecf`, then with the first fault of the octets if they begin with no frame.
+/// Then it fails as `tcrx_rack_frame_at` does for the frame. Each channel then stays as it was.
 #[unsafe(no_mangle)]
 pub extern "C" fn tcrx_rack_candidate_at(
     seats: &mut [Seat],
@@ -261,8 +260,8 @@ pub extern "C" fn tcrx_rack_candidate_at(
     }
 }
 
-/// Returns the place of the first channel with this virtual channel id among those that the seats hold. The call fails
-/// with UnknownChannel if none has the id. Each channel stays as it was.
+/// Returns the place of the first channel in the seats with this virtual channel id. The call fails with UnknownChannel
+/// if no channel has the id. Each channel stays as it was.
 #[unsafe(no_mangle)]
 pub extern "C" fn tcrx_rack_find_at(seats: &mut [Seat], vcid: u8) -> PlaceRecord
     ensures found { result.status ≡ 0 → (h : LimitedHistory) × IsFirstWithVcid (channels_in seats.old) vcid result.place h }

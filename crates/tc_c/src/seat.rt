@@ -1,5 +1,4 @@
-//! A seat, which is the part of C's memory that holds a channel, and the functions that put a channel there, take it
-//! out or free it.
+//! A seat, which is the part of C's memory that holds a channel.
 
 ghost use Rattle.std.specs.Prelude.{◌≡◌, Some, None, is_some, option_map};
 
@@ -9,7 +8,7 @@ use std::mem::replace;
 use tc_c_base::Parts;
 use tc_fixed::FixedChannel;
 
-/// A channel that C holds, or none. A seat of zeros holds none.
+/// A channel that C holds, or none. A seat of zeros holds no channel.
 #[repr(C)]
 pub struct Seat {
     pub(crate) held: bool,

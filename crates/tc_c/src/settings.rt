@@ -16,8 +16,8 @@ use tc_c_base::{Status, code};
 use tc_channel::{LentSettings, MapSetting, QueueSetting};
 use tc_fixed::{FixedChannel, LentLimits, MapLimit};
 
-/// The settings from which a channel is created, apart from its queues. Those are given as lists of `QueueSetting` and
-/// `MapSetting`.
+/// The settings from which a channel is created, without its queues. The queues are given as lists of `QueueSetting`
+/// and `MapSetting`.
 #[repr(C)]
 #[derive(Clone, Copy)]
 pub struct SettingsRecord {
@@ -33,7 +33,7 @@ pub struct SettingsRecord {
     pub segmented: u8,
 }
 
-/// Returns the settings that the records stand for, with the lists lent.
+/// Returns the settings that the records stand for. The settings borrow both lists.
 fn lent<'a>(
     given: SettingsRecord,
     queues: &'a [QueueSetting],
@@ -139,13 +139,13 @@ fn channel_within(
     }
 }
 
-/// Creates a channel with these settings, without limits by MAP, in a seat that holds none. The channel stays there
-/// until it is freed. All memory that it ever has is requested here: the bytes that `tcrx_storage_at` returns, the
-/// channel's own block, and a copy of each list.
+/// Creates a channel with these settings, without limits by MAP, in a seat that holds no channel. The channel stays
+/// there until it is freed. All memory that it ever has is requested here: as many bytes as `tcrx_storage_at` returns,
+/// the channel's own block, and a copy of each list.
 ///
 /// The call fails with InUse if the seat holds a channel, with BadFlag for a flag that is neither 0 nor 1, and with the
-/// status of the first fault of the settings. It fails with NoMemory if the settings have no fault and there is no
-/// memory. The seat then stays as it was.
+/// status of the first fault of the settings. It fails with NoMemory if the settings have no fault and there is too
+/// little memory. The seat then stays as it was.
 #[unsafe(no_mangle)]
 pub extern "C" fn tcrx_channel_new_at(
     alloc: Global,
@@ -171,12 +171,12 @@ pub extern "C" fn tcrx_channel_new_at(
     }
 }
 
-/// Creates a channel with these settings within limits by MAP, so that it requests less memory: the bytes that
-/// `tcrx_storage_with_limits_at` returns. A unit with more octets than its MAP's limit is dropped when it ends, and no
-/// reply reports that.
+/// Creates a channel with these settings within limits by MAP. The channel requests less memory than one without
+/// limits: as many bytes as `tcrx_storage_with_limits_at` returns. A unit with more octets than its MAP's limit is
+/// dropped when it ends, and no reply reports that.
 ///
-/// The call fails as `tcrx_channel_new_at` does. After the faults of the settings come those of the limits, each with
-/// its status.
+/// The call fails as `tcrx_channel_new_at` does. The faults of the limits come after those of the settings, and each
+/// has its own status.
 #[unsafe(no_mangle)]
 pub extern "C" fn tcrx_channel_new_with_limits_at(
     alloc: Global,

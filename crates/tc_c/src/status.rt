@@ -10,7 +10,7 @@ use tc_fecf::FieldFault;
 use tc_fixed::LimitsFault;
 use tc_link::{FrameFault, LocateFault, WriteFault};
 
-/// Returns the status for octets with which no frame begins.
+/// Returns the status for octets that begin with no frame.
 pub(crate) fn frame_fault(fault: FrameFault) -> Status
     ensures status { result ≡ frame_status fault }
     ensures refusal { 0 < code_of result }

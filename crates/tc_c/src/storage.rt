@@ -46,7 +46,7 @@ fn limited_storage(
 /// copies of both lists aren't counted. No other call of the channel requests memory.
 ///
 /// The call fails with BadFlag for a flag that is neither 0 nor 1, and with the status of the first fault of the
-/// settings. The count then is 0. The call takes no memory.
+/// settings. If it fails, the count is 0. The call requests no memory.
 #[unsafe(no_mangle)]
 pub extern "C" fn tcrx_storage_at(
     given: SettingsRecord,
@@ -64,7 +64,7 @@ pub extern "C" fn tcrx_storage_at(
 
 /// Returns the number of bytes that `tcrx_channel_new_with_limits_at` requests for these settings and limits. The
 /// channel's own block and the copies of the lists and of the limits aren't counted. The call fails as
-/// `tcrx_storage_at` does. After the faults of the settings come those of the limits.
+/// `tcrx_storage_at` does. The faults of the limits come after those of the settings.
 #[unsafe(no_mangle)]
 pub extern "C" fn tcrx_storage_with_limits_at(
     given: SettingsRecord,

@@ -14,8 +14,8 @@ use tc_c_base::{Status, WrittenRecord, no_room, not_written, written};
 use tc_channel::Tick;
 use tc_fixed::{FixedChannel, NoUnitTaken, NothingTaken};
 
-/// Does the work of [`tcrx_channel_take_at`], which runs this function once with the channel of its seat and with a
-/// counter that counts nothing. A step is a queue that is looked at.
+/// Does the work of [`tcrx_channel_take_at`]. That call runs this function once, with the channel of its seat and a
+/// counter that counts nothing. A step is one queue that is looked at.
 pub fn take_with_steps<C: Tick>(
     channel: &mut FixedChannel,
     apid: u16,
@@ -39,9 +39,9 @@ pub fn take_with_steps<C: Tick>(
 
 /// Takes the oldest packet of the queue with this APID, and copies it to the front of a buffer.
 ///
-/// The call fails with NoChannel if the seat holds no channel, with NoQueue if no queue has the APID, with Empty if the
-/// queue is empty, and with NoRoom if the buffer is too short, with the length that is needed. The buffer and the
-/// channel then stay as they were.
+/// The call fails with NoChannel if the seat holds no channel, with NoQueue if no queue has the APID, and with Empty if
+/// the queue is empty. It fails with NoRoom if the buffer is too short, and returns the length that is needed. The
+/// buffer and the channel then stay as they were.
 #[unsafe(no_mangle)]
 pub extern "C" fn tcrx_channel_take_at(
     seat: &mut Seat,
@@ -61,8 +61,8 @@ pub extern "C" fn tcrx_channel_take_at(
     }
 }
 
-/// Does the work of [`tcrx_channel_take_unit_at`], which runs this function once with the channel of its seat and with
-/// a counter that counts nothing. A step is a queue that is looked at.
+/// Does the work of [`tcrx_channel_take_unit_at`]. That call runs this function once, with the channel of its seat and
+/// a counter that counts nothing. A step is one queue that is looked at.
 pub fn take_unit_with_steps<C: Tick>(
     channel: &mut FixedChannel,
     map: u8,
@@ -86,9 +86,9 @@ pub fn take_unit_with_steps<C: Tick>(
 
 /// Takes the oldest unit of the queue of this chosen MAP, and copies it to the front of a buffer.
 ///
-/// The call fails with NoChannel if the seat holds no channel, with NoMap if the MAP isn't chosen, with Empty if the
-/// queue is empty, and with NoRoom if the buffer is too short, with the length that is needed. The buffer and the
-/// channel then stay as they were.
+/// The call fails with NoChannel if the seat holds no channel, with NoMap if the MAP isn't chosen, and with Empty if
+/// the queue is empty. It fails with NoRoom if the buffer is too short, and returns the length that is needed. The
+/// buffer and the channel then stay as they were.
 #[unsafe(no_mangle)]
 pub extern "C" fn tcrx_channel_take_unit_at(
     seat: &mut Seat,

@@ -10,8 +10,7 @@ use tc_c_base::{Status, WrittenRecord, code, no_room, not_written, written};
 use tc_fecf::checksum;
 use tc_tm::{ErrorControl, TmFields, TmHeader, TmReadFault, read_tm};
 
-/// The fields of a telemetry frame's primary header that name its spacecraft, its channel and its place among their
-/// frames (CCSDS 132.0-B, 4.1.2).
+/// The ids and the frame counts in a telemetry frame's primary header (CCSDS 132.0-B, 4.1.2).
 #[repr(C)]
 #[derive(Clone, Copy)]
 pub struct TmHeaderRecord {
@@ -30,7 +29,7 @@ pub struct TmHeaderRecord {
 #[derive(Clone, Copy)]
 pub struct TmFieldsRecord {
     pub status: u32,
-    /// The operational control field as a word, whose first bit is the most significant one: a CLCW.
+    /// The operational control field, which is a CLCW, as a word whose first bit is the most significant one.
     pub clcw: u32,
     pub header: TmHeaderRecord,
     /// The first header pointer. The value 2,046 means that all data are idle, and 2,047 means that no packet begins.
@@ -64,7 +63,7 @@ pub extern "C" fn tcrx_write_tm_at(
     }
 }
 
-// Returns whether the frame is written with a frame error control field, if it can be written.
+// Returns whether the frame is written with a frame error control field, or the first reason why it can't be written.
 fn allowed(header: TmHeaderRecord, fecf: u8, size: usize) -> Result<ErrorControl, Status>
     ensures error { MatchResult result (λ error. tm_to_write header fecf size ≡ Ok error) (λ fault. tm_to_write header fecf size ≡ Err fault) }
     ensures scid { IfOk result (λ error. header.scid < 1024) }
@@ -160,13 +159,13 @@ fn primary_header(header: TmHeaderRecord) -> [u8; 6]
     [a, b, header.master_count, header.channel_count, 0x1f, 0xfe]
 }
 
-/// Reads octets that are one telemetry frame, whose length the physical channel has fixed (CCSDS 132.0-B, 4.1). A
-/// secondary header and packets aren't looked at.
+/// Reads octets that are one telemetry frame (CCSDS 132.0-B, 4.1). All octets belong to the frame, because the physical
+/// channel fixes the length of frames. A secondary header and packets aren't looked at.
 ///
-/// The call fails with BadFlag if the flag for the frame error control field is neither 0 nor 1. It fails with
-/// BadLength for fewer than 11 octets, or 13 with that field, and for more than 2,048. It fails with Version for
-/// another version, with NoControl for a frame without an operational control field, and with WrongFecf for a wrong
-/// frame error control field. Each other number of the record is then 0.
+/// The call fails with BadFlag if `fecf` is neither 0 nor 1. It fails with BadLength for fewer than 11 octets, or 13
+/// with that field, and for more than 2,048. It fails with Version for another version, with NoControl for a frame
+/// without an operational control field, and with WrongFecf for a wrong frame error control field. If it fails, each
+/// other number of the record is 0.
 #[unsafe(no_mangle)]
 pub extern "C" fn tcrx_read_tm_at(fecf: u8, octets: &[u8]) -> TmFieldsRecord
     ensures fields { IfOk (tm_to_read fecf octets.now) (λ fields. result ≡ tm_record fields) }

@@ -63,7 +63,7 @@ pub extern "C" fn tcrx_write_packet_at(
     }
 }
 
-// Returns the octets of the header before this packet data field.
+// Returns the octets of the header of a packet with this packet data field.
 fn front(header: PacketHeaderRecord, field: &[u8]) -> Result<[u8; 6], Status>
     ensures six { IfOk result (λ front. length front ≡ 6) }
     ensures packet { IfOk result (λ front. IfOk (packet_to_write header field.now) (λ h. IsPacketOf (front ++ field.now) h field.now)) }
@@ -94,18 +94,18 @@ fn read_packet_header(header: PacketHeaderRecord) -> Result<PacketHeader, Status
     })
 }
 
-/// Writes the frame that carries the segment at this place of a unit, from 0 on, to the front of a buffer (CCSDS
-/// 232.0-B, 4.1.3.2.2).
+/// Writes the frame that carries segment `place` of a unit, counted from 0, to the front of a buffer (CCSDS 232.0-B,
+/// 4.1.3.2.2).
 ///
 /// Each segment carries `size` octets, 1 to 1,018, and the last one carries the octets that are left. The unit has 1 to
-/// 65,542 octets. The header is that of the first frame, and the N(S) of Type-AD frames counts up modulo 256 from
-/// there.
+/// 65,542 octets. The header is that of the unit's first frame. The N(S) of Type-AD frames counts up from there, modulo
+/// 256.
 ///
-/// The call fails with BadFlag for a flag that is neither 0 nor 1, with BadField for the header of a Type-C frame,
-/// which has no segment header, with BadField or BadMap for ids over their bounds, with BadSize for another size, with
-/// EmptyData or LongUnit for units of other lengths, and with NoSegment if the unit has no segment at the place. The
-/// returned length is 0 in these cases. Otherwise, if the buffer is too short, the call fails with NoRoom and returns
-/// the length that is needed. If the call fails, the buffer stays as it was.
+/// The call fails with BadFlag for a flag that is neither 0 nor 1. It fails with BadField for the header of a Type-C
+/// frame, because such a frame has no segment header. It fails with BadField or BadMap for ids over their bounds, with
+/// BadSize for another size, with EmptyData or LongUnit for units of other lengths, and with NoSegment if the unit has
+/// no segment `place`. The returned length is 0 in these cases. Otherwise, if the buffer is too short, the call fails
+/// with NoRoom and returns the length that is needed. If the call fails, the buffer stays as it was.
 #[unsafe(no_mangle)]
 pub extern "C" fn tcrx_write_segment_at(
     header: HeaderRecord,
@@ -170,8 +170,8 @@ fn header_at(
     Ok(later_header(&header, place as usize))
 }
 
-// Writes the frame whose data field is this segment to the front of a buffer. A buffer that is too short stays as it
-// was.
+// Writes the frame whose data field is this segment to the front of a buffer. If the buffer is too short, it stays as
+// it was.
 fn put_segment(header: &Header, segment: Segment, piece: &[u8], octets: &mut [u8]) -> WrittenRecord
     requires scid { header.now.scid < 1024 }
     requires vcid { header.now.vcid < 64 }
@@ -228,8 +228,8 @@ pub extern "C" fn tcrx_write_command_at(
     }
 }
 
-/// Writes a frame with its frame error control field to the front of a buffer (CCSDS 232.0-B, 4.1.4). The written frame
-/// has two octets more, which its length field counts.
+/// Adds a frame error control field to a frame, and writes the frame to the front of a buffer (CCSDS 232.0-B, 4.1.4).
+/// The written frame is two octets longer, and its length field counts them.
 ///
 /// The octets must be one frame of at most 1,022 octets, with nothing after it. For other octets the call fails with a
 /// status from Short to Truncated, with Fill or with LongFrame. The returned length is 0 in these cases. Otherwise, if
@@ -259,9 +259,9 @@ pub extern "C" fn tcrx_add_fecf_at(frame: &[u8], octets: &mut [u8]) -> WrittenRe
 /// a buffer (CCSDS 232.0-B, 4.1.4). The written frame is the only one from which `tcrx_add_fecf` makes these octets.
 ///
 /// The octets must be one frame of at least 8 octets, with nothing after it. For other octets the call fails with a
-/// status from Short to Truncated, with Fill or with NoFecf, and for a wrong field with WrongFecf. The returned length
-/// is 0 in these cases. Otherwise, if the buffer is too short, the call fails with NoRoom and returns the length that
-/// is needed. If the call fails, the buffer stays as it was.
+/// status from Short to Truncated, with Fill or with NoFecf. It fails with WrongFecf for a wrong field. The returned
+/// length is 0 in these cases. Otherwise, if the buffer is too short, the call fails with NoRoom and returns the length
+/// that is needed. If the call fails, the buffer stays as it was.
 #[unsafe(no_mangle)]
 pub extern "C" fn tcrx_check_fecf_at(frame: &[u8], octets: &mut [u8]) -> WrittenRecord
     ensures written { IfNone (taking_fault_of frame.now) (length frame.now ≤ length octets.old + 2 → result ≡ taken (length frame.now - 2)) }

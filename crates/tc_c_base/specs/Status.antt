@@ -3,11 +3,13 @@ use Rattle.std.specs.Prelude.{ℕ, ◌==◌, List, [], ◌∷◌, Option, Some, 
 use Rattle.tc_c_base.specs.declared.status.Status.{Status}
 use Rattle.tc_c_base.specs.declared.status.Status.TheVariants as st
 
--- The number of each status, and its text in ASCII. 0 means that the call is done. From 1 on, the octets begin with no
--- frame, or with none whose frame error control field is right. From 10 on, nothing is written. The next ranges are for
--- calls on FARM-1 (from 20 on), on CLCWs (30), on packets (40), and with buffers and pointers (50). From 60 on, no
--- channel is created from settings. From 70 on, a call on a channel fails. From 80 on, no channel is created with
--- limits. From 90 on, the statuses are for CLTUs and telemetry frames. From 100 on, they are for sessions of lines.
+-- The number of each status, and its text in ASCII. The number 0 means that the call is done. From 1 on, the octets
+-- begin with no frame, or they aren't one frame with a right frame error control field. From 10 on, nothing is written.
+-- The next ranges are for calls on FARM-1 (from 20 on), on CLCWs (30), on packets (40), and with buffers and pointers
+-- (50). From 60 on, no channel is created from settings. From 70 on, a call on a channel fails. From 80 on, no channel
+-- is created with limits. From 90 on, the statuses are for CLTUs and telemetry frames. From 100 on, they are for
+-- sessions of lines.
+-- lines.
 abbrev pub entry_of : Status → ℕ × List ℕ
 entry_of st.Done = (0, codes "done")
 entry_of st.Short = (1, codes "fewer than 5 octets")

@@ -10,8 +10,8 @@ use crate::status::{Status, code};
 #[derive(Clone, Copy)]
 pub struct WrittenRecord {
     pub status: u32,
-    /// The number of octets that stand at the front of the buffer, or the number that it would need if it is too short,
-    /// or 0 otherwise.
+    /// The number of octets that were written to the front of the buffer. If the buffer is too short, it is the number
+    /// that is needed. Otherwise it is 0.
     pub length: usize,
 }
 

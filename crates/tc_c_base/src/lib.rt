@@ -1,5 +1,5 @@
-//! What the libraries for C share: the statuses of calls with their numbers and texts, the record of a call that writes
-//! into the caller's buffer, and a box taken apart, so that C can hold it.
+//! Parts that the libraries for C share: the statuses of calls with their numbers and texts, the record of a call that
+//! writes into the caller's buffer, and the parts of a box, so that C can hold it.
 #![tactic(auto)]
 
 mod buffer;

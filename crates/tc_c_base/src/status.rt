@@ -3,10 +3,10 @@
 ghost use Rattle.std.specs.Prelude.{◌≡◌};
 ghost use Rattle.tc_c_base.specs.Status.{code_of, status_numbered, status_of, text_of};
 
-/// The outcome of a call: that it is done, or the first reason why it isn't.
+/// The outcome of a call: either `Done`, or the first reason why the call fails.
 ///
-/// The names of the statuses for octets that begin with no frame, and for a frame that isn't written, are those of the
-/// faults of tc_link.
+/// The statuses for octets that begin with no frame, and for a frame that isn't written, have the names of the faults
+/// of tc_link.
 #[derive(Clone, Copy, Debug, PartialEq, Eq)]
 pub enum Status {
     Done,
@@ -39,7 +39,7 @@ pub enum Status {
     NoClcw,
     NoPacket,
     NoRoom,
-    /// A null pointer. No call of this library returns this status, but the guards of the header do.
+    /// The fault of a null pointer. No call of this library returns this status, but the guards of the header do.
     Null,
     NoStatus,
     BadBuffer,
@@ -76,7 +76,7 @@ pub enum Status {
     Over,
 }
 
-/// Lists all statuses, each with its number and its text in ASCII, so that the list is written only once. The macro
+/// Lists all statuses, each with its number and its text in ASCII, so that they are written only once. The macro
 /// `$read` gets the value and the list, and reads one column of the list.
 macro_rules! each_status {
     ($read:ident of $value:expr) => {

@@ -1,4 +1,4 @@
--- The types, definitions and lemmas that most proofs speak of, imported from one file.
+-- Types, definitions and lemmas that most proofs use, imported from one file.
 pub use Rattle.std.proofs.BoxSteps.Form.{Bx, handle}
 pub use Rattle.std.proofs.Common.{IsSome, None, Option, Some, [], refl, ◌≡◌}
 pub use Rattle.tc_c_lines.specs.Place.{session_row}

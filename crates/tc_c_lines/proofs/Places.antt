@@ -1,4 +1,4 @@
--- A place with a session, and the parts of its box, own what the box owns.
+-- A place with a session owns the memory that a box owns, and so do the parts of a box.
 use Rattle.tc_c_lines.proofs.Names.{◌≡◌, refl, [], Option, Some, None, IsSome, impl, tnil, dnil, Slot, plain, Bx, session_row}
 use Rattle.std.specs.contracts.alloc.Global as Heap
 use Rattle.std.specs.contracts.impls.GlobalAllocator.TheImpl.{ghosts, dict}
@@ -21,7 +21,7 @@ FromParts = plain (λ _. Parts.the_row session_row Heap.the_row ghosts)
 abbrev pub FromPlace : Slot 0
 FromPlace = plain (λ _. Place.the_row)
 
--- what is there
+-- an option that isn't `None` has a value
 pub found : {X : Type 0} (o : Option X) → IsSome o → (x : X) × (o ≡ Some x)
 found (Some x) e = (x, refl)
 found None e = absurd cc

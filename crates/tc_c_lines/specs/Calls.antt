@@ -1,4 +1,4 @@
--- What the calls of a session answer.
+-- The results of the calls on a session.
 use Rattle.std.specs.Prelude.{◌≡◌, ◌⊎◌, ◌<◌, ◌≤◌, ◌==◌, if◌then◌else◌, nat_lt, ℕ, List, length, Option, Some, None, Result, Ok, Err}
 use Rattle.tc_c_base.specs.Status.{code_of}
 use Rattle.tc_c_base.specs.Written.{IsCopied, too_short}
@@ -20,14 +20,14 @@ use Rattle.tc_session.specs.declared.session.Said.{Said}
 use Rattle.tc_session.specs.declared.session.Said.TheVariants.{Done, Bad, NoMemory, Lost, Over}
 use Rattle.tc_session.specs.declared.session.Session.{Session as SessionValue}
 
--- the check that frames must pass, and their ending, by the flag for their frame error control field
+-- the check that frames must pass, or the ending that frames get, given the flag for their frame error control field
 abbrev pub check_of : ℕ → Result FrameCheck Status
 check_of fecf = if fecf == 0 then Ok Nothing else if fecf == 1 then Ok ErrorControl else Err st.BadFlag
 
 abbrev pub ending_of : ℕ → Result Ending Status
 ending_of fecf = if fecf == 0 then Ok endings.DataField else if fecf == 1 then Ok endings.ErrorControl else Err st.BadFlag
 
--- the engine with which a session of each kind starts, or the reason why there is none, apart from memory
+-- the engine with which a session of each kind starts, or the reason why there is none (memory left aside)
 abbrev pub live_with : ℕ → Result FrameCheck Status → Result Engine Status
 live_with scid (Ok check) = Ok (Live (new_receiver check scid))
 live_with scid (Err fault) = Err fault
@@ -45,16 +45,16 @@ maker_with (Err fault) = Err fault
 abbrev pub maker_start : ℕ → Result Engine Status
 maker_start fecf = maker_with (ending_of fecf)
 
--- an engine was created, or there was no memory for it, or there is none for the reason that the status gives
+-- the engine was created, or there was no memory for it, or the status says why there is none
 abbrev pub IsMade : Result Engine Status → Result Engine Status → Type 0
 IsMade (Ok engine) result = (result ≡ Ok engine) ⊎ (result ≡ Err st.NoMemory)
 IsMade (Err fault) result = result ≡ Err fault
 
--- a session is held that starts with this engine, and of which no text waits
+-- a session is held that has this engine, and no text of it waits
 abbrev pub IsFresh : Engine → Option SessionValue → Type 0
 IsFresh engine held = (session : SessionValue) × (held ≡ Some session) × (session.engine ≡ engine) × (session.waits ≡ None)
 
--- a session started in a seat that held none, or the seat stays as it was, for the reason that the status gives
+-- a session started in a seat that held none, or the seat is as it was and the status says why
 abbrev pub IsStarted : Result Engine Status → Option SessionValue → Option SessionValue → ℕ → Type 0
 IsStarted start (Some held) new result = (result ≡ code_of st.SessionInUse) × (new ≡ Some held)
 IsStarted (Err fault) None new result = (result ≡ code_of fault) × (new ≡ None)
@@ -69,24 +69,25 @@ outcome_status NoMemory = st.NoMemory
 outcome_status Lost = st.Lost
 outcome_status Over = st.Over
 
--- the whole text is at the front of the buffer, or it waits, since the buffer is too short, and the buffer is as it was
+-- Either the whole text is at the front of the buffer. Or the buffer is too short and stays as it was, and the text
+-- waits.
 abbrev pub IsGiven : Said → List ℕ → List ℕ → List ℕ → Option Said → WrittenRecord → Type 0
 IsGiven said text old new waits result =
     ((length text ≤ length old) × (result ≡ record { status = code_of (outcome_status said); length = length text }) × IsCopied text old new
     × (waits ≡ None))
     ⊎ ((length old < length text) × (result ≡ too_short (length text)) × (new ≡ old) × (waits ≡ Some said))
 
--- a line is carried out, and the text of its answer is given out
+-- a line is carried out, and the text of its answer is written to the buffer or waits
 abbrev pub IsAnswerGiven : SessionValue → List ℕ → SessionValue → List ℕ → List ℕ → WrittenRecord → Type 0
 IsAnswerGiven old line new buffer filled result =
     (said : Said) × IsSaid said old.engine line new.engine new.text.items × IsGiven said new.text.items buffer filled new.waits result
 
--- the lines end, and the text of the final report is given out
+-- the lines end, and the text of the final report is written to the buffer or waits
 abbrev pub IsReportGiven : SessionValue → SessionValue → List ℕ → List ℕ → WrittenRecord → Type 0
 IsReportGiven old new buffer filled result =
     (said : Said) × IsEnded said old.engine new.engine new.text.items × IsGiven said new.text.items buffer filled new.waits result
 
--- whether each frame ended with its frame error control field, as a flag
+-- 1 if each frame ended with its frame error control field, otherwise 0
 abbrev pub flag_of : FrameEnds → ℕ
 flag_of NoFrame = 0
 flag_of EachWithField = 1

@@ -1,4 +1,4 @@
-//! The calls.
+//! The calls on a session.
 
 ghost use Rattle.std.specs.Prelude.{◌≡◌, ◌≢◌, None, IfNone, IfSome, Some};
 ghost use Rattle.tc_c_base.specs.Status.{code_of};
@@ -54,10 +54,10 @@ fn sit(alloc: Global, seat: &mut Seat, start: Result<Engine, Status>) -> u32
     }
 }
 
-/// Creates a session that answers lines as `tclive` does, in a seat that holds none.
+/// Creates a session in a seat that holds none. The session answers lines as `tclive` does.
 ///
 /// The call fails with SessionInUse if the seat holds a session, with BadScid for a spacecraft id over 1,023, with
-/// BadFlag for a flag that is neither 0 nor 1, and with NoMemory. The seat then stays as it was.
+/// BadFlag for a flag that is neither 0 nor 1, and with NoMemory if memory runs out. The seat then stays as it was.
 #[unsafe(no_mangle)]
 pub extern "C" fn tcrx_lines_live_at(alloc: Global, seat: &mut Seat, scid: u16, fecf: u8) -> u32
     ensures { IsStarted (live_start scid fecf) seat.old.place.session seat.new.place.session result }
@@ -68,10 +68,10 @@ pub extern "C" fn tcrx_lines_live_at(alloc: Global, seat: &mut Seat, scid: u16, 
     sit(alloc, seat, live(alloc, scid, fecf))
 }
 
-/// Creates a session that carries out a script as `tcrx run` does, in a seat that holds none.
+/// Creates a session in a seat that holds none. The session carries out a script as `tcrx run` does.
 ///
 /// The call fails with SessionInUse if the seat holds a session, with BadScid for a spacecraft id over 1,023, and with
-/// NoMemory. The seat then stays as it was.
+/// NoMemory if memory runs out. The seat then stays as it was.
 #[unsafe(no_mangle)]
 pub extern "C" fn tcrx_lines_script_at(alloc: Global, seat: &mut Seat, scid: u16) -> u32
     ensures { IsStarted (script_start scid) seat.old.place.session seat.new.place.session result }
@@ -82,10 +82,10 @@ pub extern "C" fn tcrx_lines_script_at(alloc: Global, seat: &mut Seat, scid: u16
     sit(alloc, seat, script(alloc, scid))
 }
 
-/// Creates a session that answers lines as `tcmake` does, in a seat that holds none.
+/// Creates a session in a seat that holds none. The session answers lines as `tcmake` does.
 ///
 /// The call fails with SessionInUse if the seat holds a session, with BadFlag for a flag that is neither 0 nor 1, and
-/// with NoMemory. The seat then stays as it was.
+/// with NoMemory if memory runs out. The seat then stays as it was.
 #[unsafe(no_mangle)]
 pub extern "C" fn tcrx_lines_make_at(alloc: Global, seat: &mut Seat, fecf: u8) -> u32
     ensures { IsStarted (maker_start fecf) seat.old.place.session seat.new.place.session result }
@@ -96,7 +96,7 @@ pub extern "C" fn tcrx_lines_make_at(alloc: Global, seat: &mut Seat, fecf: u8) -
     sit(alloc, seat, maker(alloc, fecf))
 }
 
-// Gives out the text of an outcome if the buffer has room for it. Otherwise the text waits.
+// Writes the text of an outcome to the buffer if there is room for it. Otherwise the text waits.
 fn give(session: &mut Session, said: Said, buffer: &mut [u8]) -> WrittenRecord
     ensures given { IsGiven said session.old.text.items buffer.old buffer.new session.new.waits result }
     ensures kept { session.new ≡ record session.old { waits = session.new.waits } }
@@ -119,7 +119,8 @@ fn give(session: &mut Session, said: Said, buffer: &mut [u8]) -> WrittenRecord
 /// buffer. If the buffer is too short, the text waits, and the record has the length that it needs.
 ///
 /// The call fails with NoSession if the seat holds no session, and with Waiting if the text of an earlier call waits.
-/// Then nothing is done. The other statuses are that of the outcome, and NoRoom.
+/// The line is then not carried out. Otherwise the status is NoRoom if the buffer is too short, and else the status of
+/// the outcome.
 #[unsafe(no_mangle)]
 pub extern "C" fn tcrx_lines_answer_at(
     alloc: Global,
@@ -155,8 +156,8 @@ fn answer(alloc: Global, session: &mut Session, line: &[u8], buffer: &mut [u8]) 
 
 /// Writes the text that waits to the front of a buffer. If no text waits, none is written.
 ///
-/// The call fails with NoSession if the seat holds no session. The other statuses are that of the outcome for which the
-/// text stands, and NoRoom. After NoRoom the text still waits.
+/// The call fails with NoSession if the seat holds no session, and with NoRoom if the buffer is too short. After NoRoom
+/// the text still waits. Otherwise the status is that of the outcome to which the text belongs.
 #[unsafe(no_mangle)]
 pub extern "C" fn tcrx_lines_text_at(seat: &mut Seat, buffer: &mut [u8]) -> WrittenRecord
     ensures given { IfSome seat.old.place.session
@@ -191,7 +192,8 @@ fn text(session: &mut Session, buffer: &mut [u8]) -> WrittenRecord
 /// text waits, and the record has the length that it needs.
 ///
 /// The call fails with NoSession if the seat holds no session, and with Waiting if the text of an earlier call waits.
-/// Then nothing is done. The other statuses are that of the outcome, and NoRoom.
+/// The lines then don't end. Otherwise the status is NoRoom if the buffer is too short, and else the status of the
+/// outcome.
 #[unsafe(no_mangle)]
 pub extern "C" fn tcrx_lines_end_at(
     alloc: Global,
@@ -224,8 +226,8 @@ fn end(alloc: Global, session: &mut Session, buffer: &mut [u8]) -> WrittenRecord
     give(session, said, buffer)
 }
 
-/// Returns whether frames were brought to a receiver that checks no frame error control fields, and each of them ended
-/// with the right one. The call fails with NoSession if the seat holds no session.
+/// Returns whether frames were brought to a receiver that checks no frame error control fields, and each of these
+/// frames ended with a right one. The call fails with NoSession if the seat holds no session.
 #[unsafe(no_mangle)]
 pub extern "C" fn tcrx_lines_saw_check_sums_at(seat: &mut Seat) -> FlagRecord
     ensures flag { IfSome seat.old.place.session (λ session. result ≡ record { status = code_of Status.Done; flag = flag_of (ends_of session) }) }
@@ -254,7 +256,7 @@ fn saw_check_sums(session: &Session) -> FlagRecord
     }
 }
 
-/// Frees the session, after which the seat holds none. The call fails with NoSession if the seat holds no session.
+/// Frees the session. The seat then holds none. The call fails with NoSession if the seat holds no session.
 #[unsafe(no_mangle)]
 pub extern "C" fn tcrx_lines_free_at(seat: &mut Seat) -> u32
     ensures freed { IfSome seat.old.place.session (λ _. result ≡ code_of Status.Done) }

@@ -11,8 +11,8 @@ use std::ptr;
 use tc_c_base::Parts;
 use tc_session::Session;
 
-/// The place of a session, or the place of no session. C passes it on, and never reads or copies it. It is dropped only
-/// if it has no session.
+/// The place of a session, or the place of no session. The code in C only passes it on, and never reads or copies it.
+/// It is dropped only if it has no session.
 #[repr(C)]
 #[derive(Drop)]
 pub struct Place {
@@ -49,7 +49,7 @@ impl Place {
         }
     }
 
-    /// Returns the parts of the session that lies here.
+    /// Returns the parts of the session at this place.
     pub(crate) fn into_parts(self) -> Parts<Session, Global>
         requires { IsSome self.session }
         ensures { self.session ≡ Some result.value }
@@ -61,7 +61,7 @@ impl Place {
         }
     }
 
-    /// Lends the session that lies here.
+    /// Lends the session at this place.
     pub(crate) fn lend(&mut self) -> &mut Session
         requires { IsSome self.old.session }
         ensures* writes_back { sem 𝓛 (LendsOfPlace self.entry result) }

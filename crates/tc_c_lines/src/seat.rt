@@ -1,4 +1,4 @@
-//! The part of C's memory by which C holds a session, and the ways in which a session comes there and goes.
+//! A seat, which is the part of C's memory that holds a session.
 
 ghost use Rattle.std.specs.Prelude.{◌≡◌, Some, None, is_some, option_map};
 
@@ -8,7 +8,7 @@ use std::mem::replace;
 use tc_c_base::Parts;
 use tc_session::Session;
 
-/// A session that C holds, or none. A seat of zeros holds none.
+/// A session that C holds, or none. A seat of zeros holds no session.
 #[repr(C)]
 pub struct Seat {
     pub(crate) held: bool,
@@ -38,7 +38,7 @@ impl Seat {
         }
     }
 
-    // Takes the session out, and leaves none.
+    // Takes the session out of the seat, which then holds none.
     fn take(&mut self) -> Option<Box<Session>>
         ensures session { self.old.place.session ≡ option_map (λ held. held.value) result }
         ensures empty { self.new.place.session ≡ None }

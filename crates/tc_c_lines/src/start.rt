@@ -32,7 +32,7 @@ fn ending(fecf: u8) -> Result<Ending, Status>
     }
 }
 
-/// Returns the engine that answers as `tclive` does, or the reason why there is none.
+/// Returns the engine that answers as `tclive` does, or the first fault of the arguments.
 pub(crate) fn live(alloc: Global, scid: u16, fecf: u8) -> Result<Engine, Status>
     ensures { result ≡ live_start scid fecf }
 {
@@ -43,7 +43,7 @@ pub(crate) fn live(alloc: Global, scid: u16, fecf: u8) -> Result<Engine, Status>
     }
 }
 
-/// Returns the engine that carries out a script as `tcrx run` does, or the reason why there is none.
+/// Returns the engine that carries out a script as `tcrx run` does, or the fault of the spacecraft id.
 pub(crate) fn script(alloc: Global, scid: u16) -> Result<Engine, Status>
     ensures { result ≡ script_start scid }
 {
@@ -53,7 +53,7 @@ pub(crate) fn script(alloc: Global, scid: u16) -> Result<Engine, Status>
     }
 }
 
-/// Returns the engine that answers as `tcmake` does, or the reason why there is none, which may be that memory ran out.
+/// Returns the engine that answers as `tcmake` does. Fails if the flag is bad, or if memory runs out.
 pub(crate) fn maker(alloc: Global, fecf: u8) -> Result<Engine, Status>
     ensures { IsMade (maker_start fecf) result }
 {

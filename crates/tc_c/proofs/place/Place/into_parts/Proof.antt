@@ -1,4 +1,4 @@
--- The two fields move, and with them the resources that a place with a channel owns.
+-- The two fields are moved, and with them the resources that a place with a channel owns.
 use Rattle.tc_c_base.proofs.Walking.{List, [], ◌∷◌, ◌++◌, refl, sym, subst, Option, IsSome, Val, SProp, ent, id⊢, ftrue, fsep, WpFn, ‵, raw, ◌⊛◌, ◌$◌, ◌∵◌, !, qed, move, drop, use1, join, split, fsplit, fjoin, rewrite, suffices, done, whole, sub, agg, stop, fld, no_more, and_then, of_opd, returns, enter, alloc_all, pass_all, free_all, look_at, get, get_in, sets, fact, tables, yes, type_at, nothing, heard, says, Stays, stay_dropped, walk_of, ends_at, Goes-dropped, proved_at, D, word, box_typed, box_out, box_in}
 use Rattle.tc_fixed.specs.History.{LimitedHistory}
 use Rattle.tc_c.proofs.Places.{E, FromPlace, found}

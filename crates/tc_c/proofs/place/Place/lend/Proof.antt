@@ -1,4 +1,4 @@
--- `lend` lends the channel at its own type, and the place follows it.
+-- `lend` lends the channel. Once the borrow ends, the place has the channel that the borrow left.
 use Rattle.tc_c_base.proofs.Walking.{List, [], ◌∷◌, ◌≡◌, refl, sym, Option, IsSome, Val, SProp, ent, id⊢, ftrue, fsep, flft, vptr, ‵, raw, ◌⊛◌, ◌$◌, ◌∵◌, !, qed, move, drop, use1, join, split, split3, fsplit, fjoin, fpack, pick, rewrite, suffices, await, some, later, done, whole, sub, stop, fld, of_opd, returns, enter, first, blocks, exec, alloc_all, pass_all, free_all, look_at, get, sets, fact, tables, no, plain, nothing, heard, says, Stays, stay_dropped, walk_of, ends_at, at_ret, env, block_ptr, token, D, R, τ, word, box_out, box_in}
 use base.Fraction.{full_share}
 use base.Fml.{Fml, GName}

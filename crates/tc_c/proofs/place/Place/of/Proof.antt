@@ -1,4 +1,4 @@
--- The two fields move, and with them the resources that the parts of a box own.
+-- The two fields are moved, and with them the resources that the parts of a box own.
 use Rattle.tc_c_base.proofs.Walking.{List, [], ◌∷◌, ◌++◌, refl, sym, subst, Some, Val, SProp, ent, emp, id⊢, ftrue, fsep, WpFn, ‵, raw, ◌⊛◌, ◌$◌, ◌∵◌, !, qed, move, drop, use1, join, split, fsplit, fjoin, suffices, done, whole, sub, agg, stop, fld, no_more, and_then, of_opd, returns, enter, alloc_all, pass_all, free_all, look_at, get, get_in, sets, tables, yes, type_at, nothing, says, Stays, stay_dropped, walk_of, ends_at, Goes-dropped, proved_at, B, D, word, box_typed, box_out, box_in}
 use Rattle.tc_c.proofs.Places.{E, FromParts}
 use Rattle.tc_c.specs.contracts.place.Place.of as f

@@ -29,7 +29,7 @@ of_spec 𝓤 𝓛 𝓜 𝓡 wired X Z LX LZ ghosts d dd dx allocator glued glued
     box_out E ! v z.0.4.0 (λ b o hv e ws fa. box_in E ! v b o v.value e refl $ let w = word E hv b o in
     let G = triple_of 𝓛 (g.signature X Z ghosts d dd dx) (g.spec X Z ghosts d dd dx 𝓛 𝓜.mem 𝓡.returns) in
     let y : G.Ghost = ((κs, qs, tt, (v, tt), (w ∷ [], tt)), tt) in
-    -- the resources at this point, in order: the box, nothing, the tokens, and those that outlive them
+    -- the resources at this point, in order: the box, nothing, the tokens, and the resources that outlive the tokens
     fjoin ! $ move ! (1 ∷ 0 ∷ []) $ join ! $ join ! $ use1 𝓛 (raw (G.pre y)) (id⊢ 𝓤 _) $
     suffices ! (Run (w ∷ [])) (subst (λ (us : List Val). ent 𝓤 (Run (w ∷ [])) (Run us)) (sym (λ i. ws i ++ [])) (id⊢ 𝓤 (Run (w ∷ [])))) $
     enter ! 𝓣.C 𝓣.Λ fn (w ∷ []) Post $ alloc_all ! (λ l. pass_all ! refl (box_typed E hv b o fa, tt) $

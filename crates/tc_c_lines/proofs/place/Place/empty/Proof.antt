@@ -28,11 +28,11 @@ empty_spec 𝓤 𝓛 𝓜 𝓡 wired =
     qed 𝓛 ((‵ ftrue ⊛ ‵ (fsep (Heap.the_row.own_val a vs) ftrue)) ∷ raw (emp 𝓤) ∷ []) ∵
     split ! $ drop ! $ fsplit ! $ move ! (2 ∷ []) $ drop ! $ handle_tells E.al ! a vs (λ hv ws fa.
     let w : Val = vstruct (vcons vnull (vcons hv vnil)) in
-    -- [the allocator; nothing, which is what the place of no session owns]
+    -- the resources at this point, in order: the allocator, and nothing, because the place of no session owns nothing
     nothing ! $ move ! (1 ∷ 0 ∷ []) $ fjoin ! $
     feq_i ! (List Val) (vnull ∷ []) (ptr_val null_ptr ∷ []) refl $ fjoin ! $ feq_i ! (List Val) (w ∷ []) (w ∷ []) refl $ fjoin ! $
     fpack ! (Valss (fields Place.the_type)) (within (shape Place.the_type) (to Place.the_type made) (w ∷ [])) (vnull ∷ [], (hv ∷ [], tt)) $ fjoin ! $
-    -- [the place]
+    -- the resource at this point is the place
     suffices ! (Run (hv ∷ [])) (subst (λ (us : List Val). ent 𝓤 (Run (hv ∷ [])) (Run us)) (sym (λ i. ws i ++ [])) (id⊢ 𝓤 (Run (hv ∷ [])))) $
     enter ! 𝓣.C 𝓣.Λ code.function (hv ∷ []) Post $ alloc_all ! (λ l. pass_all ! refl (fa, tt) $
     sets ! (agg ! (and_then ! (lit ! tt) (and_then ! (get ! refl) (no_more !)))) refl

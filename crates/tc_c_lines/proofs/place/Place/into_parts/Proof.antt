@@ -1,4 +1,4 @@
--- The two fields move, and with them what a place with a session owns.
+-- The two fields are moved, and with them the resources that a place with a session owns.
 use Rattle.tc_c_base.proofs.Walking.{List, [], ◌∷◌, ◌++◌, refl, sym, subst, Option, IsSome, Val, SProp, ent, id⊢, ftrue, fsep, WpFn, ‵, raw, ◌⊛◌, ◌$◌, ◌∵◌, !, qed, move, drop, use1, join, split, fsplit, fjoin, rewrite, suffices, done, whole, sub, agg, stop, fld, no_more, and_then, of_opd, returns, enter, alloc_all, pass_all, free_all, look_at, get, get_in, sets, fact, tables, yes, type_at, nothing, heard, says, Stays, stay_dropped, walk_of, ends_at, Goes-dropped, proved_at, D, word, box_typed, box_out, box_in}
 use Rattle.tc_session.specs.declared.session.Session.{Session as SessionValue}
 use Rattle.tc_c_lines.proofs.Places.{E, FromPlace, found}
@@ -26,7 +26,7 @@ into_parts_spec 𝓤 𝓛 𝓜 𝓡 wired =
     rewrite ! 0 (λ (o : Option SessionValue). ‵ (Place.the_row.own_val (record { ptr = d.ptr; alloc = d.alloc; session = o }) vs)) is refl $
     box_out E ! v vs (λ b o hv e ws fa. let w = word E hv b o in
     box_in E ! v b o x e refl $ use1 𝓛 (‵ (To.own_val made (w ∷ []))) (id⊢ 𝓤 _) $ move ! (1 ∷ []) $ drop ! $
-    -- [the parts]
+    -- the resource at this point is the parts
     suffices ! (Run (w ∷ [])) (subst (λ (us : List Val). ent 𝓤 (Run (w ∷ [])) (Run us)) (sym (λ i. ws i ++ [])) (id⊢ 𝓤 (Run (w ∷ [])))) $
     enter ! 𝓣.C 𝓣.Λ code.function (w ∷ []) Post $ alloc_all ! (λ l. pass_all ! refl (box_typed E hv b o fa, tt) $
     sets ! (of_opd ! (get_in ! (fld ! refl (stop !)) (sub ! 0 refl (whole !)))) refl (tt, tt) $

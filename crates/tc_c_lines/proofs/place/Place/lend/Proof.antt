@@ -1,4 +1,4 @@
--- `lend` lends the session at its own type, and the place follows it.
+-- `lend` lends the session. Once the borrow ends, the place has the session that the borrow left.
 use Rattle.tc_c_base.proofs.Walking.{List, [], ◌∷◌, ◌≡◌, refl, sym, Option, IsSome, Some, Val, SProp, ent, id⊢, ftrue, fsep, flft, vptr, ‵, raw, ◌⊛◌, ◌$◌, ◌∵◌, !, qed, move, drop, use1, join, split, split3, fsplit, fjoin, fpack, pick, rewrite, suffices, await, some, later, done, whole, sub, stop, fld, of_opd, returns, enter, first, blocks, exec, alloc_all, pass_all, free_all, look_at, get, sets, fact, tables, no, plain, nothing, heard, says, Stays, stay_dropped, walk_of, ends_at, at_ret, env, block_ptr, token, D, R, τ, word, box_out, box_in}
 use base.Fraction.{full_share}
 use base.Fml.{Fml, GName}
@@ -63,7 +63,8 @@ lend_spec 𝓤 𝓛 𝓜 𝓡 wired =
     rewrite ! 0 (λ (session : Option SessionValue). ‵ (Place.the_row.own_val (record { ptr = h.ptr; alloc = h.alloc; session = session }) vs)) is refl $
     box_out E ! v vs (λ b o hv e ws fa.
     rewrite ! 3 (λ (us : List Val). ‵ (cell_at full_share Place.the_row.mir us rb ro)) ws refl $ move ! (1 ∷ 2 ∷ []) $ fjoin ! $ move ! (1 ∷ []) $
-    -- [the session; the token with the handle; the cell; the open borrow; obs; auth]
+    -- the resources at this point, in order: the session, the token with the handle, the cell, the open borrow, obs,
+    -- and auth
     first ! $ blocks ! $
     sets ! (of_opd ! (load ! (through ! refl (fld ! refl (stop !))) (look_in ! 2 (sub ! 0 refl (whole !))))) refl (tt, tt) $
     sets ! (of_opd ! (get ! refl)) refl (tt, tt) $

@@ -1,4 +1,4 @@
--- The two fields move, and with them what the parts of a box own.
+-- The two fields are moved, and with them the resources that the parts of a box own.
 use Rattle.tc_c_base.proofs.Walking.{List, [], ◌∷◌, ◌++◌, refl, sym, subst, Some, Val, SProp, ent, emp, id⊢, ftrue, fsep, WpFn, ‵, raw, ◌⊛◌, ◌$◌, ◌∵◌, !, qed, move, drop, use1, join, split, fsplit, fjoin, suffices, done, whole, sub, agg, stop, fld, no_more, and_then, of_opd, returns, enter, alloc_all, pass_all, free_all, look_at, get, get_in, sets, tables, yes, type_at, nothing, says, Stays, stay_dropped, walk_of, ends_at, Goes-dropped, proved_at, B, D, word, box_typed, box_out, box_in}
 use Rattle.tc_c_lines.proofs.Places.{E, FromParts}
 use Rattle.tc_c_lines.specs.contracts.place.Place.of as f
@@ -21,7 +21,7 @@ of_spec 𝓤 𝓛 𝓜 𝓡 wired =
     qed 𝓛 ((‵ ftrue ⊛ ‵ (fsep ((B E).own_val v vs) ftrue)) ∷ raw (emp 𝓤) ∷ []) ∵
     split ! $ drop ! $ fsplit ! $ box_out E ! v vs (λ b o hv e ws fa. let w = word E hv b o in
     box_in E ! v b o d.value e refl $ use1 𝓛 (‵ (To.own_val made (w ∷ []))) (id⊢ 𝓤 _) $ move ! (1 ∷ 2 ∷ []) $ drop ! $ drop ! $
-    -- [the place]
+    -- the resource at this point is the place
     suffices ! (Run (w ∷ [])) (subst (λ (us : List Val). ent 𝓤 (Run (w ∷ [])) (Run us)) (sym (λ i. ws i ++ [])) (id⊢ 𝓤 (Run (w ∷ [])))) $
     enter ! 𝓣.C 𝓣.Λ code.function (w ∷ []) Post $ alloc_all ! (λ l. pass_all ! refl (box_typed E hv b o fa, tt) $
     sets ! (of_opd ! (get_in ! (fld ! refl (stop !)) (sub ! 0 refl (whole !)))) refl (tt, tt) $
