@@ -1,4 +1,4 @@
-//! Cases, in the form in which the index lists them.
+//! Cases as the index lists them.
 
 ghost use Rattle.std.specs.Prelude.{◌≤◌, IfSome};
 

@@ -1,5 +1,5 @@
-//! Cases of scripts: their list in an index, scripts at the limit of their size, the report among the answers, and the
-//! place where an answer differs.
+//! Cases, which are scripts with expected answers. There is their list in an index, scripts at the limit of their size,
+//! the report at the end of the answers, and the first difference between answers and expected ones.
 #![tactic(auto)]
 
 mod difference;

@@ -1,4 +1,4 @@
-//! CLCWs that another program built.
+//! Words that another program built, and the fields of those that are CLCWs.
 
 use anyhow::{Result, anyhow};
 use std::alloc::Global;

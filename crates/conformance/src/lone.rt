@@ -63,7 +63,7 @@ impl<C: Form> Backend for LoneBackend<C> {
     }
 }
 
-/// The virtual channels of one spacecraft, each of the same form, without locks. A call returns `None` if memory runs
+/// The virtual channels of one spacecraft, each of the same form, without locks. The calls return `None` if memory runs
 /// out.
 #[derive(Drop)]
 pub(crate) struct Lone<C: Form> {

@@ -1,10 +1,10 @@
 //! Runs the scripts of the current folder, and reports each script whose answers aren't the expected ones.
 //!
 //! The file `index` has a line for each case, in the order of their names: the name, the spacecraft id, and the text of
-//! the fault with which the script ends, if it does. `NAME.script` is the script, and `NAME.out` has its answers line
-//! by line, and then the final report. A station and channels of each form must give these answers and this report. If
-//! each channel has a worker, the report must be the same. Scripts at the limit of their size are made here. The file
-//! `clcws` has words that another program built, each with its fields. Each of them is a case, too.
+//! the fault with which the script ends, if it does. `NAME.script` is the script. `NAME.out` has its answers line by
+//! line, and then the final report. A station and channels of each form must give these answers and this report. A run
+//! with a worker for each channel must give this report. Scripts at the limit of their size are built by the program.
+//! The file `clcws` has words that another program built, each with its fields. Each word is a case, too.
 #![tactic(auto)]
 
 ghost use Rattle.std.specs.Prelude.{◌≤◌};
@@ -133,9 +133,9 @@ fn check_clcws<R: Files + AllocGlobal + Print>(rt: &R, tally: &mut Tally) -> Res
     Ok(())
 }
 
-// Returns whether a script leads to the expected answers in each way in which it is run. If it is run line by line, on
-// a station or on channels of some form, it must give `answers`. If it is run with a worker for each channel, it must
-// give only the report at the end of `answers`.
+// Returns whether a script leads to the expected answers in each way in which it is run. Run line by line, on a station
+// or on channels of some form, it must give `answers`. Run with a worker for each channel, it must give only the report
+// at the end of `answers`.
 fn agrees_each_way<R: AllocGlobal + Print + Threads + Wait + Sync>(
     rt: &R,
     case: &Case,
@@ -155,7 +155,7 @@ fn agrees_each_way<R: AllocGlobal + Print + Threads + Wait + Sync>(
     Ok(all)
 }
 
-// Returns whether a script leads to the expected answers and fault. If it doesn't, that is reported.
+// Returns whether a script leads to the expected answers and fault. If it doesn't, reports that.
 fn agrees<R: AllocGlobal + Print + Threads + Wait + Sync>(
     rt: &R,
     case: &Case,

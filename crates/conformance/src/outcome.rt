@@ -26,8 +26,8 @@ pub(crate) enum Command {
     Run,
     /// A run with a worker for each channel, and the final report alone.
     Parallel,
-    /// A run like `Run`, but on channels without a station, which keep their journals in memory. `Counting` is such a
-    /// run on channels without journals, and `Rooms` on channels in rooms.
+    /// Runs like `Run`, but on channels without a station. The channels of `Alone` keep their journals in memory, those
+    /// of `Counting` have no journals, and those of `Rooms` are in rooms.
     Alone,
     Counting,
     Rooms,

@@ -1,4 +1,4 @@
-//! Running a script on channels without a station, line by line, as `run` does on a station.
+//! Running a script line by line, as `run` does, but on channels without a station.
 
 use crate::lone::{Lone, LoneBackend};
 use std::alloc::Global;
@@ -22,7 +22,7 @@ pub(crate) fn replay<C: Form, R: Read, W: Write>(
     report(alloc, &backend, stage, writer, lines)
 }
 
-// Runs the lines, and returns how many there are.
+// Runs the lines, and returns their number.
 fn replay_lines<C: Form, W: Write>(
     alloc: Global,
     backend: &LoneBackend<C>,

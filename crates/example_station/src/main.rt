@@ -1,4 +1,4 @@
-//! A station, an operator and a watcher at work on one frame: the example of the page on the library, docs/howto/library.md.
+//! A station, an operator and a watcher at work on one frame. This is the example of docs/howto/library.md.
 //!
 //! The program prints whether the frame was accepted, how many packets were queued, the length of the packet that the
 //! frame brought, the CLCW after the frame, and the number of events in the channel's journal at the end.

@@ -1,4 +1,4 @@
--- A book of numbers, as its lock sees it.
+-- The log of a book of numbers, and the seats at its lock.
 use Rattle.std.specs.Prelude.{◌≡◌, ⊤, ℕ, true}
 use Rattle.atomic_table.specs.declared.shared.Seat.{Seat}
 use Rattle.logged_lock.specs.declared.views.Log.{Log}
@@ -7,7 +7,7 @@ use Rattle.logged_lock.specs.Rule.{LockAt, IsIdle}
 use Rattle.lock_tests.specs.declared.book.Title.{Title}
 use Rattle.lock_tests.specs.declared.book.Book.{Book}
 
--- the title that a log has if it is no book's
+-- the title of a log that isn't the log of a book
 abbrev pub untitled : Title
 untitled = record { number = 0 }
 
@@ -18,10 +18,10 @@ log_of b = record { head = record { number = b.title }; entries = b.numbers.item
 abbrev pub IsAny : Book → Type 0
 IsAny b = ⊤
 
--- a seat at this lock that doesn't hold it
+-- the seat is at this lock, and doesn't hold it
 abbrev pub IsAtRest : LockAt Title → Seat Book (View Title ℕ) → Type 0
 IsAtRest lock seat = (seat.table_id ≡ lock.id) × IsIdle seat.me
 
--- a seat at this lock that doesn't hold it, and that may write numbers
+-- the seat is at this lock, doesn't hold it, and may write numbers
 abbrev pub IsWriter : LockAt Title → Seat Book (View Title ℕ) → Type 0
 IsWriter lock seat = IsAtRest lock seat × (seat.me.0.maker ≡ true)

@@ -10,7 +10,7 @@ use crate::plan::{CALLED, PLAIN};
 use crate::score::Score;
 use anyhow::Result;
 
-// The chosen MAP, which is 0, and the application of the packets.
+// The number of the chosen MAP, and the application of the packets.
 const CHOSEN: u8 = 0;
 
 const APID: u16 = 1;
@@ -22,8 +22,8 @@ const ONE_PACKET: Field = (Some(UNSEGMENTED | PACKETS), 0, 7);
 
 const TWO_PACKETS: Field = (Some(UNSEGMENTED | PACKETS), 0, 14);
 
-// Segments, the last of which ends a unit that is one packet of 26 octets. The first six octets are followed by 14, 2,
-// 2 and 2 octets, or by 14 and 6.
+// Segments of a unit that is one packet of 26 octets. The unit comes in segments of 6, 14, 2, 2 and 2 octets, or of 6,
+// 14 and 6.
 const BEGUN: Field = (Some(FIRST | PACKETS), 19, 6);
 
 const FOURTEEN: Field = (Some(CONTINUING | PACKETS), 19, 14);
@@ -41,13 +41,13 @@ const UNIT_BEGUN: Field = (Some(FIRST | CHOSEN), 19, 6);
 
 const UNIT_ENDED: Field = (Some(LAST | CHOSEN), 19, 2);
 
-// A field of a plain channel, which is one packet.
+// A data field of a plain channel. It is one packet.
 const PLAIN_FIELD: Field = (None, 1_012, 1_019);
 
-// The number of frames that come to each channel before each of the two times that each kind of call is made. The calls
-// are 35 events on the first channel and five on the plain one. So the second time the first channel has more than 64
-// events and fewer than 128, and the plain one more than 32 and fewer than 64. The list of a kept journal's events,
-// whose room is doubled, then grows in none of the calls.
+// The number of frames that are brought to each channel before its calls. All calls are made twice, and before each
+// time these frames come. The calls are 35 events on the first channel and five on the plain one. So during the second
+// time the first channel has more than 64 events and fewer than 128, and the plain one has more than 32 and fewer than
+// 64. The list of a kept journal's events doubles its room when it is full, so it grows in none of these calls.
 const BEFORE: u8 = 20;
 
 // A call on a channel.
@@ -55,15 +55,16 @@ const BEFORE: u8 = 20;
 enum Call {
     // A Type-AD frame that is accepted.
     Next(Field),
-    // A Type-AD frame that is discarded, because it repeats the N(S) of the one before it.
+    // A Type-AD frame that is discarded because it repeats the N(S) of the frame before it.
     Again(Field),
-    // A Type-BD frame, with the numbers of items of its unit that are queued and dropped, and the end of its line.
+    // A Type-BD frame, with the numbers of items of its unit that are queued and dropped, and the end of its printed
+    // line.
     Bypassing(Field, Items, &'static str),
     // The control command Unlock.
     Unlock,
-    // A release, with the numbers of items of its unit that are queued and dropped, and the end of its line.
+    // A release, with the numbers of items of its unit that are queued and dropped, and the end of its printed line.
     Release(Items, &'static str),
-    // Takes of this number of items, with the beginning of the line.
+    // Takes of this number of items, with the beginning of the printed line.
     Take(Oldest, u16, &'static str),
     Clcw,
 }
@@ -83,15 +84,15 @@ static FIRST_CALLS: [Call; 30] = [
     Bypassing(ONE_PACKET, ONE, ", one packet queued"),
     Bypassing(ONE_PACKET, DROPPED, ", one packet dropped"),
     Take(PACKET, 4, "take"),
-    // Segments, the last of which ends a unit that is one packet. The block of a run that grew the first time is still
-    // there the second time.
+    // Segments of a unit that is one packet, in Type-BD frames. The memory of the open run grows the first time. It is
+    // kept, and is there the second time.
     Bypassing(BEGUN, NOTHING, ", first segment"),
     Bypassing(FOURTEEN, NOTHING, ", next segment"),
     Bypassing(TWO, NOTHING, ", next segment"),
     Bypassing(TWO, NOTHING, ", next segment"),
     Bypassing(LAST_TWO, ONE, ", last segment, one packet queued"),
     Take(PACKET, 1, "take"),
-    // Segments, the last of which ends a unit that is one packet. They go through the buffer.
+    // Segments of a unit that is one packet, in Type-AD frames. They go through the buffer.
     Next(BEGUN),
     Next(FOURTEEN),
     Next(LAST_SIX),
@@ -148,7 +149,7 @@ fn print_each<F: Form>(rt: &impl Print, filler: &mut Filler<F>, calls: &[Call]) 
     Ok(())
 }
 
-// Makes a call, and returns its line in two parts.
+// Makes a call, and returns the two parts of the line that is printed for it.
 fn make<F: Form>(filler: &mut Filler<F>, call: Call) -> Result<(&'static str, &'static str)> {
     match call {
         Next(field) => {

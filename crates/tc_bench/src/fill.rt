@@ -1,4 +1,4 @@
-//! Filling a channel, by rows of pieces of the same kind. A key is an application or a MAP.
+//! Filling a channel row by row. A row brings pieces of one kind, each for a key, which is an application or a MAP.
 
 use crate::calls;
 use crate::filler::{
@@ -20,19 +20,19 @@ enum Piece {
     Packet,
     // A segment on the MAP with these sequence flags, and this number of octets.
     Segment(Kind, u8, u16),
-    // A run of as many octets as the largest unit, which is left open on the MAP.
+    // An open run on the MAP, with as many octets as the largest unit.
     Run(Kind),
-    // The largest packet for the application, and the largest unit on the MAP, with all their segments. The last
-    // segment has no octet.
+    // The largest packet for the application, or the largest unit on the MAP. It comes in all its segments, and the
+    // last segment is empty.
     LargestPacket,
     LargestUnit,
 }
 
-// A piece that is brought for each key in turn, the first key and the number of keys, the number of pieces in all, and
-// the numbers of items of each piece that are queued and dropped.
+// The piece that is brought for each key in turn, the first key and the number of keys, the number of pieces in all,
+// and the numbers of items that each piece queues and drops.
 type Row = (Piece, (u16, u16), u16, Items);
 
-// A unit of one segment, segments of Type-BD that begin, continue and end a unit, and a first segment that waits in the
+// A unit of one segment, segments of Type-BD that begin, continue and end a unit, and a first segment that stays in the
 // buffer.
 const UNIT: Piece = Piece::Segment(Kind::Bypassing, UNSEGMENTED, 7);
 
@@ -55,20 +55,19 @@ fn plain_rows(plan: &Plan) -> [Row; 2] {
     ]
 }
 
-// Frames of a hostile sender, for the channel of `MANY` with 70 queues of two packets and three chosen MAPs of three
-// units. Each frame gets the answer that the model gives, whatever came before.
+// Frames of a hostile sender, for the channel of `MANY`, which has 70 queues of two packets and three chosen MAPs of
+// three units. Each frame must get the answer that the model gives.
 static HOSTILE_ROWS: [Row; 16] = [
     // A thousand first segments over 16 MAPs. Each begins the run of its MAP anew, and no run ends.
     (BEGUN, (0, 16), 1_000, NOTHING),
-    // Packets for queues that are empty and then full, and for no queue, and units for queues that are empty and then
-    // full.
+    // Packets for empty queues, for full queues and for no queue. Then units for empty queues and for full queues.
     (Piece::Packet, (0, 70), 140, ONE),
     (Piece::Packet, (0, 70), 140, DROPPED),
     (Piece::Packet, (70, 1), 1, DROPPED),
     (UNIT, (0, 3), 9, ONE),
     (UNIT, (0, 3), 9, DROPPED),
-    // Each MAP of each service gets a run of as many octets as a unit may have, then one more octet, which drops the
-    // run, and then a last segment, which ends nothing.
+    // Each MAP of each service gets a run of as many octets as a unit may have. One more octet drops the run. A last
+    // segment that comes on Type-BD after that ends nothing.
     (Piece::Run(Kind::Released), (0, 64), 64, NOTHING),
     (Piece::Run(Kind::Bypassing), (0, 64), 64, NOTHING),
     (GONE_ON, (0, 64), 64, NOTHING),
@@ -79,8 +78,7 @@ static HOSTILE_ROWS: [Row; 16] = [
         64,
         NOTHING,
     ),
-    // A run of as many octets as a unit may have, for which there is no room in its queue when it ends, and a run that
-    // never ends.
+    // Two runs of as many octets as a unit may have. Each is dropped when it ends. Then comes a run that never ends.
     (Piece::Run(Kind::Bypassing), (0, 1), 1, NOTHING),
     (ENDED, (0, 1), 1, DROPPED),
     (Piece::Run(Kind::Bypassing), (63, 1), 1, NOTHING),
@@ -88,9 +86,10 @@ static HOSTILE_ROWS: [Row; 16] = [
     (BEGUN, (63, 1), 1, NOTHING),
 ];
 
-// Returns rows that fill the queues with these packets and largest units, open a run on each MAP of each service, fill
-// the buffer, and then end units for which there is no room. If the runs of these units are over their limits, their
-// last segments end nothing.
+// Returns rows that fill a channel of this plan. They fill the packet queues with `packet` and the unit queues with
+// largest units, open a run on each MAP of each service, and fill the buffer. The last rows then end two of the runs,
+// and bring a packet for a full queue. `ended` has the numbers of items that the end of a run queues and drops. Both
+// are 0 if a limit has dropped the run.
 fn filling_rows(plan: &Plan, packet: Piece, ended: Items) -> [Row; 8] {
     let (queues, packets) = plan.queues;
     let packets = queues.saturating_mul(packets);
@@ -108,8 +107,7 @@ fn filling_rows(plan: &Plan, packet: Piece, ended: Items) -> [Row; 8] {
     ]
 }
 
-// Creates the channel of a plan, prints the memory that it takes, and brings these rows to it, with a line before and
-// after.
+// Creates the channel of a plan, prints the bound of its memory, and brings these rows to it.
 fn print<F: Form, R: AllocGlobal + Print>(rt: &R, plan: &Plan, rows: &[Row]) -> Result<()> {
     let settings = plan.settings(rt.alloc(), 1)?;
     let (name, octets) = F::memory(&settings);
@@ -117,8 +115,8 @@ fn print<F: Form, R: AllocGlobal + Print>(rt: &R, plan: &Plan, rows: &[Row]) -> 
     print_rows(rt, F::made(rt.alloc(), settings)?, rows)
 }
 
-// Creates and fills a channel in rooms within limits, which are 1,024 octets for the MAP of packets, and none for each
-// other MAP.
+// Creates a channel in rooms within limits, and fills it. The limit is 1,024 octets for the MAP of packets, and 0 for
+// each other MAP.
 fn print_limited<R: AllocGlobal + Print>(rt: &R) -> Result<()> {
     let settings = LIMITED.settings(rt.alloc(), 1)?;
     let limit = MapLimit {

@@ -5,7 +5,7 @@ use anyhow::{Result, anyhow};
 use tc_channel::{Delivery, FrameReply};
 use tc_link::{Act, read_frame};
 
-/// The sequence flags of a segment header (CCSDS 232.0-B, 4.1.3.2.2), its two highest bits.
+/// The sequence flags in a segment header (CCSDS 232.0-B, 4.1.3.2.2), which are its two highest bits.
 pub(crate) const CONTINUING: u8 = 0x00;
 
 pub(crate) const FIRST: u8 = 0x40;
@@ -14,20 +14,20 @@ pub(crate) const LAST: u8 = 0x80;
 
 pub(crate) const UNSEGMENTED: u8 = 0xc0;
 
-/// A MAP that no plan chooses, and on which packets are sent.
+/// The MAP on which packets are sent. No plan chooses it.
 pub(crate) const PACKETS: u8 = 63;
 
-/// The largest number of octets of a unit in one segment.
+/// The largest number of a unit's octets in one segment.
 pub(crate) const BODY: u16 = 1_018;
 
 /// The number in the length field of a packet that is the largest unit.
 pub(crate) const LARGEST: u16 = 0xffff;
 
-/// A data field: its segment header, if it has one, the number in the length field of each packet of its unit, and the
-/// number of octets of the unit that it has.
+/// A data field. It has its segment header, if there is one, then the number in the length field of each packet of its
+/// unit, and the number of its octets that belong to the unit.
 pub(crate) type Field = (Option<u8>, u16, u16);
 
-/// The numbers of items of a unit that are queued, and that are dropped.
+/// The numbers of items of a unit that are queued and that are dropped.
 pub(crate) type Items = (u32, u32);
 
 pub(crate) const NOTHING: Items = (0, 0);
@@ -51,7 +51,7 @@ pub(crate) enum Kind {
     Unlock,
 }
 
-// Returns the reply to a frame of this kind by FARM-1's table, with these numbers of items.
+// Returns the reply that FARM-1's table gives for a frame of this kind, with these numbers of items.
 fn reply_of(kind: Kind, items: Items) -> FrameReply {
     let (event, accepted, (queued, dropped)) = match kind {
         Kind::Next => (1, true, items),
@@ -70,7 +70,8 @@ fn reply_of(kind: Kind, items: Items) -> FrameReply {
     }
 }
 
-/// A channel, the N(S) of its next Type-AD frame, the application whose packets are brought, and the place in their unit at which a
+/// A channel, with the state of its sender. This is the N(S) of the next Type-AD frame, the application of the packets,
+/// and the place in the unit at which the next data field begins.
 /// data field begins.
 #[derive(Drop)]
 pub(crate) struct Filler<F: Form> {
@@ -156,8 +157,9 @@ impl<F: Form> Filler<F> {
         }
     }
 
-    /// Opens a run that has as many octets as the largest unit, and whose room was doubled once more than necessary.
-    /// The first six octets and those of one segment are 1,024, and the largest unit has 64 times as many and six more.
+    /// Opens a run of 65,542 octets, as many as the largest unit has. The first two segments have 1,024 octets, and 64
+    /// times that are six octets fewer. So the last doubling of the run's room makes it almost twice as large as
+    /// necessary.
     pub(crate) fn open(&mut self, kind: Kind, map: u8) -> Result<()> {
         self.bring(kind, (Some(FIRST | map), LARGEST, 6), NOTHING)?;
         for _ in 0..64 {

@@ -13,7 +13,7 @@ use tc_link::Frame;
 pub(crate) enum Oldest {
     /// The packet of an application.
     Packet(u16),
-    /// The packet of an application, which is read in its room, if it can be, and then dropped.
+    /// The packet of an application. If the form can lend the packet, it is read in its room and then dropped.
     LentPacket(u16),
     /// The unit of a MAP.
     Unit(u8),
@@ -87,9 +87,9 @@ impl<J: Journal> Form for ChannelWith<J> {
     }
 }
 
-// The calls here go through the functions of `seen`, as the one call that `worst` measures does. So another program
-// finds each call in the machine code. Frames and releases don't go through these functions, because `worst` also
-// brings and releases frames before the call that it measures.
+// The calls here go through the functions of `seen`, so that another program finds each call in the machine code.
+// `worst` uses these functions only for the call that it measures. Frames and releases don't go through them here,
+// because `worst` also brings and releases frames before that call.
 impl Form for FixedChannel {
     fn memory(settings: &Settings) -> (&'static str, u64) {
         ("storage", storage(settings))

@@ -8,11 +8,11 @@ use std::alloc::Global;
 use tc_channel::Octets;
 use tc_link::{Header, write_frame};
 
-/// The number of packets in a data field that is full of small ones.
+/// The number of packets in a data field full of small packets.
 pub(crate) const PACKETS: usize = 100;
 
-// Appends a packet of the application with this number in its length field, which is one less than the number of octets
-// of its data.
+// Appends a packet of the application. `length` is the number in its length field, which is one less than the number of
+// octets of its data.
 fn add_packet(octets: &mut Vec<u8>, length: u16) -> Result<()> {
     let [high, low] = length.to_be_bytes();
     octets.extend_from_slice(&[0x10, APID as u8, 0xc0, 0, high, low])?;
@@ -34,7 +34,8 @@ fn bypassing(alloc: Global, field: &[u8]) -> Result<Octets> {
     Ok(Octets::from(write_frame(alloc, &header, field)?))
 }
 
-/// Returns frames with the segments of a unit of `packets` packets, with this number in the length field of each.
+/// Returns the frames that carry the segments of a unit of `packets` packets. `length` is the number in the length
+/// field of each packet.
 pub(crate) fn frames(alloc: Global, packets: usize, length: u16) -> Result<Vec<Octets>> {
     let mut unit = Vec::new(alloc);
     for _ in 0..packets {

@@ -1,19 +1,21 @@
-//! `tc_bench`: a fixed load for stations, rounds on a bare channel, and channels that are filled, so that another
-//! program can measure their costs.
+//! `tc_bench` runs a fixed load on stations, makes rounds on a bare channel, or fills a channel. Another program
+//! measures the costs.
 //!
-//! With no argument it runs the load and prints scores that each answer changes, so that a receiver with other answers
-//! prints other scores. With `rounds recorded`, `rounds counting` or `rounds rooms` and a number it makes this number
-//! of rounds on a bare channel of that form, and prints the score of their answers. The rounds bring Type-AD frames, or
-//! the load that another word names.
+//! With no argument it runs the load and prints its scores. Each answer changes a score, so a receiver with other
+//! answers prints other scores. With `rounds recorded`, `rounds counting` or `rounds rooms` and a number it makes this
+//! number of rounds on a bare channel of that form, and prints the score of the answers. The rounds bring Type-AD
+//! frames, or the load that another word names.
 //!
 //! With `fill` and `plain`, `one` or `many` it creates a counting channel of that plan, prints the bound of its memory,
-//! and fills it. `plain_7`, `plain_8` and `plain_63` are plans of plain channels with that number of queues. With `fill
-//! calls` it makes each kind of call twice, and prints a line after each call. With `fill recorded` it does so on a
-//! channel whose journal is recorded. If `fixed_` stands before one of these words other than `recorded`, the channel
-//! has rooms. Nothing that the program keeps beside the channel grows between two lines. With `fill fixed_limited` it
-//! fills a channel in rooms within limits. With `fill fixed_hostile` it brings the frames of a hostile sender to the
-//! channel of `fixed_many`. With `worst`, a call and a number of queues it makes this call once, on a channel in rooms
-//! with these queues, after the calls that make it cost most.
+//! and fills it. The plans `plain_7`, `plain_8` and `plain_63` are those of plain channels with that number of queues.
+//! With `fill calls` it makes each kind of call twice, and prints a line after each call. With `fill recorded` it does
+//! this on a channel whose journal is recorded. If `fixed_` stands before one of these words other than `recorded`, the
+//! channel has rooms. Nothing that the program keeps beside the channel grows between two lines. With `fill
+//! fixed_limited` it fills a channel in rooms within limits. With `fill fixed_hostile` it brings the frames of a
+//! hostile sender to the channel of `fixed_many`.
+//!
+//! With `worst`, a call and a number of queues it makes this call once, on a channel in rooms with these queues. Before
+//! that it makes the calls after which this call costs most.
 #![tactic(auto)]
 
 mod calls;

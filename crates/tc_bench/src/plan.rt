@@ -34,7 +34,7 @@ pub(crate) const SMALL: Plan = Plan {
     segmented: true,
 };
 
-/// A channel with so many queues that a call uses a table of them, and with chosen MAPs.
+/// A channel with chosen MAPs, and with so many queues that its calls find them through a table.
 pub(crate) const MANY: Plan = Plan {
     buffer: 64,
     apid: 0,

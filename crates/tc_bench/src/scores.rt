@@ -12,8 +12,8 @@ use std::sync::Wait;
 use std::thread::Threads;
 use tc_channel::Channel;
 
-// The name of a score, its virtual channels, the number of rounds on each, and whether a worker for each channel makes
-// them, or one thread makes a round on each in turn.
+// The name of a score, its virtual channels, the number of rounds on each channel, and a flag for workers. If the flag
+// is set, each channel has a worker that makes its rounds. Otherwise one thread makes a round on each channel in turn.
 type Row = (&'static str, &'static [u8], u32, bool);
 
 static ROWS: [Row; 3] = [
@@ -40,7 +40,7 @@ fn senders(alloc: Global, vcids: &[u8]) -> Result<Vec<Sender>> {
     Ok(senders)
 }
 
-// Returns the score of a row, to which each answer in turn and the closed channels add.
+// Returns the score of a row. Each answer in turn adds to it, and then the reports of the closed channels.
 fn score_of<R: Threads + Wait + Sync>(
     rt: &R,
     alloc: Global,

@@ -12,7 +12,7 @@ use std::thread::Threads;
 use tc_channel::{Channel, Items, Octets};
 use tc_station::{FreeGate, Job, Operator, Order, Station, WorkList};
 
-/// Lets a worker for each channel make rounds on it, and closes the station.
+/// Creates a worker for each channel, which makes the rounds on it, and closes the station.
 pub(crate) fn work<R: Threads + Wait + Sync>(
     rt: &R,
     alloc: Global,
@@ -27,7 +27,7 @@ pub(crate) fn work<R: Threads + Wait + Sync>(
     Ok(station.close(operators)?)
 }
 
-// Carries out each list through the operator of its place. The operators keep their channels.
+// Carries out each list through the operator at the same place of the list of operators.
 fn do_lists<R: Threads + Wait + Sync>(
     rt: &R,
     station: &Station,

@@ -21,8 +21,8 @@ const CHOSEN: u8 = 62;
 // The largest number of octets of a unit.
 const LARGEST_UNIT: usize = 65_542;
 
-// The number of packets of seven octets that the queue of the last application holds, which is as many as one data
-// field may have.
+// The number of packets of seven octets that the queue of the last application holds. One data field may have this
+// number of packets.
 const ROOM: u16 = 145;
 
 // A data field full of the smallest packets, as an unsegmented unit.
@@ -40,7 +40,7 @@ const PACKET_END: Field = (Some(LAST | PACKETS), LARGEST, 390);
 // The last segment of a largest unit that is queued whole.
 const WHOLE_END: Field = (Some(LAST | CHOSEN), LARGEST, 390);
 
-// A channel, to whose last application all packets are sent, and room for the item that is taken.
+// A channel, and room for the item that is taken. All packets are sent to the channel's last application.
 #[derive(Drop)]
 struct Caller {
     filler: Filler<FixedChannel>,
@@ -91,8 +91,8 @@ impl Caller {
     }
 
     // Brings the segments before this field, and then makes the measured call, which brings the frame with this field.
-    // If the kind is `Released`, the frame is brought first, and the measured call releases its field. Returns the
-    // number of items for queues, including those for which there was no room.
+    // If the kind is `Released`, the frame is brought before the measured call, and that call releases the field.
+    // Returns the number of items for queues, including those for which there was no room.
     fn items(&mut self, kind: Kind, field: Field) -> Result<u64> {
         self.open(kind, field)?;
         let delivery = if let Kind::Released = kind {
@@ -119,8 +119,8 @@ impl Caller {
         }
     }
 
-    // Makes the call with this name after a largest packet was queued for the last application, and a largest unit for
-    // the last chosen MAP.
+    // Queues a largest packet for the last application and a largest unit of the last chosen MAP. Then makes the call
+    // with this name.
     fn answer_full(&mut self, name: &str) -> Result<u64> {
         for last in [PACKET_END, WHOLE_END] {
             self.open(Kind::Bypassing, last)?;
@@ -149,15 +149,15 @@ fn length(octets: Option<&[u8]>) -> usize {
     octets.unwrap_or(&[]).len()
 }
 
-/// Makes a call on a channel of `queues` queues, in the case in which it costs most, and prints its answer.
+/// Makes a call on a channel of `queues` queues in its most expensive case, and prints its answer.
 pub(crate) fn print<R: AllocGlobal + Print>(rt: &R, name: &str, queues: u16) -> Result<()> {
     let answer = answer_of(rt.alloc(), queues, name)?;
     println!(rt; "{name} {answer}")?;
     Ok(())
 }
 
-// Makes the call with this name, and returns its answer as a number. The caller, and with it the channel, is dropped at
-// this place alone, because each place at which it is dropped is proved separately.
+// Makes the call with this name, and returns its answer as a number. The caller with its channel is dropped only here,
+// because each place at which it is dropped is proved separately.
 fn answer_of(alloc: Global, queues: u16, name: &str) -> Result<u64> {
     let mut caller = Caller::new(alloc, queues)?;
     caller.answer(name)

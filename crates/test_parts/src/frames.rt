@@ -11,7 +11,7 @@ pub const NO_FLAG: Link = Link {
     no_bit_lock: false,
 };
 
-/// A packet of APID 5.
+/// A packet for APID 5.
 pub const PACKET: [u8; 7] = [0x10, 0x05, 0xc0, 0x00, 0x00, 0x00, 0xaa];
 
 /// The Type-AD frame with N(S) 0 for virtual channel 1 that carries `PACKET`.
@@ -64,7 +64,7 @@ pub const BUFFERED: FrameReply = FrameReply {
     delivery: NOTHING,
 };
 
-/// The reply to a Type-AD frame for whose field there is no room.
+/// The reply to a Type-AD frame whose field finds no room in the buffer.
 pub const NO_ROOM: FrameReply = FrameReply {
     act: Act {
         event: 2,
@@ -73,7 +73,7 @@ pub const NO_ROOM: FrameReply = FrameReply {
     delivery: NOTHING,
 };
 
-/// The reply to a Type-AD frame that comes again.
+/// The reply to a Type-AD frame that is repeated.
 pub const BEHIND: FrameReply = FrameReply {
     act: Act {
         event: 4,
@@ -112,7 +112,7 @@ pub fn is_frame(event: &Event, frame: &[u8]) -> bool {
     }
 }
 
-/// Brings the frame at the front of these octets to a channel, if there is a frame, and returns the reply.
+/// Brings the frame at the front of these octets to a channel, if they begin with one, and returns the reply.
 pub fn offer<J: Journal>(
     channel: &mut ChannelWith<J>,
     octets: &[u8],

@@ -1,4 +1,4 @@
-//! Parts that the tests of several crates share: frames and replies, settings made of data, the forms of a channel,
+//! Parts that the tests of several crates share: frames and replies, settings given as data, the forms of a channel,
 //! lists that are created even if memory is refused once, and streams that fail.
 #![tactic(auto)]
 

@@ -55,8 +55,8 @@ pub struct Watched {
 }
 
 impl Watched {
-    /// Creates a writer that fails at the write `fails_at`, numbered from 1, or at none if that is 0, and at each flush
-    /// if `fails_to_flush` is set.
+    /// Creates a writer that fails at the write `fails_at`, numbered from 1, or at no write if `fails_at` is 0. If
+    /// `fails_to_flush` is set, it fails at each flush.
     pub fn new(alloc: Global, fails_at: u32, fails_to_flush: bool) -> Watched {
         Watched {
             kept: Vec::new(alloc),

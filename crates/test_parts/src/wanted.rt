@@ -1,4 +1,4 @@
-//! Settings made of data.
+//! Settings given as data.
 
 ghost use Rattle.std.specs.Prelude.{◌≡◌, IfOk};
 
@@ -53,7 +53,7 @@ fn maps_of(alloc: Global, wanted: &[(u8, u16)]) -> Result<Items<MapSetting>, All
     Ok(Items::from(maps))
 }
 
-/// Creates these settings, even if memory is refused once.
+/// Creates the wanted settings, even if memory is refused once.
 pub fn settings(alloc: Global, wanted: &Wanted<'_>) -> Result<Settings, AllocError>
     ensures { IfOk result (λ settings. settings.vcid ≡ wanted.now.vcid) }
 {

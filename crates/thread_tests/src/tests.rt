@@ -24,7 +24,7 @@ const CHANNEL: Wanted<'static> = Wanted {
     ..WANTED
 };
 
-// Creates a station for spacecraft 42 with that channel.
+// Creates a station for spacecraft 42 with the channel of `CHANNEL`.
 fn station_of_one<J: Journal>(rt: &impl Abort, alloc: Global) -> StationOf<J>
     ensures { result.vcids ≡ 1 ∷ [] }
 {
@@ -52,7 +52,7 @@ fn closed(rt: &impl Abort, station: Station, operators: Vec<Operator>) -> Vec<Ch
     station.close(operators).expect(rt, "channels")
 }
 
-// Closes the station without the last operator, which is refused, and then with all operators.
+// Checks that the station can't be closed without the last operator, and closes it with all operators.
 fn close(rt: &impl Abort, station: Station, others: Vec<Operator>, last: Operator) -> Vec<Channel>
     requires others { All (λ o. o.vcids ≡ station.vcids) others.items }
     requires last { last.vcids ≡ station.vcids }

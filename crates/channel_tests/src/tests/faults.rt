@@ -180,11 +180,11 @@ fn the_text_of_each_fault_in_rooms(rt: HostRuntime) {
     assert!(rt; have_texts(alloc, &LIMITS_TEXTS));
 }
 
-// Octets to which nothing was copied yet.
+// A buffer into which nothing was copied yet.
 const UNTOUCHED: [u8; 8] = [0xee; 8];
 
-// A take into too few octets takes nothing, and changes none of them. Octets behind an item keep their values. An item
-// that is dropped is gone.
+// A take into a buffer that is too short takes nothing, and changes no octet of the buffer. Octets behind an item keep
+// their values. An item that is dropped is gone.
 #[test]
 fn takes_into_few_octets_and_drops(rt: HostRuntime) {
     let mut channel: FixedChannel = new_channel(&rt, rt.alloc(), "FixedChannel", &BOTH);

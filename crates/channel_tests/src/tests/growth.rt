@@ -1,5 +1,5 @@
-//! Calls on a channel of each form, which may run out of memory. A call that does must leave the channel as it was, and
-//! is then made again.
+//! Calls on a channel of each form, which may run out of memory. A call that runs out of memory must leave the channel
+//! as it was, and is then made again.
 
 use super::Step::{
     Ad, Clcw, Field, Frame, Holds, Lends, NoRelease, NoTake, NoTakeUnit, Release, ReleaseOf, Take,
@@ -15,7 +15,7 @@ const GROWING: Wanted<'static> = Wanted {
     ..WANTED
 };
 
-// Settings like `GROWING`, but without segment headers, and so without MAPs.
+// Settings like `GROWING`, but without segment headers and therefore without MAPs.
 const PLAIN: Wanted<'static> = Wanted {
     segmented: false,
     maps: &[],
@@ -72,7 +72,7 @@ static EACH_CALL: [Step<'static>; 9] = [
     Holds(0, 0, Some(0)),
 ];
 
-// Different numbers of discarded frames come before the calls, so that the journal grows once in each of the calls.
+// The number of discarded frames before the calls differs, so that the journal grows once in each of the calls.
 #[test]
 fn growth_of_each_call_of_a_channel(rt: HostRuntime) {
     for earlier in 0..5 {
@@ -219,7 +219,7 @@ fn growth_of_units_of_a_chosen_map(rt: HostRuntime) {
 
 static TAKE_OF_A_UNIT: [Step<'static>; 2] = [Frame(&BD_UNIT, DELIVERED), TakeUnit(3, &UNIT)];
 
-// Different numbers of discarded frames come before the calls, so that the journal grows once in a take of a unit.
+// The number of discarded frames before the calls differs, so that the journal grows once in a take of a unit.
 #[test]
 fn growth_of_a_take_of_a_unit(rt: HostRuntime) {
     for earlier in 0..4 {
@@ -230,7 +230,7 @@ fn growth_of_a_take_of_a_unit(rt: HostRuntime) {
 // `SECOND`, unsegmented on MAP 0.
 const SECOND_FIELD: [u8; 8] = [0xc0, 0x10, 0x05, 0xc0, 0x01, 0x00, 0x00, 0xbb];
 
-// The reply to a frame whose packet or unit was dropped, since its queue was full.
+// The reply to a frame whose packet or unit was dropped because its queue was full.
 const DROPPED: FrameReply = FrameReply {
     delivery: Delivery {
         dropped: 1,
@@ -274,8 +274,8 @@ static QUEUES: [Step<'static>; 30] = [
 ];
 
 // Items are taken in the order in which they came, from rooms that are used again and again. The item that is lent is
-// the one that the next take gives. An empty queue, or one that doesn't exist, lends nothing. A loan is no event, and
-// neither is a call that is refused.
+// the one that the next take returns. A queue that is empty or doesn't exist lends nothing. Neither a loan nor a
+// refused call is an event.
 #[test]
 fn packets_and_units_in_their_queues(rt: HostRuntime) {
     play(&rt, rt.alloc(), &GROWING, 0, &QUEUES)

@@ -19,8 +19,8 @@ const EIGHT_ON_1: [u8; 9] = [0xc1, 0x10, 0x05, 0xc0, 0x00, 0x00, 0x01, 0xaa, 0xb
 
 const EIGHT_ON_63: [u8; 9] = [0xff, 0x10, 0x05, 0xc0, 0x00, 0x00, 0x01, 0xaa, 0xbb];
 
-// The limit of MAP 0 lets `PACKET`, of 7 octets, through, and drops the packet of 8 octets. MAPs 1 and 63 aren't
-// listed, and have the limit of 8 octets.
+// The limit of MAP 0 is 7 octets. `PACKET`, of 7 octets, passes, and the packet of 8 octets is dropped. MAPs 1 and 63
+// aren't listed, and have the limit of 8 octets.
 static BY_PACKETS: [Step<'static>; 8] = [
     Frame(&BD_PACKET, DELIVERED),
     Field(&EIGHT_ON_0, PASSED),
@@ -42,8 +42,8 @@ static BY_SEGMENTS: [Step<'static>; 6] = [
     Take(5, &PACKET),
 ];
 
-// The chosen MAP 3 has a limit of its own: a run of three octets is dropped, and one of two is joined, whatever comes on another
-// MAP. An unsegmented unit of two octets is whole, and one of three is dropped.
+// The chosen MAP 3 has a limit of its own. A run of three octets is dropped, and a run of two becomes a unit, whatever
+// comes on another MAP. An unsegmented unit of two octets is queued, and one of three is dropped.
 static OF_ANOTHER_MAP: [Step<'static>; 11] = [
     Field(&[0x43, 1, 2], PASSED),
     Field(&[0x03, 3], PASSED),
@@ -58,7 +58,7 @@ static OF_ANOTHER_MAP: [Step<'static>; 11] = [
     TakeUnit(3, &[6, 7]),
 ];
 
-// No unit of an octet or more passes on MAP 1. That MAP isn't listed, and MAPs that aren't listed have the limit 0.
+// No unit of one octet or more passes on MAP 1, because MAPs that aren't listed have the limit 0.
 static ON_AN_UNLISTED_MAP: [Step<'static>; 4] = [
     Field(&EIGHT_ON_1, PASSED),
     Field(&[0xc1], PASSED),
@@ -66,8 +66,8 @@ static ON_AN_UNLISTED_MAP: [Step<'static>; 4] = [
     Holds(0, 1, Some(0)),
 ];
 
-// A plain data field of 7 octets is a unit within the limit for MAPs that aren't listed. One of 8 octets is over the
-// limit.
+// A plain data field of 7 octets is a unit within the limit for MAPs that aren't listed. A data field of 8 octets is
+// over the limit.
 static PLAIN_FIELDS: [Step<'static>; 4] = [
     Field(&EIGHT, PASSED),
     Field(&PACKET, DELIVERED),
@@ -75,7 +75,7 @@ static PLAIN_FIELDS: [Step<'static>; 4] = [
     Take(5, &PACKET),
 ];
 
-// Settings like `BOTH`, but without segment headers, and so without MAPs.
+// Settings like `BOTH`, but without segment headers and therefore without MAPs.
 const PLAIN: Wanted<'static> = Wanted {
     segmented: false,
     maps: &[],
@@ -131,7 +131,7 @@ const OVER_ON_3: MapLimit = MapLimit {
 const BAD_VCID: LimitsFault = LimitsFault::Settings(SettingsFault::BadVcid);
 
 // Rows of settings, the limit of the MAPs that aren't listed, the limits of listed MAPs, and the first fault of these
-// limits with these settings, if there is one.
+// settings and limits, if there is one.
 static FAULTS: [(Wanted<'static>, u32, &[MapLimit], Option<LimitsFault>); 12] = [
     (NO_CHANNEL, 65_543, &[HIGH], Some(BAD_VCID)),
     (BOTH, 65_543, &[HIGH], Some(BadOthers)),

@@ -2,7 +2,7 @@
 
 use super::*;
 
-// Creates a channel with 64 queues of capacity 1. The APID of each is the number of queues that come after it.
+// Creates a channel with 64 queues of capacity 1. The APID of each queue is the number of queues that come after it.
 fn channel_of_queues<C: Form>(rt: &(impl Abort + Print), alloc: Global, name: &str) -> C {
     let mut queues = room(alloc, 64).expect(rt, "room");
     for after in (0..64).rev() {
@@ -15,8 +15,8 @@ fn channel_of_queues<C: Form>(rt: &(impl Abort + Print), alloc: Global, name: &s
     new_channel(rt, alloc, name, &wanted)
 }
 
-// The types, APIDs and data of twenty packets: two for APID 62, one for 63, one for 2,046, one of telemetry, the first for 0 and the
-// others for 7.
+// The types, APIDs and data of twenty packets: two for APID 62, one for 63, one for 2,046, one of telemetry, the first
+// for 0 and the others for 7.
 static PACKETS: [(u8, u8, u8); 20] = [
     (0x10, 0, 0),
     (0x10, 62, 1),
@@ -60,7 +60,7 @@ fn queued<C: Form>(channel: &C) -> [Option<usize>; 5] {
     [0, 1, 7, 62, 63].map(|apid| channel.packets(apid))
 }
 
-// Checks the reply to the long unit, and that the channel stays as it was if memory for the unit is refused.
+// Checks the reply to the long unit. If memory for the unit is refused, checks that the channel stays as it was.
 fn check_long_unit<C: Form, T: Abort + Print>(rt: &T, alloc: Global, name: &str) {
     let mut channel: C = channel_of_queues(rt, alloc, name);
     let octets = long_frame(rt, alloc);

@@ -1,4 +1,4 @@
-//! Tests of the report of a new channel, and of octets that are copied into the library's type and out of it.
+//! Tests of the report of a new channel, and of copies of octets into the library's type and out of it.
 
 use super::*;
 

@@ -1,4 +1,4 @@
-//! Steps on a channel as data, with the answers that it must give, and their run on a channel of any form.
+//! Steps on a channel as data, with the expected answers, and a run that makes them on a channel of any form.
 
 use super::*;
 use tc_link::Report;
@@ -51,7 +51,8 @@ fn report_of<C: Form>(channel: &C) -> Reported {
     }
 }
 
-// A channel, and the journal that it must have. A call for which memory is refused is printed, and made again.
+// A channel, and the journal that it must have. If memory for a call is refused, that is printed, and the call is made
+// again.
 #[derive(Drop)]
 pub struct Run<C: Form> {
     name: &'static str,
@@ -146,7 +147,8 @@ impl<C: Form> Run<C> {
         self.note(rt, Event::TakeUnit(map))
     }
 
-    // Checks that the channel lends this packet and this unit, and nothing from a queue that it doesn't have.
+    // Checks that the channel lends this packet and this unit, and that it lends nothing from a queue that it doesn't
+    // have.
     fn check_lent(&self, rt: &impl Abort, packet: Option<&[u8]>, unit: Option<&[u8]>) {
         assert_eq!(rt; self.channel.lent_packet(5), packet);
         assert_eq!(rt; self.channel.lent_whole(3), unit);

@@ -3,7 +3,7 @@
 use super::*;
 use tc_channel::Tick;
 
-// The number of steps that were counted, up to 2^64 - 1.
+// A counter of steps, up to 2^64 - 1.
 #[derive(Drop)]
 struct Counted {
     steps: u64,
@@ -21,8 +21,9 @@ impl Tick for Counted {
     }
 }
 
-// The Type-BD frame takes three steps: the queue of MAP 3 is looked at, the one packet is cut, and its queue is found.
-// A frame that is buffered takes no step, and its release takes three again. A take looks for its queue once.
+// The Type-BD frame takes three steps: the queue of MAP 3 is looked at, the one packet is cut, and the packet's queue
+// is found. A frame that is buffered takes no step, and the release of its data field takes three. A take takes one
+// step, in which it finds its queue.
 #[test]
 fn steps_of_each_call(rt: HostRuntime) {
     let settings = settings(&rt, rt.alloc(), &BOTH);

@@ -1,5 +1,5 @@
-//! The number of bytes that are requested, worked out by hand from the sizes on x86-64. Beside its octets a room has 32
-//! bytes, and a stream has 40. A queue has 64.
+//! The number of bytes that are requested, worked out by hand from the sizes on x86-64. A room has 32 bytes beside its
+//! octets, a stream has 40 bytes beside its octets, and a queue has 64 bytes.
 
 use super::limits::limits_of;
 use super::*;

@@ -12,7 +12,7 @@ fn receiver(rt: &impl Abort, alloc: Global, check: FrameCheck) -> Receiver {
     Receiver::new(alloc, spacecraft, check)
 }
 
-/// Checks that a receiver answers these lines with exactly these answers.
+/// Checks that a receiver answers these lines with `answers`, and with nothing else.
 fn check_answers(rt: &impl Abort, alloc: Global, lines: &str, answers: &str) {
     let mut reader = lines.as_bytes();
     let mut written = Vec::new(alloc);

@@ -15,8 +15,8 @@ enum Way {
     InParallel,
 }
 
-// Runs a script for spacecraft 42. Only this function calls the functions of the library that run scripts, whose
-// contracts are about any script.
+// Runs a script for spacecraft 42. The library's functions that run scripts are called only here, and their contracts
+// hold for any script.
 fn run<T: Threads + Wait + Sync + AllocGlobal, R: Read, W: Write>(
     rt: &T,
     way: Way,

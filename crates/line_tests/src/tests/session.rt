@@ -1,4 +1,4 @@
-//! Sessions of lines, which answer as the programs do.
+//! Sessions of lines, which give the answers of the programs.
 
 use std::alloc::Global;
 use std::process::Abort;
@@ -209,7 +209,7 @@ fn a_session_makes_frames_as_tcmake_does(rt: HostRuntime) {
     check_answer(&rt, alloc, &mut session, b"unlock 42 1", Said::Over, b"");
 }
 
-/// Returns the ends of frames after this line, which stay the same at the end.
+/// Returns the `FrameEnds` of a session after this line, and checks that the end of the lines doesn't change it.
 fn ends_after(rt: &impl Abort, alloc: Global, line: &[u8]) -> FrameEnds {
     let mut session = script(rt, alloc);
     assert_eq!(rt; session.answer(alloc, b"channel 1 10 1 0"), Said::Done);
@@ -231,7 +231,7 @@ fn a_session_sees_check_sums_that_nothing_takes_off(rt: HostRuntime) {
     );
 }
 
-/// Gives the session a line, again if memory ran out at it.
+/// Gives the session a line. If memory runs out at it, gives the session the line again.
 fn answered<T: Abort + Print>(rt: &T, alloc: Global, session: &mut Session, line: &[u8]) {
     if session.answer(alloc, line) == Said::NoMemory || session.text.ends_with(b"bad no memory\n") {
         let _ = println!(rt; "refused: answer");
@@ -239,7 +239,7 @@ fn answered<T: Abort + Print>(rt: &T, alloc: Global, session: &mut Session, line
     }
 }
 
-/// Ends the lines of the session, again if memory ran out before anything was done.
+/// Ends the lines of the session. If memory runs out before anything is done, ends them again.
 fn ended<T: Abort + Print>(rt: &T, alloc: Global, session: &mut Session) -> Said {
     let said = session.end(alloc);
     if said == Said::NoMemory {

@@ -30,7 +30,7 @@ fn push(
     reassembler.push(service, field)
 }
 
-// Checks that exactly the expected unit was ended, if any is expected, and that no memory was refused.
+// Checks that the expected unit was ended, or none if `expected` is `None`, and that no memory was refused.
 fn check_unit(rt: &impl Abort, answer: Result<Option<Vec<u8>>, NoMemory>, expected: Option<&[u8]>) {
     let unit = answer.expect(rt, "an answer");
     assert_eq!(rt; unit.as_deref(), expected);
@@ -54,8 +54,8 @@ impl Watched {
         }
     }
 
-    // Returns the unit that the field would end, and checks that the reassembler and the definition over the whole
-    // stream agree on it.
+    // Returns the unit that the field would end. Checks that the reassembler agrees on it with the definition over the
+    // whole stream.
     fn unit_after(&self, rt: &impl Abort, service: Service, field: &[u8]) -> Option<Vec<u8>> {
         let expected = definition::unit_after(self.alloc, &self.given, service, field).expect(
             rt,

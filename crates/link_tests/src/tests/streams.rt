@@ -18,8 +18,8 @@ const CLTU: [u8; 18] = [
     0xc5, 0x79,
 ];
 
-// Feeds the CLTU to the decoder. A frame whose copy is refused stays in the decoder: all octets up to its end were
-// taken, and the frames before it stay.
+// Feeds the CLTU to the decoder. If memory for the copy of a frame is refused, the frame stays in the decoder. All
+// octets up to its end were then taken, and the earlier frames are kept.
 fn feed(
     rt: &(impl Abort + Print),
     alloc: Global,
@@ -48,7 +48,7 @@ fn growth_of_the_frames_of_many_cltus(rt: HostRuntime) {
     }
 }
 
-// Returns the length of the first frame of a stream that comes octet by octet.
+// Feeds a stream to a decoder octet by octet, and returns the length of the first frame.
 fn length_of(rt: &(impl Abort + Print), alloc: Global, stream: &[u8]) -> Option<usize> {
     let mut decoder = decoder_of(rt, alloc, Mode::Correct);
     for octet in stream {

@@ -6,7 +6,7 @@ ghost use Rattle.lock_tests.specs.Book.{IsAtRest};
 use super::*;
 use std::sync::Wait;
 
-// Returns whether the lock isn't free for the second seat while the first one has it.
+// Returns whether the second seat can't take the lock while the first one holds it.
 fn fails_meanwhile<R: Wait>(rt: &R, lock: &BookLock, one: &mut BookSeat, two: &mut BookSeat) -> bool
     requires one { IsAtRest lock.now one.old }
     requires two { IsAtRest lock.now two.old }

@@ -1,4 +1,4 @@
-//! Roles that a thread plays with its seat, and that two or three threads play at the same time.
+//! Roles that a thread plays with its seat. Two or three threads play them at the same time.
 
 ghost use Rattle.std.specs.Thread.{IsSync};
 ghost use Rattle.lock_tests.specs.Book.{IsWriter};
@@ -10,7 +10,7 @@ use std::sync::atomic::{AtomicBool, Ordering};
 use std::thread::{Threads, join_mut, sleep, yield_now};
 use std::time::Duration;
 
-// The number of numbers that a thread in the role `Write` writes.
+// The number of turns of a thread in the role `Write`. It writes one number at each turn.
 pub(super) const TURNS: u32 = 10_000;
 
 // The role of a thread with its seat. Threads that play at the same time share a flag, which isn't set at first.
@@ -26,14 +26,14 @@ pub(super) enum Role {
     HaveAllTheTime,
     // A thread that writes a hundred numbers, and then sets the flag.
     WriteNowAndThen,
-    // A thread that takes the lock when it finds it free, and holds it for longer than a sleeping thread takes to wake.
-    // It does so until the flag is set, and at most this many times.
+    // A thread that takes the lock whenever the lock is free, and holds it for longer than a sleeping thread takes to
+    // wake. It does so until the flag is set, and at most this many times.
     HaveWhereFree(u32),
     // A thread that writes three numbers, each after a while, and then sets the flag.
     WriteAfterAWhile,
 }
 
-// Writes the numbers from this one on, one at each turn, and returns whether none was refused.
+// Writes the numbers from `first` on, one at each turn, and returns whether each was written.
 fn write_all<R: Wait>(rt: &R, lock: &BookLock, seat: &mut BookSeat, first: u32) -> bool
     requires { IsWriter lock.now seat.old }
     ensures { IsWriter lock.now seat.new }
@@ -121,8 +121,8 @@ fn write_now_and_then<R: Wait>(
     true
 }
 
-// Takes the lock when it finds it free, at most `times` times, until the flag is set. Returns whether it was set before
-// the last time.
+// Takes the lock whenever it is free, at most `times` times, until the flag is set. Returns whether the flag was
+// found set.
 fn have_where_free<R: Wait + Clock>(
     rt: &R,
     lock: &BookLock,
@@ -190,7 +190,7 @@ fn act<R: Wait + Clock>(
     }
 }
 
-// Lets each seat play its role, in a thread of its own, and returns whether both were played to their ends.
+// Plays the role of each seat, in a thread of its own, and returns whether both roles were played to their ends.
 pub(super) fn side_by_side<R: Threads + Wait + Clock + Sync>(
     rt: &R,
     lock: &BookLock,
@@ -206,7 +206,7 @@ pub(super) fn side_by_side<R: Threads + Wait + Clock + Sync>(
     act_both(rt, lock, one, two, &AtomicBool::new(false), roles)
 }
 
-// Lets each seat play its role, in a thread of its own, with this flag, and returns whether both were played to their
+// Plays the role of each seat, in a thread of its own, with this flag. Returns whether both roles were played to their
 // ends.
 fn act_both<R: Threads + Wait + Clock + Sync>(
     rt: &R,
@@ -234,8 +234,8 @@ fn act_both<R: Threads + Wait + Clock + Sync>(
     a && b
 }
 
-// Lets two threads take the lock when they find it free, at most `times` times each, while the third writes after a
-// while. Returns whether the third wrote before the others were done.
+// Takes the lock in two threads whenever it is free, at most `times` times each, while a third thread writes after a
+// while. Returns whether the third thread wrote before the others were done.
 pub(super) fn against_two<R: Threads + Wait + Clock + Sync>(
     rt: &R,
     lock: &BookLock,

@@ -1,6 +1,6 @@
 //! Six threads write 10,000 numbers each into one book.
 //!
-//! All of them end, and the book has each number once, and each thread's numbers in order.
+//! All threads end. The book then has each number once, and each thread's numbers in order.
 
 ghost use Rattle.std.specs.Prelude.{◌≡◌, true};
 ghost use Rattle.std.specs.Thread.{IsSync};
@@ -40,7 +40,7 @@ struct Pair {
 }
 
 impl Pair {
-    // Creates two writers, which write the numbers from this one on.
+    // Creates two writers: one writes the numbers from this one on, and the other those that follow.
     fn new(lock: &BookLock, first: &mut BookSeat, number: u32) -> Pair
         requires writer { IsWriter lock.now first.old }
         requires first { first.old.id ≡ 0 }
@@ -53,7 +53,7 @@ impl Pair {
         Pair { one, two }
     }
 
-    // Lets both write, each in a thread of its own.
+    // Runs both writers, each in a thread of its own.
     fn work<R: Threads + Wait + Clock + Sync>(&mut self, rt: &R, lock: &BookLock) -> bool
         requires one { IsWriter lock.now self.old.one.seat }
         requires two { IsWriter lock.now self.old.two.seat }
@@ -73,7 +73,7 @@ struct Six {
 }
 
 impl Six {
-    // Lets all six write, each in a thread of its own.
+    // Runs all six writers, each in a thread of its own.
     fn work<R: Threads + Wait + Clock + Sync>(&mut self, rt: &R, lock: &BookLock) -> bool
         requires one { IsWriter lock.now self.old.one.one.seat × IsWriter lock.now self.old.one.two.seat }
         requires two { IsWriter lock.now self.old.two.one.seat × IsWriter lock.now self.old.two.two.seat }
@@ -100,7 +100,7 @@ impl Six {
     }
 }
 
-// Lets two pairs write.
+// Runs the four writers of two pairs.
 fn work_by_four<R: Threads + Wait + Clock + Sync>(
     rt: &R,
     lock: &BookLock,
@@ -137,8 +137,8 @@ fn report_both(lock: &BookLock, first: &mut BookSeat, pair: Pair)
     lock.report(first, two.seat);
 }
 
-// Takes the book out from under the lock, and returns it. The first seat takes it out, once it knows the entries that
-// the six other seats have seen and made.
+// Takes the book out from under the lock, through the first seat, and returns the book. Before that the first seat is
+// told the entries that the six other seats have seen and made.
 fn close<R: Wait>(rt: &R, alloc: Global, lock: &BookLock, mut first: BookSeat, six: Six) -> Book
     requires first { IsWriter lock.now first × (first.id ≡ 0) }
     requires one { IsWriter lock.now six.one.one.seat × IsWriter lock.now six.one.two.seat }

@@ -1,4 +1,4 @@
-//! The turns that a thread takes with a book under its lock.
+//! The turns that a thread takes at a book under its lock.
 
 ghost use Rattle.std.specs.Prelude.{◌≡◌, ◌∷◌, ◌++◌, [], MatchBool, ℕ, true};
 ghost use Rattle.logged_lock.specs.Rule.{HasLock};

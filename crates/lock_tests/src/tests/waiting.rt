@@ -6,7 +6,7 @@ use super::roles::{Role, against_two, side_by_side};
 use super::*;
 use std::sync::Wait;
 
-// Returns how many numbers the book has. No seat can take its lock afterwards.
+// Returns the number of numbers in the book. No seat can take its lock afterwards.
 fn numbers<R: Wait>(rt: &R, alloc: Global, lock: &BookLock, seat: &mut BookSeat) -> usize
     requires { IsAtRest lock.now seat.old }
 {
@@ -45,9 +45,9 @@ fn who_has_it_all_the_time_keeps_nobody_away(rt: HostRuntime) {
     assert_eq!(rt; numbers(&rt, rt.alloc(), &lock, &mut other), 100);
 }
 
-// Two threads that only try the lock take it each time before a thread that is woken can take it. So a thread that
-// sleeps gets the lock only if the lock is reserved for it, and it requests that once it has slept twice. Each of its
-// three turns then waits for about four turns of the other threads.
+// Two threads that only try the lock always take it before a woken thread can take it. So a thread that sleeps gets the
+// lock only if the lock is reserved for it. The thread requests that once it has slept twice. Each of its three turns
+// then waits for about four turns of the other threads.
 #[test]
 fn who_has_slept_twice_comes_before_who_only_tries(rt: HostRuntime) {
     let (lock, mut first) = new_lock(&rt, rt.alloc());

@@ -103,8 +103,8 @@ fn reported_of<J: Journal>(channel: &ChannelWith<J>) -> Reported {
     }
 }
 
-// Returns the answer that a station with one channel would give. `read` is the result of bringing octets to a desk, or to
-// a channel without a station.
+// Returns the answer that a station with one channel would give. `read` is the result of bringing octets to a desk, or
+// to a channel without a station.
 fn of_alone(vcid: u8, read: Result<Result<FrameReply, NoMemory>, FrameFault>) -> Asked {
     match read {
         Ok(reply) => Ok(Answer::Frame {
@@ -143,7 +143,7 @@ impl Asking for Channel {
     }
 }
 
-// The CLCW of the desk is the one that its watcher reads. The watcher was created before the first frame.
+// The desk's CLCW is the one that its watcher reads. The watcher was created before the first frame.
 impl Asking for Watched {
     fn ask<R: Wait + Abort>(&mut self, rt: &R, vcid: u8, line: &Line) -> Asked {
         let desk = &mut self.desk;

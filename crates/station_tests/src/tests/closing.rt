@@ -1,4 +1,4 @@
-//! Closing a station with operators of another one, whose counts differ, and closing counting stations.
+//! Closing a station with operators of another station, whose counts differ, and closing counting stations.
 
 ghost use Rattle.std.specs.Prelude.{◌≡◌, All};
 

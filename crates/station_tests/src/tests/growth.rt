@@ -1,4 +1,5 @@
-//! Calls that may run out of memory. A call that does must leave everything as it was, and is then made again.
+//! Calls that may run out of memory. A call that runs out of memory must leave everything as it was, and is then made
+//! again.
 
 ghost use Rattle.std.specs.Prelude.{◌≡◌, ◌≤◌, All, length};
 ghost use Rattle.tc_station.specs.Tally.{IsOurs};
@@ -64,7 +65,7 @@ fn new_desk(rt: &(impl Abort + Print), alloc: Global, row: &Row) -> Desk {
     }
 }
 
-// Plays a row on a desk with a watcher, which takes no memory.
+// Plays a row on a desk with a watcher. The watcher requests no memory.
 fn check_desk(rt: &(impl Wait + Abort + Print), alloc: Global, row: &Row) {
     let mut desk = new_desk(rt, alloc, row);
     let watcher = desk.watcher().expect(rt, "a watcher");
@@ -119,7 +120,7 @@ impl Published {
     fn new(rt: &(impl Abort + Print), alloc: Global) -> Published {
         let channel = new_channel(rt, alloc, &PACKETS, 1);
         let mut publisher = new_publisher(rt, alloc, &channel);
-        // A watcher takes no memory.
+        // A watcher requests no memory.
         let old = publisher.watcher().expect(rt, "a watcher");
         Published {
             channel,
@@ -176,7 +177,7 @@ fn two_unlocks(rt: &impl Abort, alloc: Global) -> WorkList {
     WorkList { vcid: 1, jobs }
 }
 
-// Returns how many Unlocks were answered, which follows from the lowest line for which memory was refused.
+// Returns the number of Unlocks that were answered. It follows from the lowest line for which memory was refused.
 fn answered(rt: &(impl Abort + Print), done: Result<(), WorkFault>) -> u64
     ensures { result ≤ 2 }
 {
@@ -194,7 +195,7 @@ fn answered(rt: &(impl Abort + Print), done: Result<(), WorkFault>) -> u64
     }
 }
 
-// Tries to carry out the lists, and returns how many Unlocks were answered.
+// Tries to carry out the lists, and returns the number of Unlocks that were answered.
 fn try_lists<R: Threads + Wait + Sync + Abort + Print>(
     rt: &R,
     station: &Station,

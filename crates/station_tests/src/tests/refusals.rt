@@ -28,7 +28,7 @@ fn settings_that_make_no_station(rt: HostRuntime) {
     check_fault(&rt, alloc, 42, &[64], bad);
 }
 
-// Checks that a call for `n` operators issues this number of operators, or fails with this fault.
+// Checks that a call for `n` operators issues `n` of them, or fails with this fault.
 fn check_issued(
     rt: &impl Abort,
     station: &mut Station,

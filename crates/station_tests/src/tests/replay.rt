@@ -38,8 +38,7 @@ pub(super) fn new_channel(rt: &impl Abort, alloc: Global, row: &Row, vcid: u8) -
     }
 }
 
-// Prints the name of the call for which memory was refused. The answer that the repeated call got shows which call it
-// was.
+// Prints the name of the call for which memory was refused. The answer to the repeated call tells which call that was.
 fn call_of(rt: &impl Print, who: &str, answer: &Asked) {
     let _ = match answer {
         Ok(Answer::Frame { vcid: _, reply }) => {
@@ -88,8 +87,8 @@ fn without_fill(octets: &[u8]) -> Option<&[u8]> {
     octets.get(..length)
 }
 
-// Returns the event that a journal has for an operation that isn't refused. There is none for a CLCW, or for octets
-// without a frame.
+// Returns the event that a journal has for an operation that isn't refused. A CLCW has no event, and neither have
+// octets without a frame.
 fn event_of(alloc: Global, line: &Line) -> Option<Event> {
     match line {
         Line::Frame(octets) => frame_event(alloc, without_fill(octets.as_slice())?).ok(),
@@ -134,7 +133,7 @@ impl Replay {
         }
     }
 
-    // Carries out the operation of a line on the channel with this id that has no station, and returns its answer.
+    // Carries out the operation of a line on one of the channels without a station, and returns the answer.
     fn ask_alone(&mut self, rt: &(impl Wait + Abort + Print), (vcid, line): (u8, &Line)) -> String {
         if vcid == 1 {
             ask(rt, self.alloc, "Channel", &mut self.first, (vcid, line))
@@ -175,7 +174,7 @@ impl Replay {
         }
     }
 
-    // Carries out the operation of a line, on channel 1 and then on channel 2, if it is there. Checks that channel 1
+    // Carries out the operation of a line on channel 1 and then on channel 2, if there is one. Checks that channel 1
     // gives this answer, and that its journal then has the event.
     fn step<A: Asking, R: Wait + Abort + Print>(
         &mut self,

@@ -51,8 +51,8 @@ fn each_watcher_reads_its_own_channel(rt: HostRuntime) {
     );
 }
 
-// Brings octets, and then lets the watcher of channel 1 meet that channel through the same operator. This shows that
-// after a call a watcher can meet its channel through the operator.
+// Brings octets, and then lets the watcher of channel 1 meet that channel through the same operator. This shows that a
+// watcher can meet its channel through an operator that has just made a call.
 fn bring_and_meet<J: Journal, R: Wait>(
     rt: &R,
     station: &StationOf<J>,

@@ -10,8 +10,8 @@ use tc_cli::parallel_script;
 use tc_station::{Gate, Job, Order, WorkList};
 use tc_status::Watcher;
 
-// A gate at which the worker of channel 1 waits for the worker of another channel, and the other way round, for at most
-// `turns` turns. A worker that didn't see the other sets `ran_out`.
+// A gate at which the worker of channel 1 and the worker of another channel wait for each other, for at most `turns`
+// turns. A worker that doesn't see the other in that time sets `ran_out`.
 #[derive(Drop)]
 struct Meeting {
     turns: u32,
@@ -131,7 +131,7 @@ fn workers_of_two_channels_meet(rt: HostRuntime) {
     assert_eq!(rt; channels[1].journal().len(), 1);
 }
 
-// A script with two channels, the second of which is set up first, and with frames of Type-AD and of Type-BD. The final
+// A script with two channels, and with frames of Type-AD and of Type-BD. Channel 2 is set up first, but the final
 // report is in rising order of virtual channel ids.
 const SCRIPT: &str =
     "channel 2 10 2 255\nqueue 2 7 3\nchannel 1 10 1 0\nqueue 1 5 1\nframe 002a080cffc01007c0000000bb\nframe 202a040c00c01005c0000000aa\nrelease 2\nframe 002a040c00c01005c0000000aa\n";
@@ -152,7 +152,7 @@ fn workers_of_a_script_meet(rt: HostRuntime) {
 }
 
 // A gate at which the worker of channel 1 sets `inside`, and then waits for a report, for at most `turns` turns. Other
-// workers wait until it is inside.
+// workers wait until `inside` is set.
 #[derive(Drop)]
 struct Inside {
     turns: u32,
@@ -193,7 +193,7 @@ impl Gate for Inside {
     }
 }
 
-// Reports to the gate once channel 2 was unlocked.
+// Reports to the gate once channel 2 is unlocked.
 fn report_the_second(station: &Station, watcher: &mut Watcher, gate: &Inside) {
     for turn in 0..100_000_000u32 {
         if station.watch(watcher, NO_FLAG) == 0x01080200 {

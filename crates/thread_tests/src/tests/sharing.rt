@@ -15,8 +15,8 @@ fn bring(rt: &impl Wait, station: &Station, operator: &mut Operator, frame: &[u8
     station.bring(rt, operator, frame).is_ok()
 }
 
-// Releases the channel, and returns whether that worked or the buffer was empty, since the other thread may have
-// emptied it.
+// Releases a data field of the channel. Returns whether that worked or the buffer was empty, since the other thread may
+// have emptied it.
 fn release(rt: &impl Wait, station: &Station, operator: &mut Operator, vcid: u8) -> bool
     requires { IsOurs station.now operator.old }
     ensures { IsOurs station.now operator.new }
@@ -27,7 +27,7 @@ fn release(rt: &impl Wait, station: &Station, operator: &mut Operator, vcid: u8)
     }
 }
 
-// Brings the channel's frame with this N(S), and releases the channel.
+// Brings the channel's frame with this N(S), and releases a data field of the channel.
 fn turn(rt: &impl Wait, station: &Station, operator: &mut Operator, vcid: u8, ns: u8) -> bool
     requires { IsOurs station.now operator.old }
     ensures { IsOurs station.now operator.new }
@@ -37,7 +37,7 @@ fn turn(rt: &impl Wait, station: &Station, operator: &mut Operator, vcid: u8, ns
     brought && released
 }
 
-// Takes 300 turns on channel 1 and then on channel 2, with rising numbers. Returns whether nothing else was refused.
+// Takes 300 turns, each on channel 1 and then on channel 2, with rising N(S). Returns whether each turn succeeded.
 fn take_turns(rt: &impl Wait, station: &Station, operator: &mut Operator) -> bool
     requires { IsOurs station.now operator.old }
     ensures { IsOurs station.now operator.new }
@@ -52,7 +52,7 @@ fn take_turns(rt: &impl Wait, station: &Station, operator: &mut Operator) -> boo
     done
 }
 
-// Lets both operators take their turns, each in a thread of its own.
+// Runs the turns of both operators, each in a thread of its own.
 fn share<R: Threads + Wait + Sync>(
     rt: &R,
     station: &Station,

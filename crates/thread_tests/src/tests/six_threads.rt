@@ -1,7 +1,7 @@
 //! Six threads on one channel: two bring frames, one releases, one takes and two watch.
 //!
-//! Whatever the order of their calls was, a new channel that is given the events of the closed one's journal gives the
-//! same answers.
+//! Whatever the order of their calls was, a new channel gives the same answers to the events in the closed channel's
+//! journal.
 
 ghost use Rattle.std.specs.Prelude.{◌≡◌, ◌∷◌, [], All};
 ghost use Rattle.std.specs.Thread.{IsSync};
@@ -42,7 +42,7 @@ impl Answer {
     }
 }
 
-// An operator of a station with virtual channel 1, its task, and the answers that it got, without refusals.
+// An operator of a station with virtual channel 1, its task, and the answers that it got, apart from refusals.
 #[derive(Drop)]
 struct Worker {
     task: Task,
@@ -115,7 +115,7 @@ impl Worker {
         }
     }
 
-    // Takes all turns of the task, and checks that nothing else is refused.
+    // Takes all turns of the task, and checks that `act` returns true for each.
     fn work(&mut self, rt: &(impl Abort + Wait), station: &Station)
         requires { IsOurs station.now self.old.operator }
         ensures { IsOurs station.now self.new.operator }
@@ -167,7 +167,7 @@ fn new_watcher(rt: &(impl Abort + Wait), station: &Station) -> Watcher {
     station.watcher(rt, 1).expect(rt, "a watcher")
 }
 
-// Lets each worker work in a thread of its own.
+// Runs each worker in a thread of its own.
 fn work_all<R: Abort + Threads + Wait + Sync>(rt: &R, station: &Station, workers: &mut [Worker])
     requires { All (λ w. IsOurs station.now w.operator) workers.old }
 {
@@ -181,7 +181,7 @@ fn work_all<R: Abort + Threads + Wait + Sync>(rt: &R, station: &Station, workers
     );
 }
 
-// Lets both watchers watch, each in a thread of its own, and checks that V(R) falls for neither.
+// Runs both watchers, each in a thread of its own, and checks that V(R) falls for neither.
 fn watch_both<R: Abort + Threads + Wait + Sync>(
     rt: &R,
     station: &Station,
@@ -196,7 +196,7 @@ fn watch_both<R: Abort + Threads + Wait + Sync>(
     assert!(rt; first && second);
 }
 
-// Lets workers work and watchers watch, each in a thread of its own.
+// Runs workers and watchers at the same time, each in a thread of its own.
 fn all_at_once<R: Abort + Threads + Wait + Sync>(
     rt: &R,
     station: &Station,
@@ -270,7 +270,7 @@ fn answers_again(rt: &impl Abort, alloc: Global, closed: &Channel) -> Vec<Answer
     answers
 }
 
-// Checks that the answers to this task among all answers are the worker's, in order.
+// Checks that all answers include the worker's answers in order, and no others to this task.
 fn check_in_order(rt: &impl Abort, all: &[Answer], task: Task, got: &[Answer]) {
     let mut got = got.iter();
     for answer in all {
@@ -291,7 +291,8 @@ fn times(answers: &[Answer], wanted: &Answer) -> u32 {
     times
 }
 
-// Checks that each reply to a frame comes as often among all answers as among those of both workers that bring.
+// Checks that each reply to a frame comes as often among all answers as among those of the two workers that bring
+// frames.
 fn check_as_often(rt: &impl Abort, all: &[Answer], one: &[Answer], two: &[Answer]) {
     assert_eq!(rt; one.len(), 200);
     assert_eq!(rt; two.len(), 200);
@@ -314,7 +315,7 @@ fn check_frame(rt: &impl Abort, journal: &[Event], frame: &[u8]) {
     assert_eq!(rt; times, 2);
 }
 
-// Checks that each frame was brought by both workers that bring.
+// Checks that each frame was brought by both workers that bring frames.
 fn check_frames(rt: &impl Abort, journal: &[Event]) {
     for ns in 0..200u8 {
         check_frame(rt, journal, &ad_frame(1, ns));

@@ -1,4 +1,4 @@
-//! Two threads on two channels, which are closed together.
+//! Two threads that work on two channels, which are then closed together.
 
 ghost use Rattle.std.specs.Prelude.{All};
 ghost use Rattle.tc_station.specs.Tally.{IsOurs};
@@ -42,7 +42,7 @@ fn frames_of(rt: &impl Abort, alloc: Global, worker: u8) -> WorkList {
     }
 }
 
-// Closes a station, which must succeed.
+// Closes a station, and checks that this succeeds.
 fn closed_together(rt: &impl Abort, station: Station, operators: Vec<Operator>) -> Vec<Channel>
     requires { All (IsOurs station) operators.items }
 {

@@ -23,7 +23,7 @@ fn list_for(rt: &impl Abort, alloc: Global, vcid: u8, order: Order) -> WorkList 
     }
 }
 
-// Creates seven lists. Channel 9 isn't there. The order before each Unlock is refused. These orders are a release of an
+// Creates seven lists. There is no channel 9. The order before each Unlock is refused. These orders are a release of an
 // empty buffer, a release on channel 9, octets that aren't a frame, the take of a packet that has no queue, a take from
 // an empty queue, and the take of a unit of a MAP that isn't chosen. The last list has no jobs.
 fn seven_lists(rt: &impl Abort, alloc: Global) -> [WorkList; 7] {
@@ -41,8 +41,8 @@ fn seven_lists(rt: &impl Abort, alloc: Global) -> [WorkList; 7] {
     ]
 }
 
-// A gate that counts how often it is passed: for channel 1 in the ones, 2 in the tens, 9 in the hundreds, and any other
-// in the thousands.
+// A gate that counts how often it is passed. The ones count the passes for channel 1, the tens those for channel 2, the
+// hundreds those for channel 9, and the thousands those for any other channel.
 #[derive(Drop)]
 struct Counting {
     passed: AtomicU32,

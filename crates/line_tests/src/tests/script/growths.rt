@@ -9,7 +9,7 @@ use std::thread::Threads;
 use tc_cli::{Line, Reason, ScriptFault, parse_line};
 use test_parts::{UNLOCK, room};
 
-/// Parses a line, at once or after memory was refused.
+/// Parses a line, if necessary after memory was refused once.
 fn parsed<T: Abort + Print>(rt: &T, alloc: Global, text: &[u8]) -> Line {
     match parse_line(alloc, text) {
         Ok(line) => line,
@@ -29,8 +29,8 @@ fn parse_line_growth(rt: HostRuntime) {
     }
 }
 
-/// Checks the fault and the answers when memory ran out. The first `setups` lines have no answer, and each line after
-/// them has one.
+/// Checks the fault and the answers of a script that ran out of memory. The first `setups` lines have no answer, and
+/// each line after them has one.
 fn check_refused<T: Abort>(
     rt: &T,
     fault: ScriptFault,
@@ -52,8 +52,8 @@ fn check_refused<T: Abort>(
     assert!(rt; expected.as_bytes().starts_with(answers));
 }
 
-/// Checks that a script whose first `setups` lines set up channels runs to its end, at once or after memory was
-/// refused.
+/// Checks that a script runs to its end, if necessary after memory was refused once. Its first `setups` lines set up
+/// channels.
 fn check_script<T: Abort + Print + Threads + Wait + Sync + AllocGlobal>(
     rt: &T,
     script: &str,
@@ -92,8 +92,8 @@ fn report_growth(rt: HostRuntime) {
     check_script(&rt, script, report, 4, 4);
 }
 
-// Runs a script in parallel. If memory is refused, nothing is written, and the fault has line 0 if the script was being
-// read, or else a line from `first` to `last`.
+// Runs a script in parallel. If memory is refused, nothing is written. The fault then has line 0 if the script was
+// being read, or else a line from `first` to `last`.
 fn check_parallel<R: Threads + Wait + Sync + Abort + Print + AllocGlobal>(
     rt: &R,
     script: &str,

@@ -27,7 +27,7 @@ impl Read for Endless {
 }
 
 // Checks that the whole script is answered, or that the failed read is reported and nothing is answered. Returns
-// whether the script is read before this read fails.
+// whether the script was read to its end before the read that fails.
 fn is_read<T: Abort + Threads + Wait + Sync + AllocGlobal>(
     rt: &T,
     way: Way,

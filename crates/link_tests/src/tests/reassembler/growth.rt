@@ -1,8 +1,8 @@
-//! Calls that may run out of memory. A call that does must change no run, and is then made again.
+//! Calls that may run out of memory. A call that runs out of memory must change no run, and is then made again.
 
 use super::*;
 
-// All fields are on this MAP, and all octets of their bodies are this number.
+// The MAP of all fields. All octets of their bodies are this number, too.
 const MAP: u8 = 5;
 
 const FIRST: [u8; 4] = [0x40 | MAP, 5, 5, 5];
@@ -13,7 +13,7 @@ const LAST: [u8; 9] = [0x80 | MAP, 5, 5, 5, 5, 5, 5, 5, 5];
 
 const UNSEGMENTED: [u8; 3] = [0xc0 | MAP, 5, 5];
 
-// The run that `FIRST` leaves open, this run with the body of `CONTINUING`, and the units that `LAST` makes of both.
+// The run that `FIRST` opens, this run with the body of `CONTINUING` behind it, and the unit that `LAST` makes of each.
 const SHORT_RUN: [u8; 3] = [5; 3];
 
 const LONG_RUN: [u8; 42] = [5; 42];
@@ -107,7 +107,8 @@ fn growth_of_units_and_open_runs(rt: HostRuntime) {
     }
 }
 
-// Checks that with `SHORT_RUN` open, the field would end this unit, or no unit if it is `None`, and that the run stays.
+// Checks that the field would end this unit while `SHORT_RUN` is open, and that the run stays open. `None` stands for
+// no unit.
 fn check_asked(
     rt: &(impl Abort + Print),
     reassembler: &Reassembler,

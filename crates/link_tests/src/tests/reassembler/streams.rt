@@ -4,7 +4,7 @@ ghost use Rattle.std.specs.Prelude.{◌<◌};
 
 use super::*;
 
-// Checks that on a new reassembler the field ends this unit, or no unit if it is `None`.
+// Checks that on a new reassembler the field ends the expected unit. `None` stands for no unit.
 fn check_alone(rt: &impl Abort, alloc: Global, field: &[u8], expected: Option<&[u8]>) {
     let unit = Watched::new(rt, alloc).push(rt, Service::Ad, field);
     assert_eq!(rt; unit.as_deref(), expected);
@@ -27,8 +27,8 @@ fn bounds_an_unsegmented_unit(rt: HostRuntime) {
     check_alone(&rt, rt.alloc(), &longer, None)
 }
 
-// Checks that a first segment, 63 continuing ones of 1,018 octets and a last one of `last` octets end this unit, or no
-// unit if it is `None`.
+// Checks the unit that a first segment, 63 continuing ones of 1,018 octets and a last one of `last` octets end. `None`
+// stands for no unit.
 fn check_long(rt: &impl Abort, alloc: Global, last: usize, expected: Option<&[u8]>) {
     let mut watched = Watched::new(rt, alloc);
     let first = with_zeros(rt, alloc, b"\x40\x10\x05\xc0\x00\xff\xff", 1_012);
@@ -66,7 +66,7 @@ impl Numbers {
     }
 }
 
-// Returns a segment header of one of three MAPs. That of a continuing segment comes more often than others.
+// Returns a segment header of one of three MAPs. Continuing segments come more often than others.
 fn some_header(numbers: &mut Numbers) -> u8 {
     let flags = match numbers.below(8) {
         0 => 0x40,
@@ -98,7 +98,7 @@ fn some_service(numbers: &mut Numbers) -> Service {
     }
 }
 
-// Brings `fields` fields, and after each of them checks the open runs of all streams that it may have touched.
+// Brings `fields` fields. After each field, checks the open runs of all streams that the field may have changed.
 fn check_stream(rt: &impl Abort, alloc: Global, seed: u64, fields: usize, bound: u32)
     requires { 0 < bound }
 {
@@ -120,6 +120,6 @@ fn is_its_definition_on_long_streams(rt: HostRuntime) {
     for seed in 0..8 {
         check_stream(&rt, rt.alloc(), seed, 200, 8);
     }
-    // These bodies are so long that runs go beyond the limit.
+    // These bodies are so long that some runs exceed the limit.
     check_stream(&rt, rt.alloc(), 8, 200, 30_000)
 }

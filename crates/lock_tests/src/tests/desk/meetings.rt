@@ -1,4 +1,4 @@
-//! A watcher meets the desk, through one operator, after operations of another one.
+//! A watcher that meets the desk, through one operator, after operations of another operator.
 
 ghost use Rattle.std.specs.Prelude.{◌≡◌};
 
@@ -8,9 +8,10 @@ use std::sync::Wait;
 use tc_channel::ReleaseFault;
 use tc_desk::{DeskOperator, Release, Watching};
 
-// Checks the CLCWs that a watcher reads at its meetings. Their octets are COP-1 in effect (01), virtual channel 1 (04),
-// an octet without flags that has the FARM-B counter in two bits before a spare bit, and V(R). A Type-AD frame makes
-// V(R) 1, each Type-BD frame counts, and a release changes neither.
+// Checks the CLCWs that a watcher reads at its meetings. Their octets are 01 for COP-1 in effect, 04 for virtual
+// channel 1, an octet with the flags and the FARM-B counter, and V(R). No flag is set, so the third octet is twice the
+// FARM-B counter. A Type-AD frame makes V(R) 1, each Type-BD frame adds 1 to the counter, and a release changes
+// neither.
 fn check_meetings<R: Abort + Wait>(
     rt: &R,
     desk: &Locked,

@@ -42,7 +42,7 @@ impl Staffed {
     }
 }
 
-// Lets an operator bring this frame, and returns whether it was answered.
+// Brings this frame through the operator, and returns whether it was answered.
 pub(super) fn bring<R: Abort + Wait>(
     rt: &R,
     desk: &Locked,

@@ -1,4 +1,4 @@
-//! Two threads with an operator each.
+//! Two threads, each with an operator of its own.
 
 ghost use Rattle.std.specs.Prelude.{◌≡◌};
 ghost use Rattle.std.specs.Thread.{IsSync};
@@ -13,7 +13,8 @@ use tc_desk::DeskOperator;
 // The number of frames that each of the two threads brings.
 const TURNS: u8 = 250;
 
-// Returns the BD frame of this thread's turn. Its unit has two octets: the number of the thread, and that of the turn.
+// Returns the Type-BD frame of a turn of a thread. Its unit has two octets: the number of the thread, and that of the
+// turn.
 fn turn_frame(who: u8, turn: u8) -> [u8; 8] {
     [0x20, 0x2a, 0x04, 0x07, 0x00, 0xc3, who, turn]
 }
@@ -30,7 +31,7 @@ fn bring_all<R: Abort + Wait>(rt: &R, desk: &Locked, operator: &mut DeskOperator
     done
 }
 
-// Lets both operators bring their frames, each in a thread of its own, and returns whether each frame was answered.
+// Brings the frames of both operators, each in a thread of its own, and returns whether each frame was answered.
 fn side_by_side<R: Threads + Abort + Wait + Sync>(
     rt: &R,
     desk: &Locked,
@@ -54,7 +55,7 @@ fn side_by_side<R: Threads + Abort + Wait + Sync>(
     a && b
 }
 
-// Lets the desk's own operator and this one bring their frames, and returns whether each frame was answered.
+// Brings the frames of the desk's own operator and of this one, and returns whether each frame was answered.
 fn work<R: Threads + Abort + Wait + Sync>(
     rt: &R,
     staffed: &mut Staffed,
@@ -66,7 +67,7 @@ fn work<R: Threads + Abort + Wait + Sync>(
     side_by_side(rt, staffed.owned_desk.desk(), &mut staffed.operator, other)
 }
 
-// Checks that the frames of one thread in the journal are all that it brought, in order.
+// Checks that the journal has all frames that this thread brought, in order, and no others of this thread.
 fn check_frames(rt: &impl Abort, journal: &[Event], who: u8) {
     let mut turn = 0u8;
     for event in journal {

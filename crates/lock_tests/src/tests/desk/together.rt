@@ -1,4 +1,4 @@
-//! Closing two desks at once, with all workers that have an operator at each of them.
+//! Closing two desks at once, with all workers that have an operator at each desk.
 
 ghost use Rattle.std.specs.Prelude.{◌≡◌, ◌∷◌, [], map};
 ghost use Rattle.tc_desk.specs.Together.{AreOurs};
@@ -90,8 +90,8 @@ fn take_unit(rt: &(impl Abort + Wait), desk: &Desk, operator: &mut DeskOperator)
         .expect(rt, "a unit")
 }
 
-// Lets two workers work. At the first desk `one` brings a frame, and `other` releases its data field. At the second
-// desk `other` brings a unit, and `one` takes it.
+// Carries out the work of two workers. At the first desk `one` brings a frame, and `other` releases its data field. At
+// the second desk `other` brings a unit, and `one` takes it.
 fn work(rt: &(impl Abort + Wait), desks: &Desks, one: &mut Worker, other: &mut Worker)
     requires one { (one.old.first.lock ≡ desks.now.first.lock) × (one.old.second.lock ≡ desks.now.second.lock) }
     requires other { (other.old.first.lock ≡ desks.now.first.lock) × (other.old.second.lock ≡ desks.now.second.lock) }
@@ -151,8 +151,8 @@ fn taken_out(rt: &impl Abort, alloc: Global, owned_desks: Vec<Desk>) -> Vec<Chan
     }
 }
 
-// Checks the two channels, in the order of the desks: the journal of each, and its CLCW. At the first V(R) is 1, and at
-// the second FARM-B counts 1.
+// Checks the two channels, in the order of the desks: the journal of each, and its CLCW. The first channel has V(R) 1,
+// and the second has the FARM-B counter 1.
 fn check_channels(rt: &impl Abort, alloc: Global, channels: &[Channel]) {
     assert_eq!(rt; channels.len(), 2);
     if let [first, second] = channels {
@@ -177,7 +177,7 @@ fn check_counts(rt: &impl Abort, worker: &Worker) {
     assert_eq!(rt; worker.second.count(), 1);
 }
 
-// Creates two desks, and two workers that have worked at both.
+// Creates two desks and two workers, and carries out the work at both desks.
 fn worked(rt: &(impl Abort + Wait), alloc: Global) -> (Desks, Worker, Worker)
     ensures one { (result.1.first.lock ≡ result.0.first.lock) × (result.1.second.lock ≡ result.0.second.lock) }
     ensures other { (result.2.first.lock ≡ result.0.first.lock) × (result.2.second.lock ≡ result.0.second.lock) }
