@@ -37,10 +37,10 @@
  * @par Memory
  * A channel has storage for each data field, packet, unit and open run (the segments of an unfinished unit) that its
  * settings and limits allow. All of this memory is requested from rattle_alloc when the channel is created, and
- * returned to rattle_dealloc when the channel is freed. No other call requests memory, so no other call can fail
- * because there is none. tcrx_memory.c defines the two functions over malloc and free. tcrx_static.c defines them over
- * a static array, which can be sealed after the start. Flight software may link two functions of its own instead, which
- * must keep to the rules in tcrx_memory.c.
+ * returned to rattle_dealloc when the channel is freed. No other call requests memory, so no other call can run out of
+ * it. tcrx_memory.c defines the two functions over malloc and free. tcrx_static.c defines them over a static array,
+ * which can be sealed after the start. Flight software may link two functions of its own instead, which must keep to
+ * the rules in tcrx_memory.c.
  *
  * tcrx_storage() and tcrx_storage_with_limits() return how many bytes the creation of a channel requests. Without
  * limits, a channel with segment headers takes 8.4 MB or more, because the storage for one unit has 65,542 bytes.
@@ -294,8 +294,7 @@ typedef struct {
 } tcrx_packet_header;
 
 /**
- * The fields of a telemetry frame's primary header that give its spacecraft, its virtual channel, and its place among
- * their frames.
+ * The ids and the frame counts in the primary header of a telemetry frame.
  */
 typedef struct {
     uint16_t scid;         /**< The spacecraft id, 0 to 1,023. */
@@ -306,7 +305,7 @@ typedef struct {
 
 /**
  * The fields of a telemetry frame with an operational control field. The first bit of that field is the most
- * significant bit of `clcw`. It is 0 for a CLCW, and 1 for a Type-2 report.
+ * significant bit of `clcw`, and is 0 for a CLCW and 1 for a Type-2 report.
  */
 typedef struct {
     tcrx_status status;    /**< #TCRX_DONE, or the reason why the call failed. */
@@ -319,8 +318,8 @@ typedef struct {
 enum { TCRX_DECODER_ROOM = 1037 /**< Enough for the 1,029 octets that a CLTU carries at most, and one code block. */ };
 
 /**
- * A decoder of CLTUs (communications link transmission units), apart from the octets that it holds, which are in a
- * buffer. At the start, each field except `correct` is 0.
+ * A decoder of CLTUs (communications link transmission units), without the octets that it holds, which are in a buffer.
+ * At the start, each field except `correct` is 0.
  *
  * If `correct` is 1, the decoder corrects one wrong bit in a code block, and accepts a start sequence with one wrong
  * bit. If `correct` is 0, it does neither.
@@ -344,7 +343,7 @@ typedef struct {
     uint64_t taken;       /**< The number of octets that were taken. */
     uint64_t corrected;   /**< The number of code blocks that ended in these octets and had one bit corrected. */
     uint64_t rejected;    /**< The number of code blocks that were rejected in these octets, without tail sequences. */
-    uint64_t overlong;    /**< The number of CLTUs that came to carry over 1,029 octets. They end no candidate frame. */
+    uint64_t overlong;    /**< The number of CLTUs that carried more than 1,029 octets. They end no candidate frame. */
 } tcrx_decoded;
 
 /**
@@ -401,7 +400,7 @@ typedef struct {
 } tcrx_limit;
 
 /**
- * The outcome for a frame, and for the unit that the frame ended. If it ended none, `queued`, `dropped` and `rest` are
+ * The outcome for a frame, and for the unit that the frame ended. If no unit ended, `queued`, `dropped` and `rest` are
  * 0.
  *
  * A packet is dropped if it isn't a telecommand, if there is no queue for its APID, or if that queue has no room. A
@@ -416,7 +415,7 @@ typedef struct {
     uint8_t rest;       /**< 1 if octets were left that don't begin with a packet, otherwise 0. */
 } tcrx_reply;
 
-/** The outcome for the unit that a released data field ended. If it ended none, each number is 0. */
+/** The outcome for the unit that a released data field ended. If no unit ended, each number is 0. */
 typedef struct {
     tcrx_status status; /**< #TCRX_DONE, or the reason why the call failed. */
     uint32_t queued;    /**< The number of packets that were queued, or 1 for a unit that was queued whole. */
@@ -437,7 +436,7 @@ typedef struct {
 
 /**
  * The outcome for the frame at the front of a candidate, and the channel that took it in. If a frame was found but the
- * call fails, `more` and `length` are given nevertheless.
+ * call fails, `more` and `length` are set nevertheless.
  */
 typedef struct {
     tcrx_status status; /**< #TCRX_DONE, or the reason why the call failed. */
@@ -512,7 +511,7 @@ tcrx_farm_answer tcrx_farm_start(uint8_t width, uint8_t first_vr);
  * #TCRX_BAD_STATE, #TCRX_BAD_FARM_B, #TCRX_BAD_FLAG or #TCRX_FLAGS_DISAGREE if FARM-1 can't have the record that you
  * passed. After that it fails with #TCRX_BAD_FLAG if `room` is neither 0 nor 1, #TCRX_BAD_ARRIVAL if the arrival isn't
  * 1 to 6, or #TCRX_NO_ENTRY if an expected Type-AD frame arrives in #TCRX_WAIT and `room` is 1. The last status never
- * occurs if `room` is 0 in #TCRX_WAIT, as it is for a buffer from which nothing was released since it was full.
+ * occurs if `room` is 0 in #TCRX_WAIT. That is its value for a buffer from which nothing was released since it was full.
  */
 tcrx_step_answer tcrx_farm_step(tcrx_farm farm, uint8_t arrival, uint8_t number, uint8_t room);
 
@@ -595,8 +594,7 @@ static inline tcrx_written tcrx_write_frame(tcrx_header header, const uint8_t *f
  * on, until it fails with #TCRX_NO_SEGMENT. The N(S) of Type-AD frames counts up modulo 256 from that of the header. A
  * unit of at most `size` octets is one unsegmented segment.
  *
- * @param header     the header of the first frame, which can't be of Type-C, because Type-C frames have no segment
- *                   header
+ * @param header     the header of the first frame. It can't be of Type-C, because Type-C frames have no segment header.
  * @param map        the MAP, at most 63
  * @param size       the number of octets of the unit that a segment carries, 1 to 1,018. The last segment carries the
  *                   octets that are left.
@@ -642,8 +640,8 @@ static inline tcrx_written tcrx_write_command(uint16_t scid, uint8_t vcid, uint8
 }
 
 /**
- * Writes a frame with its frame error control field to the front of a buffer. The written frame has two octets more,
- * which its length field counts.
+ * Adds a frame error control field to a frame, and writes the frame to the front of a buffer. The written frame is two
+ * octets longer, and its length field counts them.
  *
  * @param frame       the frame, with nothing after it
  * @param frame_count the number of octets in the frame
@@ -725,7 +723,7 @@ static inline tcrx_packet tcrx_read_packet(const uint8_t *octets, size_t count) 
 /**
  * Writes the CLTU (communications link transmission unit) that carries a frame to the front of a buffer. The CLTU
  * consists of the start sequence, the code blocks, with fill in the last one if it needs some, and the tail sequence.
- * It has 8 octets for each code block, which carries 7 octets of the frame, and 10 more.
+ * Each code block has 8 octets and carries 7 octets of the frame. The start and tail sequences have 10 octets together.
  *
  * @param frame       the frame or other octets, 1 to 1,029 of them
  * @param frame_count the number of octets in the frame
@@ -743,10 +741,10 @@ static inline tcrx_written tcrx_write_cltu(const uint8_t *frame, size_t frame_co
 }
 
 /**
- * Gives a decoder the next octets of a stream. The decoder takes all of them, or those up to the first octet that ends
- * a candidate frame, that octet included. It looks for a start sequence, and then decodes code blocks until one is
- * rejected, as the tail sequence is. The octets that the other code blocks carried are a candidate frame, with fill
- * behind it, which tcrx_rack_candidate() takes as it is. A CLTU that carries more than 1,029 octets is counted, and
+ * Gives a decoder the next octets of a stream. The decoder takes all octets, or those up to and including the first one
+ * that ends a candidate frame. It looks for a start sequence, and then decodes code blocks until one is rejected. The
+ * tail sequence is rejected, too. The octets that the accepted code blocks carried are a candidate frame, with fill
+ * behind it. tcrx_rack_candidate() takes it in this form. A CLTU that carries more than 1,029 octets is counted, and
  * ends no candidate frame.
  *
  * Pass the record that this call returns to the next call, with the octets behind those that were taken, and with the
@@ -771,8 +769,8 @@ static inline tcrx_decoded tcrx_cltu_octets(tcrx_decoder decoder, const uint8_t 
 
 /**
  * Makes a decoder look for a start sequence anew, as after a loss of bit lock. Code blocks that it has taken since the
- * last start sequence end no candidate frame. If `decoding` was 1, this cuts a CLTU short, or octets that only began
- * like one.
+ * last start sequence end no candidate frame. If `decoding` was 1, the call cuts a CLTU short, or octets that only
+ * began like one.
  *
  * @param decoder the record of the decoder
  * @return the record for the next call of tcrx_cltu_octets(), with 0 in all other fields. The call fails with
@@ -783,7 +781,7 @@ tcrx_decoded tcrx_cltu_search(tcrx_decoder decoder);
 /**
  * Adds the random sequence to octets, and writes the result to the front of a buffer. If a mission randomises its
  * CLTUs, a sender calls this for each frame before tcrx_write_cltu(), and a receiver calls it for the octets that each
- * CLTU carried. A sequence that is added twice changes nothing.
+ * CLTU carried. Adding the sequence twice changes nothing.
  *
  * @param frame       the frame or other octets, 1 to 1,029 of them
  * @param frame_count the number of octets in the frame
@@ -826,7 +824,7 @@ static inline tcrx_written tcrx_write_tm(tcrx_tm_header header, uint8_t fecf, ui
 }
 
 /**
- * Reads octets that are one telemetry frame. The call doesn't look into its secondary header and its packets.
+ * Reads octets that are one telemetry frame. The call doesn't look into the frame's secondary header and packets.
  *
  * @param fecf   1 if the frame ends with a frame error control field, otherwise 0
  * @param octets the octets to read
@@ -937,8 +935,8 @@ static inline tcrx_status tcrx_channel_new(tcrx_channel *channel, tcrx_settings 
 
 /**
  * Creates a channel with a limit for the units of each MAP, so that it requests less memory. A unit that is longer than
- * its limit is dropped when it ends, and no reply reports that. Without limits that happens to units of more than
- * 65,542 octets.
+ * its limit is dropped when it ends, and no reply reports that. Without limits, units of more than 65,542 octets are
+ * dropped in this way.
  *
  * With segment headers, `others` may be 0. Then a MAP that isn't listed ends no unit except the empty one. Without
  * segment headers, no MAP may be listed, and `others` is the limit of each data field.
@@ -994,8 +992,8 @@ static inline tcrx_reply tcrx_channel_frame(tcrx_channel *channel, const uint8_t
 }
 
 /**
- * Releases the oldest data field from the buffer to reassembly. The unit that it ends is cut into packets, which are
- * queued. A unit of a chosen MAP is queued whole.
+ * Releases the oldest data field from the buffer to reassembly. The unit that the data field ends is cut into packets,
+ * which are queued. A unit of a chosen MAP is queued whole.
  *
  * @param channel the channel
  * @return the outcome for the unit. The call fails with #TCRX_NULL, #TCRX_NO_CHANNEL, or #TCRX_EMPTY if the buffer is
@@ -1010,8 +1008,8 @@ static inline tcrx_delivery tcrx_channel_release(tcrx_channel *channel) {
 }
 
 /**
- * Takes the oldest packet out of a queue, and writes it, with its header, to the front of a buffer. It has 7 to 65,542
- * octets. If the call fails, the packet stays in its queue.
+ * Takes the oldest packet out of a queue, and writes it, with its header, to the front of a buffer. A packet has 7 to
+ * 65,542 octets. If the call fails, the packet stays in its queue.
  *
  * @param channel the channel
  * @param apid    the APID of the queue
@@ -1156,24 +1154,24 @@ static inline tcrx_status tcrx_channel_free(tcrx_channel *channel) {
 /**
  * @defgroup tcrx_racks Calls of a rack
  *
- * A rack is an array of channels in the caller's memory. It has all channels of a spacecraft, which you create, query
- * and free one by one by the calls of a channel. Places that hold no channel are skipped. Only one call at a time may
+ * A rack is an array of channels in the caller's memory. It has all channels of a spacecraft. You create, query and
+ * free them one by one by the calls of a channel. Places that hold no channel are skipped. Only one call at a time may
  * use a rack, and no other call may use one of its channels meanwhile. If a call fails, each channel stays as it was.
  * @{
  */
 
 /**
- * Brings the frame at the front of octets to the channel that it is for, which is the first channel with the virtual
- * channel id of the frame, if the frame is for this spacecraft. If frames end with the frame error control field, the
- * field is checked first, and the channel gets the frame without it.
- * If frames end with the field although `fecf` is 0, no status reports it, because the field counts as data: each control
- * command is then event 9, and `rest` is 1 after each packet that came in one frame.
+ * Brings the frame at the front of octets to its channel, if the frame is for this spacecraft. That is the first
+ * channel with the virtual channel id of the frame. If frames end with the frame error control field, the field is
+ * checked first, and the channel gets the frame without it. If frames end with the field although `fecf` is 0, no
+ * status reports that, because the field counts as data. Each control command is then event 9, and `rest` is 1 after
+ * each packet that came in one frame.
  *
  * @param channels      the channels, or null if there are none
  * @param channel_count the number of channels
  * @param scid          the spacecraft id
- * @param fecf          1 if frames end with the frame error control field, which nothing may follow. 0 if they don't,
- *                      in which case octets that follow the frame are fill.
+ * @param fecf          1 if frames end with the frame error control field, otherwise 0. If it is 1, nothing may follow
+ *                      the frame. If it is 0, octets that follow the frame are fill.
  * @param octets        the octets to read
  * @param count         the number of octets
  * @return the event of FARM-1, the outcome for the unit, and the channel. The call fails with #TCRX_NULL,
@@ -1193,9 +1191,9 @@ static inline tcrx_rack_reply tcrx_rack_frame(tcrx_channel *channels, size_t cha
 }
 
 /**
- * Brings the frame at the front of a candidate, which is the octets that a CLTU carried, to the channel that it is for,
- * as tcrx_rack_frame() does. The length field of the frame is read first, and gives the length of the frame. Then the
- * frame error control field is checked.
+ * Brings the frame at the front of a candidate to its channel, as tcrx_rack_frame() does. A candidate is the octets
+ * that a CLTU carried. The length field of the frame is read first, and says where the frame ends. Then the frame error
+ * control field is checked.
  *
  * The octets that follow the frame are fill, or the next frame. If a CLTU may carry several frames, pass the octets
  * behind the frame to this call again, as long as `more` is 1.
@@ -1249,12 +1247,13 @@ static inline tcrx_place tcrx_rack_find(tcrx_channel *channels, size_t channel_c
  */
 
 /**
- * The number of bytes of the array that a channel takes, as a constant. It includes what tcrx_storage_with_limits()
- * returns, and everything that tcrx_storage_with_limits() doesn't count. `parts` is the sum of the macros below that
- * the channel needs for its settings, lists and limits. For several channels, add up their numbers.
+ * The number of bytes that a channel takes in the array, as a constant. It includes the bytes that
+ * tcrx_storage_with_limits() returns, and everything that tcrx_storage_with_limits() doesn't count. `parts` is the sum
+ * of the macros below that the channel needs for its settings, lists and limits. For several channels, add up their
+ * numbers.
  *
- * For example, a channel with a buffer for 8 data fields, one listed MAP of 1,024 octets, and four queues for 8 packets
- * of up to 1,024 octets has as `parts` the sum of `TCRX_STORAGE_BUFFER(8)`, `TCRX_STORAGE_SEGMENTED(1024)`,
+ * For example, take a channel with a buffer for 8 data fields, one listed MAP of 1,024 octets, and four queues for 8
+ * packets of up to 1,024 octets. Its `parts` are the sum of `TCRX_STORAGE_BUFFER(8)`, `TCRX_STORAGE_SEGMENTED(1024)`,
  * `TCRX_STORAGE_QUEUES(4, 8, 1024)` and `TCRX_STORAGE_LIMITS(1)`.
  */
 #define TCRX_STORAGE_OF(parts) ((parts) + TCRX_OWN_STORAGE)

@@ -2,19 +2,19 @@
  * @file tcrx_lines.h
  * @brief Lines of text, answered as the programs tclive, tcrx and tcmake answer them, for C99 and C++11.
  *
- * A session takes one line at a time, and writes the text of its answer into a buffer of yours. The session is a receiver
- * that answers as `tclive` does (tcrx_lines_live()), one that carries out a script as `tcrx run` does
- * (tcrx_lines_script()), or a maker that answers as `tcmake` does (tcrx_lines_make()). Unless memory runs out, the texts
- * are proved to be those that the programs print, octet for octet.
+ * A session takes one line at a time, and writes the text of its answer into a buffer of yours. There are three kinds
+ * of sessions. tcrx_lines_live() creates a receiver that answers as `tclive` does, tcrx_lines_script() a receiver that
+ * carries out a script as `tcrx run` does, and tcrx_lines_make() a maker that answers as `tcmake` does. Unless memory
+ * runs out, the texts are proved to be those that the programs print, octet for octet.
  *
  * @par Results, pointers and threads
- * What tcrx.h says of statuses, pointers and threads also holds for a session, as for a channel. In the calls of this
- * header, a pointer to a line or to a buffer may be null if its count is 0.
+ * The rules of tcrx.h on statuses, pointers and threads hold for a session as they do for a channel. In the calls of
+ * this header, a pointer to a line or to a buffer may be null if its count is 0.
  *
  * @par A text that doesn't fit
  * If the buffer is too short for a text, the call fails with #TCRX_NO_ROOM, and `length` is the number of octets that
- * the text needs. The buffer stays as it was, and the text waits. tcrx_lines_text() gives it out. The line was carried
- * out once, and isn't carried out again.
+ * the text needs. The buffer stays as it was, and the text waits until tcrx_lines_text() returns it. The line was
+ * carried out once, and isn't carried out again.
  *
  * @par Memory
  * A session requests memory as it needs it, through rattle_alloc and rattle_realloc, and returns it to rattle_dealloc.
@@ -103,7 +103,7 @@ tcrx_status tcrx_lines_free_at(tcrx_lines *lines);
 /**
  * Creates a session that answers lines as `tclive` does: a receiver for which nothing is set up.
  *
- * @param lines where the session is to be
+ * @param lines the memory for the session
  * @param scid  the spacecraft id, 0 to 1,023
  * @param fecf  1 if frames end with a frame error control field, which is checked and removed, otherwise 0
  * @return #TCRX_DONE. The call fails with #TCRX_NULL, #TCRX_SESSION_IN_USE, #TCRX_BAD_SCID, #TCRX_BAD_FLAG, or
@@ -117,10 +117,10 @@ TCRX_TO_BE_READ static inline tcrx_status tcrx_lines_live(tcrx_lines *lines, uin
 }
 
 /**
- * Creates a session that carries out a script as `tcrx run` does: a receiver for which nothing is set up, and which ends
- * at the first bad line.
+ * Creates a session that carries out a script as `tcrx run` does: a receiver for which nothing is set up. It ends at
+ * the first bad line.
  *
- * @param lines where the session is to be
+ * @param lines the memory for the session
  * @param scid  the spacecraft id, 0 to 1,023
  * @return #TCRX_DONE. The call fails with #TCRX_NULL, #TCRX_SESSION_IN_USE, #TCRX_BAD_SCID, or #TCRX_NO_MEMORY.
  */
@@ -134,7 +134,7 @@ TCRX_TO_BE_READ static inline tcrx_status tcrx_lines_script(tcrx_lines *lines, u
 /**
  * Creates a session that answers lines as `tcmake` does: a maker that has made nothing.
  *
- * @param lines where the session is to be
+ * @param lines the memory for the session
  * @param fecf  1 if frames end with a frame error control field, otherwise 0
  * @return #TCRX_DONE. The call fails with #TCRX_NULL, #TCRX_SESSION_IN_USE, #TCRX_BAD_FLAG, or #TCRX_NO_MEMORY.
  */
@@ -154,9 +154,9 @@ TCRX_TO_BE_READ static inline tcrx_status tcrx_lines_make(tcrx_lines *lines, uin
  *
  * @param lines the session
  * @param line  the line, without its line feed
- * @param count the number of octets in the line. A receiver answers a line of more than 8,192 octets, and a maker one of
- * more than 262,143, with `bad too long`, so no more than one octet above that is needed of a longer line. A script's
- * lines have no limit.
+ * @param count the number of octets in the line. A receiver answers a line of more than 8,192 octets with `bad too long`,
+ * and a maker a line of more than 262,143 octets. It is enough to pass one octet more than that of such a line. A
+ * script's lines have no limit.
  * @param text  the buffer to write to
  * @param room  the size of the buffer, in octets
  * @return the length of the text. The call fails with #TCRX_NULL, #TCRX_NO_SESSION, #TCRX_WAITING, #TCRX_OVER,
@@ -173,7 +173,7 @@ static inline tcrx_written tcrx_lines_answer(tcrx_lines *lines, const uint8_t *l
 }
 
 /**
- * Gives out the text that waits because an earlier buffer was too short for it. If no text waits, the text is empty.
+ * Returns the text that waits because an earlier buffer was too short for it. If no text waits, the text is empty.
  *
  * @param lines the session
  * @param text  the buffer to write to
@@ -191,8 +191,8 @@ static inline tcrx_written tcrx_lines_text(tcrx_lines *lines, uint8_t *text, siz
 }
 
 /**
- * Ends the lines, and writes the final report of a receiver's channels to the front of a buffer. That of a maker has no
- * octets. After this call no more lines are answered.
+ * Ends the lines, and writes the final report of a receiver's channels to the front of a buffer. The report of a maker
+ * has no octets. After this call no more lines are answered.
  *
  * If the status is #TCRX_BAD_LINE, there is no report, and the text is the reason, as the program prints it.
  *
@@ -213,8 +213,9 @@ static inline tcrx_written tcrx_lines_end(tcrx_lines *lines, uint8_t *text, size
 }
 
 /**
- * Tells whether frames were brought to a receiver that checks no frame error control fields, and each of them ended with
- * the right one. The programs then print a hint at their end. The answer stays the same after tcrx_lines_end().
+ * Tells whether frames were brought to a receiver that checks no frame error control fields, and each of these frames
+ * ended with a right one. The programs then print a hint at their end. The answer stays the same after
+ * tcrx_lines_end().
  *
  * @param lines the session
  * @return the flag. The call fails with #TCRX_NULL, then #TCRX_NO_SESSION.

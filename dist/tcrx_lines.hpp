@@ -4,12 +4,12 @@
  *
  * @par Proofs
  * The functions of the library are proved. This header is not. It passes each argument on, keeps the text of an answer,
- * and frees a session once. That is tested, by the same cases as the programs.
+ * and frees a session once. Tests check that, with the cases of the programs.
  *
  * @par Memory
- * A session requests memory as it needs it, as tcrx_lines.h says. This header requests a buffer for the texts by `new`,
- * which grows to the longest of them. libtcrx.so has the functions for the session's memory over malloc. With libtcrx.a,
- * link tcrx_memory.c and tcrx_lines_memory.c.
+ * A session requests memory as it needs it, as tcrx_lines.h describes. This header requests a buffer for the texts by
+ * `new`, which grows to the longest text. libtcrx.so has the functions for the session's memory over malloc. With
+ * libtcrx.a, link tcrx_memory.c and tcrx_lines_memory.c.
  *
  * @par Where there are sessions
  * The library has sessions on x86-64 and aarch64. In portable C they are missing, and this header doesn't compile there.
@@ -37,8 +37,8 @@ namespace tcrx {
 struct [[nodiscard]] Answer {
     /** Status::done, or the reason why the call failed. */
     Status status = Status::done;
-    /** The text, which is lines with their line feeds, or empty. It is valid until the next call of the session. If the
-     * status is Session::bad_line, it is the reason, as the program prints it. */
+    /** The text, which consists of lines with their line feeds, or is empty. It is valid until the next call of the
+     * session. If the status is Session::bad_line, the text is the reason, as the program prints it. */
     std::string_view text;
     /** The number of octets that a buffer needs for the text if the status is Status::no_room, otherwise 0. */
     std::size_t needed = 0;
@@ -112,23 +112,25 @@ public:
     /**
      * Carries out a line, which has no line feed at its end: tcrx_lines_answer().
      *
-     * After Status::no_memory nothing was done, and the line can be given again. If there is too little memory for what
-     * a line sets up, the answer of a receiver is `bad no memory`, as that of tclive, and a script ends. After
-     * Status::no_room there is too little memory for the buffer, and the text waits. text() returns it.
+     * After Status::no_memory nothing was done, and the line can be given again. If there is too little memory for the
+     * channel, queue or MAP that a line sets up, a receiver answers `bad no memory`, as tclive does, and a script ends.
+     * After Status::no_room there is too little memory for the buffer, and the text waits. text() returns it.
      */
     Answer answer(std::string_view line) noexcept {
         const auto *const octets = reinterpret_cast<const std::uint8_t *>(line.data());
         return whole(tcrx_lines_answer(&held_, octets, line.size(), buffer_.get(), room_));
     }
 
-    /** Returns the text that waits, as the call that didn't return it would have. It is empty if none waits. */
+    /** Returns the text that waits, with the status that the earlier call would have returned. If no text waits, the
+     * text is empty. */
     Answer text() noexcept { return whole(tcrx_lines_text(&held_, buffer_.get(), room_)); }
 
-    /** Ends the lines, and returns the final report of a receiver's channels, or nothing of a maker: tcrx_lines_end(). */
+    /** Ends the lines, and returns the final report of a receiver's channels: tcrx_lines_end(). A maker has no report.
+     * */
     Answer end() noexcept { return whole(tcrx_lines_end(&held_, buffer_.get(), room_)); }
 
-    /** Returns whether frames that weren't checked all ended with the right frame error control field:
-     * tcrx_lines_saw_check_sums(). */
+    /** Returns whether frames came to a receiver that checks no frame error control fields, and each ended with a right
+     * one: tcrx_lines_saw_check_sums(). */
     Result<bool> saw_check_sums() noexcept {
         const tcrx_flag_answer seen = tcrx_lines_saw_check_sums(&held_);
         return seen.status == TCRX_DONE ? Result<bool>(seen.flag == 1) : detail::refused(seen.status);
@@ -149,7 +151,7 @@ private:
         return std::move(made);
     }
 
-    // Returns the whole text of a call, for which the buffer grows if it is too short.
+    // Returns the whole text of a call. The buffer grows if it is too short.
     Answer whole(tcrx_written written) noexcept {
         while (written.status == TCRX_NO_ROOM) {
             std::unique_ptr<std::uint8_t[]> larger(new (std::nothrow) std::uint8_t[written.length]);

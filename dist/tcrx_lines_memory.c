@@ -1,10 +1,11 @@
 /*
- * The third function of memory, over realloc. Only the calls of tcrx_lines.h need it. If your program makes these calls,
- * link this file besides tcrx_memory.c, or write a function of your own in its place. A C++ compiler accepts it, too.
+ * The third function of memory, over realloc. Only the calls of tcrx_lines.h need it. If your program makes these
+ * calls, link this file besides tcrx_memory.c, or write a function of your own in its place. You can also compile it as
+ * C++.
  *
- * rattle_realloc moves a block that rattle_alloc or rattle_realloc returned to one of `count` bytes, with the octets that
- * both have room for. If there is none, it returns `given` false, and the block stays as it was. What tcrx_memory.c says
- * of blocks also holds here.
+ * rattle_realloc returns a block of `count` bytes in place of one that rattle_alloc or rattle_realloc returned. It
+ * keeps the octets for which both blocks have room. If it has no such block, it returns `given` false, and the old
+ * block stays as it was. The rules for blocks in tcrx_memory.c also hold here.
  */
 #include <stdbool.h>
 #include <stddef.h>

@@ -1,6 +1,6 @@
 /*
  * The memory of channels, over malloc and free. Link this file with libtcrx.a, or link tcrx_static.c or two functions
- * of your own in its place. A C++ compiler accepts it, too.
+ * of your own in its place. You can also compile it as C++.
  *
  * The two functions must keep to these rules:
  * - rattle_alloc returns a new block of `count` bytes that is aligned to `alignment`, a power of two up to 16. If it

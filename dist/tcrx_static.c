@@ -1,14 +1,14 @@
 /*
- * The memory of channels in a static array of the program, for software that may request none once it has started. Link
- * it with libtcrx.a in place of tcrx_memory.c. One file of the program defines the array, as large as its channels
- * need:
+ * The memory of channels in a static array of the program, for software that may request no memory once it has started.
+ * Link this file with libtcrx.a in place of tcrx_memory.c. One file of the program defines the array, as large as its
+ * channels need:
  *
  *     TCRX_STATIC_STORAGE(TCRX_STORAGE_OF(TCRX_STORAGE_BUFFER(8) + TCRX_STORAGE_SEGMENTED(1024) + TCRX_STORAGE_QUEUES(4, 8, 1024)
  *                                         + TCRX_STORAGE_LIMITS(1)));
  *
  * Blocks of octets are cut from the end of the array, and all others from its front, so that no gaps are left between
  * them. A block that is freed isn't used again, so create all channels at the start, and keep them. If the array is too
- * small, a channel isn't created, with TCRX_NO_MEMORY, and what was cut for it until then is lost.
+ * small for a channel, its creation fails with TCRX_NO_MEMORY, and the blocks that were cut for it are lost.
  *
  * tcrx_storage_seal() ends the start. A later request stops the program by TCRX_STORAGE_TRAP(), which you may define by
  * -D or here. If TCRX_STORAGE_TRAP() returns, the request fails. The calls on a channel never request memory. Only
@@ -45,8 +45,7 @@ static rattle_block none(void) {
     return block;
 }
 
-/* Cuts this many bytes at a place at the front, behind which none have been allocated. Returns none if they don't
- * fit. */
+/* Cuts `count` bytes at a place at the front, behind which nothing has been cut. Returns no block if they don't fit. */
 static rattle_block cut_front(size_t place, size_t count) {
     const size_t most = tcrx_static_size - end;
     if (place > most || count > most - place) {

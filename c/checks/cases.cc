@@ -17,8 +17,8 @@
 
 namespace {
 
-// The octets of all frames that are for each channel. If this is compiled with LIMITED, they are the limit of the
-// channel's units, so that each answer stays the same and less memory is filled.
+// The number of octets in all frames for each channel. If this file is compiled with LIMITED, that number is the limit
+// of the channel's units. Each answer then stays the same, and less memory is filled.
 std::map<unsigned long, std::size_t> octets_for;
 
 struct Receiver {
@@ -125,7 +125,7 @@ void release(unsigned vcid, const Receiver &at) {
     std::printf("release %u queued %u dropped %u rest %u\n", vcid, delivery->queued, delivery->dropped, delivery->rest ? 1U : 0U);
 }
 
-// Takes into room for the longest unit.
+// Takes an item into room for the longest unit, and prints it.
 void take(const std::string &what, unsigned vcid, const Receiver &at, unsigned key) {
     static std::vector<std::uint8_t> room(65542);
     const bool unit = what == "unit";
@@ -174,7 +174,7 @@ void report(unsigned vcid, const Receiver &at) {
     }
 }
 
-// Counts the octets of a frame for its channel.
+// Adds the octets of a frame to the number for its channel.
 void note_frame(const std::string &line) {
     std::istringstream words(line);
     std::string what, digits;

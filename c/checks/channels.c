@@ -4,10 +4,10 @@
  *
  *   channels SCID    for the spacecraft with this id
  *
- * Octets are brought from blocks of exactly their size, and taken into such blocks, so that a sanitizer detects each
- * access beyond them. First they are taken into blocks that are too short, which must take nothing, and then into one
- * that is long enough. If there is room for the frame error control field, every second frame is brought with it, and
- * before that with a wrong one. Each CLCW must also be that of FARM-1's record.
+ * Octets are brought from blocks of exactly their size, and items are taken into blocks of exactly their size. A
+ * sanitizer then detects each access beyond a block. Each item is first taken into blocks that are too short, which
+ * must take nothing. If there is room for the frame error control field, every second frame is brought with a wrong
+ * field and then with the right one. Each CLCW must also be that of FARM-1's record.
  *
  * If this is compiled with LIMITED, the limit of each channel on each MAP is the number of octets in all frames of the
  * script that are for the channel. No unit is longer then, so that each answer stays the same.

@@ -1,6 +1,6 @@
 // Checks the edge cases of tcrx.hpp, for checks/bindings: channels that are moved, dropped, freed and used after that,
-// each request for memory refused in turn, two channels in two threads, views of nothing, each field of what is read
-// and reported, by the rows of fields.h, and settings that are rejected. The program is linked with
+// each request for memory refused in turn, two channels in two threads, views of nothing, each field that is read or
+// reported, by the rows of fields.h, and settings that are rejected. The program is linked with
 // c/checks/refusing_memory.c. The last line of the output is the number of checks that passed.
 #include "../../dist/tcrx.hpp"
 #include "fields.h"
@@ -231,7 +231,7 @@ bool are_fields(const std::array<std::size_t, Count> &found, const std::uint32_t
     return std::equal(found.begin(), found.end(), std::begin(wanted));
 }
 
-// Checks each row of frames, whose kinds are in the order of the rows. A frame that was read is written again.
+// Checks each row of frames, and the kinds, which are in the order of the rows. A frame that was read is written again.
 void check_frames() {
     using tcrx::Arrival;
     constexpr Arrival arrivals[] = {Arrival::bd, Arrival::unlock, Arrival::set_vr, Arrival::ad, Arrival::invalid};
@@ -300,8 +300,8 @@ void check_made() {
     expect(tcrx::check_fecf(plain, {}).status() == Status::wrong_fecf, "a frame without a field");
 }
 
-// Checks a CLTU between other octets, without a wrong bit and with one, which is corrected in one mode and rejected in
-// the other.
+// Checks a CLTU that stands between other octets, without a wrong bit and with one. The wrong bit is corrected in one
+// mode, and the block is rejected in the other.
 void check_streams() {
     for (std::size_t i = 0; i < 3; i++) {
         tcrx::Decoder decoder(i != 2);
@@ -357,8 +357,8 @@ void check_ends_of_the_link() {
     expect(tcrx::read_tm(false, tcrx::Octets(Bytes(11))).status() == Status::no_control, "one without a CLCW");
 }
 
-// Checks what a channel reports after each step, whose states are in the order of the rows, and its CLCW with each flag
-// of the link alone.
+// Checks the report of a channel after each step, in the order of the rows. Then checks its CLCW with each flag of the
+// link alone.
 void check_reports() {
     using tcrx::State;
     const tcrx::Settings tried = {step_settings.vcid, step_settings.width, step_settings.buffer, step_settings.first_vr};

@@ -1,7 +1,7 @@
 /*
  * Checks each row of fields.h, field by field: frames and packets, which are written again, CLCWs, and frames that are
- * made. Then checks what a channel reports after each step, and its CLCW with each flag of the link alone. The last
- * line of the output is the number of things that were as they must be.
+ * made. Then checks the report of a channel after each step, and its CLCW with each flag of the link alone. The last
+ * line of the output is the number of comparisons that passed.
  */
 #include "expecting.h"
 #include "fields.h"
@@ -78,8 +78,8 @@ static void expect_tm(tcrx_tm read, tcrx_tm_header header, uint64_t place) {
     expect(read.header.master_count == header.master_count && read.header.channel_count == header.channel_count, "which one it is", place);
 }
 
-/* Gives a decoder the CLTU in pieces of this many octets, with another octet behind it, and with a wrong bit in its
- * first code block or with none. Checks what becomes of its code blocks, and what it carries. */
+/* Gives a decoder the CLTU in pieces of `size` octets, with another octet behind it. If `wrong` isn't 0, the first code
+ * block has a wrong bit. Checks the counts of code blocks, and the octets that the CLTU carries. */
 static void check_stream(uint8_t correct, uint8_t wrong, size_t size, uint64_t place) {
     static uint8_t carried[TCRX_DECODER_ROOM];
     const frame_row *plain = &frame_rows[0];

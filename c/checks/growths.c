@@ -1,13 +1,14 @@
 /*
  * Refuses each block that the creation of a channel requests in turn: first the first one, then the second, until the
- * creation requests no more. Each time the status must be TCRX_NO_MEMORY, no channel may be held, and no block of it
- * may be left. Then each kind of call is made once with its first block refused, and no call may request a block.
- * Packets and units that are taken must be those that were sent. Nothing may be left of a channel that was freed, and
- * the address that rattle_alloc returns must not be null even if it gives no block. Settings that create no channel are
- * in storage.c.
+ * creation requests no more. Each time the status must be TCRX_NO_MEMORY, no channel may be held, and none of its
+ * blocks may be left. Then each kind of call is made once with its first block refused, and no call may request a
+ * block. Packets and units that are taken must be those that were sent. Nothing may be left of a channel that was
+ * freed. The address that rattle_alloc returns must not be null, even if rattle_alloc has no block. Settings that
+ * create no channel are in storage.c.
  *
- * The memory is that of tcrx_memory.c, which is linked with this program. Its calls of malloc are refused, which the
- * linker leads here by --wrap=malloc and --wrap=free. The last line of the output is the number of refused blocks.
+ * The memory is that of tcrx_memory.c, which is linked with this program. The linker leads its calls of malloc and free
+ * here, by --wrap=malloc and --wrap=free, and this program refuses them. The last line of the output is the number of
+ * refused blocks.
  */
 #include "../../dist/tcrx.h"
 
@@ -21,8 +22,8 @@ void __real_free(void *at);
 void *__wrap_malloc(size_t count);
 void __wrap_free(void *at);
 
-/* The number of blocks that are given before one is refused, the number of blocks that were refused, and the number of
- * blocks that are in use. */
+/* The number of blocks that are allocated before one is refused, the number of blocks that were refused, and the number
+ * of blocks that are in use. */
 static unsigned long given_first, refusals, blocks;
 static bool refusing, met;
 
@@ -117,7 +118,7 @@ static const uint8_t joined[] = {0x10, 0x05, 0xc0, 0x00, 0x00, 0x02, 0x11, 0x22,
 static const uint8_t halves[] = {0xaa, 0xbb, 0xcc, 0x01, 0x02, 0x03, 0x04, 0x05, 0x06, 0x07, 0xaa, 0xbb, 0xcc};
 static uint8_t octets[64];
 
-/* The packets of queue 5 and the units of MAP 2 that the sent frames carry, in their order. Each take must give the
+/* The packets of queue 5 and the units of MAP 2 that the sent frames carry, in their order. Each take must return the
  * next one. */
 static const struct { const uint8_t *octets; size_t count; } packets[] = {
     {bd + 6, 7}, {ad0 + 6, 7}, {joined, sizeof joined}, {bd + 6, 7}}, units[] = {{unit + 6, 3}, {halves, sizeof halves}};
@@ -164,8 +165,8 @@ static bool is_never_null(void) {
 }
 #endif
 
-/* Makes the call with the first block refused, then with the second, until it requests no more. A call that doesn't
- * grow requests none. */
+/* Makes the call with its first block refused, then with the second, until no block is refused. A call that doesn't
+ * grow requests no block. */
 static bool done(tcrx_status (*call)(void), bool grows) {
     for (unsigned long n = 0; n < 10000; n++) {
         const state before = look();

@@ -78,8 +78,8 @@ static void bring(bool bypass, unsigned flags, size_t map, const uint8_t *part, 
 
 static void release(void) { count(tcrx_channel_release(&channel).status); }
 
-/* Sends this many octets of the unit on a service and MAP. If `whole`, the last segment is among them, otherwise the
- * run stays open. */
+/* Sends this many octets of the unit on a service and MAP. If `whole` is set, the last segment is among them. Otherwise
+ * the run stays open. */
 static void send(bool bypass, size_t map, size_t length, bool whole) {
     const size_t part = with.settings.segmented == 1 ? 1018 : 1019;
     if (length <= part && (whole || with.settings.segmented == 0)) {
@@ -176,8 +176,8 @@ static void load_hostile(void) {
     }
 }
 
-/* Sends small packets to every second queue and packets of any length to the others, from which alone packets are
- * taken. */
+/* Sends small packets to every second queue, and packets of any length to the other queues. Takes packets only from the
+ * other queues. */
 static void load_comb(void) {
     for (size_t i = 0; i < with.queue_count; i++) {
         while (has_room(i) && below(8) != 0) {

@@ -1,9 +1,9 @@
 /*
  * Makes one failing call for each status of each call: with records that no FARM-1 has, lengths beyond the octets,
- * fields out of range, short buffers, settings and limits of a channel, and frames for no channel of a rack. Each must
- * have its status, and leave the buffer and the channel as they were. The text of each status is checked, too. In the
- * proved build the statuses are those of its clauses. This program is for builds about which nothing is proved. The
- * guards of tcrx.h are in nulls.c, and takes into short buffers in channels.c.
+ * fields out of range, short buffers, settings and limits of a channel, and frames for no channel of a rack. Each call
+ * must return its status, and leave the buffer and the channel as they were. The text of each status is checked, too.
+ * The statuses of the proved build follow from the contracts. This program is for builds about which nothing is proved.
+ * The guards of tcrx.h are in nulls.c, and takes into short buffers are in channels.c.
  *
  * If this is compiled with LIMITED, channels without limits have units of 16 octets, for slow machines. If it is
  * compiled with STATIC, it uses an array of that many bytes.
@@ -401,8 +401,8 @@ static size_t rack_octets(uint16_t scid, uint8_t vcid, uint8_t ns, uint8_t fecf,
     return fecf == 1 ? tcrx_add_fecf(plain, count, octets, 10).length : count;
 }
 
-/* Expects that a rack rejects a candidate, and reports how long its frame is and whether more follows. No channel may
- * have a new event. */
+/* Expects that a rack rejects a candidate, and that the reply has the length of its frame and says whether more
+ * follows. No channel may have a new event. */
 static void expect_no_candidate(uint16_t scid, uint8_t fecf, const uint8_t *octets, size_t count, tcrx_status status, size_t length, unsigned more) {
     const uint64_t events = rack_events();
     const tcrx_candidate_reply reply = tcrx_rack_candidate(rack, PLACES, scid, fecf, octets, count);
@@ -411,7 +411,7 @@ static void expect_no_candidate(uint16_t scid, uint8_t fecf, const uint8_t *octe
     expect(rack_events() == events, "the events after a refused candidate", count);
 }
 
-/* Expects that a rack rejects a frame, and reports nothing else. */
+/* Expects that a rack rejects a frame, and that the reply has nothing but the status. */
 static void expect_unracked(tcrx_rack_reply reply, tcrx_status status, unsigned long place) {
     static const tcrx_rack_reply none;
     tcrx_rack_reply bare = reply;

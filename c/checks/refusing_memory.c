@@ -1,6 +1,7 @@
 /*
- * The memory of channels and sessions over malloc, for the checks of the bindings. tcrx_refuse() makes one request of the
- * calling thread fail. Link this in place of tcrx_memory.c and tcrx_lines_memory.c, into a program or a shared library.
+ * The memory of channels and sessions over malloc, for the checks of the bindings. tcrx_refuse() makes one request of
+ * the calling thread fail. Link this file in place of tcrx_memory.c and tcrx_lines_memory.c, into a program or a shared
+ * library.
  */
 #include <stdbool.h>
 #include <stddef.h>
@@ -18,14 +19,14 @@ long tcrx_refuse(long growth);
 long tcrx_blocks(void);
 
 static char nothing;
-/* The number of requests that succeed before one is refused. Below 0, none is refused. Then the number of blocks in
- * use. */
+/* The number of requests that succeed before one is refused, and the number of blocks in use. No request is refused if
+ * the first number is below 0. */
 static _Thread_local long given_first = -1;
 static _Thread_local long blocks;
 
 /*
- * Refuses the request with this number, counted from 0 for the next one. If the number is below 0, none is refused.
- * Returns what was left of the previous number, which is below 0 if the request with that number was refused.
+ * Refuses the request with this number, counted from 0 for the next one. If the number is below 0, no request is
+ * refused. Returns the rest of the previous number, which is below 0 if the request with that number was refused.
  */
 long tcrx_refuse(long growth) {
     const long left = given_first;

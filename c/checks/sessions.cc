@@ -1,7 +1,7 @@
 // Brings the stored cases through sessions of tcrx_lines.hpp, line by line, for checks/bindings: scripts as `tcrx run`,
-// and the input of `tclive` and `tcmake`. Checks each error, sessions that are moved, freed and used after that, and
-// refuses each request for memory in turn, also those of the buffer for texts. Linked with c/checks/refusing_memory.c.
-// The last line of the output is the number of checks that passed.
+// and the input of `tclive` and `tcmake`. Checks each error, and sessions that are moved, freed and used after that.
+// Refuses each request for memory in turn, including those of the buffer for texts. The program is linked with
+// c/checks/refusing_memory.c. The last line of the output is the number of checks that passed.
 //
 //    sessions CRATES    the folder of the crates, which has the cases
 #include "../../dist/tcrx_lines.hpp"
@@ -52,8 +52,8 @@ std::vector<std::string> lines_of(const std::string &script) {
     return lines;
 }
 
-// Returns what lines come to: the texts of their answers and of the final report, and behind them the reason if a script
-// ended. After that no more lines may be answered.
+// Returns the texts of the answers to lines and of the final report, and behind them the reason if a script ended.
+// Checks that no more lines are answered after that.
 std::string come_of(Session session, const std::string &script) {
     std::string texts;
     Answer last;
@@ -94,7 +94,7 @@ void check_cases() {
 }
 
 void check_sums() {
-    // The frame of a packet, with its frame error control field, which is CRC-16-CCITT by another program.
+    // The frame of a packet, with its frame error control field, which another program computed as CRC-16-CCITT.
     const std::string frame = "frame 002a040e00c01005c0000000aa6b6e", wrong = "frame 002a040e00c01005c0000000aa0000";
     Session maker = *Session::make(true);
     expect(maker.answer("ad 42 1 0 0 1005c0000000aa").text == frame + "\n", "a frame that ends with a field");
@@ -160,7 +160,8 @@ void check_moves() {
     expect(third.is_held() && tcrx_blocks() > 0, "a new one in its place");
 }
 
-// Does a call again with one request more that succeeds, until it doesn't end with nothing done. Returns what it came to.
+// Makes a call again and again, each time with one more request that succeeds, until memory doesn't run out. Returns
+// its result.
 template <typename Call> auto until_done(Call call, int &refusals) {
     for (long growth = 0;; growth++) {
         tcrx_refuse(growth);
@@ -192,7 +193,8 @@ void check_refused() {
     for (const std::string &line : lines_of(stored("tclive/stdin"))) {
         texts += until_done([&] {
             Answer answer = session.answer(line);
-            // So a receiver answers if there is no memory for what the line sets up, which isn't set up then.
+            // This is a receiver's answer if there is no memory for the channel, queue or MAP that the line sets up.
+            // The line then sets up nothing.
             answer.status = answer.text == "bad no memory\n" ? Status::no_memory : answer.status;
             return answer;
         }, refusals).text;

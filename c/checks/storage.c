@@ -1,12 +1,12 @@
 /*
- * Compares tcrx_storage and tcrx_storage_with_limits with the sum that docs/explanation/memory.md gives part by part,
- * which is computed here anew, for the settings of that page and for others of all sorts. Compares their statuses with
- * those of the calls that create a channel. Compares the storage with the bytes that the creation of a channel then
- * requests: the storage, the channel's own block and the copies of the lists, and no more than TCRX_STORAGE_OF gives.
- * The last line of the output is the number of results that were as they must be. With the word `rows` the program
- * prints the rows of the table of c/README.md.
+ * Compares tcrx_storage and tcrx_storage_with_limits with a sum that is computed here anew, part by part, as
+ * docs/explanation/memory.md describes it. The settings are those of that page, and others of all sorts. Compares their
+ * statuses with those of the calls that create a channel. Compares the storage with the bytes that the creation of a
+ * channel then requests: the storage, the channel's own block and the copies of the lists, and no more than
+ * TCRX_STORAGE_OF gives. The last line of the output is the number of results that were as they must be. With the word
+ * `rows` the program prints the rows of the table of c/README.md.
  *
- * The memory is that of tcrx_memory.c, whose calls of malloc and free the linker leads here by --wrap=malloc and
+ * The memory is that of tcrx_memory.c. The linker leads its calls of malloc and free here, by --wrap=malloc and
  * --wrap=free.
  */
 #include "../../dist/tcrx.h"
@@ -14,7 +14,7 @@
 
 enum { MOST_QUEUES = 2047, MOST_MAPS = 64, LARGEST = 65542, OWN = 296, MADE = 2000000 };
 
-/* The portable C requests the memory of a whole instance, and creates few of the channels, because it is tried on slow
+/* The portable C requests the memory of a whole instance. It creates few of the channels, because it is tried on slow
  * machines. */
 #ifdef PORTABLE
 static const bool is_exact = false;
@@ -160,7 +160,7 @@ static plan *plan_of(tcrx_settings settings, size_t queues, size_t capacity, siz
     return &p;
 }
 
-/* Limits a plan: one limit for the first MAPs, and another for the rest. */
+/* Limits a plan: one limit for the first `maps` MAPs, and another for the rest. */
 static plan *limited(plan *p, size_t maps, uint32_t octets, uint32_t others) {
     p->limited = true;
     p->others = others;
@@ -172,7 +172,7 @@ static plan *limited(plan *p, size_t maps, uint32_t octets, uint32_t others) {
     return p;
 }
 
-/* Checks the channels of fixed storage that docs/explanation/memory.md names and c/README.md doesn't, and the largest
+/* Checks the channels of fixed storage that docs/explanation/memory.md names but c/README.md doesn't, and the largest
  * possible channel. */
 static void check_named(void) {
     const tcrx_settings one = {1, 10, 1, 0, 1}, many = {1, 10, 64, 0, 1};

@@ -21,7 +21,7 @@ static uint8_t next_number;
 static uint8_t frame[1024];
 static uint8_t taken[LARGEST];
 
-/* Returns the octet at a place of a unit, which is one largest packet, or packets of seven octets. */
+/* Returns the octet at a place of a unit. The unit is one largest packet, or consists of packets of seven octets. */
 static uint8_t octet_at(int is_one, size_t place) {
     const uint8_t header[7] = {(uint8_t)(0x10 | apid >> 8), (uint8_t)(apid & 0xff), 0xc0, 0, is_one ? 0xff : 0, is_one ? 0xff : 0, 0};
     return header[is_one ? (place < 6 ? place : 6) : place % 7];
@@ -73,7 +73,7 @@ static size_t make_for(const char *what, uint8_t flags) {
     return strcmp(what, "buffered") == 0 ? make(AD, FIRST | PACKETS, 0, 0, BODY) : 0;
 }
 
-/* Makes a call on a queue, or one that reads, when a largest packet and a largest unit wait. */
+/* Makes a call on a queue, or a call that reads, when a largest packet and a largest unit wait. */
 static unsigned long long call_of_a_queue(const char *call) {
     if (strcmp(call, "take") == 0) {
         return tcrx_channel_take(&channel, apid, taken, sizeof taken).length;

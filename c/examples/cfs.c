@@ -48,8 +48,8 @@ static void receive(const radio_message *message) {
     }
 }
 
-/* Sends each packet on the bus, by the message id that its primary header spells. Returns whether the bus had a buffer
- * for each. */
+/* Sends each packet on the bus, under the message id in its primary header. Returns whether the bus had a buffer for
+ * each. */
 static bool send_packets(void) {
     for (;;) {
         CFE_SB_Buffer_t *message = CFE_SB_AllocateMessageBuffer(MOST_UNIT);

@@ -2,7 +2,7 @@
  * Takes octets of the radio all the way to packets, through the decoder, the randomiser, frames of different lengths,
  * the check sum and a channel. The program sends a frame of each length from 8 to 1,024 octets in a CLTU of its own,
  * and then CLTUs with 1 to 4 frames. Each CLTU comes in pieces and with one wrong bit. The program prints how many
- * frames didn't come through whole, and then what becomes of a CLTU that carries more than the receiver takes.
+ * frames didn't come through whole, and then the outcome for a CLTU that carries more than the receiver takes.
  */
 #include <tcrx.h>
 
@@ -11,7 +11,7 @@
 
 enum { SPACECRAFT = 42, CHANNEL = 1, APID = 5, UNITS = 1, SHORTEST = 8, LONGEST = 1024, CARRIED = 1029, PIECE = 113 };
 
-/* The receiver: its channels, its decoder, the number of frames it takes out of a CLTU, and its counts. */
+/* The receiver: its channels, its decoder, the number of frames that it takes out of a CLTU, and its counts. */
 typedef struct {
     tcrx_channel rack[1];
     tcrx_decoder decoder;

@@ -31,7 +31,7 @@ bool start(Channels &channels) {
     return true;
 }
 
-// Acts as a ground test: sends an octet in a packet, in a frame, with its frame error control field. A bit of it
+// Sends, as a ground test does, an octet in a packet, in a frame with its frame error control field. A bit of the frame
 // may be turned on the way.
 void send(tcrx::Rack &rack, const tcrx::Header &header, std::uint16_t application, std::uint8_t octet, std::uint8_t turned = 0) {
     std::array<std::uint8_t, 64> packet{}, frame{}, sent{};

@@ -30,7 +30,8 @@ static void print_clcw(const receiver *self) {
     printf("clcw %08" PRIx32 "\n", clcw.word);
 }
 
-/* Prints the packet of a data field that is an unsegmented unit. It follows the segment header, which is one octet. */
+/* Prints the packet of a data field that is an unsegmented unit. The packet follows the segment header, which is one
+ * octet. */
 static void print_packet(const uint8_t *field, size_t count) {
     const tcrx_packet packet = tcrx_read_packet(field + 1, count - 1);
     if (packet.status != TCRX_DONE) {

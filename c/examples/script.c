@@ -64,7 +64,7 @@ static bool next_line(size_t *length) {
     return true;
 }
 
-/* Splits a line into words. If there are more words than any line has, those beyond that number are counted as one. */
+/* Splits a line into words. Words beyond the largest number that any line has are counted as one. */
 static void split(size_t length) {
     word_count = 0;
     for (size_t at = 0; at < length && word_count < MOST_WORDS;) {
@@ -289,7 +289,7 @@ static void print_counts(const char *begin_with, const char *end_with, const rec
 }
 
 /* Brings a frame to the channel that it is for. If frames have a frame error control field, it is checked first and
- * removed. Octets that don't pass the check are no operation. */
+ * removed. Octets that don't pass the check aren't an operation. */
 static reason bring(void) {
     if (has_fecf) {
         static uint8_t plain[1024];
@@ -313,8 +313,8 @@ static reason bring(void) {
     return NULL;
 }
 
-/* Brings what a CLTU carried: a frame, and fill behind it, which is at most six octets that begin with no frame. If
- * more follows, nothing is done. */
+/* Brings the frame that a CLTU carried. At most six octets that begin with no frame may follow it as fill. If more
+ * follows, does nothing. */
 static reason bring_candidate(void) {
     const tcrx_frame frame = tcrx_read_frame(octets, octet_count);
     if (frame.status == TCRX_DONE) {
@@ -336,8 +336,8 @@ static void release(const receiver *at) {
     }
 }
 
-/* Prints a packet or a unit that is taken. If there is none, prints the refusal, unless the caller only asks whether
- * one waits. */
+/* Prints a packet or a unit that is taken. If there is none, prints the refusal, unless the caller only asks whether an
+ * item waits. */
 static bool take(const receiver *at, bool is_unit, unsigned key, bool is_asked) {
     static uint8_t taken[MOST_OCTETS];
     const tcrx_written found = is_unit ? tcrx_channel_take_unit(held_by(at), (uint8_t)key, taken, sizeof taken)
@@ -482,7 +482,7 @@ static reason answer(size_t length) {
     return do_line(command_of());
 }
 
-/* --- The whole --- */
+/* --- The program --- */
 
 static int end_with(const char *text, unsigned long number) {
     fflush(stdout);

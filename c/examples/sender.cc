@@ -1,5 +1,5 @@
-// Sends what a ground test sends, in C++: commands, and a packet over both services. Each frame is written into a
-// buffer, printed, and read back.
+// Sends commands, and a packet over both services, as a ground test does, in C++. Each frame is written into a buffer,
+// printed, and read back.
 #include <tcrx.hpp>
 
 #include <array>

@@ -23,7 +23,7 @@ static inline bool is_written(void) {
     return fflush(stdout) == 0 && !ferror(stdout);
 }
 
-/* Says on standard error why no more lines are answered. */
+/* Prints on standard error why no more lines are answered. */
 static inline int fail(const char *begin, const char *why) {
     fflush(stdout);
     fprintf(stderr, "%s%s\n", begin, why);
@@ -45,7 +45,7 @@ typedef struct {
     uint16_t scid;
 } given_words;
 
-/* Says which word is wrong. */
+/* Prints on standard error which word is wrong. */
 static inline int refuse(const command_line *of, const char *word, const char *why) {
     fprintf(stderr, "%s: %s %s\n%s\n", of->name, word, why, of->usage);
     return BAD_COMMAND_LINE;
@@ -56,7 +56,7 @@ static inline int print(const command_line *of, const char *what, const char *mo
     return is_written() ? DONE : fail(of->name, ": cannot write");
 }
 
-/* Whether a word is UTF-8: no octets too many for a character, no surrogate, and nothing above U+10FFFF. */
+/* Returns whether a word is UTF-8: no octets too many for a character, no surrogate, and nothing above U+10FFFF. */
 static inline bool is_utf8(const char *word) {
     for (const unsigned char *at = (const unsigned char *)word; *at != 0;) {
         const unsigned first = *at++;
@@ -73,7 +73,7 @@ static inline bool is_utf8(const char *word) {
     return true;
 }
 
-/* Says which word isn't UTF-8. */
+/* Prints on standard error which word isn't UTF-8. */
 static inline int refuse_octets(const command_line *of, int place, const char *word) {
     static const char escaped[] = "\t\r\n'\"\\", letters[] = "trn'\"\\";
     fprintf(stderr, "%s: word %d isn't valid UTF-8: ", of->name, place);
@@ -100,12 +100,12 @@ static inline bool read_scid(const char *word, uint16_t *scid) {
     return at != word && *at == '\0' && number <= 1023;
 }
 
-/* Whether a word is this long option, or begins with the letter that is short for it. */
+/* Returns whether a word is this long option, or begins with the letter that is short for it. */
 static inline bool is_option(const char *word, const char *letter, const char *option) {
     return strncmp(word, letter, 2) == 0 || strcmp(word, option) == 0;
 }
 
-/* The option of a word, or 0. */
+/* Returns the option that a word names, or 0. */
 static inline unsigned option_of(const char *word) {
     if (strncmp(word, "--scid", 6) == 0 && (word[6] == '\0' || word[6] == '=')) {
         return SCID;
@@ -150,7 +150,7 @@ static tcrx_lines session = TCRX_HOLDS_NONE;
 static uint8_t usual[147456], *larger, *text = usual;
 static size_t room = sizeof usual;
 
-/* Returns the whole of an answer. The session keeps it until there is a buffer for it. */
+/* Returns the whole of an answer. The session keeps the text until there is a buffer for it. */
 static inline tcrx_written whole(tcrx_written answer) {
     while (answer.status == TCRX_NO_ROOM) {
         uint8_t *const made = realloc(larger, answer.length);
@@ -165,7 +165,8 @@ static inline tcrx_written whole(tcrx_written answer) {
     return answer;
 }
 
-/* Writes an answer, or on standard error the session's reason. For every other reason memory has run out. */
+/* Writes an answer, or writes on standard error the reason that the session gives. For every other status memory has
+ * run out. */
 static inline int put(const char *begin, tcrx_written answer) {
     if (answer.status == TCRX_DONE) {
         fwrite(text, 1, answer.length, stdout);
@@ -184,7 +185,7 @@ static inline int put(const char *begin, tcrx_written answer) {
 static uint8_t chunk[65536], line[262144];
 static size_t length;
 
-/* Whether an answer begins with `bad `. */
+/* Returns whether an answer begins with `bad `. */
 static inline bool is_bad(size_t count) {
     for (size_t at = 0; at + 4 <= count; at++) {
         if (memcmp(text + at, "bad ", 4) == 0 && (at == 0 || text[at - 1] == '\n')) {
@@ -199,7 +200,7 @@ static inline int answer_line(const char *begin, bool is_strict) {
     tcrx_written answer = whole(tcrx_lines_answer(&session, line, length, text, room));
     length = 0;
     if (answer.status == TCRX_NO_MEMORY) {
-        /* Nothing was done, and the next line is answered. */
+        /* The line was not carried out, and the next line is answered. */
         memcpy(text, no_memory, sizeof no_memory - 1);
         answer = (tcrx_written){TCRX_DONE, sizeof no_memory - 1};
     }
@@ -256,7 +257,7 @@ static inline int answer_input(const char *begin, bool is_strict) {
 
 enum { LONGEST_SCRIPT = 1048576 };
 
-/* Writes an answer of a script after so many lines. */
+/* Writes an answer to a script after `count` of its lines. */
 static inline int put_of_script(tcrx_written answer, unsigned count) {
     char begin[32] = "";
     if (answer.status != TCRX_DONE && !is_written()) {

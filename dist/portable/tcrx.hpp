@@ -5,17 +5,18 @@
  * @par Proofs
  * The functions of the library are proved: each returns what its definition says, for all input that the C header
  * allows. This header is not proved. It passes each argument on, makes a value from each record that is returned, and
- * frees a channel once. That is tested, by the same cases as the calls from C. Nothing is proved about the memory to
+ * frees a channel once. Tests check that, with the cases of the calls from C. Nothing is proved about the memory to
  * which a view refers, about a view that outlives its memory, or about two threads that use one channel at the same
  * time.
  *
  * @par Results
- * A call that can fail returns a tcrx::Result, which is a value, or a tcrx::Error with the first reason why the call
- * failed. If the call failed, the value is empty. Reading it is no fault, but means nothing.
+ * A call that can fail returns a tcrx::Result. It is a value, or a tcrx::Error with the first reason why the call
+ * failed. If the call failed, you may still read the value, but it means nothing.
  *
  * @par Memory
- * A channel requests its memory when it is created, by rattle_alloc and rattle_dealloc, as tcrx.h says. libtcrx.so has
- * these functions over malloc. With libtcrx.a, link tcrx_memory.c, tcrx_static.c, or two functions of your own.
+ * A channel requests its memory from rattle_alloc when it is created, and returns it to rattle_dealloc when it is
+ * freed. libtcrx.so has these functions over malloc. With libtcrx.a, link tcrx_memory.c, tcrx_static.c, or two
+ * functions of your own.
  */
 #pragma once
 
@@ -30,7 +31,7 @@
 
 namespace tcrx {
 
-/** The outcome of a call: the statuses of tcrx.h, which describes each. */
+/** The outcome of a call. tcrx.h describes each status. */
 enum class Status : tcrx_status {
     // tools/c_interface writes the following lines from dist/tcrx.h.
     done = TCRX_DONE,
@@ -272,7 +273,7 @@ struct Farm {
     }
 };
 
-/** A step of FARM-1: the record after it, its event, and whether the frame was accepted. */
+/** The outcome of a step of FARM-1: the record after the step, the event, and whether the frame was accepted. */
 struct Step {
     Farm farm;
     Event event = Event::none;
@@ -323,7 +324,7 @@ struct Header {
 /** The frame at the front of octets. */
 struct Frame {
     Header header;
-    /** The octets of the frame, of which the first five are its header. */
+    /** The octets of the frame. The first five are its header. */
     Octets octets;
     constexpr Octets field() const noexcept { return octets.part(5); }
 };
@@ -403,7 +404,7 @@ struct PacketHeader {
     std::uint8_t sequence = 3;
 };
 
-/** The packet at the front of octets, of which the first six are its primary header. */
+/** The packet at the front of octets. Its first six octets are its primary header. */
 struct Packet {
     std::uint16_t apid = 0;
     /** The sequence count or the packet name. */
@@ -443,7 +444,7 @@ inline Result<Octets> write_cltu(Octets frame, Room room) noexcept {
 struct Fed {
     /** Whether the last octet that was taken ended a candidate frame. */
     bool ended = false;
-    /** That frame, with fill behind it. It is valid until the next octets are fed. */
+    /** The candidate frame, with fill behind it. It is valid until the next octets are fed. */
     Octets frame;
     /** The octets behind those that were taken. */
     Octets rest;
@@ -451,7 +452,7 @@ struct Fed {
     std::uint64_t corrected = 0;
     /** The number of code blocks that were rejected in these octets, without tail sequences. */
     std::uint64_t rejected = 0;
-    /** The number of CLTUs that carried more than 1,029 octets. Each of them ends no candidate frame. */
+    /** The number of CLTUs that carried more than 1,029 octets. They end no candidate frame. */
     std::uint64_t overlong = 0;
 };
 
@@ -461,8 +462,8 @@ public:
     /** Creates a decoder that corrects one wrong bit in each code block, or only detects wrong bits. */
     explicit Decoder(bool correct) noexcept { kept_.correct = detail::flag(correct); }
 
-    /** Takes the next octets of the stream: all of them, or those up to the first octet that ends a candidate frame,
-     * that octet included. */
+    /** Takes the next octets of the stream. These are all octets, or those up to and including the first one that ends
+     * a candidate frame. */
     Fed feed(Octets octets) noexcept {
         const tcrx_decoded answer = tcrx_cltu_octets(kept_, detail::pointer(octets), octets.size(), carried_.data(), carried_.size());
         kept_ = answer.decoder;
@@ -480,14 +481,14 @@ private:
     std::array<std::uint8_t, TCRX_DECODER_ROOM> carried_{};
 };
 
-/** Writes a frame, or what a CLTU carried, with the random sequence added: tcrx_randomise(). */
+/** Adds the random sequence to a frame, or to the octets that a CLTU carried, and writes the result: tcrx_randomise().
+ * */
 inline Result<Octets> randomise(Octets frame, Room room) noexcept {
     std::uint8_t nothing = 0;
     return detail::written(tcrx_randomise(detail::pointer(frame), frame.size(), detail::pointer(room, nothing), room.size()), room);
 }
 
-/** The fields of a telemetry frame's primary header that give its spacecraft, its virtual channel, and its place among
- * their frames. */
+/** The ids and the frame counts in the primary header of a telemetry frame. */
 struct TmHeader {
     std::uint16_t scid = 0;
     std::uint8_t vcid = 0;
@@ -551,13 +552,14 @@ using Maps = View<const Map>;
 
 /** The limits for the units of each MAP. */
 struct Limits {
-    /** The most octets of a unit of each MAP that isn't listed, at most 65,542. With segment headers it may be 0. */
+    /** The largest number of octets in a unit of a MAP that isn't listed, at most 65,542. It may be 0 if there are
+     * segment headers. */
     std::uint32_t others = 0;
-    /** The MAPs with a limit of their own. There must be none without segment headers. */
+    /** The MAPs with a limit of their own. Without segment headers the list must be empty. */
     View<const Limit> maps;
 };
 
-/** The outcome for the unit that an operation ended. If it ended none, each number is 0. */
+/** The outcome for the unit that an operation ended. If no unit ended, each number is 0. */
 struct Delivery {
     std::uint32_t queued = 0;
     std::uint32_t dropped = 0;
@@ -652,7 +654,7 @@ public:
     }
 
     /** Takes the oldest packet out of a queue, writes it to the front of room, and returns it from there. If the status
-     * is Status::no_room, it stays in its queue. */
+     * is Status::no_room, the packet stays in its queue. */
     Result<Octets> take(std::uint16_t apid, Room room) noexcept {
         std::uint8_t nothing = 0;
         return detail::written(tcrx_channel_take(&held_, apid, detail::pointer(room, nothing), room.size()), room);
@@ -705,7 +707,7 @@ struct Located {
     Brought brought;
 };
 
-/** The outcome for the frame at the front of a candidate, and what follows it. */
+/** The outcome for the frame at the front of a candidate, and the octets that follow the frame. */
 struct Carried {
     Result<Located> frame;
     /** The octets behind the frame, or all octets if no frame was found. */
@@ -715,7 +717,7 @@ struct Carried {
 };
 
 /**
- * The channels of a spacecraft, in an array that is elsewhere and outlives the rack. Channels that hold none are
+ * The channels of a spacecraft, in an array that is elsewhere and outlives the rack. Places that hold no channel are
  * skipped.
  *
  * Only one call at a time may use a rack, and no other call may use one of its channels meanwhile.

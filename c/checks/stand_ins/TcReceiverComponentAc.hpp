@@ -70,7 +70,7 @@ private:
 
 namespace stand_in {
 
-/** Brings Type-AD frames 0 and 2 of spacecraft 42, channel 1: the second is ahead, so that Retransmit is set. */
+/** Brings Type-AD frames 0 and 2 of spacecraft 42, channel 1. Frame 2 is ahead of V(R), so that Retransmit is set. */
 inline bool bring(Components::TcReceiverComponentBase &component) {
     std::uint8_t first[] = {0x00, 0x2a, 0x04, 0x0c, 0x00, 0xc0, 0x10, 0x05, 0xc0, 0x00, 0x00, 0x00, 0xaa};
     std::uint8_t ahead[] = {0x00, 0x2a, 0x04, 0x0c, 0x02, 0xc0, 0x10, 0x05, 0xc0, 0x02, 0x00, 0x00, 0xcc};

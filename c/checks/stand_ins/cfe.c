@@ -1,4 +1,4 @@
-/* The stand-in's bus. It brings two frames, and octets that aren't a frame, to c/examples/cfs.c, and prints the
+/* The bus of the stand-in. It brings two frames, and octets that aren't a frame, to c/examples/cfs.c, and prints the
  * messages that this application sends. */
 #include "cfe.h"
 

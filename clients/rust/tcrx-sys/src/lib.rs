@@ -322,8 +322,7 @@ records! {
         /// The sequence flags, at most 3. An unsegmented packet has 3.
         sequence: u8,
     }
-    /// The fields of a telemetry frame's primary header that give its spacecraft, its virtual channel, and its place among their
-    /// frames.
+    /// The ids and the frame counts in the primary header of a telemetry frame.
     TmHeader as "tcrx_tm_header" {
         /// The spacecraft id, 0 to 1,023.
         scid: u16,
@@ -335,7 +334,7 @@ records! {
         channel_count: u8,
     }
     /// The fields of a telemetry frame with an operational control field. The first bit of that field is the most significant bit
-    /// of `clcw`. It is 0 for a CLCW, and 1 for a Type-2 report.
+    /// of `clcw`, and is 0 for a CLCW and 1 for a Type-2 report.
     Tm as "tcrx_tm" {
         /// `TCRX_DONE`, or the reason why the call failed.
         status: Status,
@@ -346,9 +345,9 @@ records! {
         /// The first header pointer: 2,046 if all data are idle, 2,047 if no packet begins.
         pointer: u16,
     }
-    /// A decoder of CLTUs (communications link transmission units), apart from the octets that it holds, which are in a buffer. At
-    /// the start, each field except `correct` is 0. If `correct` is 1, the decoder corrects one wrong bit in a code block, and
-    /// accepts a start sequence with one wrong bit. If `correct` is 0, it does neither.
+    /// A decoder of CLTUs (communications link transmission units), without the octets that it holds, which are in a buffer. At the
+    /// start, each field except `correct` is 0. If `correct` is 1, the decoder corrects one wrong bit in a code block, and accepts
+    /// a start sequence with one wrong bit. If `correct` is 0, it does neither.
     Decoder as "tcrx_decoder" {
         /// 1 to correct one wrong bit in a code block, 0 to correct none.
         correct: u8,
@@ -376,7 +375,7 @@ records! {
         corrected: u64,
         /// The number of code blocks that were rejected in these octets, without tail sequences.
         rejected: u64,
-        /// The number of CLTUs that came to carry over 1,029 octets. They end no candidate frame.
+        /// The number of CLTUs that carried more than 1,029 octets. They end no candidate frame.
         overlong: u64,
     }
     /// A status with a number of octets. If the status is `TCRX_NO_ROOM`, `length` is the number of octets that the buffer needs.
@@ -429,7 +428,7 @@ records! {
         /// The largest number of octets in a unit of the MAP, 1 to 65,542.
         octets: u32,
     }
-    /// The outcome for a frame, and for the unit that the frame ended. If it ended none, `queued`, `dropped` and `rest` are 0. A
+    /// The outcome for a frame, and for the unit that the frame ended. If no unit ended, `queued`, `dropped` and `rest` are 0. A
     /// packet is dropped if it isn't a telecommand, if there is no queue for its APID, or if that queue has no room. A whole unit
     /// is dropped if its queue has no room.
     Reply as "tcrx_reply" {
@@ -446,7 +445,7 @@ records! {
         /// 1 if octets were left that don't begin with a packet, otherwise 0.
         rest: u8,
     }
-    /// The outcome for the unit that a released data field ended. If it ended none, each number is 0.
+    /// The outcome for the unit that a released data field ended. If no unit ended, each number is 0.
     Delivery as "tcrx_delivery" {
         /// `TCRX_DONE`, or the reason why the call failed.
         status: Status,
@@ -475,7 +474,7 @@ records! {
         vcid: u8,
     }
     /// The outcome for the frame at the front of a candidate, and the channel that took it in. If a frame was found but the call
-    /// fails, `more` and `length` are given nevertheless.
+    /// fails, `more` and `length` are set nevertheless.
     CandidateReply as "tcrx_candidate_reply" {
         /// `TCRX_DONE`, or the reason why the call failed.
         status: Status,
@@ -529,7 +528,7 @@ extern "C" {
     /// `TCRX_BAD_STATE`, `TCRX_BAD_FARM_B`, `TCRX_BAD_FLAG` or `TCRX_FLAGS_DISAGREE` if FARM-1 can't have the record that you
     /// passed. After that it fails with `TCRX_BAD_FLAG` if `room` is neither 0 nor 1, `TCRX_BAD_ARRIVAL` if the arrival isn't 1 to
     /// 6, or `TCRX_NO_ENTRY` if an expected Type-AD frame arrives in `TCRX_WAIT` and `room` is 1. The last status never occurs if
-    /// `room` is 0 in `TCRX_WAIT`, as it is for a buffer from which nothing was released since it was full.
+    /// `room` is 0 in `TCRX_WAIT`. That is its value for a buffer from which nothing was released since it was full.
     pub fn tcrx_farm_step(farm: Farm, arrival: u8, number: u8, room: u8) -> StepAnswer;
     /// Builds the CLCW that reports this FARM-1 for a virtual channel. Its status field is 0, and COP-1 is in effect.
     ///
@@ -580,8 +579,8 @@ extern "C" {
     /// Returns the length of the frame, 6 or 8. The call fails with `TCRX_BAD_FIELD` if an id is over its bound, `TCRX_BAD_COMMAND`
     /// if the kind is another one, or `TCRX_NO_ROOM` if the buffer is too short.
     pub fn tcrx_write_command_at(scid: u16, vcid: u8, kind: u8, number: u8, octets: *mut u8, room: usize) -> Written;
-    /// Writes a frame with its frame error control field to the front of a buffer. The written frame has two octets more, which its
-    /// length field counts.
+    /// Adds a frame error control field to a frame, and writes the frame to the front of a buffer. The written frame is two octets
+    /// longer, and its length field counts them.
     ///
     /// Returns the length of the frame with the field. The call fails with `TCRX_SHORT` to `TCRX_TRUNCATED` if the octets don't
     /// begin with a frame, `TCRX_FILL` if octets follow the frame, `TCRX_LONG_FRAME` if the frame has more than 1,022 octets, or
@@ -615,31 +614,31 @@ extern "C" {
     /// version 0.
     pub fn tcrx_read_packet_at(octets: *const u8, count: usize) -> Packet;
     /// Writes the CLTU (communications link transmission unit) that carries a frame to the front of a buffer. The CLTU consists of
-    /// the start sequence, the code blocks, with fill in the last one if it needs some, and the tail sequence. It has 8 octets for
-    /// each code block, which carries 7 octets of the frame, and 10 more.
+    /// the start sequence, the code blocks, with fill in the last one if it needs some, and the tail sequence. Each code block has
+    /// 8 octets and carries 7 octets of the frame. The start and tail sequences have 10 octets together.
     ///
     /// Returns the length of the CLTU, at most 1,186. The call fails with `TCRX_EMPTY_DATA` if there are no octets,
     /// `TCRX_LONG_CLTU` if there are more than 1,029, or `TCRX_NO_ROOM` if the buffer is too short.
     pub fn tcrx_write_cltu_at(frame: *const u8, frame_count: usize, octets: *mut u8, room: usize) -> Written;
-    /// Gives a decoder the next octets of a stream. The decoder takes all of them, or those up to the first octet that ends a
-    /// candidate frame, that octet included. It looks for a start sequence, and then decodes code blocks until one is rejected, as
-    /// the tail sequence is. The octets that the other code blocks carried are a candidate frame, with fill behind it, which
-    /// `tcrx_rack_candidate` takes as it is. A CLTU that carries more than 1,029 octets is counted, and ends no candidate frame.
-    /// Pass the record that this call returns to the next call, with the octets behind those that were taken, and with the same
-    /// buffer. The whole buffer belongs to the decoder.
+    /// Gives a decoder the next octets of a stream. The decoder takes all octets, or those up to and including the first one that
+    /// ends a candidate frame. It looks for a start sequence, and then decodes code blocks until one is rejected. The tail sequence
+    /// is rejected, too. The octets that the accepted code blocks carried are a candidate frame, with fill behind it.
+    /// `tcrx_rack_candidate` takes it in this form. A CLTU that carries more than 1,029 octets is counted, and ends no candidate
+    /// frame. Pass the record that this call returns to the next call, with the octets behind those that were taken, and with the
+    /// same buffer. The whole buffer belongs to the decoder.
     ///
     /// Returns the outcome for the octets. The call fails with `TCRX_BAD_FLAG` if a flag of the decoder is neither 0 nor 1,
     /// `TCRX_BAD_DECODER` if no decoder has this record, or `TCRX_NO_ROOM` if the buffer has fewer than `TCRX_DECODER_ROOM` octets.
     pub fn tcrx_cltu_octets_at(decoder: Decoder, octets: *const u8, count: usize, frame: *mut u8, room: usize) -> Decoded;
     /// Makes a decoder look for a start sequence anew, as after a loss of bit lock. Code blocks that it has taken since the last
-    /// start sequence end no candidate frame. If `decoding` was 1, this cuts a CLTU short, or octets that only began like one.
+    /// start sequence end no candidate frame. If `decoding` was 1, the call cuts a CLTU short, or octets that only began like one.
     ///
     /// Returns the record for the next call of `tcrx_cltu_octets`, with 0 in all other fields. The call fails with `TCRX_BAD_FLAG`
     /// if a flag of the decoder is neither 0 nor 1, or `TCRX_BAD_DECODER` if no decoder has this record.
     pub fn tcrx_cltu_search(decoder: Decoder) -> Decoded;
     /// Adds the random sequence to octets, and writes the result to the front of a buffer. If a mission randomises its CLTUs, a
-    /// sender calls this for each frame before `tcrx_write_cltu`, and a receiver calls it for the octets that each CLTU carried. A
-    /// sequence that is added twice changes nothing.
+    /// sender calls this for each frame before `tcrx_write_cltu`, and a receiver calls it for the octets that each CLTU carried.
+    /// Adding the sequence twice changes nothing.
     ///
     /// Returns the number of octets. The call fails with `TCRX_EMPTY_DATA` if there are no octets, `TCRX_LONG_CLTU` if there are
     /// more than 1,029, or `TCRX_NO_ROOM` if the buffer is too short.
@@ -652,7 +651,7 @@ extern "C" {
     /// of the header is over its bound, `TCRX_BAD_LENGTH` if `size` is out of its range, or `TCRX_NO_ROOM` if the buffer is too
     /// short.
     pub fn tcrx_write_tm_at(header: TmHeader, fecf: u8, clcw: u32, size: u16, octets: *mut u8, room: usize) -> Written;
-    /// Reads octets that are one telemetry frame. The call doesn't look into its secondary header and its packets.
+    /// Reads octets that are one telemetry frame. The call doesn't look into the frame's secondary header and packets.
     ///
     /// Returns the fields of the frame. The call fails with `TCRX_BAD_FLAG` if `fecf` is neither 0 nor 1, `TCRX_BAD_LENGTH` if
     /// there aren't 11 to 2,048 octets, or 13 to 2,048 with a frame error control field, `TCRX_BAD_VERSION` if the version number
@@ -703,9 +702,9 @@ extern "C" {
         map_count: usize,
     ) -> Status;
     /// Creates a channel with a limit for the units of each MAP, so that it requests less memory. A unit that is longer than its
-    /// limit is dropped when it ends, and no reply reports that. Without limits that happens to units of more than 65,542 octets.
-    /// With segment headers, `others` may be 0. Then a MAP that isn't listed ends no unit except the empty one. Without segment
-    /// headers, no MAP may be listed, and `others` is the limit of each data field.
+    /// limit is dropped when it ends, and no reply reports that. Without limits, units of more than 65,542 octets are dropped in
+    /// this way. With segment headers, `others` may be 0. Then a MAP that isn't listed ends no unit except the empty one. Without
+    /// segment headers, no MAP may be listed, and `others` is the limit of each data field.
     ///
     /// Returns `TCRX_DONE`. The call fails as `tcrx_channel_new` does. Between the faults of the settings and `TCRX_NO_MEMORY` it
     /// fails with the first fault of the limits: `TCRX_BAD_OTHERS`, `TCRX_BAD_LIMIT_MAP`, `TCRX_DOUBLE_LIMIT`, `TCRX_BAD_LIMIT`,
@@ -728,13 +727,13 @@ extern "C" {
     /// Returns the event of FARM-1, and the outcome for the unit. The call fails with `TCRX_NO_CHANNEL`, or `TCRX_SHORT` to
     /// `TCRX_TRUNCATED` if the octets don't begin with a frame.
     pub fn tcrx_channel_frame_at(channel: *mut Channel, octets: *const u8, count: usize) -> Reply;
-    /// Releases the oldest data field from the buffer to reassembly. The unit that it ends is cut into packets, which are queued. A
-    /// unit of a chosen MAP is queued whole.
+    /// Releases the oldest data field from the buffer to reassembly. The unit that the data field ends is cut into packets, which
+    /// are queued. A unit of a chosen MAP is queued whole.
     ///
     /// Returns the outcome for the unit. The call fails with `TCRX_NO_CHANNEL`, or `TCRX_EMPTY` if the buffer is empty.
     pub fn tcrx_channel_release_at(channel: *mut Channel) -> Delivery;
-    /// Takes the oldest packet out of a queue, and writes it, with its header, to the front of a buffer. It has 7 to 65,542 octets.
-    /// If the call fails, the packet stays in its queue.
+    /// Takes the oldest packet out of a queue, and writes it, with its header, to the front of a buffer. A packet has 7 to 65,542
+    /// octets. If the call fails, the packet stays in its queue.
     ///
     /// Returns the length of the packet. The call fails with `TCRX_NO_CHANNEL`, `TCRX_NO_QUEUE` if no queue has this APID,
     /// `TCRX_EMPTY` if the queue is empty, or `TCRX_NO_ROOM` if the buffer is too short.
@@ -773,11 +772,10 @@ extern "C" {
     ///
     /// Returns `TCRX_DONE`. The call fails with `TCRX_NO_CHANNEL`.
     pub fn tcrx_channel_free_at(channel: *mut Channel) -> Status;
-    /// Brings the frame at the front of octets to the channel that it is for, which is the first channel with the virtual channel
-    /// id of the frame, if the frame is for this spacecraft. If frames end with the frame error control field, the field is checked
-    /// first, and the channel gets the frame without it. If frames end with the field although `fecf` is 0, no status reports it,
-    /// because the field counts as data: each control command is then event 9, and `rest` is 1 after each packet that came in one
-    /// frame.
+    /// Brings the frame at the front of octets to its channel, if the frame is for this spacecraft. That is the first channel with
+    /// the virtual channel id of the frame. If frames end with the frame error control field, the field is checked first, and the
+    /// channel gets the frame without it. If frames end with the field although `fecf` is 0, no status reports that, because the
+    /// field counts as data. Each control command is then event 9, and `rest` is 1 after each packet that came in one frame.
     ///
     /// Returns the event of FARM-1, the outcome for the unit, and the channel. The call fails with `TCRX_BAD_FLAG` if `fecf` is
     /// neither 0 nor 1, `TCRX_SHORT` to `TCRX_TRUNCATED` if the octets don't begin with a frame, `TCRX_FILL`, `TCRX_NO_FECF` or
@@ -791,10 +789,10 @@ extern "C" {
         octets: *const u8,
         count: usize,
     ) -> RackReply;
-    /// Brings the frame at the front of a candidate, which is the octets that a CLTU carried, to the channel that it is for, as
-    /// `tcrx_rack_frame` does. The length field of the frame is read first, and gives the length of the frame. Then the frame error
-    /// control field is checked. The octets that follow the frame are fill, or the next frame. If a CLTU may carry several frames,
-    /// pass the octets behind the frame to this call again, as long as `more` is 1.
+    /// Brings the frame at the front of a candidate to its channel, as `tcrx_rack_frame` does. A candidate is the octets that a
+    /// CLTU carried. The length field of the frame is read first, and says where the frame ends. Then the frame error control field
+    /// is checked. The octets that follow the frame are fill, or the next frame. If a CLTU may carry several frames, pass the
+    /// octets behind the frame to this call again, as long as `more` is 1.
     ///
     /// Returns the event of FARM-1, the outcome for the unit, the channel, and the length of the frame. The call fails with
     /// `TCRX_BAD_FLAG` if `fecf` is neither 0 nor 1, `TCRX_SHORT` to `TCRX_TRUNCATED` if the octets don't begin with a frame,

@@ -49,8 +49,8 @@ extern "C" {
     ///
     /// Returns `TCRX_DONE`. The call fails with `TCRX_SESSION_IN_USE`, `TCRX_BAD_SCID`, `TCRX_BAD_FLAG`, or `TCRX_NO_MEMORY`.
     pub fn tcrx_lines_live_at(lines: *mut Lines, scid: u16, fecf: u8) -> Status;
-    /// Creates a session that carries out a script as `tcrx run` does: a receiver for which nothing is set up, and which ends at
-    /// the first bad line.
+    /// Creates a session that carries out a script as `tcrx run` does: a receiver for which nothing is set up. It ends at the first
+    /// bad line.
     ///
     /// Returns `TCRX_DONE`. The call fails with `TCRX_SESSION_IN_USE`, `TCRX_BAD_SCID`, or `TCRX_NO_MEMORY`.
     pub fn tcrx_lines_script_at(lines: *mut Lines, scid: u16) -> Status;
@@ -66,20 +66,20 @@ extern "C" {
     /// Returns the length of the text. The call fails with `TCRX_NO_SESSION`, `TCRX_WAITING`, `TCRX_OVER`, `TCRX_NO_MEMORY`,
     /// `TCRX_LOST`, `TCRX_NO_ROOM` if the buffer is too short, or `TCRX_BAD_LINE` if the text says why the script ends.
     pub fn tcrx_lines_answer_at(lines: *mut Lines, line: *const u8, count: usize, text: *mut u8, room: usize) -> Written;
-    /// Gives out the text that waits because an earlier buffer was too short for it. If no text waits, the text is empty.
+    /// Returns the text that waits because an earlier buffer was too short for it. If no text waits, the text is empty.
     ///
     /// Returns the length of the text, with the status that the earlier call would have returned if the buffer had been long
     /// enough. The call fails with `TCRX_NO_SESSION`, or `TCRX_NO_ROOM` if this buffer is too short, too.
     pub fn tcrx_lines_text_at(lines: *mut Lines, text: *mut u8, room: usize) -> Written;
-    /// Ends the lines, and writes the final report of a receiver's channels to the front of a buffer. That of a maker has no
+    /// Ends the lines, and writes the final report of a receiver's channels to the front of a buffer. The report of a maker has no
     /// octets. After this call no more lines are answered. If the status is `TCRX_BAD_LINE`, there is no report, and the text is
     /// the reason, as the program prints it.
     ///
     /// Returns the length of the text. The call fails with `TCRX_NO_SESSION`, `TCRX_WAITING`, `TCRX_OVER`, `TCRX_NO_MEMORY`,
     /// `TCRX_LOST`, `TCRX_NO_ROOM` if the buffer is too short, or `TCRX_BAD_LINE` if the text says why there is no report.
     pub fn tcrx_lines_end_at(lines: *mut Lines, text: *mut u8, room: usize) -> Written;
-    /// Tells whether frames were brought to a receiver that checks no frame error control fields, and each of them ended with the
-    /// right one. The programs then print a hint at their end. The answer stays the same after `tcrx_lines_end`.
+    /// Tells whether frames were brought to a receiver that checks no frame error control fields, and each of these frames ended
+    /// with a right one. The programs then print a hint at their end. The answer stays the same after `tcrx_lines_end`.
     ///
     /// Returns the flag. The call fails with `TCRX_NO_SESSION`.
     pub fn tcrx_lines_saw_check_sums_at(lines: *mut Lines) -> FlagAnswer;
