@@ -1,12 +1,12 @@
 /*
- * The calls of the library with only numbers of 32 bits and addresses, which each machine passes in the same way, so
- * that no machine's rule for passing records matters. This file is compiled to the LLVM module of the library's own
- * machine, and linked with that. The whole becomes a WebAssembly module, from which tools/portable and tools/page write
- * their output.
+ * The calls of the library, with parameters that are only numbers of 32 bits and addresses. Each machine passes those
+ * in the same way, so no machine's rule for passing records matters. This file is compiled to the LLVM module of the
+ * library's own machine, and linked with that module. The result becomes a WebAssembly module, from which
+ * tools/portable and tools/page write their output.
  *
  * Each call returns a status, and puts the other fields of its record into `numbers`. The record of a FARM-1 and a
- * count take two of these numbers. Settings and headers that go in stand there, too. An instance of the module holds
- * one channel.
+ * count take two of these numbers. The settings and headers that a call takes stand in `numbers`, too. An instance of
+ * the module holds one channel.
  */
 #include "tcrx.h"
 
@@ -14,12 +14,12 @@
 
 typedef uint32_t u32;
 
-/* The number of octets that a call is given at most: the longest frame, which is a telemetry frame of 2,048 octets, and
- * one more, by which the call sees that octets follow the frame. */
+/* The largest number of octets that a call is given. It is one more than the longest frame has, which is a telemetry
+ * frame of 2,048 octets. By the additional octet the call sees that octets follow the frame. */
 enum { MOST_FRAME = 2049 };
 
 static u32 numbers[16];
-/* The frame or data field that a call reads, and behind it the one that it writes. */
+/* The frame or data field that a call reads, and behind it the frame or data field that it writes. */
 static uint8_t frames[2 * MOST_FRAME] __attribute__((aligned(16)));
 static tcrx_channel channel = TCRX_HOLDS_NONE;
 

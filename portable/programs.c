@@ -1,7 +1,7 @@
 /*
  * The functions that the three programs call besides the C library, for a processor for which the kit doesn't provide
- * them. They give the words of the command line and the number of the last error, and allocate, grow and free memory.
- * tools/target links this with the programs. It isn't proved.
+ * them. They return the words of the command line and the number of the last error, and allocate, grow and free memory.
+ * tools/target links this file with the programs. The file isn't proved.
  */
 #include "../dist/tcrx_memory.c"
 

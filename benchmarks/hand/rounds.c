@@ -1,5 +1,5 @@
 /*
- * Makes COUNT rounds of a load of tc_bench on the channel by hand (channel.c) or on a channel of the library
+ * Makes COUNT rounds of a load of tc_bench on the channel written by hand (channel.c) or on a channel of the library
  * (library.c), and prints its score.
  *
  *   rounds sequenced|bypassing|packets|segments COUNT

@@ -1,7 +1,7 @@
 /*
- * Does by hand what c/checks/stream.c does: decodes COUNT times a stream of 32 CLTUs that carry frames of 1,024 octets,
- * in pieces of 4,096 octets, and prints the same line. With `sum` it computes COUNT times the frame error control field
- * of 1,022 octets.
+ * Decodes a stream of 32 CLTUs, which carry frames of 1,024 octets, COUNT times in pieces of 4,096 octets, by code
+ * written by hand. Prints the line that c/checks/stream.c prints. With `sum` it computes the frame error control field
+ * of 1,022 octets COUNT times.
  *
  *   streams COUNT MODE WRONG
  *   streams COUNT sum
@@ -24,8 +24,8 @@ static uint8_t left_of[7][256], places[128], stream[CLTUS * CLTU], carried[MOST 
 static uint16_t sums[8][256];
 static unsigned long frames, corrected, rejected;
 
-/* Fills the tables: what each octet adds at its place of a code block and of eight octets, and the place of each wrong
- * bit. */
+/* Fills the tables: the value that each octet adds at its place of a code block and of eight octets, and the place of
+ * each wrong bit. */
 static void fill_tables(void) {
     for (unsigned octet = 0; octet < 256; octet++) {
         unsigned left = octet << 7, sum = octet << 8;

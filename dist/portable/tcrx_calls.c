@@ -1,7 +1,7 @@
 /*
  * The calls of tcrx.h over the module. Octets and lists are copied into the memory of an instance and out of it. A call
  * on a channel that isn't held goes to the instance of the calls without a channel. That instance holds no channel
- * either, so that it returns what the library returns.
+ * either, so the call returns what the library returns.
  */
 #include "tcrx.h"
 
@@ -30,7 +30,7 @@ static uint64_t count_of(tcrx_instance *at, uint32_t place) {
     return tcrx_number(at, place) | (uint64_t)tcrx_number(at, place + 1) << 32;
 }
 
-/* Copies what a call wrote at a place in the memory to the caller, if the call succeeded. */
+/* Copies the octets that a call wrote at a place in the memory to the caller, if the call succeeded. */
 static tcrx_written written_of(tcrx_instance *at, tcrx_status status, uint32_t place, uint8_t *octets) {
     const tcrx_written answer = {status, (size_t)count_of(at, 0)};
     if (status == TCRX_DONE) {
@@ -50,8 +50,8 @@ static void end(const tcrx_channel *channel) {
 }
 
 /*
- * Copies the frame at the front of octets, which is all that the library looks at. If a data field has more octets than
- * are copied, the copied part alone is too long, so that the status is the same.
+ * Copies the frame at the front of octets, because the library looks at nothing else. If a data field has more octets
+ * than are copied, the copied part alone is too long, so the status is the same.
  */
 static uint32_t put_frame(tcrx_instance *at, const uint8_t *octets, size_t count) {
     const uint32_t looked_at = least(count, TCRX_MODULE_FRAME);
@@ -59,8 +59,8 @@ static uint32_t put_frame(tcrx_instance *at, const uint8_t *octets, size_t count
     return looked_at;
 }
 
-/* Copies the buffer in and out, because it holds what the decoder has so far. If there are more octets than the module
- * has room for, they are passed piece by piece. */
+/* Copies the buffer in and out, because it holds the octets that the decoder has so far. If there are more octets than
+ * the module has room for, they are passed piece by piece. */
 tcrx_decoded tcrx_cltu_octets_at(tcrx_decoder decoder, const uint8_t *octets, size_t count, uint8_t *frame, size_t room) {
     tcrx_decoded answer = {TCRX_DONE, decoder, 0, 0, 0, 0, 0};
     tcrx_instance *at = tcrx_instance_shared();
@@ -391,7 +391,8 @@ static uint32_t copied(tcrx_instance *at, const uint8_t *octets, uint32_t count)
     return place;
 }
 
-/* If a unit has more octets than are copied, the copied part alone is too long, so that the status is the same. */
+/* Copies the front of the unit only. If the unit has more octets, the copied part alone is too long, so the status is
+ * the same. */
 tcrx_written tcrx_write_segment_at(tcrx_header header, uint8_t map, uint16_t size, uint32_t place, const uint8_t *unit,
                                    size_t unit_count, uint8_t *octets, size_t room) {
     tcrx_written answer = {TCRX_NO_MEMORY, 0};
@@ -409,8 +410,8 @@ tcrx_written tcrx_write_segment_at(tcrx_header header, uint8_t map, uint16_t siz
     return answer;
 }
 
-/* If a packet data field has more octets than are copied, the copied part alone is too long, so that the status is the
- * same. */
+/* Copies the front of the packet data field only. If the field has more octets, the copied part alone is too long, so
+ * the status is the same. */
 tcrx_written tcrx_write_packet_at(tcrx_packet_header header, const uint8_t *field, size_t field_count, uint8_t *octets,
                                   size_t room) {
     tcrx_written answer = {TCRX_NO_MEMORY, 0};
@@ -541,7 +542,7 @@ tcrx_count tcrx_storage_with_limits_at(tcrx_settings settings, const tcrx_queue 
     return storage(&asked);
 }
 
-/* Creates the channel in its instance, with room for the longest packet that it can come to hold. */
+/* Creates the channel in its instance, with room for the longest packet that the channel can come to hold. */
 static tcrx_status make(tcrx_instance *at, plan *asked) {
     if (!put_lists(at, asked)) {
         return TCRX_NO_MEMORY;
@@ -593,7 +594,7 @@ tcrx_status tcrx_channel_new_with_limits_at(tcrx_channel *channel, tcrx_settings
     return make_anew(channel, &asked);
 }
 
-/* Finds a channel by asking each instance, because the channel of an instance is a rack by itself. */
+/* Finds a channel by searching each instance, because the channel of an instance is a rack by itself. */
 tcrx_place tcrx_rack_find_at(tcrx_channel *channels, size_t channel_count, uint8_t vcid) {
     tcrx_place answer = {TCRX_UNKNOWN_CHANNEL, 0};
     for (size_t i = 0; i < channel_count && answer.status != TCRX_DONE; i++) {
@@ -618,8 +619,8 @@ static tcrx_rack_reply brought(tcrx_instance *at, uint16_t scid, uint8_t fecf, c
     return answer;
 }
 
-/* Asks the rack without a channel first. If that fails with a status other than TCRX_UNKNOWN_CHANNEL, it fails on each
- * rack. */
+/* Brings the frame to a rack without a channel first. If that fails with a status other than TCRX_UNKNOWN_CHANNEL, each
+ * rack would fail with this status. */
 tcrx_rack_reply tcrx_rack_frame_at(tcrx_channel *channels, size_t channel_count, uint16_t scid, uint8_t fecf, const uint8_t *octets,
                                    size_t count) {
     tcrx_rack_reply answer = brought(tcrx_instance_shared(), scid, fecf, octets, count);

@@ -1,5 +1,5 @@
-/* Instances of the module, and what its C needs from its surroundings: a memory, and a way to stop a module that can't
- * go on. */
+/* Instances of the module, and the functions that its C needs: a memory, and a way to stop a module that can't go on.
+ * */
 #include "tcrx_instance.h"
 
 #include <stdlib.h>
@@ -110,8 +110,8 @@ void tcrx_instance_end(tcrx_instance *at) {
 
 #else
 
-/* Moves the octets into a larger memory. On a big-endian machine, where they are stored backwards, they go to its
- * end. */
+/* Moves the octets into a larger memory. On a big-endian machine the octets are stored backwards, so they go to the end
+ * of the memory. */
 static void move_to(uint8_t *octets, uint32_t pages, const wasm_rt_memory_t *memory) {
     const size_t before = (size_t)memory->pages * PAGE, more = (size_t)pages * PAGE - before;
     memset(WABT_BIG_ENDIAN ? octets : octets + before, 0, more);

@@ -31,12 +31,12 @@
 #define TCRX_MODULE_UNLOCK() ((void)0)
 #endif
 
-/* The largest number of octets in a frame and one more, by which a call sees that octets follow the frame, and the
- * largest number of octets in a packet. */
+/* The largest number of octets in a frame plus one, and the largest number of octets in a packet. By the additional
+ * octet a call sees that octets follow the frame. */
 enum { TCRX_MODULE_FRAME = 2049, TCRX_MODULE_PACKET = 65542 };
 
-/* An instance, and the places in its memory for numbers, for a frame that is read, for one that is written, and for a
- * packet or a unit. */
+/* An instance, and the places in its memory for numbers, for a frame that is read, for a frame that is written, and for
+ * a packet or a unit. */
 typedef struct {
     Z_tcrx_instance_t module;
     uint32_t numbers, read, written;

@@ -1,6 +1,6 @@
 /*
- * The definitions that tcrx_module.c needs, which wasm2c wrote. No compiler option is needed, because each access to the
- * module's memory is tested, and a macro of the compiler tells whether the machine is big-endian.
+ * The definitions that tcrx_module.c needs. wasm2c wrote that file. No compiler option is needed, because each access
+ * to the module's memory is tested, and a macro of the compiler tells whether the machine is big-endian.
  */
 #ifndef WASM_RT_H_
 #define WASM_RT_H_

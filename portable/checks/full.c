@@ -1,8 +1,8 @@
 /*
- * Tests a memory of fixed size. A channel that doesn't fit isn't created, with TCRX_NO_MEMORY, and one that fits is
- * created in its place. Then all memory of the module is taken, up to the last slot of each size. Each call must still
- * succeed, because none requests memory. At the end each packet must be as it was sent. TCRX_MODULE_PAGES must be
- * defined.
+ * Tests a memory of fixed size. The creation of a channel that doesn't fit must fail with TCRX_NO_MEMORY, and a channel
+ * that fits is created in its place. Then all memory of the module is taken, up to the last slot of each size. Each
+ * call must still succeed, because none requests memory. At the end each packet must be as it was sent.
+ * TCRX_MODULE_PAGES must be defined.
  */
 #include "tcrx.h"
 #include "tcrx_instance.h"
@@ -56,7 +56,7 @@ static const tcrx_settings settings = {1, 10, 4, 0, 1};
 static const tcrx_queue queue = {5, 16};
 static const tcrx_limit limit = {0, 1024};
 
-/* Creates a channel. One without limits, of 8.4 MB or more, must be refused before one within limits is created. */
+/* Creates a channel within limits. Before that, a channel without limits, of 8.4 MB or more, must be refused. */
 static tcrx_status make(void) {
     if (tcrx_channel_new(&channel, settings, &queue, 1, NULL, 0) != TCRX_NO_MEMORY || channel.held != 0) {
         fail("a channel that doesn't fit", 0);

@@ -1,6 +1,6 @@
 /*
- * Tests the most memory that a channel of the module can have, which is a little less than 4 GiB on each machine. A
- * channel that needs more isn't created, with TCRX_NO_MEMORY, and the memory isn't requested first.
+ * Tests the most memory that a channel of the module can have, which is a little less than 4 GiB on each machine. The
+ * creation of a channel that needs more must fail with TCRX_NO_MEMORY, without first requesting the memory.
  */
 #include "tcrx.h"
 

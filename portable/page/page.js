@@ -1,5 +1,6 @@
 "use strict";
-/* Draws the page, and handles what the reader does. All answers come from receiver.js, which stands before this file in the page. */
+/* Draws the page, and handles the reader's input. All answers come from receiver.js, which stands before this file in
+ * the page. */
 
 const by = (id) => document.getElementById(id);
 const given = JSON.parse(by("given").textContent);
@@ -32,7 +33,7 @@ function drawWords() {
   document.querySelectorAll("[data-term]").forEach((place, i) => {
     const label = place.closest("label");
     if (label !== null) {
-      // Otherwise the label would belong to the button that the word becomes, and not to the field.
+      // The label must name its field. Otherwise it would belong to the button that the word becomes.
       const input = label.querySelector("input");
       input.id = input.id || `field-${i}`;
       label.htmlFor = input.id;

@@ -1,7 +1,7 @@
 "use strict";
 /*
- * The receiver in a page: the library as a WebAssembly module, and what tcrx and tcmake make of its answers, without
- * anything that is drawn. The module does all that FARM-1, channels, frames, packets and CLCWs do, and it chooses the
+ * The receiver in a page: the library as a WebAssembly module, and the texts that tcrx and tcmake make of its answers.
+ * Nothing is drawn here. FARM-1, channels, frames, packets and CLCWs are the module's work, and the module chooses the
  * channel that a frame is for. This file reads scripts, as docs/reference/scripts.md describes them, and puts answers
  * into words.
  */
@@ -157,7 +157,7 @@ class Channel {
     const [low, high] = this.instance.numbers();
     return low + high * 2 ** 32;
   }
-  /* Returns all that is shown of the channel. */
+  /* Returns all values of the channel that the page shows. */
   look() {
     return {
       settings: this.settings, farm: this.farm(), clcw: this.clcw(), events: this.count("events"), buffered: this.count("buffered"),
@@ -174,7 +174,7 @@ const NUMBERS = {
 };
 const SETTING_UP = ["channel", "queue", "map"];
 
-/* Returns a line of a script: its words, and the fault that it has by itself. */
+/* Returns a line of a script: its words, and its fault if it has one by itself. */
 function readLine(text) {
   const words = text.split(/[ \t\r]+/).filter((it) => it !== "");
   const line = {text, words, what: words[0] || "", numbers: [], fault: null};
@@ -192,7 +192,7 @@ function readLine(text) {
   return line;
 }
 
-/* Returns how many letters must be left out, added or changed to turn one word into the other. */
+/* Returns the number of letters that must be left out, added or changed to turn one word into the other. */
 function distance(one, other) {
   let row = Array.from({length: other.length + 1}, (_, i) => i);
   for (let i = 1; i <= one.length; i += 1) {
@@ -299,7 +299,8 @@ class Run {
       if (channel.make() !== STATUS.DONE) this.fault = `line ${this.at}: no memory`;
     }
   }
-  /* Carries out the next operation, and skips lines without words before it. Returns what was done, or null at the end. */
+  /* Carries out the next operation, and skips lines without words before it. Returns the operation with its outcome, or
+   * null at the end. */
   step() {
     while (!this.isAtEnd() && this.lines[this.at].what === "") this.at += 1;
     if (this.isAtEnd()) return null;
@@ -360,7 +361,7 @@ class Run {
   }
 }
 
-/* Returns what tcrx prints for a script, and the fault that it ends with. */
+/* Returns the text that tcrx prints for a script, and the fault with which the script ends. */
 function runWhole(compiled, scid, script) {
   const run = new Run(compiled, scid, script);
   while (run.step() !== null);
@@ -368,7 +369,7 @@ function runWhole(compiled, scid, script) {
   return {output: lines.map((it) => `${it}\n`).join(""), fault: run.fault};
 }
 
-/* A maker of frames and packets, which also takes them apart, in the lines of tcmake. */
+/* A maker of frames and packets by the lines of tcmake. It also takes frames and packets apart. */
 class Maker {
   constructor(compiled) {
     this.library = new Instance(compiled);

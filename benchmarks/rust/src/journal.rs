@@ -20,7 +20,7 @@ pub trait Journal: Default + Send {
     fn count(&self) -> u64;
 }
 
-/// Keeps each event with its octets.
+/// A journal that keeps each event with its octets.
 #[derive(Debug, Default)]
 pub struct Kept(Vec<Event>);
 
@@ -39,7 +39,7 @@ impl Journal for Kept {
     }
 }
 
-/// Counts the events.
+/// A journal that counts the events.
 #[derive(Debug, Default)]
 pub struct Counted(u64);
 

@@ -179,7 +179,7 @@ impl<J: Journal> Station<J> {
         Ok(Located { vcid: header.vcid, frame, lane })
     }
 
-    /// Returns new operators, or `None` for more than 65,535 over the station's life.
+    /// Returns new operators, or `None` if there would be more than 65,535 over the station's life.
     pub fn operators(&mut self, n: u16) -> Option<Vec<Operator>> {
         let issued = self.issued + usize::from(n);
         if issued > 65_535 {

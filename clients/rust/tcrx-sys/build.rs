@@ -1,13 +1,13 @@
-//! Finds the library, in the folder that TCRX_LIB_DIR names, or where the command pkg-config finds it. Otherwise builds it from
-//! the folder `dist` of the repository, by a C compiler and `make`.
+//! Finds the library in the folder that TCRX_LIB_DIR names, or in the folder that the command pkg-config prints.
+//! Otherwise builds it from the folder `dist` of the repository, by a C compiler and `make`.
 
 use std::env;
 use std::fs;
 use std::path::{Path, PathBuf};
 use std::process::{exit, Command};
 
-/// Returns the folder by pkg-config, which is the variable `libdir` of dekorihe-static.pc. That file is installed with each
-/// library.
+/// Returns the folder that pkg-config prints, which is the variable `libdir` of dekorihe-static.pc. That file is
+/// installed with each library.
 fn found_by_pkg_config() -> Option<PathBuf> {
     let program = env::var_os("PKG_CONFIG").unwrap_or_else(|| "pkg-config".into());
     let ran = Command::new(program).args(["--variable=libdir", "dekorihe-static"]).output().ok()?;
@@ -29,7 +29,7 @@ fn made() -> Option<PathBuf> {
     ran.success().then_some(folder)
 }
 
-/// Whether a library has the calls of sessions of lines: their names are among its octets.
+/// Returns whether a library has the calls of sessions of lines. Their names are then among its octets.
 fn has_lines(library: &Path) -> bool {
     let name = b"tcrx_lines_answer_at";
     fs::read(library).is_ok_and(|octets| octets.windows(name.len()).any(|window| window == name))

@@ -1,5 +1,6 @@
-//! Makes the load of `tc_bench`. With no argument it prints the same three scores. With `rounds recorded COUNT` or
-//! `rounds counting COUNT` it prints the score of COUNT rounds on a bare channel, whose journal is recorded or counted.
+//! Makes the load of `tc_bench`. With no argument it prints the three scores that `tc_bench` prints. With `rounds
+//! recorded COUNT` or `rounds counting COUNT` it prints the score of COUNT rounds on a bare channel, whose journal is
+//! recorded or counted.
 use plain_receiver::channel::{Channel, Delivery, FrameReply, QueueSetting, Settings};
 use plain_receiver::journal::{Counted, Journal, Kept};
 use plain_receiver::link::{Header, Link, read_frame, write_frame};
@@ -59,8 +60,8 @@ impl Sender {
     fn first(&self, number: u8) -> &[u8] {
         &self.sequenced[usize::from(number)]
     }
-    /// Returns the frame after the accepted one: the same one again, one that bypasses the window, one that is ahead,
-    /// or an Unlock.
+    /// Returns the frame after the accepted one: the accepted frame again, one that bypasses the window, one that is
+    /// ahead, or an Unlock.
     fn second(&self, number: u8) -> &[u8] {
         match number % 4 {
             0 => self.first(number),
@@ -139,7 +140,7 @@ fn by_workers(vcids: &[u8], rounds: u32) -> u64 {
     score.0
 }
 
-/// Makes rounds on a bare channel: a frame is taken in, its data field released, and its packet taken.
+/// Makes rounds on a bare channel. In a round a frame is taken in, its data field is released, and its packet is taken.
 fn play<J: Journal>(count: u32) -> u64 {
     let sender = Sender::new(1);
     let mut channel: Channel<J> = Channel::new(settings(1)).expect("the settings make a channel");

@@ -1,5 +1,5 @@
-//! The calls of `tcrx_lines.h`: sessions that answer lines of text. The feature `lines` declares them. The library must have them,
-//! as it has on x86-64 and aarch64. In portable C they are missing.
+//! The calls of `tcrx_lines.h`: sessions that answer lines of text. The feature `lines` declares them. The library has
+//! them on x86-64 and aarch64, but not in portable C.
 
 use crate::{Status, Written};
 use core::ffi::c_void;

@@ -1,5 +1,5 @@
-//! Compares the declarations with the headers. A C program prints the size of each record, the place and size of each field, and
-//! each number. tools/c_interface --check sees that everything in a header is declared.
+//! Compares the declarations with the headers. A C program prints the size of each record, the place and size of each
+//! field, and each number. tools/c_interface --check detects anything in a header that isn't declared.
 
 use std::fmt::Write;
 use std::path::PathBuf;
@@ -14,8 +14,8 @@ fn folder_of_header() -> PathBuf {
 type Layouts = [(&'static str, usize, &'static [(&'static str, usize, usize)])];
 type Numbers = [(&'static str, u32)];
 
-/// Returns what a C program prints about a header: the size of each record with the places and sizes of its fields, and the
-/// number of each name.
+/// Returns the output of a C program about a header: the size of each record with the places and sizes of its fields,
+/// and the number of each name.
 fn said_in_c(header: &str, layouts: &Layouts, numbers: &Numbers) -> String {
     let mut lines = format!("#include \"{header}\"\n#include <stdio.h>\nint main(void) {{\n");
     for (record, _, fields) in layouts {

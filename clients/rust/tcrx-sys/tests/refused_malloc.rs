@@ -1,5 +1,6 @@
-//! Tests the crate's own memory when `malloc` returns null. Each block of a new channel is refused in turn, by a `malloc` of this
-//! program that is found before the C library's. The call must return `NO_MEMORY`, and no channel may be held.
+//! Tests the crate's own memory when `malloc` returns null. Each block of a new channel is refused in turn, by a
+//! `malloc` of this program that the linker finds before that of the C library. The call must return `NO_MEMORY`, and
+//! no channel may be held.
 #![cfg(not(any(feature = "shared", feature = "own-memory")))]
 
 use std::cell::Cell;
@@ -14,7 +15,7 @@ extern "C" {
 }
 
 thread_local! {
-    /// The number of blocks that are given before one is refused, or `None` if none is refused.
+    /// The number of blocks that are allocated before one is refused, or `None` if none is refused.
     static GIVEN_FIRST: Cell<Option<u32>> = const { Cell::new(None) };
 }
 

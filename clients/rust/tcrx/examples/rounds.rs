@@ -1,4 +1,4 @@
-//! Makes COUNT rounds of `c/checks/rounds.c` on a channel. A round is a frame, its release and its take.
+//! Makes the rounds of `c/checks/rounds.c` on a channel, COUNT times. A round is a frame, its release and its take.
 //!
 //! usage: rounds COUNT
 

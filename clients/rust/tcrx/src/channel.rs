@@ -68,17 +68,19 @@ impl Settings<'_> {
     }
 }
 
-/// The limits for the units of each MAP. A longer unit is dropped when it ends, and no reply reports that.
+/// The limits for the units of each MAP. A unit that is longer than its limit is dropped when it ends, and no reply
+/// reports that.
 #[derive(Clone, Copy, Debug, Default, PartialEq, Eq)]
 pub struct Limits<'list> {
-    /// The most octets of a unit of each MAP that isn't listed, at most 65,542. With segment headers it may be 0, and
-    /// such a MAP then ends no unit except the empty one. Without segment headers it is the limit of each data field.
+    /// The largest number of octets in a unit of a MAP that isn't listed, at most 65,542. Without segment headers it is
+    /// the limit of each data field. With segment headers it may be 0. A MAP that isn't listed then ends no unit except
+    /// the empty one.
     pub others: u32,
-    /// The MAPs with a limit of their own. There must be none without segment headers.
+    /// The MAPs with a limit of their own. Without segment headers the list must be empty.
     pub maps: &'list [sys::Limit],
 }
 
-/// The outcome for the unit that an operation ended. If it ended none, nothing was queued or dropped.
+/// The outcome for the unit that an operation ended. If no unit ended, nothing was queued or dropped.
 #[derive(Clone, Copy, Debug, Default, PartialEq, Eq, Hash)]
 pub struct Delivery {
     /// The number of packets that were queued, or 1 for a unit that was queued whole.
@@ -142,7 +144,7 @@ impl Channel {
         }
     }
 
-    /// Creates a channel within limits, which requests less memory.
+    /// Creates a channel within limits. It requests less memory than a channel without limits.
     pub fn with_limits(settings: &Settings<'_>, limits: &Limits<'_>) -> Result<Self, SettingsError> {
         let mut held = sys::HOLDS_NONE;
         let (queues, maps, listed) = (settings.queues, settings.maps, limits.maps);
@@ -262,10 +264,10 @@ impl Channel {
     pub fn close(self) {}
 }
 
-/// The outcome for the frame at the front of a candidate, and what follows it.
+/// The outcome for the frame at the front of a candidate, and the octets that follow the frame.
 #[derive(Clone, Copy, Debug, PartialEq, Eq)]
 pub struct Carried<'octets> {
-    /// The outcome for the frame, in the form that `Rack::frame` returns.
+    /// The outcome for the frame, as `Rack::frame` returns it.
     pub frame: Result<(u8, Brought), CandidateError>,
     /// The octets behind the frame, or all octets if no frame was found.
     pub rest: &'octets [u8],
@@ -278,8 +280,8 @@ pub struct Carried<'octets> {
 pub struct Rack<'channels> {
     /// The spacecraft id.
     pub scid: u16,
-    /// Whether frames end with the frame error control field. If so, it is checked, and nothing may follow it. If not,
-    /// octets that follow a frame are fill.
+    /// Whether frames end with the frame error control field. If so, the field is checked, and nothing may follow the
+    /// frame. If not, octets that follow a frame are fill.
     pub fecf: bool,
     /// The channels. If several have the same virtual channel id, the first one is found.
     pub channels: &'channels mut [Channel],
@@ -300,9 +302,8 @@ impl Rack<'_> {
         Ok((reply.vcid, Brought { event: Event::of(reply.event), accepted: reply.accepted == 1, delivery }))
     }
 
-    /// Brings the frame at the front of a candidate, which a `Decoder` gives, to the channel that it is for. The length
-    /// field of the frame is read first, and gives the length of the frame. Then the frame error control field is
-    /// checked.
+    /// Brings the frame at the front of a candidate to its channel. A candidate comes from a `Decoder`. The length
+    /// field of the frame is read first, and says where the frame ends. Then the frame error control field is checked.
     pub fn candidate<'octets>(&mut self, octets: &'octets [u8]) -> Carried<'octets> {
         let (at, count) = (self.channels.as_mut_ptr().cast(), self.channels.len());
         // SAFETY: this call is safe for the reasons given in `frame`.

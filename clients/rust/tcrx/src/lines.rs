@@ -78,7 +78,7 @@ impl Error for LineError {}
 
 /// A session, which answers lines of text as the program `tclive`, `tcrx` or `tcmake` does. It is freed when it is dropped.
 ///
-/// A text is lines that end with a line feed, or it is empty. It is valid until the next call.
+/// A text consists of lines with their line feeds, or is empty. It is valid until the next call.
 ///
 /// ```
 /// # fn main() -> Result<(), Box<dyn std::error::Error>> {
@@ -98,7 +98,7 @@ impl Error for LineError {}
 /// # }
 /// ```
 ///
-/// It can be sent to another thread. Two threads that share one need a lock.
+/// A session can be sent to another thread. Two threads that share one need a lock.
 pub struct Session {
     held: calls::Lines,
     text: Vec<u8>,
@@ -126,21 +126,22 @@ impl Session {
         Self::new(|held| unsafe { calls::tcrx_lines_live_at(held, scid, fecf.into()) })
     }
 
-    /// Creates a session that carries out a script as `tcrx run` does, which ends at its first bad line.
+    /// Creates a session that carries out a script as `tcrx run` does. The script ends at its first bad line.
     pub fn script(scid: u16) -> Result<Self, SessionError> {
-        // SAFETY: as for `live`.
+        // SAFETY: this call is safe for the reason given in `live`.
         Self::new(|held| unsafe { calls::tcrx_lines_script_at(held, scid) })
     }
 
     /// Creates a session that answers lines as `tcmake` does. With `fecf` each frame that it makes ends with a frame error
     /// control field.
     pub fn make(fecf: bool) -> Result<Self, SessionError> {
-        // SAFETY: as for `live`.
+        // SAFETY: this call is safe for the reason given in `live`.
         Self::new(|held| unsafe { calls::tcrx_lines_make_at(held, fecf.into()) })
     }
 
-    /// Carries out a line, which has no line feed at its end, and returns the text of its answer. If there is too little
-    /// memory for what a line sets up, the answer of a receiver is `bad no memory`, as that of `tclive`, and a script ends.
+    /// Carries out a line, which has no line feed at its end, and returns the text of its answer. If there is too
+    /// little memory for the channel, queue or MAP that a line sets up, a receiver answers `bad no memory`, as `tclive`
+    /// does, and a script ends.
     pub fn answer(&mut self, line: impl AsRef<[u8]>) -> Result<&str, LineError> {
         let line = line.as_ref();
         // SAFETY: a session is held, by nobody else, and both pointers point to as many octets as the counts say.
@@ -151,33 +152,33 @@ impl Session {
         self.whole(written)
     }
 
-    /// Returns the text that waits after [`LineError::NoRoom`], as the call that didn't return it would have. The text is
-    /// empty if none waits.
+    /// Returns the text that waits after [`LineError::NoRoom`], with the error that the earlier call would have
+    /// returned, if any. The text is empty if none waits.
     pub fn text(&mut self) -> Result<&str, LineError> {
         let written = self.waiting();
         self.whole(written)
     }
 
-    /// Ends the lines, and returns the final report of a receiver's channels. That of a maker is empty.
+    /// Ends the lines, and returns the final report of a receiver's channels. The report of a maker is empty.
     pub fn end(&mut self) -> Result<&str, LineError> {
         // SAFETY: a session is held, by nobody else, and the pointer points to as many octets as the count says.
         let written = unsafe { calls::tcrx_lines_end_at(&mut self.held, self.text.as_mut_ptr(), self.text.len()) };
         self.whole(written)
     }
 
-    /// Returns whether frames were brought to a receiver that checks no frame error control fields, and each of them ended
-    /// with the right one. The programs then print a hint at their end.
+    /// Returns whether frames were brought to a receiver that checks no frame error control fields, and each of these
+    /// frames ended with a right one. The programs then print a hint at their end.
     pub fn saw_check_sums(&mut self) -> bool {
         // SAFETY: a session is held, by nobody else.
         unsafe { calls::tcrx_lines_saw_check_sums_at(&mut self.held) }.flag == 1
     }
 
     fn waiting(&mut self) -> sys::Written {
-        // SAFETY: as for `end`.
+        // SAFETY: this call is safe for the reasons given in `end`.
         unsafe { calls::tcrx_lines_text_at(&mut self.held, self.text.as_mut_ptr(), self.text.len()) }
     }
 
-    /// Returns the whole text of a call, for which the buffer grows if it is too short.
+    /// Returns the whole text of a call. The buffer grows if it is too short.
     fn whole(&mut self, written: sys::Written) -> Result<&str, LineError> {
         let mut written = written;
         while written.status == sys::NO_ROOM {

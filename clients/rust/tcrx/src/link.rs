@@ -19,7 +19,7 @@ pub struct Header {
     pub control: bool,
 }
 
-/// Returns what was written to the front of `room`.
+/// Returns the octets that were written to the front of `room`, or the error.
 fn written(answer: sys::Written, room: &[u8]) -> Result<&[u8], WriteError> {
     match answer.status {
         sys::DONE => Ok(&room[..answer.length]),
@@ -89,8 +89,8 @@ impl Command {
     }
 }
 
-/// Writes a frame, which must stand alone, with its frame error control field to the front of `room`. The written frame
-/// has two octets more.
+/// Adds a frame error control field to a frame, which nothing may follow, and writes the frame to the front of `room`.
+/// The written frame is two octets longer.
 pub fn add_fecf<'room>(frame: &[u8], room: &'room mut [u8]) -> Result<&'room [u8], FecfError> {
     // SAFETY: both pointers point to as many octets as the counts say, and only one of them is written to.
     let answer = unsafe { sys::tcrx_add_fecf_at(frame.as_ptr(), frame.len(), room.as_mut_ptr(), room.len()) };
@@ -100,8 +100,8 @@ pub fn add_fecf<'room>(frame: &[u8], room: &'room mut [u8]) -> Result<&'room [u8
     }
 }
 
-/// Checks the frame error control field of a frame, which must stand alone, and writes the frame without it to the
-/// front of `room`.
+/// Checks the frame error control field with which a frame ends, and writes the frame without the field to the front of
+/// `room`. Nothing may follow the frame.
 pub fn check_fecf<'room>(frame: &[u8], room: &'room mut [u8]) -> Result<&'room [u8], FecfError> {
     // SAFETY: both pointers point to as many octets as the counts say, and only one of them is written to.
     let answer = unsafe { sys::tcrx_check_fecf_at(frame.as_ptr(), frame.len(), room.as_mut_ptr(), room.len()) };
@@ -129,7 +129,7 @@ pub struct Fed<'decoder, 'octets> {
     pub corrected: u64,
     /// The number of code blocks that were rejected in these octets, without tail sequences.
     pub rejected: u64,
-    /// The number of CLTUs that carried more than 1,029 octets. Each of them ends no candidate frame.
+    /// The number of CLTUs that carried more than 1,029 octets. They end no candidate frame.
     pub overlong: u64,
 }
 
@@ -147,8 +147,8 @@ impl Decoder {
         Decoder { kept, carried: [0; sys::DECODER_ROOM] }
     }
 
-    /// Takes the next octets of the stream: all of them, or those up to the first octet that ends a candidate frame,
-    /// that octet included.
+    /// Takes the next octets of the stream. These are all octets, or those up to and including the first one that ends
+    /// a candidate frame.
     pub fn feed<'decoder, 'octets>(&'decoder mut self, octets: &'octets [u8]) -> Fed<'decoder, 'octets> {
         // SAFETY: both pointers point to as many octets as the counts say, and only one of them is written to.
         let answer = unsafe {
@@ -171,16 +171,15 @@ impl Decoder {
     }
 }
 
-/// Writes a frame, or what a CLTU carried, with the random sequence added to the front of `room`. A sequence that is
-/// added twice changes nothing.
+/// Adds the random sequence to a frame, or to the octets that a CLTU carried, and writes the result to the front of
+/// `room`. Adding the sequence twice changes nothing.
 pub fn randomise<'room>(frame: &[u8], room: &'room mut [u8]) -> Result<&'room [u8], WriteError> {
     // SAFETY: both pointers point to as many octets as the counts say, and only one of them is written to.
     let answer = unsafe { sys::tcrx_randomise_at(frame.as_ptr(), frame.len(), room.as_mut_ptr(), room.len()) };
     written(answer, room)
 }
 
-/// The fields of a telemetry frame's primary header that give its spacecraft, its virtual channel, and its place among
-/// their frames.
+/// The ids and the frame counts in the primary header of a telemetry frame.
 #[derive(Clone, Copy, Debug, Default, PartialEq, Eq, Hash)]
 pub struct TmHeader {
     /// The spacecraft id, 0 to 1,023.
@@ -343,7 +342,7 @@ pub struct Packet<'octets> {
     pub secondary: bool,
     /// The sequence flags, at most 3.
     pub sequence: u8,
-    /// All octets of the packet, of which the first six are the primary header.
+    /// All octets of the packet. The first six are the primary header.
     pub octets: &'octets [u8],
 }
 
@@ -378,7 +377,7 @@ impl<'octets> Packet<'octets> {
     }
 }
 
-/// A CLCW of COP-1. Its `Debug` prints its fields, and its `Display` the words that `tcmake` prints for them.
+/// A CLCW of COP-1. Its `Debug` prints its fields. Its `Display` prints the words that `tcmake` prints for them.
 #[derive(Clone, Copy, PartialEq, Eq, Hash)]
 pub struct Clcw(u32);
 

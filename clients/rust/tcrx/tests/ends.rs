@@ -1,5 +1,5 @@
-//! Tests channels that are moved, dropped and sent to other threads, calls that fail, and each field of what is read and reported,
-//! by values that were worked out by hand.
+//! Tests channels that are moved, dropped and sent to other threads, calls that fail, and each field that is read or
+//! reported. The expected values were worked out by hand.
 
 use std::error::Error;
 use std::thread;
@@ -254,7 +254,8 @@ fn clcws_field_by_field() {
     }
 }
 
-/// Makes what c/checks/fields.h has: segments of a unit, commands, and a frame with its field. Then makes one failing call of each.
+/// Makes the rows of c/checks/fields.h: segments of a unit, commands, and a frame with its field. Then makes one
+/// failing call for each.
 #[test]
 fn what_is_made() -> Result<(), Box<dyn Error>> {
     let (unit, mut room) = ([1, 2, 3, 4, 5, 6, 7], [0; 16]);

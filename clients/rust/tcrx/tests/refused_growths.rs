@@ -19,7 +19,8 @@ fn frame(bypass: bool, field: &[u8]) -> Vec<u8> {
     Header { scid: 42, vcid: 1, ns: 0, bypass, control: false }.write(field, &mut room).expect("a frame").to_vec()
 }
 
-/// Returns a channel once no block of it is refused, and how many blocks were refused.
+/// Refuses each block of a new channel in turn. Returns the channel that is created when no block is refused, and the
+/// number of refused blocks.
 fn made(make: impl Fn() -> Result<Channel, SettingsError>) -> (Channel, u32) {
     let before = blocks();
     let mut refused = 0;

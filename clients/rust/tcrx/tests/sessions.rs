@@ -1,5 +1,5 @@
-//! Brings the stored cases through sessions, line by line: scripts as `tcrx run`, and the input of `tclive` and of `tcmake`. Tests each
-//! error, and refuses each block in turn, of the library and of the buffer for texts.
+//! Brings the stored cases through sessions, line by line: scripts as `tcrx run`, and the input of `tclive` and of
+//! `tcmake`. Tests each error. Refuses each block in turn, both those of the library and those of the buffer for texts.
 
 mod refusing;
 
@@ -29,7 +29,7 @@ unsafe impl GlobalAlloc for Allocator {
     }
 
     unsafe fn dealloc(&self, at: *mut u8, layout: Layout) {
-        // SAFETY: as above.
+        // SAFETY: the caller promises what the system's allocator requires.
         unsafe { System.dealloc(at, layout) }
     }
 }
@@ -50,7 +50,7 @@ fn lines_of(script: &[u8]) -> Vec<&[u8]> {
     lines
 }
 
-/// The outcome of lines: the texts of their answers and of the final report, and the reason why a script ended.
+/// The texts of the answers to lines and of the final report, and the reason why a script ended.
 type Come = (String, String);
 
 fn text_of(answer: Result<&str, LineError>, come: &mut Come) -> bool {
@@ -72,7 +72,7 @@ fn come_of(mut session: Session, lines: &[&[u8]]) -> Come {
     come
 }
 
-/// A stored case: its name, its spacecraft, and its fault.
+/// Returns the stored cases, each with its name, its spacecraft and its fault.
 fn cases() -> Vec<(String, u16, String)> {
     let index = String::from_utf8(stored("conformance/data/index")).expect("text");
     let case = |line: &str| {
@@ -173,7 +173,8 @@ fn a_session_can_be_moved_to_another_thread() {
     assert_eq!(moved.join().expect("a thread"), Ok("clcw 1 01040000\n".to_string()));
 }
 
-/// Does a call again with one block more that is given, until none is refused. Returns what it came to, and how many were refused.
+/// Makes a call again and again, each time with one more block that is allocated, until no block is refused. Returns
+/// its result, and the number of refused blocks.
 fn until_done<T>(mut call: impl FnMut() -> Option<T>) -> (T, u32) {
     for refused in 0.. {
         refuse(Some(refused));
@@ -187,10 +188,11 @@ fn until_done<T>(mut call: impl FnMut() -> Option<T>) -> (T, u32) {
     unreachable!()
 }
 
-/// Answers a line, if no block is refused that it needs.
+/// Returns the answer to a line, or `None` if a block that it needs is refused.
 fn answered(session: &mut Session, line: &[u8]) -> Option<String> {
     match session.answer(line) {
-        // So a receiver answers if there is no memory for what the line sets up, which isn't set up then.
+        // This is a receiver's answer if there is no memory for the channel, queue or MAP that the line sets up. The
+        // line then sets up nothing.
         Ok("bad no memory\n") | Err(LineError::NoMemory) => None,
         Ok(text) => Some(text.to_string()),
         Err(error) => panic!("{error}"),
@@ -223,7 +225,8 @@ fn each_block_is_refused_in_turn() {
     println!("{refused} blocks refused");
 }
 
-/// Does a call until it ends otherwise than with nothing done, with a block refused each time.
+/// Makes a call again and again, with a block refused each time, until its result isn't `NoMemory`. Returns that
+/// result.
 fn until_bad(mut call: impl FnMut() -> Result<String, LineError>) -> Result<String, LineError> {
     until_done(|| match call() {
         Err(LineError::NoMemory) => None,

@@ -5,7 +5,7 @@ use std::cell::Cell;
 use std::ptr::null_mut;
 
 thread_local! {
-    /// The number of blocks that are given before one is refused, or `None` if none is refused.
+    /// The number of blocks that are allocated before one is refused, or `None` if none is refused.
     static GIVEN_FIRST: Cell<Option<u32>> = const { Cell::new(None) };
     static BLOCKS: Cell<i64> = const { Cell::new(0) };
 }
@@ -17,7 +17,7 @@ struct Block {
     at: *mut u8,
 }
 
-/// The octets in front of each block, which hold its whole size, so that it can be freed.
+/// The number of octets in front of each block. They hold the size of the whole, so that it can be freed.
 const FRONT: usize = 16;
 
 fn layout(octets: usize) -> Layout {
@@ -33,7 +33,7 @@ fn is_refused() -> bool {
     left == Some(0)
 }
 
-/// Returns the block behind its front, in which its size is written.
+/// Writes the size of the whole into the front of a block, and returns the block behind the front.
 unsafe fn answer(at: *mut u8, octets: usize) -> Block {
     if at.is_null() {
         return Block { given: false, at: FRONT as *mut u8 };
@@ -57,7 +57,7 @@ extern "C" fn rattle_alloc(count: usize, _alignment: usize) -> Block {
 #[no_mangle]
 unsafe extern "C" fn rattle_realloc(at: *mut u8, _count_before: usize, count: usize, _alignment: usize) -> Block {
     if is_refused() {
-        // SAFETY: no block is answered.
+        // SAFETY: no block is returned.
         return unsafe { answer(null_mut(), count) };
     }
     // SAFETY: the block comes from these functions, which wrote its size into its front.
@@ -77,8 +77,8 @@ unsafe extern "C" fn rattle_dealloc(at: *mut u8) {
     }
 }
 
-/// Refuses the block after so many that are given, or none. Returns what was left of the number before, which is `None` if that
-/// block was met.
+/// Refuses the block after `given_first` others, or none. Returns the rest of the previous number, which is `None` if
+/// the block with that number was refused.
 pub(crate) fn refuse(given_first: Option<u32>) -> Option<u32> {
     GIVEN_FIRST.replace(given_first)
 }
