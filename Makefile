@@ -1,4 +1,4 @@
-# What people type first. `make`, `make test` and `make demo` need a C compiler alone and never start a proof.
+# The commands to begin with. `make`, `make test` and `make demo` need only a C compiler, and never start a proof.
 #   make         builds the C library and its programs in dist/
 #   make demo    runs a short script through the proved library's code
 #   make test    runs the stored test cases and every step of FARM-1 (1 to 4 minutes)

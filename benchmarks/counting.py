@@ -26,7 +26,7 @@ def stop(why: str) -> NoReturn:
 
 
 def output(words: Sequence[object], given: str = "", folder: Path = TOP, **names: str) -> str:
-    """Returns what a command prints for an input, and stops if it fails."""
+    """Returns the output of a command for an input, and stops if the command fails."""
     ran = subprocess.run([str(word) for word in words], cwd=folder, input=given, env={**os.environ, "GLIBC_TUNABLES": MOVES, **names},
                          capture_output=True, text=True, check=False)
     if ran.returncode != 0:

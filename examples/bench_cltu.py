@@ -33,7 +33,7 @@ class Edges(bench_udp.Remote):
     """A receiver that the sender reaches over CLTUs and telemetry frames. A tcmake makes the CLTUs and reads the telemetry
     frames."""
 
-    # pylint: disable-next=too-many-arguments  # the bench, and what was chosen
+    # pylint: disable-next=too-many-arguments  # the bench, and the options
     def __init__(self, ports: Dict[str, int], clcws: socket.socket, seed: int, randomised: bool, tcmake: Path) -> None:
         super().__init__(ports, clcws)
         self.dice, self.randomised, self.heard = random.Random(seed), randomised, 0
@@ -75,11 +75,11 @@ def through(dice: random.Random, past: List[bytes], turning: bool) -> Iterator[b
     yield past[-1]
 
 
-# pylint: disable-next=too-many-arguments  # what may be chosen
+# pylint: disable-next=too-many-arguments  # the options
 def run(seed: int, udp: bool = False, mode: str = "correct", randomised: bool = False, tclive: Optional[Path] = None,
         tcmake: Path = TOP / "tcmake") -> str:
-    """Sends packets until each has arrived. Returns how many frames that took, and what the bench prints about
-    the sender."""
+    """Sends packets until each has arrived. Returns a line that says how many frames that took, and the line that the
+    bench prints about the sender."""
     said: List[str] = []
     words = ["--tc-udp" if udp else "--tc-tcp", "0", "--cltu", mode, *["--randomised"] * randomised, "--tcmake", str(tcmake), "--tm-udp", "PLACE",
              "--tm-rate", RATE, "--tm-length", "64", "--tm-fecf", "--sender", "1", "10"]

@@ -39,8 +39,8 @@ class Remote:
         self.frames.send(octets)
 
     def clcw(self, vcid: int) -> Clcw:
-        """Returns the newest CLCW once all frames that were sent are answered, which is when no other one comes for a
-        moment."""
+        """Returns the newest CLCW once all frames that were sent are answered. That is so when no other CLCW comes for
+        a moment."""
         octets = self.clcws.recv(4)
         while select.select([self.clcws], [], [], QUIET)[0]:
             octets = self.clcws.recv(4)
@@ -69,7 +69,7 @@ class Remote:
 @contextmanager
 def start(fecf: bool, tclive: Optional[Path], words: Sequence[str] = PORTS,
           made: Callable[[Dict[str, int], socket.socket], Remote] = Remote, said: Optional[List[str]] = None) -> Iterator[Remote]:
-    """Starts a bench on free ports. Adds what the bench prints at its end to `said`."""
+    """Starts a bench on free ports. Adds the text that the bench prints at its end to `said`."""
     clcws = socket.socket(socket.AF_INET, socket.SOCK_DGRAM)
     clcws.bind(("127.0.0.1", 0))
     clcws.settimeout(60)

@@ -9,10 +9,10 @@ SPACECRAFT = 42
 APPLICATIONS = {1: 5, 2: 7}
 
 
-# pylint: disable-next=too-many-arguments  # they are what a frame has
+# pylint: disable-next=too-many-arguments  # they are parts of a frame
 def send(rack: Rack, vcid: int, application: int, octet: int, *, ns: int = 0, bypass: bool = False, turned: int = 0) -> None:
-    """Acts as a ground test: sends an octet in a packet, in a frame, with its frame error control field. A bit
-    of it may be turned on the way."""
+    """Sends, as a ground test does, an octet in a packet, in a frame with its frame error control field. A bit of the
+    frame may be turned on the way."""
     packet = write_packet(application, 0, bytes([octet]))
     frames = write_segments(packet, scid=SPACECRAFT, vcid=vcid, ns=ns, map=0, bypass=bypass)
     sent = bytearray(add_fecf(frames[0]))

@@ -1,8 +1,8 @@
-"""Reads what dist/tcrx.h or dist/tcrx_lines.h declares, for the tools that derive something from it: its parts with their constants, records
-and calls, and what the comments say about them.
+"""Reads the declarations of dist/tcrx.h or dist/tcrx_lines.h, for the tools that derive something from a header: its parts with their
+constants, records and calls, and the comments on them.
 
 The comments are read as doxygen reads them. These commands are known: @file, @brief, @par, @defgroup with @{ and @}, @param, @return and
-@copydoc. What is between @cond and @endcond is left out. A comment after a field or a constant is about that field or constant.
+@copydoc. Text between @cond and @endcond is left out. A comment after a field or a constant is about that field or constant.
 """
 from __future__ import annotations
 

@@ -29,7 +29,7 @@ GIVEN = "const uint8_t *octets, size_t count, uint8_t has_room, uint8_t buffer[2
 
 
 def compiled(compiler: list[str], lines: str, folder: Path, *flags: str) -> str:
-    """Returns what the compiler says about these lines, with the header of a folder. It is empty if they compile."""
+    """Returns the compiler's messages about these lines, with the header of a folder. There are none if the lines compile."""
     command = [*compiler, *flags, "-fsyntax-only", f"-I{folder}", "-"]
     done = subprocess.run(command, input=lines, capture_output=True, text=True, check=False)
     return "" if done.returncode == 0 else done.stderr or "no reason is given"
@@ -92,7 +92,7 @@ def same_version() -> list[tuple[str, str]]:
 
 
 def comments() -> list[tuple[str, str]]:
-    """Returns what doxygen says about the comments."""
+    """Returns doxygen's messages about the comments."""
     with tempfile.TemporaryDirectory() as folder:
         settings = (TOP / "c" / "Doxyfile").read_text() + f"OUTPUT_DIRECTORY = {folder}\n"
         done = subprocess.run(["doxygen", "-"], cwd=TOP, input=settings, capture_output=True, text=True, check=False)
