@@ -854,8 +854,8 @@ static inline tcrx_tm tcrx_read_tm(uint8_t fecf, const uint8_t *octets, size_t c
 /**
  * Computes how many bytes tcrx_channel_new() requests for these settings.
  *
- * The count doesn't include what the memory functions add to each block, the block of the channel itself, and the
- * copies of the two lists, which have 4 bytes for each entry. #TCRX_STORAGE_OF includes all of these.
+ * The count doesn't include the bytes that the memory functions add to each block, the block of the channel itself,
+ * and the copies of the two lists, which have 4 bytes for each entry. #TCRX_STORAGE_OF includes all of these.
  *
  * @param settings    the settings
  * @param queues      the packet queues, or null if there are none

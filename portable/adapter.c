@@ -77,8 +77,8 @@ uint8_t *EXPORT(module_frames)(void) {
     return frames;
 }
 
-/* Reserves room in the module for this many octets or entries, which module_room_back() frees. Returns null if there is
- * none. */
+/* Reserves room in the module for `count` octets or entries, or returns null if there is none. module_room_back() frees
+ * the room. */
 void *EXPORT(module_room)(u32 count) {
     return heap_take(count);
 }

@@ -49,7 +49,7 @@ static int has_room(uint64_t count) {
     return pages == 0 || (uint32_t)__builtin_wasm_memory_grow(0, pages) != UINT32_MAX;
 }
 
-/* Cuts this many octets from the rest of the memory. Returns NULL if the machine has no more. */
+/* Cuts `count` octets from the rest of the memory. Returns NULL if the machine has no more. */
 void *heap_cut(uint64_t count, uint64_t alignment) {
     const uintptr_t from = cut == 0 ? (uintptr_t)&__heap_base : cut;
     const uintptr_t place = (from + (uintptr_t)alignment - 1) & ~((uintptr_t)alignment - 1);
@@ -63,7 +63,7 @@ void *heap_cut(uint64_t count, uint64_t alignment) {
     return (void *)place;
 }
 
-/* Grows the memory at once for this many octets that are going to be requested. Returns whether it then has room for
+/* Grows the memory at once for `count` octets that are going to be requested. Returns whether it then has room for
  * them. */
 int heap_reserve(uint64_t count) {
     if (cut == 0) {

@@ -107,7 +107,7 @@ static tcrx_rack_reply brought(tcrx_channel *channels, size_t count, uint16_t cr
     return reply;
 }
 
-/* Takes an item into a block of this many octets, and copies the written octets to the caller. */
+/* Takes an item into a block of `room` octets, and copies the written octets to the caller. */
 static tcrx_written taken_into(tcrx_channel *channel, bool is_unit, unsigned key, uint8_t *to, size_t room) {
     uint8_t *own = block(room);
     const tcrx_written found = is_unit ? tcrx_channel_take_unit(channel, (uint8_t)key, own, room) : tcrx_channel_take(channel, (uint16_t)key, own, room);

@@ -1,6 +1,6 @@
-// Checks the edge cases of tcrx.hpp, for checks/bindings: channels that are moved, dropped, freed and used after that,
-// each request for memory refused in turn, two channels in two threads, views of nothing, each field that is read or
-// reported, by the rows of fields.h, and settings that are rejected. The program is linked with
+// Checks the edge cases of tcrx.hpp, for checks/bindings. Channels are moved, dropped, freed and used after that, each
+// request for memory is refused in turn, and two channels work in two threads. Views of nothing and bad settings are
+// passed. Each field that is read or reported is compared with the rows of fields.h. The program is linked with
 // c/checks/refusing_memory.c. The last line of the output is the number of checks that passed.
 #include "../../dist/tcrx.hpp"
 #include "fields.h"

@@ -78,7 +78,7 @@ static void bring(bool bypass, unsigned flags, size_t map, const uint8_t *part, 
 
 static void release(void) { count(tcrx_channel_release(&channel).status); }
 
-/* Sends this many octets of the unit on a service and MAP. If `whole` is set, the last segment is among them. Otherwise
+/* Sends `length` octets of the unit on a service and MAP. If `whole` is set, the last segment is among them. Otherwise
  * the run stays open. */
 static void send(bool bypass, size_t map, size_t length, bool whole) {
     const size_t part = with.settings.segmented == 1 ? 1018 : 1019;

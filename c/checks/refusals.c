@@ -6,7 +6,7 @@
  * The guards of tcrx.h are in nulls.c, and takes into short buffers are in channels.c.
  *
  * If this is compiled with LIMITED, channels without limits have units of 16 octets, for slow machines. If it is
- * compiled with STATIC, it uses an array of that many bytes.
+ * compiled with STATIC, it uses an array of STATIC bytes.
  */
 #include "../../dist/tcrx.h"
 #include "expecting.h"

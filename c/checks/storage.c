@@ -141,7 +141,8 @@ static void check(const plan *p, uint64_t place) {
     expect(blocks == 0 || !is_exact, "blocks that are left", place);
 }
 
-/* Returns a plan with this many queues and MAPs, each with room for this many items, without limits. */
+/* Returns a plan without limits, with `queues` queues for `capacity` packets each, and `maps` chosen MAPs with `units`
+ * units each. */
 static plan *plan_of(tcrx_settings settings, size_t queues, size_t capacity, size_t maps, size_t units) {
     static plan p;
     p.settings = settings;

@@ -16,7 +16,7 @@ enum { FRAME = 1024, BLOCKS = 147, CLTU = 8 * BLOCKS + 10, CLTUS = 32, PIECE = 4
 
 static uint8_t stream[CLTUS * CLTU], carried[TCRX_DECODER_ROOM];
 
-/* Fills the stream with CLTUs that carry octets from a generator, and flips a bit in this many code blocks of each.
+/* Fills the stream with CLTUs that carry octets from a generator, and flips a bit in `wrong` code blocks of each CLTU.
  * Returns whether the CLTUs were written. */
 static int fill_stream(unsigned long wrong) {
     uint8_t frame[FRAME];

@@ -1,8 +1,8 @@
 /*
  * Makes one call on a channel that the library holds, once, in the state in which the call costs most. The channel has
- * QUEUES packet queues, the last of which is used, 63 chosen MAPs, and units of the largest size. Prints what the call
- * returns. The program `tc_bench worst` does the same with a channel of fixed storage, and benchmarks/calls counts what
- * both cost.
+ * QUEUES packet queues, the last of which is used, 63 chosen MAPs, and units of the largest size. Prints the value
+ * that the call returns. The program `tc_bench worst` does the same with a channel of fixed storage, and
+ * benchmarks/calls counts the instructions of both.
  *
  *   worst CALL QUEUES
  */
@@ -27,7 +27,7 @@ static uint8_t octet_at(int is_one, size_t place) {
     return header[is_one ? (place < 6 ? place : 6) : place % 7];
 }
 
-/* Makes a frame with this segment header and this many octets of a unit, from a place on. Returns its length. */
+/* Makes a frame with this segment header and `count` octets of a unit, from the place `from` on. Returns its length. */
 static size_t make(uint8_t flags, uint8_t header, int is_one, size_t from, size_t count) {
     const uint8_t number = flags == AD ? next_number : 0, high = (uint8_t)(4 | (count + 5) >> 8), low = (uint8_t)((count + 5) & 0xff);
     const uint8_t front[6] = {flags, 42, high, low, number, header};

@@ -1,6 +1,6 @@
 /*
  * Shows how an application of cFS (core Flight System) calls a rack. Frames arrive in the radio's messages, packets go
- * out on the software bus as they are, and a CLCW follows each message. All memory is that of tcrx_static.c, which is
+ * out on the software bus unchanged, and a CLCW follows each message. All memory is that of tcrx_static.c, which is
  * sealed once the channels are created.
  *
  * It was tried only with the stand-ins in c/checks/stand_ins, and not with cFS.

@@ -6,8 +6,8 @@
  *   script run --scid N         runs the script on standard input, as tcrx does
  *   script --scid N [--fecf]    answers each line of standard input as it comes, as tclive does
  *
- * The library decides what a frame leads to, and its calls are proved. This file isn't proved. It takes lines apart,
- * keeps what they set up, and prints. A check compares its output with that of the proved programs.
+ * The library decides the outcome of a frame, and its calls are proved. This file isn't proved. It takes lines apart,
+ * keeps the settings of channels, and prints. A check compares its output with that of the proved programs.
  */
 #include <tcrx.h>
 

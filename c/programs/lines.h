@@ -113,7 +113,7 @@ static inline unsigned option_of(const char *word) {
     return strcmp(word, "--fecf") == 0 ? FECF : strcmp(word, "--strict") == 0 ? STRICT : is_option(word, "-V", "--version") ? VERSION : 0;
 }
 
-/* Reads the words from `at` on. Prints help, the version, or what is wrong, and returns the exit status or GO_ON. */
+/* Reads the words from `at` on. Prints help, the version, or the fault of a word. Returns the exit status or GO_ON. */
 static inline int read_words(const command_line *of, int count, char **word, int at, given_words *given) {
     for (int place = 0; place < count; place++) {
         if (!is_utf8(word[place])) {

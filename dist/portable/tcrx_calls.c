@@ -466,7 +466,7 @@ typedef struct {
     uint32_t at_queues, at_maps, at_limits;
 } plan;
 
-/* Returns room for the entries of a list, each of this many octets, or 0 if there is none. */
+/* Returns room for `count` entries of `octets` octets each, or 0 if there is none. */
 static uint32_t list_room(tcrx_instance *at, size_t count, uint32_t octets) {
     return count > UINT32_MAX / octets ? 0 : (uint32_t)Z_tcrxZ_module_room(&at->module, octets * (uint32_t)count);
 }

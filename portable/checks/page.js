@@ -1,7 +1,7 @@
 // Checks the answers of the page of tools/page without a browser, by its own script and module, which are taken out of
 // the file.
 //
-//    node page.js PAGE cases INDEX      does each conformance case of the file INDEX, and prints how many are as stored
+//    node page.js PAGE cases INDEX      runs each conformance case of the file INDEX, and prints how many are as stored
 //    node page.js PAGE examples FOLDER  compares each example of the page with FOLDER/NAME.tcs and FOLDER/NAME.out
 //    node page.js PAGE make             answers lines of tcmake from standard input
 "use strict";

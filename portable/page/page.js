@@ -180,7 +180,7 @@ function draw() {
   markNext();
 }
 
-/* Runs the script anew, up to this many steps. */
+/* Runs the script anew, for at most `steps` steps. */
 function runTo(steps) {
   const scid = Math.min(1023, Math.max(0, Number(by("scid").value) || 0));
   run = new Run(compiled, scid, by("script").value);

@@ -1,10 +1,10 @@
 //! Runs the scripts of the current folder, and reports each script whose answers aren't the expected ones.
 //!
-//! The file `index` has a line for each case, in the order of their names: the name, the spacecraft id, and the text of
-//! the fault with which the script ends, if it does. `NAME.script` is the script. `NAME.out` has its answers line by
-//! line, and then the final report. A station and channels of each form must give these answers and this report. A run
-//! with a worker for each channel must give this report. Scripts at the limit of their size are built by the program.
-//! The file `clcws` has words that another program built, each with its fields. Each word is a case, too.
+//! The file `index` has a line for each case, in the order of their names. The line has the name, the spacecraft id,
+//! and the text of the fault if the script ends with one. `NAME.script` is the script. `NAME.out` has its answers line
+//! by line, and then the final report. A station and channels of each form must give these answers and this report. A
+//! run with a worker for each channel must give this report. Scripts at the limit of their size are built by the
+//! program. The file `clcws` has words that another program built, each with its fields. Each word is a case, too.
 #![tactic(auto)]
 
 ghost use Rattle.std.specs.Prelude.{◌≤◌};

@@ -64,7 +64,7 @@ enum Call {
     Unlock,
     // A release, with the numbers of items of its unit that are queued and dropped, and the end of its printed line.
     Release(Items, &'static str),
-    // Takes of this number of items, with the beginning of the printed line.
+    // Takes of a number of items, with the beginning of the printed line.
     Take(Oldest, u16, &'static str),
     Clcw,
 }

@@ -29,11 +29,11 @@ pub(crate) enum Load {
 pub(crate) enum Action<'a> {
     /// A run of the load that prints its scores.
     Scores,
-    /// A run of this number of rounds of a load on a channel of this form, which prints their score.
+    /// A run of a number of rounds of a load on a channel of this form, which prints their score.
     Rounds(Kind, Load, u32),
     /// The filling of a channel, or calls of each kind on it. The word selects one of the two, and the channel.
     Fill(&'a str),
-    /// A single call with this name, on a channel with this number of queues.
+    /// A single call, by its name, on a channel with a number of queues.
     Worst(&'a str, u16),
 }
 

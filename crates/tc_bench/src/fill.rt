@@ -18,7 +18,7 @@ enum Piece {
     Plain(Kind),
     // An unsegmented packet of seven octets for the application.
     Packet,
-    // A segment on the MAP with these sequence flags, and this number of octets.
+    // A segment on the MAP, with its sequence flags and its number of octets.
     Segment(Kind, u8, u16),
     // An open run on the MAP, with as many octets as the largest unit.
     Run(Kind),
@@ -28,8 +28,8 @@ enum Piece {
     LargestUnit,
 }
 
-// The piece that is brought for each key in turn, the first key and the number of keys, the number of pieces in all,
-// and the numbers of items that each piece queues and drops.
+// A row: its piece, its first key and its number of keys, the number of its turns, and the numbers of items that each
+// turn queues and drops. Each turn brings the piece for the next key. The first key follows the last one.
 type Row = (Piece, (u16, u16), u16, Items);
 
 // A unit of one segment, segments of Type-BD that begin, continue and end a unit, and a first segment that stays in the

@@ -23,8 +23,8 @@ pub(crate) const BODY: u16 = 1_018;
 /// The number in the length field of a packet that is the largest unit.
 pub(crate) const LARGEST: u16 = 0xffff;
 
-/// A data field. It has its segment header, if there is one, then the number in the length field of each packet of its
-/// unit, and the number of its octets that belong to the unit.
+/// A data field: its segment header or `None`, the number in the length field of each packet of its unit, and the
+/// number of its octets that belong to the unit.
 pub(crate) type Field = (Option<u8>, u16, u16);
 
 /// The numbers of items of a unit that are queued and that are dropped.
@@ -72,7 +72,6 @@ fn reply_of(kind: Kind, items: Items) -> FrameReply {
 
 /// A channel, with the state of its sender. This is the N(S) of the next Type-AD frame, the application of the packets,
 /// and the place in the unit at which the next data field begins.
-/// data field begins.
 #[derive(Drop)]
 pub(crate) struct Filler<F: Form> {
     pub(crate) channel: F,

@@ -4,8 +4,8 @@ use crate::station::APID;
 use std::alloc::{AllocError, Global};
 use tc_channel::{Items, MapSetting, QueueSetting, Settings};
 
-/// The plan of a channel: the number of data fields that its buffer holds, the first APID with a queue, the number of
-/// queues and of packets in each, the number of chosen MAPs and of units of each, and whether its data fields have
+/// The plan of a channel. Its fields are the number of data fields in the buffer, the first APID with a queue, the
+/// number of packet queues and of packets in each, the number of chosen MAPs and of units of each, and a flag for
 /// segment headers. The chosen MAPs are those with the lowest numbers.
 #[derive(Clone, Copy)]
 pub(crate) struct Plan {

@@ -12,7 +12,7 @@ pub(crate) const SCID: u16 = 42;
 /// A frame of the load.
 #[derive(Clone, Copy)]
 pub(crate) enum Sent {
-    /// A Type-AD frame with this N(S), and with a packet whose data is this number as an octet.
+    /// A Type-AD frame with this N(S). The data of its packet is the N(S) as an octet.
     Sequenced(u8),
     /// A Type-BD frame with a packet whose data is this octet.
     Bypassing(u8),

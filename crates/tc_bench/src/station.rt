@@ -1,4 +1,4 @@
-//! The stations that the rounds of a load run on.
+//! The stations for the rounds of a load.
 
 use crate::plan::LOADED;
 use crate::sender::SCID;

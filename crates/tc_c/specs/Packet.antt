@@ -19,7 +19,7 @@ packet_record packet = record {
   sequence = bits (word_at packet 2) 14 2;
 }
 
--- the record of a packet with this header and this number of octets
+-- the record of a packet of `n` octets with this header
 abbrev pub written_packet : ℕ → PacketHeader → PacketRecord
 written_packet n header = record {
   status = code_of Done;

@@ -9,11 +9,11 @@ use Rattle.tc_c_base.specs.declared.buffer.WrittenRecord.{WrittenRecord}
 abbrev pub no_octets : Status → WrittenRecord
 no_octets fault = record { status = code_of fault; length = 0 }
 
--- the record for a buffer that is too short for this number of octets
+-- the record for a buffer that is too short, because `needed` octets are needed
 abbrev pub too_short : ℕ → WrittenRecord
 too_short needed = record { status = code_of NoRoom; length = needed }
 
--- the record of a call that took this number of octets
+-- the record of a call that took or wrote `count` octets
 abbrev pub taken : ℕ → WrittenRecord
 taken count = record { status = code_of Done; length = count }
 

@@ -25,7 +25,7 @@ pub fn not_written(fault: Status) -> WrittenRecord
     }
 }
 
-/// Returns the record of a call that wrote this number of octets.
+/// Returns the record of a call that wrote `length` octets.
 pub fn written(length: usize) -> WrittenRecord
     ensures { result ≡ taken length }
 {
@@ -35,7 +35,7 @@ pub fn written(length: usize) -> WrittenRecord
     }
 }
 
-/// Returns the record of a call whose buffer is too short for this number of octets.
+/// Returns the record of a call whose buffer is too short, because it needs `needed` octets.
 pub fn no_room(needed: usize) -> WrittenRecord
     ensures { result ≡ too_short needed }
 {

@@ -1,5 +1,5 @@
-//! Parts that the libraries for C share: the statuses of calls with their numbers and texts, the record of a call that
-//! writes into the caller's buffer, and the parts of a box, so that C can hold it.
+//! Parts that the libraries for C share. These are the statuses of calls with their numbers and texts, the record of a
+//! call that writes into the caller's buffer, and the parts of a box. C can hold a box by its parts.
 #![tactic(auto)]
 
 mod buffer;

@@ -658,9 +658,9 @@ extern "C" {
     /// isn't 0, `TCRX_NO_CONTROL` if the frame has no operational control field, or `TCRX_WRONG_FECF` if the frame error control
     /// field is wrong.
     pub fn tcrx_read_tm_at(fecf: u8, octets: *const u8, count: usize) -> Tm;
-    /// Computes how many bytes `tcrx_channel_new` requests for these settings. The count doesn't include what the memory functions
-    /// add to each block, the block of the channel itself, and the copies of the two lists, which have 4 bytes for each entry.
-    /// `TCRX_STORAGE_OF` includes all of these.
+    /// Computes how many bytes `tcrx_channel_new` requests for these settings. The count doesn't include the bytes that the memory
+    /// functions add to each block, the block of the channel itself, and the copies of the two lists, which have 4 bytes for each
+    /// entry. `TCRX_STORAGE_OF` includes all of these.
     ///
     /// Returns the number of bytes. The call fails with `TCRX_BAD_FLAG` or the first fault of the settings, as `tcrx_channel_new`
     /// does.

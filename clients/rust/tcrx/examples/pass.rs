@@ -1,5 +1,5 @@
-//! Simulates a pass. A ground station sends commands over a link that loses frames, reads the CLCWs that come down, and sends
-//! again from the number that the spacecraft expects, until each command has arrived.
+//! Simulates a pass. A ground station sends commands over a link that loses frames, and reads the CLCWs that come down.
+//! It sends again from the number that the spacecraft expects, until each command has arrived.
 
 use tcrx::{Channel, Clcw, Frame, Header, Limit, Limits, Link, Packet, Queue, Settings};
 

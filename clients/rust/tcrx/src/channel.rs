@@ -113,7 +113,7 @@ pub struct Link {
 
 /// A virtual channel, with its buffer, its reassembly and its queues. It is freed when it is dropped.
 ///
-/// It can be sent to another thread. Two threads that share one need a lock:
+/// A channel can be sent to another thread. Two threads that share one need a lock:
 ///
 /// ```compile_fail,E0277
 /// fn shared(_: impl Sync) {}

@@ -1,6 +1,6 @@
-//! Limits of units by MAP. Expected values were worked out by hand from CCSDS 232.0-B, 4.4: a unit is the octets that
-//! an unsegmented data field carries behind its segment header, or that a first, continuing and last segment carry
-//! together.
+//! Limits of units by MAP. Expected values were worked out by hand from CCSDS 232.0-B, 4.4. A unit is either the octets
+//! behind the segment header of an unsegmented data field, or the octets that a first, continuing and last segment
+//! carry together.
 
 use super::Step::{Field, Frame, Holds, Take, TakeUnit};
 use super::*;

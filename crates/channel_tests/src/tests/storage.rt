@@ -47,8 +47,8 @@ fn octets_without_limits(rt: HostRuntime) {
     }
 }
 
-// With units of 1,024 octets on MAP 0 alone, the buffer takes 8 * (32 + 1,019) bytes, the streams take
-// 128 * 40 + 2 * 1,024, the queues 4 * 64, and the packets 32 * (32 + 1,024).
+// Units of MAP 0 have at most 1,024 octets, and other MAPs have no units. The buffer then takes 8 * (32 + 1,019) bytes,
+// the streams take 128 * 40 + 2 * 1,024, the queues take 4 * 64, and the packets take 32 * (32 + 1,024).
 #[test]
 fn octets_within_limits(rt: HostRuntime) {
     let settings = settings(&rt, rt.alloc(), &USUAL);

@@ -4,7 +4,7 @@ use Rattle.std.proofs.lemmas.List.Elements.{All-set}
 use Rattle.tc_station.specs.Tally.{IsOurs, KnowsDesks, Tally, tally}
 use Rattle.example_station.proofs.receive.Goals as goal
 
--- each call leaves the operator's knowledge of its desks as it is
+-- each call leaves the operator's knowledge of its desks unchanged
 pub meet-requires-clause-knows : goal.meet-requires-clause-knows
 meet-requires-clause-knows g c =
     let operators = c.in_ok-operators.operators.items in

@@ -16,7 +16,7 @@ pub(super) const TURNS: u32 = 10_000;
 // The role of a thread with its seat. Threads that play at the same time share a flag, which isn't set at first.
 #[derive(Clone, Copy)]
 pub(super) enum Role {
-    // A thread that writes the numbers from this one on, in rising order.
+    // A thread that writes the numbers from the given one on, in rising order.
     Write(u32),
     // A thread that sets the flag while it holds the lock, and holds it for long.
     HaveForLong,
@@ -27,7 +27,7 @@ pub(super) enum Role {
     // A thread that writes a hundred numbers, and then sets the flag.
     WriteNowAndThen,
     // A thread that takes the lock whenever the lock is free, and holds it for longer than a sleeping thread takes to
-    // wake. It does so until the flag is set, and at most this many times.
+    // wake. It does so until the flag is set, and no more often than the number says.
     HaveWhereFree(u32),
     // A thread that writes three numbers, each after a while, and then sets the flag.
     WriteAfterAWhile,

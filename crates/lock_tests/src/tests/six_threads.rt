@@ -40,7 +40,7 @@ struct Pair {
 }
 
 impl Pair {
-    // Creates two writers: one writes the numbers from this one on, and the other those that follow.
+    // Creates two writers. One writes the numbers from `number` on, and the other the numbers after those.
     fn new(lock: &BookLock, first: &mut BookSeat, number: u32) -> Pair
         requires writer { IsWriter lock.now first.old }
         requires first { first.old.id ≡ 0 }
