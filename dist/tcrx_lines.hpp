@@ -125,8 +125,8 @@ public:
      * text is empty. */
     Answer text() noexcept { return whole(tcrx_lines_text(&held_, buffer_.get(), room_)); }
 
-    /** Ends the lines, and returns the final report of a receiver's channels: tcrx_lines_end(). A maker has no report.
-     * */
+    /** Ends the lines, and returns the final report of a receiver's channels: tcrx_lines_end(). The report of a maker
+     * is empty. */
     Answer end() noexcept { return whole(tcrx_lines_end(&held_, buffer_.get(), room_)); }
 
     /** Returns whether frames came to a receiver that checks no frame error control fields, and each ended with a right

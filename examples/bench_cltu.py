@@ -70,7 +70,7 @@ class Edges(bench_udp.Remote):
 
 
 def through(dice: random.Random, past: List[bytes], turning: bool) -> Iterator[bytes]:
-    """Yields each frame as it is, because CLTUs have a link of their own."""
+    """Yields each frame unchanged, because CLTUs have a link of their own."""
     del dice, turning
     yield past[-1]
 

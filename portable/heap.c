@@ -1,8 +1,8 @@
 /*
- * The heap of the module. The memory that a channel requests when it is created is cut from the memory behind the
- * module's data, at its exact size, and never reused. Room for octets and lists that come in is cut into slots of a few
- * sizes, which are used again once they are returned. Nothing is ever moved to make room, and each call takes a bounded
- * number of steps.
+ * The heap of the module. The creation of a channel requests memory, which is cut from the memory behind the module's
+ * data, at its exact size. It is never reused. Room for incoming octets and lists is cut into slots of a few sizes.
+ * Slots are used again once they are returned. Nothing is ever moved to make room, and each call takes a bounded number
+ * of steps.
  */
 #include <stddef.h>
 #include <stdint.h>
@@ -81,7 +81,7 @@ static slot *cut_slot(uint64_t size) {
     return made;
 }
 
-/* Takes a free slot of this size. If there is none, cuts one from the rest of the memory, and if that fails, takes a
+/* Takes a free slot of this size. If there is none, cuts a slot from the rest of the memory. If that fails, takes a
  * free slot of a larger size. */
 static slot *take_slot(uint64_t size) {
     slot *taken = size < SIZES && free_slots[size] == NULL ? cut_slot(size) : NULL;

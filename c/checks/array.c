@@ -53,8 +53,8 @@ static bool fill(void) {
     return good;
 }
 
-/* Returns the status of a process that fills the array, and then requests one more block if the array is to be
- * sealed. */
+/* Returns the status of a process that fills the array. If `seals` is set, the process then seals the array, frees a
+ * block, and requests one more. */
 static int status_of(uint64_t seed, bool seals) {
     const pid_t child = fork();
     if (child == 0) {

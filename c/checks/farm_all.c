@@ -1,7 +1,8 @@
 /*
- * Tests FARM-1 and CLCWs exhaustively: each possible step (every width of the window, state with its flags, V(R),
- * arrival, N(S) and room), each CLCW that can be written, and each word of 32 bits that can be read. The wanted answers
- * are those of farm.h, and of the fields in CCSDS 232.0-B, 4.2. It takes about half a minute.
+ * Tests FARM-1 and CLCWs exhaustively. A possible step is each width of the window with each state and its flags, V(R),
+ * arrival, N(S) and room. All of these steps are tested, and so is each CLCW that can be written, and each word of 32
+ * bits that can be read. The wanted answers are those of farm.h, and those of the fields in CCSDS 232.0-B, 4.2. The
+ * program takes about half a minute.
  */
 #include "farm.h"
 

@@ -22,8 +22,8 @@ void __real_free(void *at);
 void *__wrap_malloc(size_t count);
 void __wrap_free(void *at);
 
-/* The number of blocks that are allocated before one is refused, the number of blocks that were refused, and the number
- * of blocks that are in use. */
+/* The number of blocks that are allocated before one is refused, the number of refused blocks, and the number of blocks
+ * in use. */
 static unsigned long given_first, refusals, blocks;
 static bool refusing, met;
 

@@ -379,7 +379,7 @@ static void check_channel(void) {
     expect(tcrx_channel_free(&channel) == TCRX_DONE, "a channel freed", 0);
 }
 
-/* A rack that has places without a channel, two channels with one id, a channel that is freed, and one with another
+/* A rack with places without a channel, two channels with one id, a channel that is freed, and a channel with another
  * id. */
 enum { CRAFT = 675, PLACES = 6, FIRST = 1, SECOND = 2, FREED = 3, OTHER = 5 };
 
@@ -401,8 +401,8 @@ static size_t rack_octets(uint16_t scid, uint8_t vcid, uint8_t ns, uint8_t fecf,
     return fecf == 1 ? tcrx_add_fecf(plain, count, octets, 10).length : count;
 }
 
-/* Expects that a rack rejects a candidate, and that the reply has the length of its frame and says whether more
- * follows. No channel may have a new event. */
+/* Expects that a rack rejects a candidate. The reply must have the length of its frame, and say whether more follows.
+ * No channel may have a new event. */
 static void expect_no_candidate(uint16_t scid, uint8_t fecf, const uint8_t *octets, size_t count, tcrx_status status, size_t length, unsigned more) {
     const uint64_t events = rack_events();
     const tcrx_candidate_reply reply = tcrx_rack_candidate(rack, PLACES, scid, fecf, octets, count);

@@ -1,8 +1,8 @@
 #!/usr/bin/env python3
 """Checks the header and the files in C and C++ by themselves, without the library.
 
-The headers must compile as each version of C and C++ that they are for, with all warnings as errors, and so must the
-lines of code that c/README.md shows. The static assertions of the header must reject each record with two neighbouring
+The headers must compile without a warning as each version of C and C++ that they are for. The lines of code that
+c/README.md shows must compile in this way, too. The static assertions of the header must reject each record with two neighbouring
 fields swapped, and each record with one more field in front. The version must be the same as a number and as a text. If
 doxygen is installed, it must read the header's comments without a warning.
 

@@ -52,8 +52,7 @@ static void receive(receiver *at, const uint8_t *octets, size_t count) {
     }
 }
 
-/* A frame that the sender sends, with its check sum if it has one, and the unit that must come out of the receiver's
- * queues. */
+/* A frame that is sent, with or without a check sum, and the unit that must come out of the receiver's queues. */
 typedef struct {
     uint8_t octets[LONGEST], unit[LONGEST];
     size_t length, unit_length;

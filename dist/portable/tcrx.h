@@ -750,8 +750,8 @@ static inline tcrx_written tcrx_write_cltu(const uint8_t *frame, size_t frame_co
  * behind it. tcrx_rack_candidate() takes it in this form. A CLTU that carries more than 1,029 octets is counted, and
  * ends no candidate frame.
  *
- * Pass the record that this call returns to the next call, with the octets behind those that were taken, and with the
- * same buffer. The whole buffer belongs to the decoder.
+ * Pass the returned record to the next call, with the octets that weren't taken yet, and with the same buffer. The whole
+ * buffer belongs to the decoder.
  *
  * @param decoder the record of the decoder
  * @param octets  the next octets of the stream

@@ -481,8 +481,8 @@ private:
     std::array<std::uint8_t, TCRX_DECODER_ROOM> carried_{};
 };
 
-/** Adds the random sequence to a frame, or to the octets that a CLTU carried, and writes the result: tcrx_randomise().
- * */
+/** Adds the random sequence to a frame, or to the octets that a CLTU carried, and writes the result to the front of
+ * room: tcrx_randomise(). */
 inline Result<Octets> randomise(Octets frame, Room room) noexcept {
     std::uint8_t nothing = 0;
     return detail::written(tcrx_randomise(detail::pointer(frame), frame.size(), detail::pointer(room, nothing), room.size()), room);

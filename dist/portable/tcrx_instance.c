@@ -1,5 +1,5 @@
-/* Instances of the module, and the functions that its C needs: a memory, and a way to stop a module that can't go on.
- * */
+/* Instances of the module, and the functions that its C needs. These are for its memory, and for stopping it if it
+ * can't go on. */
 #include "tcrx_instance.h"
 
 #include <stdlib.h>

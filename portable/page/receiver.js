@@ -347,7 +347,7 @@ class Run {
     this.fault = `line ${this.at}: no memory`;
     return "refused by a memory that is full";
   }
-  /* Returns the channels as they are now, in rising order. */
+  /* Returns the present state of all channels, in rising order. */
   look() {
     const channels = [...this.channels.values()].filter((it) => it.instance !== null);
     return channels.sort((one, other) => one.settings.vcid - other.settings.vcid).map((it) => it.look());

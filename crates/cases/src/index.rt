@@ -14,7 +14,7 @@ pub struct Case<'a> {
     pub fault: &'a str,
 }
 
-/// Parses a line of the index, which has the name of a case, the spacecraft id, and then the fault, if there is one.
+/// Parses a line of the index. The line has the name of a case, the spacecraft id, and the fault if there is one.
 pub fn parse_case(line: &str) -> Option<Case<'_>>
     ensures { IfSome result (λ case. case.scid ≤ 1023) }
 {

@@ -181,8 +181,8 @@ fn unlocated(fault: LocateFault) -> Option<Answer> {
     refused(Refusal::Unlocated(fault))
 }
 
-// Writes the report on a channel, then the number of packets that wait in each queue, and then the number of units that
-// wait on each chosen MAP.
+// Writes the report on a channel, then the number of waiting packets of each queue, and then the number of waiting
+// units of each chosen MAP.
 fn report_channel<C: Form, W: Write>(channel: &C, writer: &mut W) -> io::Result<()> {
     let settings = channel.made_with();
     let vcid = settings.vcid;

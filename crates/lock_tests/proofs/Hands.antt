@@ -41,7 +41,7 @@ keeps v l old new h here title items = record {
   same = (λ i. record { head = record { number = title i }; entries = items i }) ∙ (ap log_of (sym (same_book l h.kept old h.hands here)) ∙ h.same);
 }
 
--- a seat still holds the lock if the book is replaced by another one, whose log has this number as one more entry
+-- a seat still holds the lock if the book is replaced by one whose log has this number as one more entry
 pub writes : (v : View Title ℕ) (l : List (ℕ × Book)) (old new : Book) (n p : ℕ) → HasLock log_of IsAny (v, l) v.own.seen → l ≡ (0, old) ∷ rest l → new.title ≡ old.title
     → new.numbers.items ≡ old.numbers.items ++ n ∷ [] → p ≡ n → HasLock log_of IsAny (v, (0, new) ∷ rest l) (with_entry v.own.seen p)
 writes v l old new n p h here title items is = record {

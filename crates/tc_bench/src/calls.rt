@@ -84,8 +84,8 @@ static FIRST_CALLS: [Call; 30] = [
     Bypassing(ONE_PACKET, ONE, ", one packet queued"),
     Bypassing(ONE_PACKET, DROPPED, ", one packet dropped"),
     Take(PACKET, 4, "take"),
-    // Segments of a unit that is one packet, in Type-BD frames. The memory of the open run grows the first time. It is
-    // kept, and is there the second time.
+    // Segments of a unit that is one packet, in Type-BD frames. The memory of the open run grows when the calls are
+    // made for the first time. It is kept, so it doesn't grow again the second time.
     Bypassing(BEGUN, NOTHING, ", first segment"),
     Bypassing(FOURTEEN, NOTHING, ", next segment"),
     Bypassing(TWO, NOTHING, ", next segment"),

@@ -29,7 +29,7 @@ pub(crate) enum Load {
 pub(crate) enum Action<'a> {
     /// A run of the load that prints its scores.
     Scores,
-    /// A run of a number of rounds of a load on a channel of this form, which prints their score.
+    /// A run that makes a number of rounds of a load on a channel of a form, and prints their score.
     Rounds(Kind, Load, u32),
     /// The filling of a channel, or calls of each kind on it. The word selects one of the two, and the channel.
     Fill(&'a str),

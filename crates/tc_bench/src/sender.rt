@@ -20,8 +20,8 @@ pub(crate) enum Sent {
     Unlock,
 }
 
-/// Returns the frame that follows the accepted one in its round: the accepted frame again, one that bypasses the
-/// window, one that is ahead, or an Unlock.
+/// Returns the frame that follows the accepted frame in its round. It is the accepted frame again, a frame that
+/// bypasses the window, a frame ahead of V(R), or an Unlock.
 pub(crate) fn second(number: u8) -> Sent {
     match number % 4 {
         0 => Sent::Sequenced(number),

@@ -80,8 +80,8 @@ IsRefusedBy given fault = IsUnfit given fault ⊎ ((fault ≡ NoMemory) × (s : 
 abbrev pub limits_given : ℕ → List MapLimit → Limits
 limits_given others maps = record { others = others; maps = maps }
 
--- the reason why no channel can be created from these records within these limits: a number that is no flag, otherwise
--- the first fault of the settings, otherwise the first fault of the limits
+-- the reason why no channel can be created from these records within these limits. It is a number that is no flag,
+-- otherwise the first fault of the settings, otherwise the first fault of the limits.
 abbrev pub IsUnfitWithin : Result Settings Status → Limits → Status → Type 0
 IsUnfitWithin (Err flag) limits fault = fault ≡ flag
 IsUnfitWithin (Ok s) limits fault = (f : LimitsFault) × IsFaultWithLimits s limits f × (fault ≡ limits_status f)

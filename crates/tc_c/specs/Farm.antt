@@ -79,7 +79,7 @@ farm_of kept =
 abbrev pub first_farm : ℕ → ℕ → Result Machine Status
 first_farm width first = if is_width width then Ok (record { width = width; report = first_report first }) else Err BadWidth
 
--- the arrival with this number: a release, or a frame of some kind, for which `value` is the N(S) or the new V(R)
+-- the arrival with this number (`value` is the N(S) of an AD frame, or the new V(R) of a Set V(R))
 abbrev pub arrival_by : ℕ → ℕ → Bool → Result Arrival Status
 arrival_by number value room =
     if number == 1 then Ok (Frame (Ad value) room)

@@ -624,8 +624,8 @@ extern "C" {
     /// ends a candidate frame. It looks for a start sequence, and then decodes code blocks until one is rejected. The tail sequence
     /// is rejected, too. The octets that the accepted code blocks carried are a candidate frame, with fill behind it.
     /// `tcrx_rack_candidate` takes it in this form. A CLTU that carries more than 1,029 octets is counted, and ends no candidate
-    /// frame. Pass the record that this call returns to the next call, with the octets behind those that were taken, and with the
-    /// same buffer. The whole buffer belongs to the decoder.
+    /// frame. Pass the returned record to the next call, with the octets that weren't taken yet, and with the same buffer. The
+    /// whole buffer belongs to the decoder.
     ///
     /// Returns the outcome for the octets. The call fails with `TCRX_BAD_FLAG` if a flag of the decoder is neither 0 nor 1,
     /// `TCRX_BAD_DECODER` if no decoder has this record, or `TCRX_NO_ROOM` if the buffer has fewer than `TCRX_DECODER_ROOM` octets.

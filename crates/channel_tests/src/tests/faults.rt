@@ -1,4 +1,4 @@
-//! Settings that create a channel, settings that are rejected, calls that a channel in rooms rejects, and the texts of
+//! Settings that create a channel and settings that create none, refused calls on a channel in rooms, and the texts of
 //! the faults.
 
 use super::*;

@@ -147,8 +147,7 @@ impl<C: Form> Run<C> {
         self.note(rt, Event::TakeUnit(map))
     }
 
-    // Checks that the channel lends this packet and this unit, and that it lends nothing from a queue that it doesn't
-    // have.
+    // Checks that the channel lends this packet and this unit. It must lend nothing from a queue that it doesn't have.
     fn check_lent(&self, rt: &impl Abort, packet: Option<&[u8]>, unit: Option<&[u8]>) {
         assert_eq!(rt; self.channel.lent_packet(5), packet);
         assert_eq!(rt; self.channel.lent_whole(3), unit);

@@ -3,8 +3,8 @@
 use tc_cltu::{CltuFault, write_cltu};
 use test_parts::made_again;
 
-// A frame, and the CLTU that carries it: the start sequence eb90, code blocks, the last of which has fill octets 55,
-// and the tail sequence. The parity bits were computed by long division of integers in Python.
+// A frame, and the CLTU that carries it. The CLTU has the start sequence eb90, code blocks with the fill octets 55 in
+// the last one, and the tail sequence. The parity bits were computed by long division of integers in Python.
 const FRAME: &[u8] = b"\x00\x2a\x04\x0c\x00\xc0\x10\x05\xc0\x00\x00\x00\xaa";
 
 const CLTU: &[u8] =

@@ -234,8 +234,8 @@ fn act_both<R: Threads + Wait + Clock + Sync>(
     a && b
 }
 
-// Takes the lock in two threads whenever it is free, at most `times` times each, while a third thread writes after a
-// while. Returns whether the third thread wrote before the others were done.
+// Runs two threads that take the lock whenever it is free, at most `times` times each, and a third thread that writes
+// after a while. Returns whether the third thread wrote before the others were done.
 pub(super) fn against_two<R: Threads + Wait + Clock + Sync>(
     rt: &R,
     lock: &BookLock,

@@ -65,8 +65,8 @@ fn a_read_fails(rt: HostRuntime) {
     }
 }
 
-// Checks that all answers are written, or that the failed write is reported and the text before it is the beginning of
-// the answers. Returns whether all answers were written.
+// Checks that all answers are written, or that the failed write is reported. In that case the text before it must be
+// the beginning of the answers. Returns whether all answers were written.
 fn is_written<T: Abort + Threads + Wait + Sync + AllocGlobal>(
     rt: &T,
     way: Way,
