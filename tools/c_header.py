@@ -86,7 +86,7 @@ def item_of(found: "re.Match[str]", comment: str) -> Item:
 
 
 def groups_of(header: str) -> Tuple[str, List[Group]]:
-    """Returns the text of the file's comment, and the parts of the header. Items that are in no group are in one without a title."""
+    """Returns the text of the file's comment, and the parts of the header. Items without a group are in a part without a title."""
     header = re.sub(r"/\*\* @cond \*/.*?/\*\* @endcond \*/|^TCRX_TO_BE_READ\s", "", header, flags=re.M | re.S)
     front, groups, comment, end = "", [Group("", "")], "", 0
     for found in re.finditer("|".join((COMMENT, DEFINE, STRUCT, ALIAS, ENUM, CALL)), header, re.M | re.S):

@@ -1,4 +1,4 @@
-//! Running a script in each of the ways.
+//! Running a script in each way in which a script can be run.
 
 ghost use Rattle.std.specs.Prelude.{◌≤◌};
 

@@ -14,7 +14,7 @@ pub(crate) enum Kind {
 /// The load that is brought to a bare channel in each round, and the items that are then taken.
 #[derive(Clone, Copy)]
 pub(crate) enum Load {
-    /// A Type-AD frame of 13 octets. It is released, and its packet is taken.
+    /// A Type-AD frame of 13 octets. Its data field is released, and its packet is taken.
     Sequenced,
     /// A Type-BD frame of 13 octets. Its packet is taken.
     Bypassing,

@@ -65,8 +65,8 @@ fn play<F: Form>(alloc: Global, load: Load, count: u32) -> Result<u64> {
     Ok(score.sum)
 }
 
-// Runs rounds in which a frame with a packet is brought, and the packet is taken. A frame that doesn't bypass the
-// window is released before the take.
+// Runs rounds in which a frame with a packet is brought, and the packet is taken. If the frame doesn't bypass the
+// window, its data field is released before the take.
 fn packets<F: Form>(
     channel: &mut F,
     sender: &Sender,

@@ -14,7 +14,7 @@ pub left-so : {A : Type 0} (lent : Option A) (held : A) (left : Option SessionVa
 left-so (Some x) held left new is holds = holds
 left-so None held left new is holds = absurd cc
 
--- if an option's value has a property, it also has each weaker one
+-- if an option's value has a property, it also has each property that follows from it
 pub some-more : {X : Type 0} (o : Option X) (P Q : X → Type 0) → ((x : X) → P x → Q x) → IfSome o P → IfSome o Q
 some-more None P Q more holds = tt
 some-more (Some x) P Q more holds = more x holds

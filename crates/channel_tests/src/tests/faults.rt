@@ -7,8 +7,8 @@ use SettingsFault::{
     PlainMap,
 };
 
-// Rows of a virtual channel id, the width of a window, the capacity of a buffer, the APIDs and capacities of queues,
-// and the fault of settings with these values.
+// Each row has a virtual channel id, the width of a window, the capacity of a buffer, the APIDs and capacities of
+// queues, and the fault of settings with these values.
 static FAULTS: [(u8, u8, u8, &[(u16, u16)], Option<SettingsFault>); 12] = [
     (1, 10, 1, &[(5, 1)], None),
     (64, 10, 1, &[(5, 1)], Some(BadVcid)),
@@ -45,8 +45,8 @@ fn each_fault_of_settings(rt: HostRuntime) {
     }
 }
 
-// Rows of a flag for segment headers, the chosen MAPs with the capacities of their queues, and the fault of settings
-// with these values.
+// Each row has a flag for segment headers, the chosen MAPs with the capacities of their queues, and the fault of
+// settings with these values.
 static FAULTS_OF_MAPS: [(bool, &[(u8, u16)], Option<SettingsFault>); 7] = [
     (true, &[(63, 256), (0, 1)], None),
     (false, &[], None),

@@ -72,7 +72,7 @@ static EACH_CALL: [Step<'static>; 9] = [
     Holds(0, 0, Some(0)),
 ];
 
-// The number of discarded frames before the calls differs, so that the journal grows once in each of the calls.
+// The calls are played after different numbers of discarded frames, so that the journal grows once in each call.
 #[test]
 fn growth_of_each_call_of_a_channel(rt: HostRuntime) {
     for earlier in 0..5 {
@@ -219,7 +219,7 @@ fn growth_of_units_of_a_chosen_map(rt: HostRuntime) {
 
 static TAKE_OF_A_UNIT: [Step<'static>; 2] = [Frame(&BD_UNIT, DELIVERED), TakeUnit(3, &UNIT)];
 
-// The number of discarded frames before the calls differs, so that the journal grows once in a take of a unit.
+// The calls are played after different numbers of discarded frames, so that the journal grows once in a take of a unit.
 #[test]
 fn growth_of_a_take_of_a_unit(rt: HostRuntime) {
     for earlier in 0..4 {

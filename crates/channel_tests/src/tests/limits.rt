@@ -130,8 +130,8 @@ const OVER_ON_3: MapLimit = MapLimit {
 
 const BAD_VCID: LimitsFault = LimitsFault::Settings(SettingsFault::BadVcid);
 
-// Rows of settings, the limit of the MAPs that aren't listed, the limits of listed MAPs, and the first fault of these
-// settings and limits, if there is one.
+// Each row has settings, the limit of the MAPs that aren't listed, the limits of listed MAPs, and the first fault of
+// these settings and limits, or `None`.
 static FAULTS: [(Wanted<'static>, u32, &[MapLimit], Option<LimitsFault>); 12] = [
     (NO_CHANNEL, 65_543, &[HIGH], Some(BAD_VCID)),
     (BOTH, 65_543, &[HIGH], Some(BadOthers)),

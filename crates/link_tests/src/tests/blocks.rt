@@ -15,7 +15,8 @@ fn check(rt: &impl Abort, block: u64, mode: Mode, fate: Fate, information: Optio
     assert!(rt; decode_block(block, mode) == information);
 }
 
-// One wrong bit of 63 is corrected, or detected. Two and three wrong bits are detected.
+// One wrong bit among the 63 is corrected in one mode, and detected in the other. Two and three wrong bits are
+// detected.
 #[test]
 fn wrong_bits_are_detected_or_corrected(rt: HostRuntime) {
     assert!(rt; encode_block(INFORMATION) == BLOCK.to_be_bytes());

@@ -269,7 +269,7 @@ fn new_station<J: Journal>(rt: &(impl Abort + Print), alloc: Global, row: &Row) 
     panic!(rt; "refused twice")
 }
 
-// Plays a row on a station, with frames that are brought with or without a watcher, and closes it.
+// Plays a row on a station, and closes the station. Frames are brought with or without a watcher.
 fn play_on<J: Journal>(
     rt: &(impl Wait + Abort + Print),
     alloc: Global,
