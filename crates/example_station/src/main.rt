@@ -83,7 +83,7 @@ fn receive(rt: &impl Wait, alloc: Global, octets: &[u8]) -> Result<Seen> {
             no_bit_lock: false,
         },
     );
-    station.meet(rt, operator, &mut watcher, 1); // so its reading belongs to the journal that is given out
+    station.meet(rt, operator, &mut watcher, 1); // the CLCW that was read is then that of a place in the journal
     let channels = station.close_together(operators).ok();
     // the page: to here
     let channel = channels.as_ref().and_then(|channels| channels.first());
