@@ -1,5 +1,7 @@
 -- Queues in rooms, read and written at one place.
-use Rattle.tc_queues.proofs.Names.{◌≡◌, ℕ, zero, suc, ◌-◌, ◌<◌, ◌≤◌, Bool, List, [], ◌∷◌, ◌++◌, length, map, get_or, refl, sym, ap, subst, ◌∙◌, arith, set, map-set_same, map-map, append-nil, length-append, length-map, map-set, get_or-map, keys_of, room_in, StoredQueue, Keyed, ring_in, rings_in, staged_in, all_staged_in, room_sizes, Fit, AreCommitted, room_at, AllByRecursion}
+use Rattle.tc_queues.proofs.Names.{◌≡◌, ℕ, zero, suc, ◌+◌, ◌-◌, ◌<◌, ◌≤◌, Bool, List, [], ◌∷◌, ◌++◌, length, map, get_or, refl, sym, ap, subst, ◌∙◌, arith, set, map-set_same, map-map, append-nil, length-append, length-map, map-set, get_or-map, keys_of, room_in, StoredQueue, Keyed, ring_in, rings_in, staged_in, all_staged_in, room_sizes, Fit, AreCommitted, room_at, AllByRecursion, replicate, map_push, stored, take}
+use Rattle.std.proofs.lemmas.List.{map_more, replicate_more}
+use Rattle.tc_queues.specs.ChannelState.{Queue}
 use Rattle.circular_buffer.specs.Buffer.{buffer}
 use Rattle.tc_queues.specs.Keyed.{IsPutBehind}
 use Rattle.tc_queues.specs.Delivering.{IsPutAt}
@@ -78,3 +80,14 @@ full-at qs i q inside is full =
 pub fit-enough : (octets : List ℕ) (least : ℕ) (sizes : List ℕ) → AllByRecursion (λ (n : ℕ). least ≤ n) sizes → length octets ≤ least → Fit octets sizes
 fit-enough octets least [] all le = tt
 fit-enough octets least (m ∷ sizes) all le = (let e = all.0 in omega arith, fit-enough octets least sizes all.1 le)
+
+-- one queue more, behind those that were made of the first settings
+pub rings-more : {A : Type 0} (made : A → Queue) (settings : List A) (i : ℕ) (setting : A) (qs : List Keyed) (q : Keyed)
+    → i < length settings → ring_in q ≡ stored (made (get_or settings i setting)) → rings_in qs ≡ map stored (map made (take i settings)) → rings_in (qs ++ q ∷ []) ≡ map stored (map made (take (i + 1) settings))
+rings-more made settings i setting qs q inside is so =
+    map_push ring_in qs q ∙ ap (λ (x : StoredQueue). rings_in qs ++ x ∷ []) is ∙ ap (λ (xs : List StoredQueue). xs ++ stored (made (get_or settings i setting)) ∷ []) so
+    ∙ sym (ap (λ (xs : List Queue). map stored xs) (map_more made settings i setting inside) ∙ map_push stored (map made (take i settings)) (made (get_or settings i setting)))
+
+pub sizes-more : (size i : ℕ) (qs : List Keyed) (q : Keyed) → q.slots.size ≡ size → room_sizes qs ≡ replicate i size → room_sizes (qs ++ q ∷ []) ≡ replicate (i + 1) size
+sizes-more size i qs q is so =
+    map_push (λ (x : Keyed). x.slots.size) qs q ∙ ap (λ (n : ℕ). room_sizes qs ++ n ∷ []) is ∙ ap (λ (ns : List ℕ). ns ++ size ∷ []) so ∙ replicate_more i size
