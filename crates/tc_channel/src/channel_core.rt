@@ -1,6 +1,6 @@
 //! All parts of a channel but its settings and its journal, in rooms that are created at the start or that grow.
 
-ghost use Rattle.std.specs.Prelude.{List, ℕ, ◌≡◌, false, [], ◌<◌, ◌≤◌, ◌+◌, ◌⊎◌, length, option_map, IfOk, IsOk, OnOk, OnErr, IsSome, IsTrue, ◌↔◌, None, Option};
+ghost use Rattle.std.specs.Prelude.{List, ℕ, ◌≡◌, false, [], ◌<◌, ◌≤◌, ◌+◌, ◌⊎◌, length, map, replicate, option_map, IfOk, IsOk, OnOk, OnErr, IsSome, IsTrue, ◌↔◌, None, Option};
 ghost use Rattle.tc_packet.specs.declared.Service.{Service};
 ghost use Rattle.tc_packet.specs.declared.Service.TheVariants.{Bd};
 ghost use Rattle.tc_packet.specs.Reassembly.{run_at, stream_place};
@@ -9,15 +9,17 @@ ghost use Rattle.tc_channel.specs.declared.event.Event.{Event};
 ghost use Rattle.tc_channel.specs.declared.event.Event.TheVariants as Event;
 ghost use Rattle.tc_queues.specs.Admission.{map_of};
 ghost use Rattle.tc_channel.specs.Channel.{FollowsWithin, FollowsKindWithin, EndsWithin, EndsAtOnceWithin, buffered_of, with_field};
+ghost use Rattle.tc_queues.specs.ChannelState.{empty_queue, empty_unit_queue};
 ghost use Rattle.tc_queues.specs.Copying.{IsCopiedIn, copied_out};
 ghost use Rattle.tc_queues.specs.Delivering.{IsDelivered};
-ghost use Rattle.tc_queues.specs.Keyed.{rings_in};
+ghost use Rattle.tc_queues.specs.Keyed.{AreCommitted, rings_in, room_sizes};
 ghost use Rattle.tc_queues.specs.Memory.{largest_field};
 ghost use Rattle.tc_channel.specs.Reply.{IsBypassData, frame_reply_within, release_reply_within, take_reply_within, unit_reply_within, waiting_packets_within, waiting_units_within, buffered_fields_within};
 ghost use Rattle.tc_channel.specs.Run.{run_within};
 ghost use Rattle.tc_queues.specs.Settings.{IsAllowed};
 ghost use Rattle.tc_channel.specs.ChannelCore.{AreSmall, CanPassOn, GoOn, HaveLimits, HoldsInRooms, IsEnough, KeepRooms, Stay, WhereverItHolds};
 ghost use Rattle.tc_queues.specs.Steps.{delivery_steps, looks_for};
+ghost use Rattle.tc_queues.specs.StoredQueues.{stored};
 ghost use Rattle.tc_channel.specs.Steps.{frame_steps_within, release_steps_within};
 
 use std::alloc::{AllocError, Global};
@@ -25,8 +27,8 @@ use std::marker::Model;
 use tc_link::{Act, Arrival, Farm, Frame, Kind, Report, Window, each_arrival_has_an_entry, kind};
 use tc_packet::{FixedRoom, GrowingRoom, Room, Runs, Service, read_segment};
 use tc_queues::{
-    Delivery, FrameReply, LARGEST_FIELD, NotCopied, Queues, Settings, Slots, Tick, deliver_ended,
-    deliver_nothing, empty_queues, empty_unit_queues,
+    Delivery, FrameReply, LARGEST_FIELD, MapSetting, NotCopied, QueueSetting, Queues, Settings,
+    Slots, Tick, deliver_ended, deliver_nothing, empty_queues, empty_unit_queues,
 };
 
 /// FARM-1, the buffer of accepted data fields, reassembly, the packet queues and the unit queues of chosen MAPs: all
@@ -75,16 +77,8 @@ impl<R: Room> ChannelCore<R> {
     {
         let window = Window::new(settings.width).unwrap();
         let fields = Slots::with_capacity(alloc, settings.buffer as usize, LARGEST_FIELD)?;
-        let queues = Queues::new(
-            alloc,
-            empty_queues(alloc, settings.queues.as_slice(), size)?,
-            steps,
-        )?;
-        let units = Queues::new(
-            alloc,
-            empty_unit_queues(alloc, settings.maps.as_slice(), size)?,
-            steps,
-        )?;
+        let queues = packet_queues(alloc, settings.queues.as_slice(), size, steps)?;
+        let units = unit_queues(alloc, settings.maps.as_slice(), size, steps)?;
         Ok(ChannelCore {
             farm: Farm::new(window, settings.first),
             fields,
@@ -299,6 +293,34 @@ impl ChannelCore<GrowingRoom> {
     {
         self.units.take(map as u16, steps)
     }
+}
+
+// Creates an empty packet queue for each setting, for packets of at most `size` octets.
+fn packet_queues<R: Room, C: Tick>(
+    alloc: Global,
+    settings: &[QueueSetting],
+    size: usize,
+    steps: &mut C,
+) -> Result<Queues<R>, AllocError>
+    ensures rings { IfOk result (λ q. rings_in q ≡ map stored (map empty_queue settings.now)) }
+    ensures sizes { IfOk result (λ q. room_sizes q ≡ replicate (length settings.now) size) }
+    ensures committed { IfOk result (λ q. AreCommitted q) }
+{
+    Queues::new(alloc, empty_queues(alloc, settings, size)?, steps)
+}
+
+// Creates an empty unit queue for each chosen MAP, for units of at most `size` octets.
+fn unit_queues<R: Room, C: Tick>(
+    alloc: Global,
+    maps: &[MapSetting],
+    size: usize,
+    steps: &mut C,
+) -> Result<Queues<R>, AllocError>
+    ensures rings { IfOk result (λ q. rings_in q ≡ map stored (map empty_unit_queue maps.now)) }
+    ensures sizes { IfOk result (λ q. room_sizes q ≡ replicate (length maps.now) size) }
+    ensures committed { IfOk result (λ q. AreCommitted q) }
+{
+    Queues::new(alloc, empty_unit_queues(alloc, maps, size)?, steps)
 }
 
 // Copies the data field of an accepted AD frame to the end of the buffer, which has room for it.

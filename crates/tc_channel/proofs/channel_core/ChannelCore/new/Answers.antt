@@ -1,4 +1,4 @@
-use Rattle.tc_channel.proofs.Names.{[], ap, sym, subst, ◌∙◌, rings_in, room_sizes, AreCommitted, run_within, IsLawfulWithin, Slotted}
+use Rattle.tc_channel.proofs.Names.{[], ap, ◌∙◌, run_within, IsLawfulWithin, Slotted}
 use Rattle.tc_channel.proofs.AtWork.{none-open}
 use Rattle.tc_channel.proofs.Sizes.{enough-at-start}
 use Rattle.tc_channel.proofs.channel_core.ChannelCore.new.Goals as goal
@@ -10,22 +10,22 @@ returns g c = record {
     holds = record {
       allowed = c.requires.allowed;
       lawful = tt;
-      width = c.new-4.ensures.width ∙ rw c.unwrap-window.ensures at c.new.ensures.width;
-      report = c.new-4.ensures.report;
+      width = c.new-2.ensures.width ∙ rw c.unwrap-window.ensures at c.new.ensures.width;
+      report = c.new-2.ensures.report;
       capacity = ap (λ (x : Slotted). x.ring.capacity) c.in_ok-fields.ensures;
       runs = none-open limits c.args.runs _ c.requires.segmented c.requires.none;
-      queues = ap rings_in c.in_ok-queues.ensures ∙ rw c.as_slice.ensures at c.in_ok-empty_queues.ensures.rings;
-      units = ap rings_in c.in_ok-units.ensures ∙ rw c.as_slice-2.ensures at c.in_ok-empty_unit_queues.ensures.rings;
+      queues = rw c.as_slice.ensures at c.in_ok-queues.ensures.rings;
+      units = rw c.as_slice-2.ensures at c.in_ok-units.ensures.rings;
       fields = ap (λ (x : Slotted). x.ring.items) c.in_ok-fields.ensures;
     };
     field_size = ap (λ (x : Slotted). x.size) c.in_ok-fields.ensures;
     fields_committed = ap (λ (x : Slotted). x.staged) c.in_ok-fields.ensures;
-    committed = subst AreCommitted (sym c.in_ok-queues.ensures) c.in_ok-empty_queues.ensures.committed;
-    units_committed = subst AreCommitted (sym c.in_ok-units.ensures) c.in_ok-empty_unit_queues.ensures.committed;
+    committed = c.in_ok-queues.ensures.committed;
+    units_committed = c.in_ok-units.ensures.committed;
     limits_are = are;
     small = c.requires.small;
-    sizes = enough-at-start c.args.runs _ _ _ (ap room_sizes c.in_ok-queues.ensures ∙ c.in_ok-empty_queues.ensures.sizes) c.requires.enough;
-    unit_sizes = enough-at-start c.args.runs _ _ _ (ap room_sizes c.in_ok-units.ensures ∙ c.in_ok-empty_unit_queues.ensures.sizes) c.requires.enough;
+    sizes = enough-at-start c.args.runs _ _ _ c.in_ok-queues.ensures.sizes c.requires.enough;
+    unit_sizes = enough-at-start c.args.runs _ _ _ c.in_ok-units.ensures.sizes c.requires.enough;
   };
 }
 
