@@ -2,7 +2,7 @@
  * The calls of the library, with parameters that are only numbers of 32 bits and addresses. Each machine passes those
  * in the same way, so no machine's rule for passing records matters. This file is compiled to the LLVM module of the
  * library's own machine, and linked with that module. The result becomes a WebAssembly module, from which
- * tools/portable and tools/page write their output.
+ * tools/portable writes its output.
  *
  * Each call returns a status, and puts the other fields of its record into `numbers`. The record of a FARM-1 and a
  * count take two of these numbers. The settings and headers that a call takes stand in `numbers`, too. An instance of

@@ -1,11 +1,12 @@
 "use strict";
-/* Draws the page, and handles the reader's input. All answers come from receiver.js, which stands before this file in
+/* Draws the page, and handles the reader's input. The content comes from receiver.js, which stands before this file in
  * the page. */
 
 const by = (id) => document.getElementById(id);
 const given = JSON.parse(by("given").textContent);
 const MOST_SHOWN = 200;
 let compiled = null;
+/* A session that makes and explains frames. */
 let maker = null;
 let run = null;
 
@@ -42,27 +43,32 @@ function drawWords() {
   });
 }
 
+const STATES = ["open", "wait", "lockout"];
+
 /* Draws the parts of the frame, with their octets and their meaning. */
-function drawParts(octets, isPlain) {
+function drawParts(hex) {
   const list = make("div", {class: "parts"});
-  for (const {from, to, says} of maker.parts(octets, isPlain)) {
-    const shown = toHex(octets.subarray(from, Math.min(to, from + 64))).replace(/..(?=.)/g, "$& ") + (to - from > 64 ? " .." : "");
+  const header = headerOf(maker, hex);
+  const channel = header === null ? undefined : run.channels.get(header.vcid);
+  for (const {octets, says} of partsOf(maker, hex, channel !== undefined && channel.settings.plain)) {
+    const shown = octets.slice(0, 128).replace(/..(?=.)/g, "$& ") + (octets.length > 128 ? " .." : "");
     list.append(make("span", {class: "octets"}, shown), make("span", {}, says));
   }
   return list;
 }
 
-const channelOf = (vcid) => run.channels.get(vcid);
-const isPlain = (octets) => {
-  const frame = maker.library.readFrame(octets);
-  return frame.status === STATUS.DONE && channelOf(frame.vcid) !== undefined && channelOf(frame.vcid).settings.plain;
-};
+/* Returns the column of FARM-1's table for the state before a step. */
+const columnOf = ({before}) => STATES.indexOf(before.state) + 1;
 
 /* Returns, in words, the entry of FARM-1's table for the step. */
-function entryOf({event, before}) {
-  const row = given.table.rows[event - 1];
-  return event === 0 ? "" : `${row[0]}, in ${given.table.head[before.state]}: ${row[before.state]}`;
+function entryOf(done) {
+  const row = given.table.rows[done.event - 1];
+  const column = columnOf(done);
+  return `${row[0]}, in ${given.table.head[column]}: ${row[column]}`;
 }
+
+/* Returns the octets that a line hands over, as hexadecimal digits, or an empty text. */
+const octetsOf = (line) => (line.match(/^[ \t\r]*(?:frame|candidate)[ \t\r]+([0-9a-fA-F]+)/) || ["", ""])[1];
 
 function drawAnswers() {
   const shown = run.answers.slice(-MOST_SHOWN);
@@ -70,27 +76,28 @@ function drawAnswers() {
   list.start = run.answers.length - shown.length + 1;
   list.replaceChildren(...shown.map((done, i) => {
     const {line, text, event} = done;
-    const item = make("li", {}, make("div", {class: "line mono"}, line.text.slice(0, 300)));
+    const octets = octetsOf(line);
+    const item = make("li", {}, make("div", {class: "line mono"}, line.slice(0, 300)));
     item.append(make("div", {class: `answer mono${text.startsWith("refused") ? " refused" : ""}`}, text.slice(0, 2000)));
     if (event > 0) item.append(make("div", {}, entryOf(done)));
-    if (line.octets) {
+    if (octets !== "") {
       const isLast = i === shown.length - 1;
-      item.append(make("details", {open: isLast ? "" : null}, make("summary", {}, "the frame, taken apart"), drawParts(line.octets, isPlain(line.octets))));
+      item.append(make("details", {open: isLast ? "" : null}, make("summary", {}, "the frame, taken apart"), drawParts(octets)));
     }
     return item;
   }));
-  const isDone = run.fault === null && run.lines.slice(run.at).every((it) => it.what === "");
-  by("report").textContent = isDone && run.channels.size > 0 ? run.report().join("\n") : "";
+  by("report").textContent = run.isAtEnd && run.fault === "" ? run.report : "";
 }
 
 function drawTable() {
   const last = run.answers[run.answers.length - 1] || {event: 0};
+  const column = last.event === 0 ? 0 : columnOf(last);
   by("table").replaceChildren(
     make("thead", {}, make("tr", {}, ...given.table.head.map((it) => make("th", {scope: "col"}, it)))),
     make("tbody", {}, ...given.table.rows.map((cells, i) => {
       const isLit = i + 1 === last.event;
       const row = make("tr", {class: isLit ? "row-lit" : null}, make("th", {scope: "row"}, cells[0]));
-      row.append(...cells.slice(1).map((it, state) => make("td", {class: isLit && state + 1 === last.before.state ? "lit" : null}, it)));
+      row.append(...cells.slice(1).map((it, state) => make("td", {class: isLit && state + 1 === column ? "lit" : null}, it)));
       return row;
     })),
   );
@@ -98,21 +105,21 @@ function drawTable() {
 }
 
 /* Returns the part of the window in which a number lies. */
-function placeOf(number, {vr, width}) {
+function placeOf(number, vr, width) {
   const ahead = (number - vr + 256) % 256;
   if (ahead === 0) return "expected";
   if (ahead < width / 2) return "ahead";
   return 256 - ahead <= width / 2 ? "behind" : "outside";
 }
 
-function drawWindow(farm, came) {
+function drawWindow(vr, width, came) {
   const modulo = (number) => (number + 256) % 256;
-  const half = farm.width / 2;
-  const ahead = half > 1 ? `${modulo(farm.vr + 1)} to ${modulo(farm.vr + half - 1)} ahead` : "none ahead";
-  const said = `${modulo(farm.vr - half)} to ${modulo(farm.vr - 1)} behind, ${farm.vr} expected, ${ahead}, all others outside`;
+  const half = width / 2;
+  const ahead = half > 1 ? `${modulo(vr + 1)} to ${modulo(vr + half - 1)} ahead` : "none ahead";
+  const said = `${modulo(vr - half)} to ${modulo(vr - 1)} behind, ${vr} expected, ${ahead}, all others outside`;
   const cells = Array.from({length: 256}, (_, number) => {
     const mark = number === came ? " came" : "";
-    return make("i", {class: placeOf(number, farm) + mark}, String(number));
+    return make("i", {class: placeOf(number, vr, width) + mark}, String(number));
   });
   return [make("div", {class: "window", role: "img", "aria-label": said}, ...cells), make("p", {class: "note"}, `${said}.`)];
 }
@@ -121,8 +128,8 @@ function fact(name, value, word = null, attributes = {}) {
   return make("div", {}, make("dt", {}, word === null ? name : term(word, name)), make("dd", attributes, String(value)));
 }
 
-function operateButton(text, line) {
-  const button = make("button", {type: "button"}, text);
+function operateButton(line) {
+  const button = make("button", {type: "button"}, line);
   button.addEventListener("click", () => addOperation(line));
   return button;
 }
@@ -132,29 +139,34 @@ function drawQueue(name, {count, capacity}, button) {
   return make("div", {class: "row"}, make("span", {}, name), meter, make("span", {}, `${count} of ${capacity}`), button);
 }
 
-function drawChannel({settings, farm, clcw, events, buffered, queues, maps}) {
-  const {vcid, buffer, plain} = settings;
+/* Returns N(S) of the Type-AD frame that came to the channel in the last step, or -1. */
+function numberCame(channel) {
   const last = run.answers[run.answers.length - 1];
-  const frame = last && last.vcid === vcid && last.line.octets ? maker.library.readFrame(last.line.octets) : null;
-  const came = frame !== null && frame.bypass === 0 && frame.control === 0 ? frame.ns : -1;
+  const header = last && last.channel === channel && octetsOf(last.line) !== "" ? headerOf(maker, octetsOf(last.line)) : null;
+  return header !== null && header.kind === "AD" ? header.ns : -1;
+}
+
+function drawChannel(channel) {
+  const {settings: {vcid, width, buffer, plain}, farm, clcw, events, buffered, queues, maps} = channel;
   const flags = [["Lockout", farm.lockout, "lockout"], ["Wait", farm.wait, "wait"], ["Retransmit", farm.retransmit, "retransmit"]];
   const slots = Array.from({length: buffer}, (_, i) => make("i", {class: i < buffered ? "full" : null}));
   return make("div", {class: "channel"},
     make("h3", {}, `Virtual channel ${vcid}${plain ? ", without segment headers" : ""}`),
-    make("dl", {class: "facts"}, fact("V(R)", farm.vr, "V(R)"), fact("state", `S${farm.state} ${STATES[farm.state]}`),
+    make("dl", {class: "facts"}, fact("V(R)", farm.vr, "V(R)"), fact("state", `S${STATES.indexOf(farm.state) + 1} ${farm.state}`),
       ...flags.map(([name, flag, word]) => fact(name, flag, word, {class: `flag-${flag}`})),
-      fact("FARM-B", farm.farmB, "FARM-B counter"), fact("events", events), fact("CLCW", word(clcw), "CLCW", {class: "mono"})),
-    make("p", {class: "note mono"}, maker.clcw(clcw)),
-    make("div", {}, term("window", "Window"), ":"), ...drawWindow(farm, came),
+      fact("FARM-B", farm["farm-b"], "FARM-B counter"), fact("events", events), fact("CLCW", clcw, "CLCW", {class: "mono"})),
+    make("p", {class: "note mono"}, maker.answer(`clcw ${clcw}`)),
+    make("div", {}, term("window", "Window"), ":"), ...drawWindow(Number(farm.vr), width, numberCame(channel)),
     make("div", {class: "row"}, make("span", {}, `Buffer: ${buffered} of ${buffer} `, term("data field", "data fields")),
-      operateButton(`release ${vcid}`, `release ${vcid}`), operateButton(`clcw ${vcid}`, `clcw ${vcid}`)),
+      operateButton(`release ${vcid}`), operateButton(`clcw ${vcid}`)),
     make("div", {class: "slots", "aria-hidden": "true"}, ...slots),
-    ...queues.map((it) => drawQueue(`Packets for application ${it.apid}`, it, operateButton(`take ${vcid} ${it.apid}`, `take ${vcid} ${it.apid}`))),
-    ...maps.map((it) => drawQueue(`Units of MAP ${it.map}`, it, operateButton(`unit ${vcid} ${it.map}`, `unit ${vcid} ${it.map}`))));
+    ...queues.map((it) => drawQueue(`Packets for application ${it.key}`, it, operateButton(`take ${vcid} ${it.key}`))),
+    ...maps.map((it) => drawQueue(`Units of MAP ${it.key}`, it, operateButton(`unit ${vcid} ${it.key}`))));
 }
 
 function drawChannels() {
-  const channels = run.look().map(drawChannel);
+  const drawn = [...run.channels.values()].filter((it) => it.farm !== undefined && it.clcw !== undefined);
+  const channels = drawn.sort((one, other) => one.settings.vcid - other.settings.vcid).map(drawChannel);
   by("channels").replaceChildren(...(channels.length > 0 ? channels : [make("p", {}, "No channel is set up. A line such as ", make("code", {}, "channel 1 10 4 0"), " does it.")]));
 }
 
@@ -162,15 +174,13 @@ function drawChannels() {
 function markNext() {
   const place = by("script");
   if (document.activeElement === place) return;
-  const before = run.lines.slice(0, run.at).reduce((sum, line) => sum + line.text.length + 1, 0);
-  const next = run.lines[run.at];
-  place.setSelectionRange(before, before + (next ? next.text.length : 0));
+  const before = run.lines.slice(0, run.at).reduce((sum, line) => sum + line.length + 1, 0);
+  place.setSelectionRange(before, before + (run.lines[run.at] || "").length);
 }
 
 function draw() {
-  by("fault").textContent = run.fault === null ? "" : run.fault + run.hint;
-  const isEnd = run.isAtEnd() || run.lines.slice(run.at).every((it) => it.what === "");
-  for (const id of ["step", "all"]) by(id).disabled = isEnd;
+  by("fault").textContent = run.fault;
+  for (const id of ["step", "all"]) by(id).disabled = run.isAtEnd;
   for (const id of ["back", "start"]) by(id).disabled = run.answers.length === 0;
   drawAnswers();
   drawTable();
@@ -183,13 +193,7 @@ function draw() {
 /* Runs the script anew, for at most `steps` steps. */
 function runTo(steps) {
   const scid = Math.min(1023, Math.max(0, Number(by("scid").value) || 0));
-  run = new Run(compiled, scid, by("script").value);
-  while (run.answers.length < steps && run.step() !== null);
-  draw();
-}
-
-function step() {
-  run.step();
+  run = new Run(compiled, scid, by("script").value, steps);
   draw();
 }
 
@@ -216,22 +220,19 @@ function addSetting(line) {
   runTo(steps);
 }
 
-/* Returns the frames that the fields make, with the line for which tcmake makes the same frames. */
+/* Returns the line for which tcmake makes frames of the fields, and its answers. */
 function madeOfFields() {
-  const kind = by("kind").value;
-  const number = (id) => Number(by(id).value);
-  const isFlat = by("plain").checked && kind !== "segments";
-  const fields = {scid: number("scid"), vcid: number("vcid"), ns: number("ns"), map: isFlat ? "plain" : number("map"), vr: number("vr"), size: number("size")};
-  const {scid, vcid, ns, map, vr, size} = fields;
-  if (kind === "unlock") return {line: `unlock ${scid} ${vcid}`, frames: maker.unlock(fields)};
-  if (kind === "setvr") return {line: `setvr ${scid} ${vcid} ${vr}`, frames: maker.setVr(fields)};
-  const data = fromHex(by("data").value);
-  const packet = data === null ? null : maker.packet({apid: number("apid"), count: number("count")}, data);
-  if (packet === null || !by("fields").checkValidity()) return {line: "", frames: []};
-  const hex = toHex(packet);
-  if (kind === "segments") return {line: `segments ${scid} ${vcid} ${ns} ${map} ${size} ${hex}`, frames: maker.segments(fields, packet)};
-  const line = kind === "ad" ? `ad ${scid} ${vcid} ${ns} ${map} ${hex}` : `bd ${scid} ${vcid} ${map} ${hex}`;
-  return {line, frames: maker.data(kind, fields, packet)};
+  const [kind, scid, vcid, ns, vr, map, size] = ["kind", "scid", "vcid", "ns", "vr", "map", "size"].map((id) => by(id).value);
+  const packet = `packet ${by("apid").value} ${by("count").value} ${by("data").value}`;
+  const [answer] = linesOf(maker.answer(packet));
+  const hex = answer.replace("packet ", "");
+  const header = by("plain").checked ? "plain" : map;
+  const lines = {
+    unlock: `unlock ${scid} ${vcid}`, setvr: `setvr ${scid} ${vcid} ${vr}`, segments: `segments ${scid} ${vcid} ${ns} ${map} ${size} ${hex}`,
+    ad: `ad ${scid} ${vcid} ${ns} ${header} ${hex}`, bd: `bd ${scid} ${vcid} ${header} ${hex}`,
+  };
+  const line = hex === answer && lines[kind].endsWith(hex) ? packet : lines[kind];
+  return {line, answers: linesOf(maker.answer(line))};
 }
 
 function drawMade() {
@@ -241,21 +242,21 @@ function drawMade() {
     for (const input of place.querySelectorAll("input")) input.disabled = !isShown;
     if (place.matches("label")) place.style.display = isShown ? "" : "none";
   }
-  const {line, frames} = madeOfFields();
-  const lines = frames.filter(Boolean).map((it) => `frame ${toHex(it)}`);
-  by("made").replaceChildren(...(lines.length > 0 ? [`tcmake: ${line}`, make("br"), lines.join(" ")] : ["The fields make no frame."]));
+  const {line, answers} = madeOfFields();
+  by("made").replaceChildren(`tcmake: ${line}`, make("br"), answers.join(" "));
 }
 
 /* Sets the field for N(S) to the number that the channel expects, which a sender would give to its next frame. */
 function expectNext() {
-  const channel = channelOf(Number(by("vcid").value));
-  if (channel !== undefined && channel.instance !== null) by("ns").value = channel.farm().vr;
+  const channel = run.channels.get(Number(by("vcid").value));
+  if (channel !== undefined && channel.farm !== undefined) by("ns").value = channel.farm.vr;
 }
 
 function drawTyped() {
-  const octets = fromHex(by("octets").value.replace(/\s/g, ""));
-  by("taken-apart").replaceChildren(...(octets === null ? ["These aren't pairs of hexadecimal digits."] : octets.length === 0 ? [] : [drawParts(octets, isPlain(octets))]));
-  return octets;
+  const octets = by("octets").value.replace(/\s/g, "");
+  const isHex = /^([0-9a-f]{2})*$/i.test(octets);
+  by("taken-apart").replaceChildren(...(!isHex ? ["These aren't pairs of hexadecimal digits."] : octets === "" ? [] : [drawParts(octets)]));
+  return isHex ? octets : "";
 }
 
 function linkTo() {
@@ -283,15 +284,15 @@ function listenToForms() {
   by("typed").addEventListener("submit", (event) => {
     event.preventDefault();
     const octets = drawTyped();
-    if (octets !== null && octets.length > 0) addOperation(`frame ${toHex(octets)}`);
+    if (octets !== "") addOperation(`frame ${octets}`);
   });
   by("octets").addEventListener("input", drawTyped);
   by("fields").addEventListener("input", drawMade);
   by("vcid").addEventListener("change", () => { expectNext(); drawMade(); });
   by("fields").addEventListener("submit", (event) => {
     event.preventDefault();
-    const {frames} = madeOfFields();
-    if (frames.length > 0) addOperation(...frames.map((it) => `frame ${toHex(it)}`));
+    const {answers} = madeOfFields();
+    if (answers.every((it) => it.startsWith("frame "))) addOperation(...answers);
   });
   const fieldsOf = (event) => {
     event.preventDefault();
@@ -310,7 +311,7 @@ function listenToForms() {
 }
 
 function listen() {
-  by("step").addEventListener("click", step);
+  by("step").addEventListener("click", () => runTo(run.answers.length + 1));
   by("back").addEventListener("click", () => runTo(run.answers.length - 1));
   by("all").addEventListener("click", () => runTo(Infinity));
   by("start").addEventListener("click", () => runTo(0));
@@ -338,7 +339,7 @@ function listen() {
 
 function begin() {
   compiled = new WebAssembly.Module(Uint8Array.from(atob(given.module), (it) => it.charCodeAt(0)));
-  maker = new Maker(compiled);
+  maker = new Session(compiled, "make", 0);
   drawWords();
   for (const name of Object.keys(given.examples)) by("example").append(make("option", {value: name}, name.replace(/-/g, " ")));
   listen();
