@@ -30,7 +30,7 @@ from client_parts import NOTHING, ONE, UNLOCK, cltu, frame, packet, raises, same
 import tcrx
 import tcrx_channel
 from tcrx import (Brought, Channel, Clcw, Delivery, Ended, Event, Final, NotSetUp, NotStarted, Outcome, Packet, Refusal, Refused,
-                  Released, Report, State)
+                  Released, Report, State, Unit)
 from tcrx_channel import (BadSettings, Decoder, Frame, NoMemory, NotRead, NotWritten, Rack, Tm, add_fecf, check_fecf, randomise, read_frame,
                           read_tm, storage, write_cltu, write_frame, write_packet, write_segments, write_set_vr, write_tm, write_unlock)
 
@@ -60,6 +60,25 @@ def check_values() -> None:
         raises(NotSetUp, lambda: list(channel.units(6)), "units of no MAP")
     same(channel.final, Final(Clcw(0x01040001), 10, 0, {5: 0, 9: 0}, {2: 0}), "the report at the end")
     same((bool(brought), bool(Refused(Refusal.EMPTY))), (True, False), "the truth of answers")
+
+
+def check_replies() -> None:
+    """The reply to a frame of each event, worked out by hand from CCSDS 232.1-B, 6.3, and what a release and takes return after them. Of the
+    three packets of one frame two find room."""
+    rows = ((frame(252, b"\xc0"), Event.E3, False, NOTHING), (frame(250, whole(0, ONE)), Event.E1, True, NOTHING),
+            (frame(251, b"\xc0"), Event.E2, False, NOTHING), (frame(250, b"\xc0"), Event.E4, False, NOTHING),
+            (frame(0, whole(0, ONE * 3 + b"\x10"), bypass=1), Event.E6, True, Delivery(2, 1, True)),
+            (frame(0, whole(2, b"\xab\xcd"), bypass=1), Event.E6, True, Delivery(1, 0, False)),
+            (frame(100, b"\xc0"), Event.E5, False, NOTHING), (bytes.fromhex("302a040700820009"), Event.E8, False, NOTHING),
+            (UNLOCK, Event.E7, False, NOTHING), (bytes.fromhex("102a04050000"), Event.E9, False, NOTHING))
+    with Channel(1, width=10, buffer=1, first=250, queues={5: 2}, maps={2: 3}) as channel:
+        for octets, event, accepted, delivery in rows:
+            same(channel.bring(octets), Brought(1, event, accepted, delivery), f"the reply to a frame, {event.value}")
+        same(channel.release(), Released(1, Delivery(0, 1, False)), "the reply to a release")
+        same([channel.take(5), channel.take_unit(2)], [Packet(1, 5, ONE), Unit(1, 2, b"\xab\xcd")], "takes")
+        same([channel.release(), channel.take_unit(2)], [Refused(Refusal.EMPTY)] * 2, "nothing waits")
+        same([channel.take(6), channel.take_unit(3)], [Refused(Refusal.NO_QUEUE), Refused(Refusal.NO_MAP)], "no such queue, and no such MAP")
+    same(channel.final, Final(Clcw(0x010400fb), 13, 0, {5: 1}, {2: 0}), "the report at the end")
 
 
 def check_racks() -> None:
@@ -452,6 +471,7 @@ def main() -> int:
     same((tcrx.Channel, tcrx.Rack, hasattr(tcrx, "Channel")), (Channel, Rack, True), "the channel and the rack of tcrx")
     check_places(tcrx_channel, "tcrx.h", 10)
     check_values()
+    check_replies()
     check_racks()
     check_chain()
     check_fields()

@@ -1,13 +1,11 @@
 #!/usr/bin/env python3
-"""Runs a script on standard input through channels of the Python client, and prints its answers and its final report in the words of the
-program tcrx, for checks/bindings and checks/drawn. The script has no bad line. With a program it is this `tclive` that answers, by a
-receiver of the client; each line is then one for which that has a call, and may be bad.
+"""Has a `tclive` answer the lines of standard input by a receiver of the client in Python, for checks/drawn, and prints what the client
+returns in the words of that program. Each line is one for which the client has a call, and may be bad.
 
-usage: checks/script_in_python.py SCID [PROGRAM]
+usage: checks/script_in_python.py SCID PROGRAM
 """
 from __future__ import annotations
 
-import re
 import sys
 from pathlib import Path
 from typing import Any, Callable, Dict, List, Tuple
@@ -15,8 +13,7 @@ from typing import Any, Callable, Dict, List, Tuple
 sys.dont_write_bytecode = True
 sys.path.insert(0, str(Path(__file__).resolve().parent.parent / "clients/python"))
 # pylint: disable=wrong-import-position  # it is found by the path above
-from tcrx import BadLine, Brought, Channel, Clcw, Delivered, Final, Packet, Receiver, Refusal, Refused, Report, Unit  # noqa: E402
-from tcrx_channel import Rack  # noqa: E402
+from tcrx import BadLine, Brought, Clcw, Delivered, Final, Packet, Receiver, Refused, Report, Unit  # noqa: E402
 
 
 def line_of(answer: Any) -> str:
@@ -67,49 +64,15 @@ def answer_by(receiver: Receiver, words: List[str]) -> str:
     return " ".join(words) + "\n" if answer is True else f"{line_of(answer)}\n"
 
 
-def talk(scid: int, program: str, lines: List[List[str]]) -> None:
-    """Does all lines by a receiver."""
-    with Receiver(scid, program=program) as receiver:
+def main() -> None:
+    """Brings all lines to a receiver, and prints its final report."""
+    # The client writes lines with one space between words, so these lines have no others.
+    lines = [line.split(" ") for line in sys.stdin.buffer.read().decode("ascii").splitlines()]
+    with Receiver(int(sys.argv[1]), program=sys.argv[2]) as receiver:
         for words in lines:
             print(answer_by(receiver, words), end="")
     for vcid, final in receiver.final.items():
         print_final(vcid, final)
-
-
-def answer_to(rack: Rack, words: List[str]) -> Any:
-    """What is answered to an operation."""
-    if words[0] == "frame":
-        return rack.bring(bytes.fromhex(words[1]))
-    channel = rack.channel(int(words[1]))
-    if channel is None:
-        return Refused(Refusal.CHANNEL)
-    calls: Dict[str, Callable[..., Any]] = {"release": channel.release, "clcw": channel.clcw, "take": channel.take, "unit": channel.take_unit}
-    return calls[words[0]](*map(int, words[2:]))
-
-
-def main() -> None:
-    """Sets the channels up, does the operations, and reports."""
-    # The words of a script are separated by these alone.
-    lines = [re.findall(r"[^ \t\r]+", line) for line in sys.stdin.buffer.read().decode(errors="replace").split("\n")]
-    lines = [words for words in lines if words and not words[0].startswith("#")]
-    if len(sys.argv) > 2:
-        talk(int(sys.argv[1]), sys.argv[2], lines)
-        return
-    settings: Dict[int, Dict[str, Any]] = {}
-    for words in lines:
-        if words[0] in ("channel", "queue", "map"):
-            one = settings.setdefault(int(words[1]), {"queues": {}, "maps": {}})
-            if words[0] == "channel":
-                one.update(zip(("width", "buffer", "first"), map(int, words[2:5])), plain=len(words) > 5)
-            else:
-                one[words[0] + "s"][int(words[2])] = int(words[3])
-    channels = {vcid: Channel(vcid, **one) for vcid, one in sorted(settings.items())}
-    rack = Rack(int(sys.argv[1]), channels.values())
-    for words in lines:
-        if words[0] not in ("channel", "queue", "map"):
-            print(line_of(answer_to(rack, words)))
-    for vcid, channel in channels.items():
-        print_final(vcid, channel.close())
 
 
 if __name__ == "__main__":

@@ -357,6 +357,68 @@ void check_ends_of_the_link() {
     expect(tcrx::read_tm(false, tcrx::Octets(Bytes(11))).status() == Status::no_control, "one without a CLCW");
 }
 
+struct ReplyRow {
+    Bytes octets;
+    tcrx::Event event;
+    tcrx::Delivery delivery;
+    bool accepted;
+};
+
+const Bytes one_packet = {0x10, 0x05, 0xc0, 0x00, 0x00, 0x00, 0xaa};
+
+// Returns a data field with a packet so many times, and with an octet more if there are several.
+Bytes packets(int count) {
+    Bytes field = {0xc0};
+    for (int i = 0; i < count; i++) {
+        field.insert(field.end(), one_packet.begin(), one_packet.end());
+    }
+    if (count > 1) {
+        field.push_back(0x10);
+    }
+    return field;
+}
+
+// Returns a frame of each event with its reply, which was worked out by hand from CCSDS 232.1-B, 6.3. Of the three
+// packets of one frame two find room.
+std::vector<ReplyRow> reply_rows() {
+    using tcrx::Event;
+    return {
+        {frame(252, false, {0xc0}), Event::e3, {}, false},
+        {frame(250, false, packets(1)), Event::e1, {}, true},
+        {frame(251, false, {0xc0}), Event::e2, {}, false},
+        {frame(250, false, {0xc0}), Event::e4, {}, false},
+        {frame(0, true, packets(3)), Event::e6, {2, 1, true}, true},
+        {frame(0, true, {0xc2, 0xab, 0xcd}), Event::e6, {1, 0, false}, true},
+        {frame(100, false, {0xc0}), Event::e5, {}, false},
+        {{0x30, 0x2a, 0x04, 0x07, 0x00, 0x82, 0x00, 0x09}, Event::e8, {}, false},
+        {{0x30, 0x2a, 0x04, 0x05, 0x00, 0x00}, Event::e7, {}, false},
+        {{0x10, 0x2a, 0x04, 0x05, 0x00, 0x00}, Event::e9, {}, false},
+    };
+}
+
+bool is(const tcrx::Delivery &found, const tcrx::Delivery &wanted) {
+    return found.queued == wanted.queued && found.dropped == wanted.dropped && found.rest == wanted.rest;
+}
+
+// Checks the reply of each row, and what a release and takes return after them.
+void check_replies() {
+    const tcrx::Queue two[] = {{5, 2}};
+    tcrx::Channel channel = *tcrx::Channel::make({1, 10, 1, 250}, two, maps, {32, {}});
+    for (const ReplyRow &row : reply_rows()) {
+        const tcrx::Result<tcrx::Brought> brought = channel.frame(row.octets);
+        expect(brought && brought->event == row.event && brought->accepted == row.accepted && is(brought->delivery, row.delivery),
+               "the reply to a frame");
+    }
+    expect(channel.buffered().value() == 1 && channel.queued(5).value() == 2 && channel.units(2).value() == 1, "what waits");
+    expect(is(channel.release().value(), {0, 1, false}), "the reply to a release");
+    Bytes room(8), other(8);
+    const tcrx::Result<tcrx::Octets> taken = channel.take(5, room), unit = channel.take_unit(2, other);
+    expect(taken && Bytes(taken->begin(), taken->end()) == one_packet, "a packet that is taken");
+    expect(unit && Bytes(unit->begin(), unit->end()) == Bytes({0xab, 0xcd}), "a unit that is taken");
+    expect(channel.release().status() == tcrx::Status::empty && channel.take_unit(2, room).status() == tcrx::Status::empty, "nothing waits");
+    expect(channel.events().value() == 13 && channel.clcw()->word == 0x010400fb, "the events, and the CLCW");
+}
+
 // Checks the report of a channel after each step, in the order of the rows. Then checks its CLCW with each flag of the
 // link alone.
 void check_reports() {
@@ -428,6 +490,7 @@ int main() {
     check_made();
     check_streams();
     check_ends_of_the_link();
+    check_replies();
     check_reports();
     check_settings();
     expect(tcrx_blocks() == 0, "no block is left");

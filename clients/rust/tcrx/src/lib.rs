@@ -3,8 +3,8 @@
 //!
 //! **Proofs.** The functions of the library are proved: each returns what its definition says. This crate is not proved. It
 //! passes each argument on, makes a value from each record that is returned, and frees a channel once. Tests compare all of
-//! that with the cases of the library's other callers. Rust itself ensures that a slice is as long as it says, that a channel
-//! isn't used after its end, and that two threads don't use one at the same time.
+//! that with values that were worked out by hand. Rust itself ensures that a slice is as long as it says, that a channel isn't
+//! used after its end, and that two threads don't use one at the same time.
 //!
 //! ```
 //! use tcrx::{Channel, Event, Link, Queue, Settings};

@@ -4,9 +4,9 @@
 use std::error::Error;
 use std::thread;
 use tcrx::{
-    add_fecf, check_fecf, randomise, write_cltu, Arrival, BringError, CandidateError, Channel, Clcw, Command, Decoder, Delivery,
-    Event, Farm, FarmError, FecfError, Frame, FrameError, Header, Kind, Limit, Limits, Link, Map, Packet, PacketHeader, Queue,
-    Rack, RackError, ReleaseError, Segments, Settings, SettingsError, State, TakeError, Tm, TmError, TmHeader, WriteError,
+    add_fecf, check_fecf, randomise, write_cltu, Arrival, BringError, Brought, CandidateError, Channel, Clcw, Command, Decoder,
+    Delivery, Event, Farm, FarmError, FecfError, Frame, FrameError, Header, Kind, Limit, Limits, Link, Map, Packet, PacketHeader,
+    Queue, Rack, RackError, ReleaseError, Segments, Settings, SettingsError, State, TakeError, Tm, TmError, TmHeader, WriteError,
 };
 
 const PACKET: [u8; 7] = [0x10, 0x05, 0xc0, 0x00, 0x00, 0x00, 0xaa];
@@ -376,6 +376,38 @@ fn packets_field_by_field() {
         let header = PacketHeader { apid, count, telecommand, secondary, sequence };
         assert_eq!(Packet::write(&header, &octets[6..length], &mut [0; 306]), Ok(&octets[..length]));
     }
+}
+
+/// There is a frame of each event, from CCSDS 232.1-B, 6.3, and then a release and takes. Of the three packets of one frame two find
+/// room.
+#[test]
+fn replies_field_by_field() {
+    let settings = Settings { buffer: 1, first_vr: 250, queues: &[Queue { apid: 5, capacity: 2 }], ..SETTINGS };
+    let mut channel = Channel::new(&settings).expect("settings");
+    let (nothing, one, three) =
+        (Delivery::default(), [&[0xc0], &PACKET[..]].concat(), [&[0xc0][..], &PACKET.repeat(3), &[0x10]].concat());
+    let rows = [
+        (frame(252, false, &[0xc0]), Event::E3, false, nothing),
+        (frame(250, false, &one), Event::E1, true, nothing),
+        (frame(251, false, &[0xc0]), Event::E2, false, nothing),
+        (frame(250, false, &[0xc0]), Event::E4, false, nothing),
+        (frame(0, true, &three), Event::E6, true, Delivery { queued: 2, dropped: 1, rest: true }),
+        (frame(0, true, &[0xc2, 0xab, 0xcd]), Event::E6, true, Delivery { queued: 1, dropped: 0, rest: false }),
+        (frame(100, false, &[0xc0]), Event::E5, false, nothing),
+        (vec![0x30, 0x2a, 0x04, 0x07, 0x00, 0x82, 0x00, 0x09], Event::E8, false, nothing),
+        (vec![0x30, 0x2a, 0x04, 0x05, 0x00, 0x00], Event::E7, false, nothing),
+        (vec![0x10, 0x2a, 0x04, 0x05, 0x00, 0x00], Event::E9, false, nothing),
+    ];
+    for (octets, event, accepted, delivery) in rows {
+        assert_eq!(channel.frame(&octets), Ok(Brought { event, accepted, delivery }));
+    }
+    assert_eq!((channel.buffered(), channel.queued(5), channel.units(2)), (1, Some(2), Some(1)));
+    assert_eq!(channel.release(), Ok(Delivery { queued: 0, dropped: 1, rest: false }));
+    let mut room = [0; 8];
+    assert_eq!(channel.take(5, &mut room), Ok(&PACKET[..]));
+    assert_eq!(channel.take_unit(2, &mut room), Ok(&[0xab, 0xcd][..]));
+    assert_eq!((channel.release(), channel.take_unit(2, &mut room)), (Err(ReleaseError::Empty), Err(TakeError::Empty)));
+    assert_eq!((channel.events(), channel.clcw(Link::default()).word()), (13, 0x0104_00fb));
 }
 
 /// Reports come after a Type-AD frame ahead of V(R) (E3), the expected one with room (E1) and without (E2), Unlock (E7), and a
