@@ -117,7 +117,7 @@ even o n = dite (dec_le (suc (o / 2 + o / 2)) o)
     (λ (le : suc (o / 2 + o / 2) ≤ o). absurd (n (omega (arith, le))))
     (λ (no : suc (o / 2 + o / 2) ≤ o → ⊥). let lt : o < suc (o / 2 + o / 2) = lt_of_not-le no in omega (arith, lt))
 
--- an owner that is no seat, and none of the accounts from the n-th on, is one of the first n accounts
+-- an owner that is neither a seat nor one of the accounts from the n-th on is one of the first n accounts
 tagged-whole : (n o : ℕ) → ((id : ℕ) → is o (seat_tag id) ≡ 0) → ((k : ℕ) → n ≤ k → is o (reported_tag k) ≡ 0) → tagged n o ≡ 1
 tagged-whole n o seats later =
     let k = o / 2 in

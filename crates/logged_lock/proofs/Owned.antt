@@ -32,7 +32,7 @@ owned-else t at o [] [] e apart len = owned-other t at o [] e [] apart
 owned-else t at o (p ∷ os) (x ∷ es) e apart len = ap (λ l. cond (p == t) ((at, x) ∷ l) l) (owned-else t (suc at) o os es e apart (omega arith))
 owned-else t at o _ _ e apart len = absurd (omega arith)
 
--- the owner `o`, with `b` in place of `a`
+-- the owner `o`, or `b` if `o` is `a`: the owner `a` is renamed to `b`
 abbrev pub renamed : ℕ → ℕ → ℕ → ℕ
 renamed a b o = cond (o == a) b o
 
@@ -45,20 +45,20 @@ renamed-old a b o n = grind (arith, nat_tests)
 renamed-new : (a b o : ℕ) → o ≢ b → (renamed a b o == b) ≡ (o == a)
 renamed-new a b o n = grind (arith, nat_tests)
 
--- other owners keep their places
+-- if one owner is renamed to another, a third owner keeps its places
 pub owned-renamed : {E : Type 0} (a b t at : ℕ) (os : List ℕ) (es : List E) → t ≢ a → t ≢ b → owned t at (map (renamed a b) os) es ≡ owned t at os es
 owned-renamed a b t at (o ∷ os) (e ∷ es) na nb =
     let more = owned-renamed a b t (suc at) os es na nb in
     λ i. cond (renamed-else a b t o na nb i) ((at, e) ∷ more i) (more i)
 owned-renamed a b t at _ _ na nb = refl
 
--- the old name owns nothing
+-- once the owner `a` is renamed, no place belongs to `a`
 pub owned-renamed-old : {E : Type 0} (a b at : ℕ) (os : List ℕ) (es : List E) → a ≢ b → owned a at (map (renamed a b) os) es ≡ []
 owned-renamed-old a b at (o ∷ os) (e ∷ es) n =
     ap (λ (t : Bool). cond t ((at, e) ∷ owned a (suc at) (map (renamed a b) os) es) (owned a (suc at) (map (renamed a b) os) es)) (renamed-old a b o n) ∙ owned-renamed-old a b (suc at) os es n
 owned-renamed-old a b at _ _ n = refl
 
--- the new name owns the places that the old name owned
+-- if `b` owned nothing and the owner `a` is renamed to `b`, the places of `a` belong to `b`
 pub owned-renamed-new : {E : Type 0} (a b at : ℕ) (os : List ℕ) (es : List E) → owned b at os es ≡ [] → owned b at (map (renamed a b) os) es ≡ owned a at os es
 owned-renamed-new a b at (o ∷ os) (e ∷ es) none =
     dite (ℕ_discrete o b)

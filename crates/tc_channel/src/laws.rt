@@ -1,5 +1,5 @@
-//! Laws over the definitions. A law over the run of a journal holds with any limit for each MAP (`run_within`), and so
-//! it also holds without limits by MAP (`run`).
+//! Laws about the definitions of this crate. A law about the run of a journal holds with any limit for each MAP
+//! (`run_within`), and so it also holds without limits by MAP (`run`).
 #![tactic(auto, using(crate::proofs::Closing::laws))]
 
 ghost use Rattle.std.specs.Prelude.{List, ℕ, ◌≡◌, ◌≤◌, ◌<◌, ◌+◌, ◌*◌, ◌%◌, ◌^◌, ◌++◌, ◌↔◌, Option, Some, None, false, [], ◌∷◌, ◌≢◌, IsTrue, length, map, slice_get};
@@ -202,8 +202,8 @@ pub fn unlock_and_set_v_r_open_a_channel()
     unlock_and_set_v_r_open_farm_1();
 }
 
-/// The octets of a unit bound the steps that it takes: a unit of n octets has at most n / 7 packets, and the largest
-/// unit, of 65,542 octets, has at most 9,363.
+/// The number of octets of a unit bounds the steps that its delivery takes. A unit of n octets has at most n / 7
+/// packets, and the largest unit, of 65,542 octets, has at most 9,363.
 pub fn a_unit_takes_steps_by_its_octets()
     ensures packets { (unit : List ℕ) → 7 * length (packets_of unit) ≤ length unit }
     ensures steps { (unit : List ℕ) (packets queues units : ℕ) → length unit < 7 * (packets + 1)

@@ -3,7 +3,7 @@
 //! A contract sees a [`Channel`] as its settings and its journal. It sees a [`CountingChannel`] in the same way,
 //! although the journal of that channel takes no memory. Everything else in the channel is the run of that journal:
 //! FARM-1's components, the buffered data fields, the open runs of reassembly, the packet queues and the unit queues.
-//! The laws over these definitions are the contracts of [`allowed_settings_have_no_fault`], [`wait_means_no_room`],
+//! The laws about these definitions are the contracts of [`allowed_settings_have_no_fault`], [`wait_means_no_room`],
 //! [`each_frame_has_a_step`], [`each_journal_has_an_era`], [`accepted_frames_count_up`],
 //! [`a_clcw_reports_how_many_were_accepted`], [`unlock_and_set_v_r_open_a_channel`],
 //! [`a_unit_takes_steps_by_its_octets`], [`a_sender_s_frames_may_come_so`],

@@ -93,6 +93,6 @@ pub record AtHand : Type 0 where
   pub now : Moment
   pub reported : List Own
 
--- the desk after these accounts were reported to its owner, too
+-- the desk after these further accounts were reported to its owner
 abbrev pub reported_at : AtHand → List Own → AtHand
 reported_at h accounts = record { desk = h.desk; owner = h.owner; now = h.now; reported = h.reported ++ accounts }

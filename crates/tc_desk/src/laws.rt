@@ -1,4 +1,4 @@
-//! Laws about the definitions.
+//! Laws about the events that operators make at a desk, and about the moments at which their calls are answered.
 
 ghost use Rattle.std.specs.Prelude.{ℕ, List, ◌≡◌, ◌≢◌, [], ◌∷◌, length, take, slice_get, Some};
 ghost use Rattle.tc_channel.specs.declared.event.Event.{Event};

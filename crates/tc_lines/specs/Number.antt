@@ -10,7 +10,7 @@ is_digit octet = nat_le 48 octet && nat_le octet 57
 abbrev pub with_digit : ℕ → ℕ → ℕ
 with_digit number digit = number * 10 + (digit - 48)
 
--- the number that the digits spell, the first the most significant
+-- the number that the digits spell, the first of which is the most significant
 abbrev pub spelled_number : List ℕ → ℕ
 spelled_number digits = fold with_digit 0 digits
 

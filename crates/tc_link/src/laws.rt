@@ -1,4 +1,4 @@
-//! Laws over the definitions of this layer.
+//! Laws about the definitions of this crate.
 
 ghost use Rattle.std.specs.Prelude.{◌≡◌, ◌≢◌, ◌⊎◌, ◌<◌, ◌≤◌, ◌+◌, ◌%◌, ◌^◌, ◌++◌, ◌↔◌, ◌∷◌, [], ℕ, Bool, List, Some, None, true, false, IsSome, IsTrue, replicate};
 ghost use Rattle.tc_link.specs.declared.frame.Header.{Header};

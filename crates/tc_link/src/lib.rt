@@ -1,6 +1,6 @@
 //! The link layer of a telecommand receiver: transfer frames, control commands, FARM-1 and the CLCW.
 //!
-//! Laws over the definitions stand as contracts of functions with empty bodies:
+//! Laws about the definitions stand as contracts of functions with empty bodies:
 //! [`each_input_begins_with_one_frame_at_most`], [`each_header_and_field_have_one_frame`],
 //! [`just_what_fits_a_frame_has_no_write_fault`], [`some_of_the_first_is_some_number`], [`each_arrival_has_an_entry`],
 //! [`v_r_changes_by_acceptance_and_set_v_r_alone`], [`a_written_clcw_reads_back`], [`unlock_and_set_v_r_open_farm_1`],

@@ -17,8 +17,8 @@ largest_unit = largest_packet
 abbrev pub bounded : List ℕ → Option (List ℕ)
 bounded octets = if nat_le (length octets) largest_unit then Some octets else None
 
--- The octets if their number is within the limit, and otherwise none. The largest unit as the limit changes no run or
--- unit of a stream.
+-- The octets if their number is within the limit, and otherwise none. With the limit `largest_unit`, all runs and units of a
+-- stream stay as they are.
 abbrev pub at_most : ℕ → Option (List ℕ) → Option (List ℕ)
 at_most limit None = None
 at_most limit (Some octets) = if nat_le (length octets) limit then Some octets else None

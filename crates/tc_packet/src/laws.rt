@@ -1,4 +1,4 @@
-//! Laws over the definitions of this crate.
+//! Laws about the definitions of this crate.
 
 ghost use Rattle.std.specs.Prelude.{◌≡◌, ◌<◌, ◌≤◌, ◌↔◌, ◌∷◌, [], ◌++◌, ℕ, true, false, List, length, Option, Some, None, take};
 ghost use Rattle.tc_packet.specs.declared.service.Service.{Service};

@@ -13,7 +13,7 @@
 //! grows it. With [`FixedRoom`], memory is therefore requested only when the rooms are created, and no other call can
 //! run out of memory. Only the block of a [`GrowingRoom`] is a `Vec`.
 //!
-//! Laws over the definitions stand as contracts of functions with empty bodies:
+//! Laws about the definitions stand as contracts of functions with empty bodies:
 //! [`each_unit_has_one_cut`], [`each_input_begins_with_one_packet_at_most`],
 //! [`an_open_run_looks_back_over_its_stream`], [`a_unit_looks_back_over_its_stream`],
 //! [`each_run_within_the_limit_is_left_by_fields`], [`a_plain_field_is_a_unit_by_itself`],

@@ -81,7 +81,7 @@ pub fit-enough : (octets : List ℕ) (least : ℕ) (sizes : List ℕ) → AllByR
 fit-enough octets least [] all le = tt
 fit-enough octets least (m ∷ sizes) all le = (let e = all.0 in omega arith, fit-enough octets least sizes all.1 le)
 
--- one queue more, behind those that were made of the first settings
+-- if a list has the queues of the first `i` settings, and the queue of the next one is appended, it has those of `i + 1`
 pub rings-more : {A : Type 0} (made : A → Queue) (settings : List A) (i : ℕ) (setting : A) (qs : List Keyed) (q : Keyed)
     → i < length settings → ring_in q ≡ stored (made (get_or settings i setting)) → rings_in qs ≡ map stored (map made (take i settings)) → rings_in (qs ++ q ∷ []) ≡ map stored (map made (take (i + 1) settings))
 rings-more made settings i setting qs q inside is so =

@@ -36,11 +36,11 @@ pub record ChannelState : Type 0 where
 abbrev pub queue_with : ℕ → ℕ → Queue
 queue_with key capacity = record { key = key; capacity = capacity; admitted = []; taken = 0 }
 
--- the packet queue of a setting, with nothing in it: its key is the APID
+-- the empty packet queue of a setting, whose key is the APID
 abbrev pub empty_queue : QueueSetting → Queue
 empty_queue q = queue_with q.apid q.capacity
 
--- the unit queue of a setting, with nothing in it: its key is the MAP
+-- the empty unit queue of a setting, whose key is the MAP
 abbrev pub empty_unit_queue : MapSetting → Queue
 empty_unit_queue m = queue_with m.map m.capacity
 

@@ -22,7 +22,8 @@ run_words = 40
 abbrev pub queue_words : ℕ
 queue_words = 64
 
--- the largest data field: a frame has at most 1,024 octets, and five of them are its header (CCSDS 232.0-B, 4.1.2.7)
+-- The number of octets in the largest data field. A frame has at most 1,024 octets (CCSDS 232.0-B, 4.1.2.7), and five
+-- of them are its primary header.
 abbrev pub largest_field : ℕ
 largest_field = 1019
 

@@ -23,8 +23,8 @@ looks_for key count = if nat_lt key apid_count then most_looks count else count
 abbrev pub pass_steps : ℕ → ℕ → ℕ
 pass_steps packets looks_for_one = packets * (looks_for_one + 1)
 
--- The steps of a unit. The queue of its MAP is looked for. Then the packets are staged in their queues, and the queues
--- are committed: that of each packet, or all queues.
+-- The steps of a unit. The queue of its MAP is looked for. Then the packets are staged in their queues. At last either
+-- the queue of each packet is committed, or each queue is.
 abbrev pub unit_steps : ℕ → ℕ → ℕ → ℕ
 unit_steps packets looks_for_one looks_for_map = looks_for_map + (pass_steps packets looks_for_one + (pass_steps packets looks_for_one + looks_for_one))
 

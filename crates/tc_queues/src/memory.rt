@@ -10,7 +10,7 @@ use crate::places::{KEYS, QUEUES_FOR_A_TABLE};
 use crate::settings::{LentSettings, MapSetting, QueueSetting, Settings};
 use tc_packet::LARGEST_UNIT;
 
-/// The largest length of a data field in octets: a frame has at most 1,024 octets (CCSDS 232.0-B, 4.1.2.7), and 5 of
+/// The largest length of a data field in octets. A frame has at most 1,024 octets (CCSDS 232.0-B, 4.1.2.7), and 5 of
 /// them are its primary header.
 pub const LARGEST_FIELD: usize = 1_019;
 

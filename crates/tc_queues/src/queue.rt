@@ -136,7 +136,7 @@ impl<R: Room> Queue<R> {
 }
 
 impl Queue<GrowingRoom> {
-    // Takes the oldest item out, if there is one. The item isn't copied: the block in which it lies is returned.
+    // Takes the oldest item out, if there is one. The item isn't copied, because the block that holds it is returned.
     pub(crate) fn take_front(&mut self) -> Option<Vec<u8>>
         ensures key { self.new.key ≡ self.old.key }
         ensures item { option_map (λ block. block.items) result ≡ slice_get self.old.slots.ring.items 0 }

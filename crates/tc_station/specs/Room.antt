@@ -1,4 +1,4 @@
--- Room for an operator, before it is issued.
+-- The room that is allocated for an operator before the operator is issued.
 use Rattle.std.specs.Prelude.{◌≡◌, ◌≤◌, ℕ, List, [], length, vec_capacity}
 use Rattle.tc_station.specs.declared.operator.Room.{Room}
 

@@ -1,4 +1,4 @@
-//! Laws over the definitions.
+//! Laws about the board of a channel and the CLCW that is its word.
 
 ghost use Rattle.std.specs.Prelude.{List, ℕ, ◌≡◌, ◌+◌, ◌*◌, ◌^◌, ◌∷◌, [], true};
 ghost use mathlib.Core.Option.{some};

@@ -2,7 +2,7 @@ use Rattle.tc_desk.proofs.Names.{◌≡◌, map, subst, List, true, false, arith
 use Rattle.tc_desk.proofs.Rows.{caused, closed_all, unbalanced, written_back}
 use Rattle.tc_desk.proofs.together.close_together.Goals as goal
 
--- the result of a test of guards and operators also holds for lists that are equal to theirs
+-- if the test of guards and operators has this result, it has the same result for equal guards and operators
 tested : (guard guard' : List AtHand) (rows rows' : List (List AtLock)) (answer : Bool) → guard ≡ guard' → rows ≡ rows' → MatchBool answer (CanCloseEach guard rows) (CannotCloseOne guard rows) → MatchBool answer (CanCloseEach guard' rows') (CannotCloseOne guard' rows')
 tested guard guard' rows rows' answer is are found = subst (λ (x : List AtHand × List (List AtLock)). MatchBool answer (CanCloseEach x.0 x.1) (CannotCloseOne x.0 x.1)) (λ i. (is i, are i)) found
 
