@@ -1,5 +1,6 @@
-//! Cases, which are scripts with expected answers. There is their list in an index, scripts at the limit of their size,
-//! the report at the end of the answers, and the first difference between answers and expected ones.
+//! Cases, which are scripts with expected answers. The functions of this crate read the index of cases, and make scripts
+//! at the limit of their size. They also find the report at the end of answers, and the first difference between answers
+//! and the expected ones.
 #![tactic(auto)]
 
 mod difference;

@@ -32,7 +32,7 @@ Example:
 pub(crate) const POINTER: &str =
     "The script comes on standard input. tcrx --help lists the lines of a script.";
 
-/// The hint after a word too many, which is often the name of a file.
+/// The hint that is printed if there is one word too many. That word is often the name of a file.
 pub(crate) const INPUT: &str =
     "tcrx: the script is read from standard input, for example: tcrx run --scid 42 < FILE";
 

@@ -1,4 +1,4 @@
-//! Laws over operations on several channels.
+//! Laws about operations on several channels.
 
 ghost use Rattle.std.specs.Prelude.{List, ℕ, ◌≡◌, map, filter, slice_get, Option, Some, true, false};
 ghost use Rattle.logged_lock.specs.Log.{made_by};
@@ -77,8 +77,8 @@ pub fn channels_of_a_script_do_not_touch_each_other()
 /// Suppose that two stations are closed, each together with its operators, and that a channel of one has the settings
 /// of a channel of the other. Suppose also that the operators made the same events on both channels, each at the same
 /// place of the journal. Then the two channels that the closes return are the same, whatever was done on other
-/// channels. Each call on the channels therefore had the same answer, too, because an answer is the model's after the
-/// journal up to the call (`from_a_sender_to_packets` of tc_station).
+/// channels. Calls at the same place of the two journals therefore had the same answers, too, because an answer
+/// follows from the journal up to the call (`from_a_sender_to_packets` of tc_station).
 pub fn channels_of_a_station_do_not_touch_each_other()
     ensures { (station other : Roster) (operators others : List AtStation) (closed shut : List History) (place at : ℕ) (one two : History)
         → AreClosedTogether station operators closed → AreClosedTogether other others shut → slice_get closed place ≡ Some one

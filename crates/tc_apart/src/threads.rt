@@ -28,7 +28,7 @@ use tc_write::the_segments_of_a_unit_make_the_unit;
 /// - `passed`: The Type-AD data fields of the era that were released are those that were sent, each once and in order.
 /// - `given`: The packets that were taken are those that `packets_that_are_sent_are_given` (tc_ends) promises for the
 ///   packets that the sender sent.
-/// - `in_cltus`: This also holds for the whole way: from a ground system's packets, over the start of an era and in
+/// - `in_cltus`: This also holds for the whole way: from a ground system's packets, across the start of an era and in
 ///   CLTUs with wrong bits, to the packets that were taken. The premises are those of `packets_in_cltus_are_given`
 ///   (tc_ends).
 pub fn a_station_gives_out_what_a_loop_sent()

@@ -17,7 +17,7 @@ use Rattle.tc_c.specs.declared.telemetry.TmFieldsRecord.{TmFieldsRecord}
 use Rattle.tc_c_base.specs.Status.{code_of}
 use Rattle.tc_c.specs.Farm.{with_ok, flag_of}
 
--- whether frames end with a frame error control field
+-- the choice that the flag stands for: frames end with a frame error control field, or without one
 abbrev pub error_of : Bool → ErrorControl
 error_of true = Present
 error_of false = Absent

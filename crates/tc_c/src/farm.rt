@@ -165,7 +165,7 @@ fn state(number: u8) -> Result<State, Status>
     }
 }
 
-// Returns whether some run of FARM-1 leaves this state with these flags.
+// Returns whether FARM-1 can be in this state with these flags.
 fn agree(state: State, lockout: bool, wait: bool, retransmit: bool) -> bool
     ensures { result ≡ agrees state lockout wait retransmit }
 {

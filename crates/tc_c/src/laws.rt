@@ -1,4 +1,4 @@
-//! Laws over the definitions of these calls.
+//! Laws about FARM-1's records, the numbers and texts of statuses, and frames and packets that were written.
 
 ghost use Rattle.std.specs.Prelude.{◌≡◌, ◌<◌, ◌∷◌, [], ℕ, Bool, List, Ok, Err, Some, IsSome, length, map};
 ghost use Rattle.tc_link.specs.Bits.{bit};

@@ -174,8 +174,8 @@ fn bring_checked(seats: &mut [Seat], scid: u16, octets: &[u8]) -> RackReplyRecor
 ///
 /// The call fails with BadFlag for another `fecf`. Then, if `fecf` is 1, it fails as `tcrx_check_fecf_at` does. It
 /// fails with the first fault of the octets if they begin with no frame, with OtherSpacecraft if the frame is for
-/// another spacecraft, and with UnknownChannel if no channel has its id. Each channel then stays as it was. Only the
-/// calls that create channels request memory.
+/// another spacecraft, and with UnknownChannel if no channel has the frame's virtual channel id. Each channel then
+/// stays as it was. Only the calls that create channels request memory.
 #[unsafe(no_mangle)]
 pub extern "C" fn tcrx_rack_frame_at(
     seats: &mut [Seat],

@@ -162,10 +162,11 @@ fn primary_header(header: TmHeaderRecord) -> [u8; 6]
 /// Reads octets that are one telemetry frame (CCSDS 132.0-B, 4.1). All octets belong to the frame, because the physical
 /// channel fixes the length of frames. A secondary header and packets aren't looked at.
 ///
-/// The call fails with BadFlag if `fecf` is neither 0 nor 1. It fails with BadLength for fewer than 11 octets, or 13
-/// with that field, and for more than 2,048. It fails with Version for another version, with NoControl for a frame
-/// without an operational control field, and with WrongFecf for a wrong frame error control field. If it fails, each
-/// other number of the record is 0.
+/// `fecf` is 1 if frames end with a frame error control field, otherwise 0. The call fails with BadFlag if `fecf` is
+/// neither 0 nor 1. It fails with BadLength for more than 2,048 octets and for fewer than 11, or fewer than 13 if
+/// `fecf` is 1. It fails with Version for another version, with NoControl for a frame without an operational control
+/// field, and with WrongFecf for a wrong frame error control field. If it fails, each number of the record except
+/// `status` is 0.
 #[unsafe(no_mangle)]
 pub extern "C" fn tcrx_read_tm_at(fecf: u8, octets: &[u8]) -> TmFieldsRecord
     ensures fields { IfOk (tm_to_read fecf octets.now) (λ fields. result ≡ tm_record fields) }

@@ -1,4 +1,4 @@
-//! Laws about the definitions.
+//! Laws about the lines of a script, its effect and its report.
 
 ghost use Rattle.std.specs.Prelude.{◌≡◌, ◌<◌, ℕ, [], List, Option};
 ghost use Rattle.tc_channel.specs.Journal.{History};

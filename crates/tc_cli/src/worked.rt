@@ -1,4 +1,5 @@
-//! A law that checks the definitions: according to them, one script writes the text that was worked out by hand.
+//! A law that checks the definitions by an example. By the definitions, one script writes the text that was worked out
+//! by hand.
 
 ghost use Rattle.std.specs.Prelude.{[], Some};
 ghost use Rattle.tc_cli.specs.Examples as example;

@@ -1,4 +1,4 @@
--- Eight bits in one step, and the sequence of the randomiser.
+-- The remainder of octets, by one look-up in a table for each octet, and the sequence of the randomiser.
 use Rattle.std.proofs.Common.{◌≡◌, ℕ, ◌+◌, ◌*◌, ◌<◌, ◌≤◌, List, [], ◌∷◌, ◌++◌, length, get_or, take, set, append_assoc, drop, replicate, bit_xor, refl, ap, sym, ◌∙◌, arith, zero, suc}
 use Rattle.tc_cltu.proofs.Names.{NEXT_OCTETS, REMAINDERS, bit_at, bits_of, IsOctets, block_remainder, block_times_x, moved_on, next_bit, octet_bits, octet_on, randomised_from, same_below, twice, xor_assoc, xor_zero_r}
 use Rattle.std.specs.Int.Bits.{xor_zero_l}

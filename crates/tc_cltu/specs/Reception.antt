@@ -32,7 +32,7 @@ after_block room (o ∷ frame) None = (Searching 0, (o ∷ frame) ∷ [])
 unfoldable pub start_errors : ℕ → ℕ → ℕ
 start_errors last octet = differences (bits_of (last ∷ octet ∷ [])) (bits_of start_sequence)
 
--- whether two octets count as the start sequence: they may have as many wrong bits as the mode allows in a code block
+-- Whether two octets count as the start sequence. They may have as many wrong bits as the mode allows in a code block.
 unfoldable pub is_start : Mode → ℕ → ℕ → Bool
 is_start mode last octet = if nat_lt (most_errors mode) (start_errors last octet) then false else true
 

@@ -1,4 +1,4 @@
-//! Laws over the definitions of this crate.
+//! Laws about the definitions of this crate.
 
 ghost use Rattle.std.specs.Prelude.{◌≡◌, ◌*◌, ◌<◌, ◌≤◌, ◌++◌, ◌∷◌, [], ℕ, List, Some, None, true, replicate, take, length};
 ghost use Rattle.std.specs.List.{concat, AllByRecursion};

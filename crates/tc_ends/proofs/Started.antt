@@ -1,4 +1,4 @@
--- The way from a sender's packets to the packets that are taken, over the start of an era.
+-- The way from a sender's packets to the packets that are taken, across the start of an era.
 use Rattle.tc_ends.proofs.Names.{Action, AllByRecursion, AltersNothing, AreEventsOf, AreFrom, AreGivenOf, AreNumbered, CanBeSent, Coming, Event, Header, IsLoop, IsStart, LinkEnd, List, Loop, Queue, Reception, SendsOnly, Some, Start, UnitSent, [], accepted, ap, arith, begins, begun, comes, era, era_session, field_of, inl, inr, is-loop, journal, journal-whole, known-so, length, length-drop, map, queue_of, receiver, refl, released-within, released_since, run_within, sent, sent_from, subst, suc, sym, units_on, whole, zero, ℕ, ◌++◌, ◌∙◌, ◌∷◌, ◌≡◌, ◌≤◌}
 use Rattle.tc_ends.proofs.Arrived.{events-came}
 use Rattle.tc_ends.proofs.Numbered.{numbered-sends}

@@ -140,7 +140,7 @@ pub fn numbered_frames_send_packets()
         → (k : ℕ) → k < length frames → (header_of (slice_index_or frames k [])).ns ≡ (header.ns + k) % 256 }
 {}
 
-/// This law leads from a ground system's packets to the packets that are taken, over the start of an era and over links
+/// This law leads from a ground system's packets to the packets that are taken, across the start of an era and over links
 /// that lose, repeat and delay frames, but keep their order. The sender sends Set V(R) and then its packets, in units
 /// on any MAPs. It numbers the frames, sends them by its window, and sends no others. It believes that Set V(R) was
 /// obeyed only after it was obeyed. The packets that were taken are then those that [`packets_that_are_sent_are_given`]

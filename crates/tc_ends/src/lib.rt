@@ -1,5 +1,5 @@
-//! The whole way of packets: from those that a sender sends to the packets and units that are taken at the receiver,
-//! under the conditions of `what_was_sent_is_accepted_once_and_in_order` of tc_channel, or in a loop of tc_loop.
+//! The whole way from the packets that a sender sends to the packets and units that are taken at the receiver, under the
+//! conditions of `what_was_sent_is_accepted_once_and_in_order` of tc_channel, or in a loop of tc_loop.
 //!
 //! All functions are laws, which do nothing.
 #![tactic(auto)]

@@ -123,7 +123,7 @@ burst (suc i) _ _ lengths bits_b bits_c r r_fits alike e = absurd (omega arith)
 open_sum : ℕ → Bool
 open_sum d = not (eqb d 0) && not (eqb d 32768)
 
--- `open_sum` is true of a difference and of its next n - 1 multiples by x
+-- whether `open_sum` is true of d, and of d times x, x ^ 2, .., x ^ (n - 1) modulo G
 stays : ℕ → ℕ → Bool
 stays zero d = true
 stays (suc n) d = open_sum d && stays n (times_x d)
@@ -147,8 +147,8 @@ shut d zero fits is h = let f : open_sum d ≡ open_sum 0 = ap open_sum is in cc
 shut d (suc zero) fits is h = let f : open_sum d ≡ open_sum 32768 = ap open_sum is in cc
 shut d (suc (suc e)) fits is h = omega arith
 
--- Let only the bits at place `n` differ. The registers can't become equal if `open_sum` is true of their difference and
--- of its next `n` multiples by x.
+-- Let only the bits at place `n` differ. The registers can't become equal if `open_sum` is true of their difference d,
+-- and of d times x, x ^ 2, .., x ^ n modulo G.
 later : (n : ℕ) (bs cs : List ℕ) → length bs ≡ length cs → AreBits bs → AreBits cs → (r s : ℕ) → r < 2 ^ 16 → s < 2 ^ 16
     → ((k : ℕ) → k ≢ n → Alike bs cs k) → stays (suc n) (bit_xor r s) ≡ true → remainder r bs ≡ remainder s cs → ⊥
 unfolding AreBits Alike stays

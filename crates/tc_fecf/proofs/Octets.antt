@@ -1,4 +1,4 @@
--- Eight bits in one step.
+-- The register after eight more bits, computed in one step by a table or by shifts.
 use Rattle.std.proofs.Common.{◌≡◌, ℕ, ◌+◌, ◌*◌, ◌/◌, ◌%◌, ◌^◌, ◌<◌, ◌≤◌, List, [], ◌∷◌, length, get_or, drop, take, bit_xor, refl, ap, sym, ◌∙◌, arith}
 use Rattle.std.proofs.lemmas.List.{at_drop_more}
 use Rattle.tc_fecf.proofs.Names.{xor_zero_l, bits_of, octet_bits, remainder, times_x, xor_assoc, xor_comm, xor_lt, xor_shifted}

@@ -17,6 +17,6 @@ pub record AreDelimited (most : ℕ) (octets : List ℕ) (frames : List (List �
   pub few : length frames ≤ most
   pub ended : (length frames ≡ most) ⊎ IsSome (fault_of rest)
 
--- whether octets can be the fill of the last code block: there are at most six, and they don't begin with a frame
+-- Whether octets can be the fill of the last code block. There are at most six of them, and they don't begin with a frame.
 abbrev pub is_fill : List ℕ → Bool
 is_fill rest = if nat_lt 6 (length rest) then false else is_some (fault_of rest)

@@ -1,7 +1,7 @@
 //! The frame error control field of telecommand transfer frames (CCSDS 232.0-B, 4.1.4), and the functions that take
 //! frames out of the octets that a CLTU carried.
 //!
-//! Laws over the definitions stand as contracts of functions with empty bodies: [`the_field_is_the_remainder`],
+//! Laws about the definitions stand as contracts of functions with empty bodies: [`the_field_is_the_remainder`],
 //! [`a_field_comes_off_as_it_went_on`], [`just_frames_with_room_for_the_field_have_no_fault`],
 //! [`a_burst_of_16_bits_is_detected`], [`a_change_of_two_bits_is_detected`], [`a_change_of_three_bits_is_detected`],
 //! [`a_change_of_an_odd_number_of_bits_is_detected`], [`each_candidate_is_delimited_in_one_way`].

@@ -1,4 +1,4 @@
-//! Laws over the definitions of limits and of storage.
+//! Laws about the definitions of limits and of storage.
 
 ghost use Rattle.std.specs.Prelude.{ℕ, ◌≡◌, ◌≤◌, ◌≢◌, ◌∷◌, [], true, false};
 ghost use Rattle.std.specs.List.{AllByRecursion, Contains};

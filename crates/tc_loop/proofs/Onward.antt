@@ -1,4 +1,4 @@
--- A loop goes on by a round, and by any number of rounds.
+-- Each session of a loop can be continued by a round, and by any number of rounds.
 use Rattle.tc_loop.proofs.Names.{Accepted, Action, Arrive, Bool, ChannelState, E1, Frame, GoesOn, Hear, IsLoop, IsSome, IsSound, List, Loop, None, Other, Release, Report, Row, S1, S2, S3, Send, Settings, Some, State, [], accepted, after_frame, after_release, ap, append-nil, append_assoc, arith, buffer, drop, entry, eq-eqb, events, false, field_of, frame_row, has_room, header_of, heard, kind_by, known, length, length-drop, length-map, nat_tests, passed_on, receiver, refl, releases, reported, round, row_of, set_at, slice_get, slice_get_within, state-sound, step, subst, suc, sym, take, take_all, true, zero, ℕ, ◌%◌, ◌++◌, ◌+◌, ◌-◌, ◌/◌, ◌<◌, ◌∙◌, ◌∷◌, ◌≡◌, ◌≢◌, ◌≤◌, length_push, take_at, GoesOnBy}
 use Rattle.tc_loop.proofs.Window.{heard-right}
 use Rattle.tc_loop.proofs.Counted.{one-more, ever-same, ever-more, vr-at, known-so, known-step, reported-so}

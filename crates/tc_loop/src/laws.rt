@@ -64,9 +64,9 @@ pub fn a_wider_window_can_lock_out()
 {}
 
 /// If the sender's window is no wider than half the receiver's, a loop is never stuck. The window must be at least 1,
-/// and the receiver must not be locked out at first. Whatever was lost before, one round without a loss is enough, and
-/// no command is needed: after the round one more frame is accepted, and the sender knows this (`round`). After `n`
-/// rounds, `n` more frames are accepted (`any`).
+/// and the receiver must not be locked out at first. Whatever was lost before, one more frame is accepted after one
+/// round without a loss, and the sender knows this (`round`). No command is needed. After `n` rounds, `n` more frames
+/// are accepted (`any`).
 pub fn a_loop_can_always_go_on()
     ensures round { (l : Loop) (session : List Action) → IsLoop l session → 1 ≤ l.window → l.window ≤ l.settings.width / 2
         → (receiver l []).report.state ≢ S3 → GoesOn l session (session ++ round l session) }
@@ -106,10 +106,10 @@ pub fn a_number_of_its_own_shows_that_set_v_r_was_obeyed()
 {}
 
 /// These starts come to the results that were worked out by hand. By FOP-1's rule alone, a sender believes that Set
-/// V(R) was obeyed if a CLCW has the number that Set V(R) names. This rule isn't enough (`trap`): an earlier CLCW has
-/// the number 0, too, and the sender takes a lost frame for accepted. A Set V(R) to 9 meets each premise of both laws
-/// (`met`, `before_met`, `another_met`), although it is obeyed twice. A Set V(R) may also name the number of a frame
-/// that is known to be accepted (`known_named`), but not that of the next frame (`next_not_named`).
+/// V(R) was obeyed if a CLCW has the number that Set V(R) names. This rule isn't enough (`trap`). There, an earlier CLCW
+/// has the number 0, too, and the sender takes a lost frame for accepted. A Set V(R) to 9 meets each premise of both
+/// laws (`met`, `before_met`, `another_met`), although it is obeyed twice. A Set V(R) may also name the number of a
+/// frame that is known to be accepted (`known_named`), but not that of the next frame (`next_not_named`).
 pub fn starts_come_to_this()
     ensures trap_says { reported example.trap.loop example.trap.session 0 ≡ example.trap.loop.first }
     ensures trap_known { known_since example.trap 7 ≡ 1 }
@@ -136,8 +136,8 @@ pub fn a_session_comes_to_this()
     ensures two_begun { begun example.one_lost 8 ≡ 2 }
 {}
 
-/// With a window of 10 or 255, and a first frame with the number 250 or 0, a sender reads these report values as was
-/// worked out by hand.
+/// States the numbers of frames that a sender knows to be accepted after it reads a report value, worked out by hand.
+/// The window is 10 or 255, and the first frame has the number 250 or 0.
 pub fn report_values_are_read_so()
     ensures none { heard 250 10 0 250 ≡ 0 }
     ensures modulo_256 { heard 250 10 0 3 ≡ 9 }

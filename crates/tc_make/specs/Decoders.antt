@@ -43,7 +43,7 @@ IsFed (Some old) octets new text =
 abbrev pub IsPieceSaid : List (Option Receiver) → ℕ → List ℕ → List (Option Receiver) → List ℕ → Type 0
 IsPieceSaid old id octets new text = (slot : Option Receiver) × (new ≡ slice_set old id slot) × IsFed (slice_index_or old id None) octets slot text
 
--- a stream was given a new decoder and there is no answer, or memory ran out
+-- Either the stream has a new decoder and the answer is empty, or memory ran out and the decoders are as they were.
 abbrev pub IsDecoderSaid : List (Option Receiver) → ℕ → Mode → List (Option Receiver) → List ℕ → Type 0
 IsDecoderSaid old id mode new text = ((text ≡ []) × (new ≡ with_new_decoder old id mode)) ⊎ ((text ≡ bad_text NoMemory) × (new ≡ old))
 

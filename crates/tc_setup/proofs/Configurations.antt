@@ -28,7 +28,7 @@ few (none ∷ rest) c =
     in
     rw (← length-map list of) (length-le_from_distinct_below (map of list) 64 (IsDistinct-from_AllPairs Decides-eqb (map of list) apart) small)
 
--- the settings at the place that a search for an id found have the id
+-- if a search for an id found a place, the settings at this place have the id
 pub found : (list : List Settings) (vcid place : ℕ) (x : Settings) → (s : Settings) × IsAt list vcid place s → x ≡ get_or list place x → IsAt list vcid place x
 found list vcid place x (s, (at, v)) is = subst (IsAt list vcid place) (sym (is ∙ get_or_from_slice_get list place s x at)) (at, v)
 

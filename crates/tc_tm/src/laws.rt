@@ -1,4 +1,4 @@
-//! Laws over the definitions.
+//! Laws about telemetry frames that are written and read, and about their frame counts.
 
 ghost use Rattle.std.specs.Prelude.{◌≡◌, ◌≤◌, ◌∷◌, [], ℕ, List, Some, None, length, replicate};
 ghost use Rattle.tc_tm.specs.TmFrame.{IsTmHeader, primary_header, tm_frame, only_idle, least_length, tm_fault_of, tm_fields_of, read_fault_of};
@@ -56,8 +56,8 @@ pub fn telemetry_frames_are_bounded_so()
         (0x02 ∷ 0xa3 ∷ 0xff ∷ 0x07 ∷ 0x1f ∷ 0xfe ∷ 0x55 ∷ 0x01 ∷ 0x04 ∷ 0x00 ∷ 0x01 ∷ 0x73 ∷ 0xd3 ∷ []) ≡ Some WrongSum }
 {}
 
-/// States examples, worked out by hand, of the counts of telemetry frames: they count by spacecraft and by virtual
-/// channel, from 0 to 255 and then from 0 again.
+/// States examples, worked out by hand, of the counts of telemetry frames. The frames are counted for each spacecraft
+/// and for each virtual channel. After 255 a count continues with 0.
 #[tactic(auto, unfolding(crate::specs::Counting::none_yet))]
 pub fn telemetry_frames_are_counted_so()
     ensures first { next_header none_yet 42 1 ≡ record { scid = 42; vcid = 1; master_count = 0; channel_count = 0 } }

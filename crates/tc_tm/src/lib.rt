@@ -1,7 +1,7 @@
 //! Telemetry transfer frames that carry a CLCW and otherwise only idle data (CCSDS 132.0-B), for the return link of a
 //! telecommand link.
 //!
-//! [`write_tm`] writes a frame, [`Counts`] numbers successive frames, and [`read_tm`] reads one. Laws over the
+//! [`write_tm`] writes a frame, [`Counts`] numbers successive frames, and [`read_tm`] reads one. Laws about the
 //! definitions stand as contracts of functions with empty bodies: [`a_written_frame_reads_back`],
 //! [`a_telemetry_frame_is_so`], [`telemetry_frames_are_bounded_so`], [`telemetry_frames_are_counted_so`].
 #![tactic(auto)]

@@ -1,4 +1,4 @@
-//! A law over the definitions.
+//! A law about the segments of a unit.
 
 ghost use Rattle.std.specs.Prelude.{ℕ, ◌≤◌, List, length};
 ghost use Rattle.tc_write.specs.Segments.{AreSegments, MakeUnit};

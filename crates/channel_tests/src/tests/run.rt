@@ -13,7 +13,8 @@ pub enum Step<'a> {
     Field(&'a [u8], FrameReply),
     // The release of a unit of one packet.
     Release,
-    // The release of a unit of this kind. Its name is printed if memory for the release is refused.
+    // The release of a data field. The text names the contents of the field, and is printed if memory for the release is
+    // refused.
     ReleaseOf(&'a str, Delivery),
     Take(u16, &'a [u8]),
     TakeUnit(u8, &'a [u8]),

@@ -18,8 +18,8 @@ const CLTU: [u8; 18] = [
     0xc5, 0x79,
 ];
 
-// Feeds the CLTU to the decoder. If memory for the copy of a frame is refused, the frame stays in the decoder. All
-// octets up to its end were then taken, and the earlier frames are kept.
+// Feeds the CLTU to the decoder. If memory for the copy of a frame is refused, the frame stays in the decoder, and is
+// copied from there. All octets up to the end of the frame have then been decoded, and the earlier frames are kept.
 fn feed(
     rt: &(impl Abort + Print),
     alloc: Global,

@@ -1,6 +1,6 @@
 //! Six threads write 10,000 numbers each into one book.
 //!
-//! All threads end. The book then has each number once, and each thread's numbers in order.
+//! All threads finish. The book then has each number once, and each thread's numbers in order.
 
 ghost use Rattle.std.specs.Prelude.{◌≡◌, true};
 ghost use Rattle.std.specs.Thread.{IsSync};
@@ -12,7 +12,7 @@ use std::rt::Clock;
 use std::sync::Wait;
 use std::thread::{Threads, join_mut};
 
-// A writer of the numbers from its first one on.
+// A writer of consecutive numbers, the first of which is `first`.
 #[derive(Drop)]
 struct Writer {
     seat: BookSeat,
@@ -137,8 +137,8 @@ fn report_both(lock: &BookLock, first: &mut BookSeat, pair: Pair)
     lock.report(first, two.seat);
 }
 
-// Takes the book out from under the lock, through the first seat, and returns the book. Before that the first seat is
-// told the entries that the six other seats have seen and made.
+// Takes the book out from under the lock, through the first seat, and returns the book. Before that, the entries that
+// the six other seats have seen and made are reported to the first seat.
 fn close<R: Wait>(rt: &R, alloc: Global, lock: &BookLock, mut first: BookSeat, six: Six) -> Book
     requires first { IsWriter lock.now first × (first.id ≡ 0) }
     requires one { IsWriter lock.now six.one.one.seat × IsWriter lock.now six.one.two.seat }
