@@ -145,6 +145,10 @@ row_step {X} at hs next first rest more x os whole rest_is os_is is before ours 
           (ours_after hs (at x) (map at more) (All-tail (λ (operator_list : List AtLock). locks_of operator_list ≡ locks_of (owners_of hs)) (at x) (map at more) all)),
     )
 
+pub row_here : {X : Type 0} (at : X → List AtLock) (hs : List AtHand) (rest more : List X) (x : X) (os : List AtLock) → rest ≡ x ∷ more → os ≡ at x → AreOurs (owners_of hs) (map at rest) → locks_of os ≡ locks_of (owners_of hs)
+row_here {X} at hs rest more x os rest_is os_is ours =
+    rw os_is (All-head (λ (operator_list : List AtLock). locks_of operator_list ≡ locks_of (owners_of hs)) (at x) (map at more) (subst (λ (l : List X). AreOurs (owners_of hs) (map at l)) rest_is ours))
+
 -- ---- the desk at a place
 
 row_at : (hs : List AtHand) (os : List AtLock) (place : ℕ) (h : AtHand) → locks_of os ≡ locks_of (owners_of hs) → slice_get hs place ≡ Some h → slice_get (reported_row hs os) place ≡ Some (reported_one h (get_or os place nobody))

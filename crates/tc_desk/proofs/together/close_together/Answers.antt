@@ -29,3 +29,6 @@ returns-clause-closed g c =
     let can : CanCloseEach guard rows = subst (λ (b : Bool). MatchBool b (CanCloseEach guard rows) (CannotCloseOne guard rows)) yes found in
     closed_all c.args.owned_desks.items rows guard _ c.take_all_out.result.items c.in-Ok-take_locks.ensures.guard c.requires.ours can c.take_all_out.ensures
     (written_back c.in-Ok-take_locks.both.1 c.deref_mut.result.now c.report_rows.new.guards rows c.deref_mut.ensures.value c.report_rows.ensures)
+
+pub can_close_each-can_close-requires : goal.can_close_each-can_close-requires
+can_close_each-can_close-requires g c = rw (c.deref.ensures.value, c.deref-2.ensures.value, c.in-Ok-take_locks.ensures.guard.0) c.requires.ours
