@@ -1,5 +1,5 @@
-//! Tests of the crates that read lines, which use public names only. They cover scripts, the live receiver, and the
-//! maker of frames with the frame error control field. The library itself is empty.
+//! Tests of scripts, of the lines of `tclive` and `tcmake`, of sessions, and of the frame error control field. They use
+//! only the public names of the crates. The library itself is empty.
 #![tactic(auto)]
 
 #[cfg(test)]

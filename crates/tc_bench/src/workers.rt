@@ -12,7 +12,7 @@ use std::thread::Threads;
 use tc_channel::{Channel, Items, Octets};
 use tc_station::{FreeGate, Job, Operator, Order, Station, WorkList};
 
-/// Creates a worker for each channel, which makes the rounds on it, and closes the station.
+/// Runs `rounds` rounds on each channel, by a worker for each channel, and then closes the station.
 pub(crate) fn work<R: Threads + Wait + Sync>(
     rt: &R,
     alloc: Global,

@@ -253,7 +253,7 @@ impl<J: Journal> ChannelWith<J> {
     }
 
     /// Lends the octets of the packet that the next [`take`](ChannelWith::take) with this APID will return. Returns
-    /// `None` if there is no such queue or it is empty. The call takes no memory and isn't an event.
+    /// `None` if there is no such queue or it is empty. The call allocates nothing and isn't an event.
     pub fn oldest(&self, apid: u16) -> Option<&[u8]>
         ensures packet { option_map (λ octets. octets.now) result ≡ take_reply self.now.settings self.now.journal apid }
         ensures allowed { IsAllowed self.now.settings }
@@ -263,7 +263,7 @@ impl<J: Journal> ChannelWith<J> {
     }
 
     /// Lends the octets of the unit that the next [`take_unit`](ChannelWith::take_unit) with this MAP will return.
-    /// Returns `None` if the MAP isn't chosen or its queue is empty. The call takes no memory and isn't an event.
+    /// Returns `None` if the MAP isn't chosen or its queue is empty. The call allocates nothing and isn't an event.
     pub fn oldest_unit(&self, map: u8) -> Option<&[u8]>
         ensures unit { option_map (λ octets. octets.now) result ≡ unit_reply self.now.settings self.now.journal map }
         ensures allowed { IsAllowed self.now.settings }

@@ -5,7 +5,8 @@ use mathlib.Core.List.{IsPrefix}
 use Rattle.logged_lock.proofs.Owned.{owned-own, owned-other}
 use Rattle.tc_desk.specs.Alone.{with_places, HasMadeAll, HasSeenItsOwn}
 
--- If only the k-th maker owns places, it owns the first place. So if it also owns all other places, it owns all places.
+-- If no operator but the k-th one has made an event, the k-th one has made the first event. So if it has also made all
+-- later events, it has made all events.
 own-step : (k at o : ℕ) (os : List ℕ) (e : Event) (es : List Event) → ((j : ℕ) → j ≢ k → owned j at (o ∷ os) (e ∷ es) ≡ [])
     → (((j : ℕ) → j ≢ k → owned j (suc at) os es ≡ []) → owned k (suc at) os es ≡ with_places (suc at) es) → owned k at (o ∷ os) (e ∷ es) ≡ with_places at (e ∷ es)
 own-step k at o os e es none rest = elim (eqb_tells o k) [
@@ -15,7 +16,7 @@ own-step k at o os e es none rest = elim (eqb_tells o k) [
   | inr h ↦ absurd (let nothing : (at, e) ∷ owned o (suc at) os es ≡ [] = sym (owned-own o at o os e es refl) ∙ none o h.1 in cc)
 ]
 
--- if only the k-th maker owns places, it owns all of them
+-- if no operator but the k-th one has made an event, the k-th one has made all events
 all-own : (k at : ℕ) (os : List ℕ) (es : List Event) → length os ≡ length es → ((j : ℕ) → j ≢ k → owned j at os es ≡ []) → owned k at os es ≡ with_places at es
 all-own k at [] [] len none = refl
 all-own k at (o ∷ os) (e ∷ es) len none = own-step k at o os e es none (all-own k (suc at) os es (omega arith))

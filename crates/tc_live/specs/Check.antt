@@ -8,7 +8,7 @@ use Rattle.tc_text.specs.declared.line.Line.TheVariants.{Frame}
 use Rattle.tc_live.specs.declared.check.FrameCheck.{FrameCheck}
 use Rattle.tc_live.specs.declared.check.FrameCheck.TheVariants.{Nothing, ErrorControl}
 
--- the octets are a frame with its frame error control field, and this is the line of the frame without the field
+-- `octets` are a frame with its frame error control field, and `passed` is the line of the frame without the field
 abbrev pub IsFieldOff : List ℕ → Line → Type 0
 IsFieldOff octets passed = (plain : List ℕ) × IsWhole plain × (octets ≡ frame_with_field plain) × (passed ≡ Frame plain)
 

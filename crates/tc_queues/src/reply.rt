@@ -9,8 +9,8 @@ use std::alloc::AllocError;
 use tc_link::Act;
 use thiserror::Error;
 
-/// The outcome for the unit that a call ended. Its numbers count the packets of the unit, or the whole unit if its MAP
-/// is chosen. If the call ended no unit, the numbers are 0 and `rest` is false.
+/// The outcome for the unit that a call completed. The two numbers count the packets of the unit, or the whole unit if
+/// its MAP is chosen. If the call completed no unit, they are 0 and `rest` is false.
 #[derive(Clone, Copy, Debug, PartialEq, Eq)]
 pub struct Delivery {
     /// The number of packets that were queued, or 1 for a unit that was queued whole.

@@ -71,8 +71,8 @@ pub fn check_taking(octets: &[u8]) -> Result<(), FieldFault>
     Ok(())
 }
 
-/// Writes the frame without its field into `plain`, as `without_field` of tc_fecf does. `plain` must be two octets
-/// shorter than the frame.
+/// Writes the frame in `octets`, without its frame error control field, into `plain`. The octets must have passed
+/// `check_taking`, and `plain` must be two octets shorter.
 pub fn write_without_field(octets: &[u8], plain: &mut [u8])
     requires whole { IsWhole octets.now }
     requires least { 8 ≤ length octets.now }

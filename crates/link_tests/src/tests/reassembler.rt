@@ -19,7 +19,7 @@ fn ask(
     reassembler.unit_after(service, field)
 }
 
-// Brings a field, and returns the unit that it ends. The field isn't empty.
+// Pushes a field, which must not be empty, to the reassembler. Returns the unit that the field completes, if any.
 fn push(
     rt: &impl Abort,
     reassembler: &mut Reassembler,
@@ -73,7 +73,8 @@ impl Watched {
             .expect(rt, "a field");
     }
 
-    // Brings a field, checks that each call and the definition agree on the unit that it ends, and returns this unit.
+    // Pushes a field to the reassembler. Checks that each call and the definition agree on the unit that the field
+    // completes, and returns this unit.
     fn push(&mut self, rt: &impl Abort, service: Service, field: &[u8]) -> Option<Vec<u8>> {
         let expected = self.unit_after(rt, service, field);
         let answer = push(rt, &mut self.reassembler, service, field);

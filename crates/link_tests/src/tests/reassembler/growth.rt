@@ -62,7 +62,7 @@ fn report_refused(rt: &(impl Abort + Print), field: &[u8]) {
 // A field, the unit that it ends, and the open run after it.
 type Row = (&'static [u8], Option<&'static [u8]>, Option<&'static [u8]>);
 
-// Brings a field, and checks the unit and the open runs before and after.
+// Pushes a field to the reassembler, and checks the unit and the open runs before and after.
 fn check_push(
     rt: &(impl Abort + Print),
     reassembler: &mut Reassembler,
