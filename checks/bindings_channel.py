@@ -129,11 +129,39 @@ def check_chain() -> None:
             same((len(found.frames), found.more), (1, frames[0]), "a frame more than is taken")
             found = rack.bring_candidate(frames[0] + b"\x40" * 8, most=3)
             same(found.frames[1:], [Refused(Refusal.CHECK if fecf else Refusal.VERSION)], "octets behind a frame that are none")
-    cut = Decoder(correct=False)
-    cut.feed(b"\xeb\x90abc")
-    same((cut.search(), cut.search(), cut.feed(write_cltu(b"abc"))), (True, False, [b"abc\x55\x55\x55\x55"]), "a search anew")
-    cut.feed(b"\xeb\x90" + bytes.fromhex("00000000000000fe") * 148)
-    same(cut.overlong, 1, "a CLTU that carries too much")
+
+
+def check_candidates() -> None:
+    """Candidates of twenty frames for two channels in turn, and of three frames of which the middle one is refused, for each of three reasons."""
+    ids = (5, 8) * 10
+    sent = [frame(0, whole(0, b"\xaa" * 43), vcid, bypass=1, scid=675, fecf=True) for vcid in ids]
+    brought = [Brought(vcid, Event.E6, True, Delivery(0, 0, True)) for vcid in ids]
+    limits: Dict[str, Any] = {"width": 10, "buffer": 4, "first": 7, "limits": {0: 64}}
+    with Channel(5, **limits) as five, Channel(8, **limits) as eight:
+        rack = Rack(675, [five, eight], fecf=True)
+        found = rack.bring_candidate(b"".join(sent) + b"\x55" * 6, most=20)
+        same((found.frames, found.more, five.events, eight.events), (brought, b"", 10, 10), "a candidate of twenty frames")
+        found = rack.bring_candidate(b"".join(sent), most=19)
+        same((found.frames, found.more), (brought[:19], sent[19]), "nineteen frames of twenty")
+        for reason, middle in ((Refusal.CHECK, sent[1][:-1] + bytes([sent[1][-1] ^ 1])), (Refusal.SPACECRAFT, frame(0, b"\xc0", 8, fecf=True)),
+                               (Refusal.CHANNEL, frame(0, b"\xc0", 9, scid=675, fecf=True))):
+            found = rack.bring_candidate(sent[0] + middle + sent[2], most=3)
+            same((found.frames, found.more), ([brought[0], Refused(reason), brought[2]], b""), f"a frame between two that is refused by {reason}")
+
+
+def check_searches() -> None:
+    """A search amid a CLTU, in each mode: it drops what the CLTU has carried so far, and the decoder keeps its mode."""
+    carried = bytes(range(1, 15))
+    sent = cltu(carried)
+    wrong = sent[:5] + bytes([sent[5] ^ 16]) + sent[6:]
+    for correct in (True, False):
+        cut = Decoder(correct=correct)
+        cut.feed(sent[:13])
+        same((cut.search(), cut.search(), cut.feed(sent[13:])), (True, False, []), "the rest of a CLTU behind a search")
+        same((cut.feed(wrong), cut.corrected, cut.rejected), ([carried] * correct, int(correct), int(not correct)), "the mode behind a search")
+        same(cut.feed(sent), [carried], "a CLTU behind a search")
+        cut.feed(b"\xeb\x90" + bytes.fromhex("00000000000000fe") * 148)
+        same(cut.overlong, 1, "a CLTU that carries too much")
 
 
 def check_rack_turns(sent: bytes) -> None:
@@ -211,6 +239,7 @@ def check_ends_of_the_link() -> None:
     for digits, fecf, size in (("2a3bc84d1ffe5555551d9484b5", False, 13), ("2a3bc84d1ffe5555551d9484b57ee3", True, 15)):
         same(write_tm(675, 5, 200, 77, clcw, size=size, fecf=fecf).hex(), digits, "a telemetry frame")
         same(read_tm(bytes.fromhex(digits), fecf=fecf), Tm(675, 5, 200, 77, clcw, 2046), "what a telemetry frame says")
+    same(read_tm(bytes.fromhex("2a3bc84d1ffe5555559d9484b5")), Tm(675, 5, 200, 77, None, 2046, 0x9D9484B5), "a Type-2 report")
     same(read_tm(bytes.fromhex("2a3bc84d19235555551d9484b5")), Tm(675, 5, 200, 77, clcw, 291), "a first header pointer")
     for call in (lambda: write_cltu(b""), lambda: write_cltu(bytes(1030)), lambda: randomise(bytes(1030)),
                  lambda: write_tm(1024, 0, 0, 0, clcw, size=13), lambda: write_tm(0, 0, 0, 0, clcw, size=2049)):
@@ -474,6 +503,8 @@ def main() -> int:
     check_replies()
     check_racks()
     check_chain()
+    check_candidates()
+    check_searches()
     check_fields()
     check_made()
     check_ends_of_the_link()

@@ -210,19 +210,57 @@ void check_racks() {
     expect(ended_rack.frame(wrong).status() == Status::wrong_fecf && ended_rack.frame(fill).status() == Status::fill, "a wrong field, and fill");
     expect(ended_rack.frame(frame_to(675, 5, false)).status() == Status::no_fecf, "no field");
     expect(rack.frame({}).status() == Status::too_short, "no octets of a rack");
-    const Bytes whole = frame_to(675, 8, true);
-    Bytes candidate = whole;
-    candidate.insert(candidate.end(), whole.begin(), whole.end());
-    candidate.push_back(0x55);
-    const tcrx::Carried one = ended_rack.candidate(candidate), last = ended_rack.candidate(one.rest);
-    expect(one.frame && one.frame->vcid == 8 && one.frame->brought.event == tcrx::Event::e4, "the first frame of a candidate");
-    expect(one.more && one.rest.size() == whole.size() + 1, "what follows the first frame of a candidate");
-    expect(last.frame && !last.more && last.rest.size() == 1, "the last frame of a candidate");
-    expect(ended_rack.candidate(wrong).frame.status() == Status::wrong_fecf, "a candidate with a wrong field");
     expect(rack.candidate({}).frame.status() == Status::too_short, "a candidate of no octets");
     expect(channels[1].free() == Status::done && rack.find(5) == &channels[2], "the next of that id");
     expect(tcrx::Rack(675, {}).frame(frame_to(675, 5, false)).status() == Status::unknown_channel, "a rack of no channel");
     expect(tcrx::Rack(675, {nullptr, 1}).frame(frame_to(675, 5, false)).status() == Status::null, "a rack nowhere");
+}
+
+// Returns a Type-BD frame of 51 octets for a channel of spacecraft 675, with its frame error control field.
+Bytes bypass_frame(std::uint8_t vcid) {
+    const Bytes field(44, 0xaa);
+    Bytes plain(64), ended(64);
+    const tcrx::Result<tcrx::Octets> written = tcrx::write_frame({675, vcid, 0, true, false}, field, plain);
+    const tcrx::Result<tcrx::Octets> added = tcrx::add_fecf(*written, ended);
+    return Bytes(added->begin(), added->end());
+}
+
+// Brings a candidate of frames of 51 octets, which are for channels 5 and 8 in turn and have 6 octets of fill behind
+// them. The frame at the place `refused` has a wrong field. Returns whether each outcome is right.
+bool is_carried(tcrx::Rack &rack, tcrx::Octets candidate, std::size_t refused) {
+    bool good = true;
+    for (std::size_t place = 0; candidate.size() > 6; place++) {
+        const tcrx::Carried carried = rack.candidate(candidate);
+        const bool as_wanted = place == refused
+            ? carried.frame.status() == tcrx::Status::wrong_fecf
+            : carried.frame && carried.frame->vcid == (place % 2 == 0 ? 5 : 8) && carried.frame->brought.event == tcrx::Event::e6;
+        const tcrx::Octets rest = candidate.part(51);
+        const bool is_behind = carried.rest.data() == rest.data() && carried.rest.size() == rest.size();
+        good = good && as_wanted && is_behind && carried.more == (rest.size() > 6);
+        candidate = rest;
+    }
+    return good;
+}
+
+// Checks candidates of twenty frames, and of three frames of which the middle one is refused.
+void check_candidates() {
+    std::array<tcrx::Channel, 2> channels;
+    channels[0] = *tcrx::Channel::make({5, 10, 4, 7}, {}, {}, {64, {}});
+    channels[1] = *tcrx::Channel::make({8, 10, 4, 7}, {}, {}, {64, {}});
+    tcrx::Rack rack(675, channels, true);
+    Bytes octets;
+    for (std::uint8_t place = 0; place < 20; place++) {
+        const Bytes one = bypass_frame(place % 2 == 0 ? 5 : 8);
+        octets.insert(octets.end(), one.begin(), one.end());
+    }
+    octets.resize(20 * 51 + 6, 0x55);
+    expect(is_carried(rack, octets, 20), "a candidate of twenty frames");
+    expect(channels[0].events().value() == 10 && channels[1].events().value() == 10, "the events of twenty frames");
+    octets.resize(3 * 51);
+    octets.resize(3 * 51 + 6, 0x55);
+    octets[101] ^= 1;
+    expect(is_carried(rack, octets, 1), "a candidate of three frames of which the middle one is refused");
+    expect(channels[0].events().value() == 12 && channels[1].events().value() == 10, "the events of two frames of three");
 }
 
 // Returns whether these are the fields of a row.
@@ -322,15 +360,32 @@ void check_streams() {
         carried.resize(14, 0x55);
         expect(corrected == (i == 1 ? 1u : 0u) && rejected == (i == 2 ? 1u : 0u), "what became of code blocks");
         expect(given == (i == 2 ? Bytes() : carried), "what a CLTU carried");
-        decoder.feed(Bytes(cltu_octets, cltu_octets + 9));
+    }
+}
+
+// Checks a search amid a CLTU, in each mode. It drops what the CLTU has carried so far, and the decoder keeps its mode.
+// Then comes a CLTU that carries too much.
+void check_searches() {
+    for (const bool correct : {true, false}) {
+        tcrx::Decoder decoder(correct);
+        const Bytes whole(cltu_octets, cltu_octets + sizeof cltu_octets);
+        Bytes wrong = whole;
+        wrong[5] ^= 16;
+        decoder.feed(tcrx::Octets(whole).part(0, 13));
         decoder.search();
-        expect(decoder.feed(Bytes(cltu_octets, cltu_octets + sizeof cltu_octets)).ended, "a CLTU behind a search anew");
+        expect(!decoder.feed(tcrx::Octets(whole).part(13)).ended, "the rest of a CLTU behind a search");
+        const tcrx::Fed fed = decoder.feed(wrong);
+        expect(fed.ended == correct && (fed.corrected == 1) == correct && (fed.rejected == 0) == correct, "the mode behind a search");
+        Bytes carried(frame_rows[0].octets, frame_rows[0].octets + frame_rows[0].fields[5]);
+        carried.resize(14, 0x55);
+        const tcrx::Octets frame = decoder.feed(whole).frame;
+        expect(Bytes(frame.begin(), frame.end()) == carried, "a CLTU behind a search");
         Bytes overlong = {0xeb, 0x90};
         for (unsigned block = 0; block < 148; block++) {
             overlong.insert(overlong.end(), {0, 0, 0, 0, 0, 0, 0, 0xfe});
         }
-        const tcrx::Fed fed = decoder.feed(overlong);
-        expect(!fed.ended && fed.overlong == 1, "a CLTU that carries too much");
+        const tcrx::Fed long_fed = decoder.feed(overlong);
+        expect(!long_fed.ended && long_fed.overlong == 1, "a CLTU that carries too much");
     }
 }
 
@@ -349,6 +404,10 @@ void check_ends_of_the_link() {
     expect(read && read->clcw == TM_CLCW && read->pointer == 2046, "what a telemetry frame says");
     const tcrx::TmHeader &found = read->header;
     expect(found.scid == 675 && found.vcid == 5 && found.master_count == 200 && found.channel_count == 77, "its header");
+    Bytes reporting(tm_row.octets, tm_row.octets + tm_row.count);
+    reporting[9] |= 0x80;
+    const tcrx::Result<tcrx::Tm> type_2 = tcrx::read_tm(false, reporting);
+    expect(type_2 && type_2->clcw == 0x9d9484b5 && tcrx::read_clcw(type_2->clcw).status() == Status::no_clcw, "a Type-2 report");
     expect(tcrx::write_cltu({}, room).status() == Status::empty_data, "a CLTU of nothing");
     expect(tcrx::randomise(plain, {}).error().needed == 8, "no room for random octets");
     expect(tcrx::write_cltu(tcrx::Octets(Bytes(1030)), room).status() == Status::long_cltu, "a CLTU of too much");
@@ -485,10 +544,12 @@ int main() {
     check_threads();
     check_views();
     check_racks();
+    check_candidates();
     check_frames();
     check_words_and_packets();
     check_made();
     check_streams();
+    check_searches();
     check_ends_of_the_link();
     check_replies();
     check_reports();

@@ -186,25 +186,44 @@ fn a_rack_gives_each_frame_to_its_channel() {
     assert_eq!(rack.frame(&octets), Err(RackError::WrongFecf));
     assert_eq!(rack.frame(&located_frame(675, 8, false)), Err(RackError::NoFecf));
     assert_eq!(rack.frame(&located_frame(676, 9, true)), Err(RackError::OtherSpacecraft));
-    let frame = located_frame(675, 8, true);
-    let candidate = [&frame[..], &frame[..], &[0x55]].concat();
-    let first = rack.candidate(&candidate);
-    assert_eq!((first.rest, first.more), (&candidate[frame.len()..], true));
-    let last = rack.candidate(first.rest);
-    assert_eq!((last.rest, last.more), (&[0x55][..], false));
-    for carried in [first, last] {
-        assert_eq!(carried.frame.map(|(vcid, brought)| (vcid, brought.event)), Ok((8, Event::E4)));
-    }
-    let wrong = rack.candidate(&octets);
-    assert_eq!((wrong.frame, wrong.rest, wrong.more), (Err(CandidateError::WrongFecf), &[][..], false));
     assert_eq!(rack.candidate(&[]).frame, Err(CandidateError::Short));
-    assert_eq!(rack.channel(8).map(|channel| channel.events()), Some(3));
+    assert_eq!(rack.channel(8).map(|channel| channel.events()), Some(1));
     assert_eq!(rack.channel(5).map(|channel| channel.release()), Some(Ok(Delivery { queued: 0, dropped: 0, rest: true })));
     assert!(rack.channel(9).is_none() && rack.channel(255).is_none());
     let events: Vec<u64> = channels.iter().map(Channel::events).collect();
-    assert_eq!(events, [2, 0, 3]);
+    assert_eq!(events, [2, 0, 1]);
     let mut none = Rack { scid: 675, fecf: false, channels: &mut [] };
     assert_eq!(none.frame(&located_frame(675, 5, false)), Err(RackError::UnknownChannel));
+}
+
+/// The candidates have twenty frames, and three of which the middle one is refused. Each frame is of Type-BD, has 51 octets with its
+/// frame error control field, and is for channel 5 or 8 in turn. Six octets of fill follow the last frame.
+#[test]
+fn candidates_of_several_frames() {
+    let settings = |vcid| Settings { vcid, queues: &[], maps: &[], ..SETTINGS };
+    let limits = Limits { others: 64, maps: &[] };
+    let mut channels = [5, 8].map(|vcid| Channel::with_limits(&settings(vcid), &limits).expect("settings"));
+    let mut rack = Rack { scid: 675, fecf: true, channels: &mut channels };
+    let frame_of = |place: usize| {
+        let (mut room, mut ended) = ([0; 64], [0; 64]);
+        let header = Header { scid: 675, vcid: [5, 8][place % 2], ns: 0, bypass: true, control: false };
+        add_fecf(header.write(&[0xaa; 44], &mut room).expect("a frame"), &mut ended).expect("a field").to_vec()
+    };
+    for (count, refused) in [(20, 20), (3, 1)] {
+        let mut candidate: Vec<u8> = (0..count).flat_map(frame_of).chain([0x55; 6]).collect();
+        if refused < count {
+            candidate[51 * refused + 50] ^= 1;
+        }
+        let mut rest = &candidate[..];
+        for place in 0..count {
+            let carried = rack.candidate(rest);
+            let wanted = if place == refused { Err(CandidateError::WrongFecf) } else { Ok(([5, 8][place % 2], Event::E6)) };
+            assert_eq!(carried.frame.map(|(vcid, brought)| (vcid, brought.event)), wanted, "frame {place} of {count}");
+            assert_eq!((carried.rest, carried.more), (&rest[51..], place + 1 < count), "behind frame {place} of {count}");
+            rest = carried.rest;
+        }
+    }
+    assert_eq!(channels.map(|channel| channel.events()), [12, 10]);
 }
 
 /// Returns octets that begin with these. All others are 0.
@@ -303,6 +322,11 @@ fn ends_of_the_link() -> Result<(), Box<dyn Error>> {
     assert_eq!(header.write(false, clcw, 13, &mut room)?, &frame[..13]);
     assert_eq!(header.write(true, clcw, 15, &mut room)?, frame);
     assert_eq!(Tm::read(true, &frame)?, Tm { header, clcw: clcw.word(), pointer: 2046 });
+    let mut reporting = [0; 13];
+    reporting.copy_from_slice(&frame[..13]);
+    reporting[9] |= 0x80;
+    let type_2 = Tm::read(false, &reporting)?;
+    assert_eq!((type_2, Clcw::read(type_2.clcw)), (Tm { header, clcw: 0x9d94_84b5, pointer: 2046 }, None), "a Type-2 report");
     assert_eq!(Tm::read(true, &frame[..13]), Err(TmError::WrongFecf));
     assert_eq!(Tm::read(false, &frame[..10]), Err(TmError::BadLength));
     assert_eq!(Tm::read(false, &[0; 11]), Err(TmError::NoControl));
@@ -349,9 +373,15 @@ fn streams_of_cltus() {
     let mut strict = Decoder::new(false);
     let fed = strict.feed(&stream);
     assert_eq!((fed.frame, fed.rest, fed.corrected, fed.rejected, fed.overlong), (None, &[][..], 0, 1, 0));
-    strict.feed(&cltu[..9]);
-    strict.search();
-    assert_eq!(strict.feed(&cltu).frame, Some(&carried[..]));
+    // A search drops what a CLTU has carried so far, and the decoder keeps its mode.
+    for (decoder, wrong) in [(&mut decoder, (Some(&carried[..]), 1, 0)), (&mut strict, (None, 0, 1))] {
+        decoder.feed(&cltu[..13]);
+        decoder.search();
+        assert_eq!(decoder.feed(&cltu[13..]).frame, None);
+        let fed = decoder.feed(&stream);
+        assert_eq!((fed.frame, fed.corrected, fed.rejected), wrong);
+        assert_eq!(decoder.feed(&cltu).frame, Some(&carried[..]));
+    }
     let mut long = vec![0xeb, 0x90];
     long.extend([0, 0, 0, 0, 0, 0, 0, 0xfe].repeat(148));
     let fed = strict.feed(&long);
