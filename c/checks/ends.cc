@@ -378,8 +378,8 @@ void check_searches() {
         expect(fed.ended == correct && (fed.corrected == 1) == correct && (fed.rejected == 0) == correct, "the mode behind a search");
         Bytes carried(frame_rows[0].octets, frame_rows[0].octets + frame_rows[0].fields[5]);
         carried.resize(14, 0x55);
-        const tcrx::Octets frame = decoder.feed(whole).frame;
-        expect(Bytes(frame.begin(), frame.end()) == carried, "a CLTU behind a search");
+        const tcrx::Octets given = decoder.feed(whole).frame;
+        expect(Bytes(given.begin(), given.end()) == carried, "a CLTU behind a search");
         Bytes overlong = {0xeb, 0x90};
         for (unsigned block = 0; block < 148; block++) {
             overlong.insert(overlong.end(), {0, 0, 0, 0, 0, 0, 0, 0xfe});
