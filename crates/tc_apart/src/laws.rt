@@ -78,7 +78,7 @@ pub fn channels_of_a_script_do_not_touch_each_other()
 /// of a channel of the other. Suppose also that the operators made the same events on both channels, each at the same
 /// place of the journal. Then the two channels that the closes return are the same, whatever was done on other
 /// channels. Calls at the same place of the two journals therefore had the same answers, too, because an answer
-/// follows from the journal up to the call (`from_a_sender_to_packets` of tc_station).
+/// follows from the journal up to the call (`what_calls_answered_stands_in_the_closed_journals` of tc_station).
 pub fn channels_of_a_station_do_not_touch_each_other()
     ensures { (station other : Roster) (operators others : List AtStation) (closed shut : List History) (place at : ℕ) (one two : History)
         → AreClosedTogether station operators closed → AreClosedTogether other others shut → slice_get closed place ≡ Some one

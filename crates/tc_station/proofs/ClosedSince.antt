@@ -1,9 +1,21 @@
 -- The event of a call at a desk is at its place in the journal that the station's close returns.
-use Rattle.tc_station.proofs.Names.{◌≡◌, ◌<◌, ℕ, zero, suc, List, [], ◌∷◌, length, get_or, take, Ok, Some, refl, sym, ap, subst, ◌∙◌, arith, slice_get, get_or-set_same, length-append, length-set, take_at, get_or_from_slice_get, none-some, same_Some, slice_get-get_or, slice_get_within, Event, History, made, AtLock, Identity, Moment, Own, accounts_of, column, nobody, IsCallAt, IsMetAt, Roster, AtStation, operator_lists_of, Watching, slice_index_or, slice_set, IsBeginning, clcw, Link, IsClosedSince, IsItsLast, IsWordRead, IsShownIn}
+use Rattle.tc_station.proofs.Names.{◌≡◌, ◌<◌, ℕ, zero, suc, List, [], ◌∷◌, length, get_or, take, Ok, Some, refl, sym, ap, subst, ◌∙◌, arith, slice_get, get_or-set_same, length-append, length-set, take_at, get_or_from_slice_get, none-some, same_Some, slice_get-get_or, slice_get_within, Event, History, made, AtLock, Identity, Moment, Own, accounts_of, column, nobody, IsCallAt, IsMetAt, Roster, AtStation, operator_lists_of, Watching, slice_index_or, slice_set, IsBeginning, clcw, Link, HasGoneOn, AreClosedTogether, IsItsLast, IsWordRead, IsShownIn}
 use mathlib.Core.Option.{some}
 use lib.ListN.{get_elem?}
 use Rattle.logged_lock.proofs.Steps.{beginning-trans, prefix-trans}
 use Rattle.tc_status.specs.Board as board
+
+-- The station was closed together with its operators. One of them is this operator, which may have made more calls. The
+-- channel is the one at this place.
+pub record IsClosedSince (station : Roster) (place : ℕ) (operator : AtStation) (channel : History) : Type 0 where
+  pub operators : List AtStation
+  pub closed : List History
+  pub together : AreClosedTogether station operators closed
+  pub out : slice_get closed place ≡ Some channel
+  pub number : ℕ
+  pub last : AtStation
+  pub among : slice_get operators number ≡ Some last
+  pub on : HasGoneOn place operator last
 
 pub set-there : (desks : List AtLock) (place : ℕ) (d next : AtLock) → slice_get desks place ≡ Some d → slice_get (slice_set desks place next) place ≡ Some next
 set-there desks place d next at =

@@ -33,7 +33,7 @@ pub use Rattle.tc_station.specs.Room.{IsRoomFor}
 pub use Rattle.tc_station.specs.Roster.{HaveIssued, IsDeskOf, IsPlace, Roster, settings_in}
 pub use Rattle.tc_station.specs.StationSettings.{HaveDistinctVcids, vcids_of}
 pub use Rattle.tc_station.specs.Tally.{AtStation, HasGoneOn, HasGoneOnAtEach, HasMadeNothing, IsOurs, KnowsDesks, KnowsTheSame, Tally, arrival, at_station, counts_of, fresh, issued_more, newcomer_at_desks, raised, raised_at, tallied, tallies, tally}
-pub use Rattle.tc_station.specs.Through.{IsAnsweredAmong, IsClosedSince, IsGivenOut, IsItsLast, IsShownIn, IsWordRead}
+pub use Rattle.tc_station.specs.Through.{IsAnsweredAmong, IsGivenOut, IsItsLast, IsShownIn, IsWordRead}
 pub use Rattle.tc_station.specs.Together.{AreClosedTogether, IsCauseAtStation, operator_lists_of}
 pub use Rattle.tc_station.specs.Tried.{AreMade, CanBeMade, CannotBeMade, HasMadeTheSame, IsJobMade, IsListMade, IsTriedAt, IsTriedOn}
 pub use Rattle.tc_station.specs.Work.{AreDone, AreWorked, IsDone, IsRaised, IsShift, IsTallyOf, IsTried, IsWorked, NoCountFalls, Shift, brings_to, is_frame_for, is_other, lowest, raised_by}

@@ -1,11 +1,12 @@
 -- The event of an answered call is in the journal that the station's close returns.
-use Rattle.tc_station.proofs.Names.{◌≡◌, ◌<◌, ℕ, Bool, List, length, get_or, take, Result, Ok, Err, Some, sym, ap, subst, ◌∙◌, arith, length-map, slice_get, slice_get-get_or, slice_get_within, Event, History, Settings, Moment, TableId, AtLock, locks_of, Roster, AtStation, IsPlace, IsBringCall, IsReplied, IsNotBrought, IsOurs, inl, inr, IsCallAt, IsCallOn, IsMetAt, Watching, slice_set, Frame, frame_reply, Link, no_history, IsLocated, IsClosedSince, HasGoneOnAtEach, IsGivenOut, IsAnsweredAmong, IsWordRead, IsShownIn, AreClosedTogether}
+use Rattle.tc_station.proofs.Names.{◌≡◌, ◌<◌, ℕ, Bool, List, length, get_or, take, Result, Ok, Err, Some, sym, ap, subst, ◌∙◌, arith, length-map, slice_get, slice_get-get_or, slice_get_within, Event, History, Settings, Moment, TableId, AtLock, locks_of, Roster, AtStation, IsPlace, IsBringCall, IsReplied, IsNotBrought, IsOurs, inl, inr, IsCallAt, IsCallOn, IsMetAt, Watching, slice_set, Frame, frame_reply, Link, no_history, IsLocated, HasGoneOnAtEach, accounts_of, column, operator_lists_of, IsGivenOut, IsAnsweredAmong, IsWordRead, IsShownIn, AreClosedTogether}
+use Rattle.logged_lock.specs.Log.{IsMergeOf}
 use Rattle.tc_status.specs.Board as board
 use Rattle.tc_station.specs.Call.{IsRepliedWatched, IsNotBroughtWatched}
 use Rattle.tc_station.specs.Through.{IsBroughtAmong}
 use Rattle.tc_station.specs.declared.faults.BringFault.{BringFault}
 use Rattle.tc_station.specs.declared.station.Brought.{Brought}
-use Rattle.tc_station.proofs.ClosedSince.{Stands, answered, set-there, shown}
+use Rattle.tc_station.proofs.ClosedSince.{IsClosedSince, Stands, answered, owned_desk-there, set-there, shown}
 
 abbrev is-ok : {R F : Type 0} → Result R F → Type 0
 is-ok (Ok r) = Unit {0}
@@ -73,6 +74,17 @@ pub watched-among : Stands → (station : Roster) (octets : List ℕ) (before af
     → HasGoneOnAtEach after last → slice_get operators number ≡ Some last → AreClosedTogether station operators closed → IsBroughtAmong station octets answer.0 after closed
 watched-among stands station octets before after last answer operators closed number =
     brought-among stands station octets IsRepliedWatched IsNotBroughtWatched (λ (a : Brought × Watching). a.0) before after last answer operators closed number (λ vcid frame m p. (p.0, p.1.0))
+
+-- the journal that the close returns is a merge of what the operators made
+pub merge-among : (station : Roster) (operators : List AtStation) (closed : List History) (place : ℕ) (channel : History) → AreClosedTogether station operators closed → slice_get closed place ≡ Some channel
+    → IsMergeOf channel.journal (accounts_of (column place (operator_lists_of operators)))
+merge-among station operators closed place channel together out =
+    let all = together.2 in
+    let inside = slice_get_within closed place channel out in
+    let many = all.as_many in
+    let owned_desk = owned_desk-there together.0 place (omega (arith, inside, many)) in
+    let one = all.each place owned_desk.0 channel owned_desk.1 out in
+    one.merge
 
 -- a CLCW that was read before a meeting is the CLCW at a place in a journal that the close returns
 pub word-among : (station : Roster) (vcid : ℕ) (link : Link) (early mid late met : Watching) (word : ℕ) (before after last : AtStation) (operators : List AtStation) (closed : List History) (number : ℕ)

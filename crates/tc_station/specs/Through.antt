@@ -11,21 +11,8 @@ use Rattle.tc_status.specs.Board as board
 use Rattle.tc_desk.specs.Log.{AtLock}
 use Rattle.tc_station.specs.Location.{IsLocated}
 use Rattle.tc_station.specs.Roster.{Roster, IsPlace}
-use Rattle.tc_station.specs.Tally.{AtStation, HasGoneOn}
-use Rattle.tc_station.specs.Together.{AreClosedTogether}
+use Rattle.tc_station.specs.Tally.{AtStation}
 use Rattle.tc_station.specs.declared.station.Brought.{Brought}
-
--- The station was closed together with its operators. One of them is this operator, which may have made more calls. The
--- channel is the one at this place.
-pub record IsClosedSince (station : Roster) (place : ℕ) (operator : AtStation) (channel : History) : Type 0 where
-  pub operators : List AtStation
-  pub closed : List History
-  pub together : AreClosedTogether station operators closed
-  pub out : slice_get closed place ≡ Some channel
-  pub number : ℕ
-  pub last : AtStation
-  pub among : slice_get operators number ≡ Some last
-  pub on : HasGoneOn place operator last
 
 -- this event, with this number, is the last that the operator has made at the desk at this place
 abbrev pub IsItsLast : ℕ → AtStation → ℕ → Event → Type 0

@@ -32,7 +32,6 @@ pub use tc_desk::Refusal;
 pub use tc_link::LocateFault;
 pub use tc_status::{CountingDesk, Desk, DeskOf};
 pub use through::{
-    calls_go_on_one_after_another, from_a_sender_to_packets,
-    what_calls_answered_stands_in_the_closed_journals,
+    calls_go_on_one_after_another, what_calls_answered_stands_in_the_closed_journals,
 };
 pub use work::{FreeGate, Gate, Job, Order, WorkList};

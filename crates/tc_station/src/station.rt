@@ -464,7 +464,8 @@ impl<J: Journal> StationOf<J> {
     /// they have made fewer than 2^64 - 1 events of each channel. The journal of each channel is then a merge of the
     /// events that the operators made. The history that each operator had seen is a beginning of this journal. Two
     /// lists are allocated before any lock is taken. The law
-    /// [`from_a_sender_to_packets`](crate::from_a_sender_to_packets) states the consequences for a sender.
+    /// [`what_calls_answered_stands_in_the_closed_journals`](crate::what_calls_answered_stands_in_the_closed_journals)
+    /// states the consequences for each call.
     pub fn close_together(
         self,
         operators: Vec<Operator>,

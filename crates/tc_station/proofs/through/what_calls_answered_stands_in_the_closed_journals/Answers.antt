@@ -3,8 +3,11 @@ use Rattle.std.specs.Prelude.{ℕ}
 use Rattle.tc_station.specs.declared.faults.ReleaseRefused.TheVariants as releases
 use Rattle.tc_station.specs.declared.faults.TakeRefused.TheVariants as takes
 use Rattle.tc_station.specs.declared.faults.TakeUnitRefused.TheVariants as units
-use Rattle.tc_station.proofs.Used.{bring-among, call-among, watched-among, word-among}
+use Rattle.tc_station.proofs.Used.{bring-among, call-among, merge-among, watched-among, word-among}
 use Rattle.tc_station.proofs.through.what_calls_answered_stands_in_the_closed_journals.Goals as goal
+
+pub returns-clause-merge : goal.returns-clause-merge
+returns-clause-merge c = merge-among
 
 pub returns-clause-frames : goal.returns-clause-frames
 returns-clause-frames c = bring-among c.each_event_stands_at_its_place.ensures
