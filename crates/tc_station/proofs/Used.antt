@@ -1,9 +1,9 @@
 -- The event of an answered call is in the journal that the station's close returns.
-use Rattle.tc_station.proofs.Names.{◌≡◌, ◌<◌, ℕ, Bool, List, length, get_or, take, Result, Ok, Err, Some, sym, ap, subst, ◌∙◌, arith, length-map, slice_get, slice_get-get_or, slice_get_within, Event, History, Settings, Moment, TableId, AtLock, locks_of, Roster, AtStation, IsPlace, IsBringCall, IsReplied, IsNotBrought, IsOurs, inl, inr, IsCallAt, IsCallOn, IsMetAt, Watching, slice_set, Frame, frame_reply, Link, no_history, IsLocated, HasGoneOnAtEach, accounts_of, column, operator_lists_of, IsGivenOut, IsAnsweredAmong, IsWordRead, IsShownIn, AreClosedTogether}
+use Rattle.tc_station.proofs.Names.{◌≡◌, ◌<◌, ℕ, Bool, List, length, get_or, take, Result, Ok, Err, Some, sym, ap, subst, ◌∙◌, arith, length-map, slice_get, slice_get-get_or, slice_get_within, Event, History, Settings, Moment, TableId, AtLock, locks_of, Roster, AtStation, IsPlace, IsBringCall, IsReplied, IsNotBrought, IsOurs, inl, inr, IsCallAt, IsCallOn, IsMetAt, Watching, slice_set, Frame, frame_reply, Link, no_history, IsLocated, HasGoneOnAtEach, HasSeenNoMore, accounts_of, column, operator_lists_of, IsGivenOut, IsAnsweredAmong, IsWordRead, IsShownIn, AreClosedTogether}
 use Rattle.logged_lock.specs.Log.{IsMergeOf}
 use Rattle.tc_status.specs.Board as board
 use Rattle.tc_station.specs.Call.{IsRepliedWatched, IsNotBroughtWatched}
-use Rattle.tc_station.specs.Through.{IsBroughtAmong}
+use Rattle.tc_station.specs.Through.{IsBroughtAmong, StandsIfMet}
 use Rattle.tc_station.specs.declared.faults.BringFault.{BringFault}
 use Rattle.tc_station.specs.declared.station.Brought.{Brought}
 use Rattle.tc_station.proofs.ClosedSince.{IsClosedSince, Stands, answered, owned_desk-there, set-there, shown}
@@ -74,6 +74,13 @@ pub watched-among : Stands → (station : Roster) (octets : List ℕ) (before af
     → HasGoneOnAtEach after last → slice_get operators number ≡ Some last → AreClosedTogether station operators closed → IsBroughtAmong station octets answer.0 after closed
 watched-among stands station octets before after last answer operators closed number =
     brought-among stands station octets IsRepliedWatched IsNotBroughtWatched (λ (a : Brought × Watching). a.0) before after last answer operators closed number (λ vcid frame m p. (p.0, p.1.0))
+
+-- the event of an operation that `operate_met` answered is in the journal that the close returns
+pub met-among : {R F : Type 0} → Stands → (e : Event) (ok : Moment → R → Type 0) (err : Moment → F → Type 0) (Answers : R → Settings → List Event → Type 0)
+    → ((m : Moment) (r : R) → ok m r → Answers r m.head.settings m.entries) → StandsIfMet e ok err Answers
+met-among stands e ok err Answers says station place vcid early late before after last answer operators closed number ours at met =
+    called-among stands station place vcid e (λ m r. ok m r × HasSeenNoMore early m) (λ m f. err m f × HasSeenNoMore early m) before after last answer operators closed number
+    (λ s journal. Answers answer s journal × board.IsEarlier early.seen (record { settings = s; journal = journal })) (λ m p. (says m answer p.0, p.1)) ours at met.at
 
 -- the journal that the close returns is a merge of what the operators made
 pub merge-among : (station : Roster) (operators : List AtStation) (closed : List History) (place : ℕ) (channel : History) → AreClosedTogether station operators closed → slice_get closed place ≡ Some channel

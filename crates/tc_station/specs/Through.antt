@@ -1,5 +1,5 @@
 -- The calls of an operator, as they appear in the channels that the close of the station returned.
-use Rattle.std.specs.Prelude.{◌≡◌, ◌≤◌, ℕ, List, [], ◌∷◌, ◌++◌, Some, length, slice_get, take}
+use Rattle.std.specs.Prelude.{◌≡◌, ◌≤◌, ℕ, List, [], ◌∷◌, ◌++◌, Ok, Some, length, slice_get, take}
 use Rattle.tc_channel.specs.declared.event.Event.{Event}
 use Rattle.tc_channel.specs.declared.event.Event.TheVariants.{Frame}
 use Rattle.tc_queues.specs.declared.settings.Settings.{Settings}
@@ -8,10 +8,12 @@ use Rattle.tc_channel.specs.Reply.{clcw, frame_reply}
 use Rattle.tc_link.specs.declared.Link.{Link}
 use Rattle.tc_status.specs.Board.{Watching}
 use Rattle.tc_status.specs.Board as board
-use Rattle.tc_desk.specs.Log.{AtLock}
+use Rattle.tc_desk.specs.Log.{AtLock, Moment}
+use Rattle.tc_station.specs.Call.{IsMetCallAt}
 use Rattle.tc_station.specs.Location.{IsLocated}
 use Rattle.tc_station.specs.Roster.{Roster, IsPlace}
-use Rattle.tc_station.specs.Tally.{AtStation}
+use Rattle.tc_station.specs.Tally.{AtStation, HasGoneOnAtEach, IsOurs}
+use Rattle.tc_station.specs.Together.{AreClosedTogether}
 use Rattle.tc_station.specs.declared.station.Brought.{Brought}
 
 -- this event, with this number, is the last that the operator has made at the desk at this place
@@ -38,6 +40,16 @@ IsAnsweredAmong station vcid operator closed e Answers =
 abbrev pub IsBroughtAmong : Roster → List ℕ → Brought → AtStation → List History → Type 0
 IsBroughtAmong station octets brought operator closed =
     (frame : List ℕ) × IsLocated station octets brought.vcid frame × IsAnsweredAmong station brought.vcid operator closed (Frame frame) (λ s journal. brought.reply ≡ frame_reply s journal frame)
+
+-- An operator of the station made this call, and a watcher met the desk before and after it. Then the operator may have
+-- made more calls, and the station was closed together with its operators. The event has a place in the journal of its
+-- channel. The call's answer is the one that the earlier events give, and these continue what the watcher had seen.
+abbrev pub StandsIfMet : {R F : Type 0} → Event → (Moment → R → Type 0) → (Moment → F → Type 0) → (R → Settings → List Event → Type 0) → Type 0
+StandsIfMet {R = R} {F = F} e ok err Answers =
+    (station : Roster) (place vcid : ℕ) (early late : Watching) (before after last : AtStation) (answer : R) (operators : List AtStation) (closed : List History) (number : ℕ)
+    → IsOurs station before → IsPlace station vcid place → IsMetCallAt {R = R} {F = F} place vcid e ok err early before (Ok answer) late after
+    → HasGoneOnAtEach after last → slice_get operators number ≡ Some last → AreClosedTogether station operators closed
+    → IsAnsweredAmong station vcid after closed e (λ s journal. Answers answer s journal × board.IsEarlier early.seen (record { settings = s; journal = journal }))
 
 -- The history that the watcher has seen after the read continues the one that it had seen before. The word is the CLCW
 -- of the later history, with these flags of the link.

@@ -9,7 +9,7 @@ ghost use Rattle.logged_lock.specs.Log.{IsMergeOf};
 ghost use Rattle.tc_channel.specs.declared.event.Event.{Event};
 ghost use Rattle.tc_queues.specs.declared.reply.Delivery.{Delivery};
 ghost use Rattle.tc_channel.specs.Journal.{History};
-ghost use Rattle.tc_channel.specs.Reply.{buffered_fields, release_reply, take_reply, unit_reply};
+ghost use Rattle.tc_channel.specs.Reply.{buffered_fields, frame_reply, release_reply, take_reply, unit_reply};
 ghost use Rattle.tc_desk.specs.Call as at_desk;
 ghost use Rattle.tc_desk.specs.Log.{accounts_of};
 ghost use Rattle.tc_desk.specs.Together.{column};
@@ -19,7 +19,7 @@ ghost use Rattle.tc_link.specs.declared.Link.{Link};
 ghost use Rattle.tc_station.specs.Call.{IsBringCall, IsCallOn, IsMetAt, IsReplied, IsRepliedWatched, IsNotBrought, IsNotBroughtWatched, IsNotReleased, IsNotTaken, IsUnitNotTaken};
 ghost use Rattle.tc_station.specs.Roster.{Roster, IsPlace};
 ghost use Rattle.tc_station.specs.Tally.{AtStation, HasGoneOnAtEach, IsOurs};
-ghost use Rattle.tc_station.specs.Through.{IsAnsweredAmong, IsBroughtAmong, IsGivenOut, IsWordRead, IsShownIn};
+ghost use Rattle.tc_station.specs.Through.{IsAnsweredAmong, IsBroughtAmong, IsGivenOut, IsWordRead, IsShownIn, StandsIfMet};
 ghost use Rattle.tc_station.specs.Together.{AreClosedTogether, operator_lists_of};
 
 use tc_desk::each_event_stands_at_its_place;
@@ -44,6 +44,8 @@ pub fn calls_go_on_one_after_another()
 ///   `take_unit` that was answered is an event of its channel's journal, and its answer is the one that the model gives
 ///   at the journal before the event. Right after the call, the event, with its number, is the last that the operator
 ///   has made. Therefore one thread could have made all calls in the journal's order, with the same answers.
+/// - `met_frames`, `met_releases`, `met_takes`, `met_units`: The same holds for each of these operations that
+///   `operate_met` answered. The history that the watcher had seen is a beginning of the journal before the event.
 /// - `words`: Suppose that a watcher reads a CLCW, perhaps reads again, and then meets the channel. The CLCW is then
 ///   the one at a place in the channel's journal. The part of the journal that the watcher had seen before the first
 ///   read doesn't go beyond this place.
@@ -83,6 +85,17 @@ pub fn what_calls_answered_stands_in_the_closed_journals()
         (IsUnitNotTaken grows map_id) TakeUnitRefused.UnknownChannel before (Ok unit) after
         → HasGoneOnAtEach after last → slice_get operators number ≡ Some last → AreClosedTogether station operators closed
         → IsAnsweredAmong station vcid after closed (Event.TakeUnit map_id) (λ s journal. unit_reply s journal map_id ≡ Some unit.items) }
+    ensures met_frames { (frame : List ℕ) (grows : Bool)
+        → StandsIfMet (Event.Frame frame) (at_desk.IsFramed frame) (at_desk.IsFrameFault grows frame)
+        (λ reply s journal. reply ≡ frame_reply s journal frame) }
+    ensures met_releases { StandsIfMet Event.Release at_desk.IsReleased at_desk.IsReleaseFault
+        (λ delivery s journal. (buffered_fields s journal ≢ []) × (delivery ≡ release_reply s journal)) }
+    ensures met_takes { (apid : ℕ) (grows : Bool)
+        → StandsIfMet (Event.Take apid) (λ m (packet : Vec ℕ). at_desk.IsOldestPacket apid m packet.items) (at_desk.IsTakeFault grows apid)
+        (λ packet s journal. take_reply s journal apid ≡ Some packet.items) }
+    ensures met_units { (map_id : ℕ) (grows : Bool)
+        → StandsIfMet (Event.TakeUnit map_id) (λ m (unit : Vec ℕ). at_desk.IsOldestUnit map_id m unit.items) (at_desk.IsTakeUnitFault grows map_id)
+        (λ unit s journal. unit_reply s journal map_id ≡ Some unit.items) }
     ensures words { (station : Roster) (vcid : ℕ) (link : Link) (early mid late met : Watching) (word : ℕ)
         (before after last : AtStation) (operators : List AtStation) (closed : List History) (number : ℕ)
         → IsOurs station before → IsWordRead link early word mid → IsEarlier mid.seen late.seen
