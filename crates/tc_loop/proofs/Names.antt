@@ -24,7 +24,7 @@ pub use Rattle.tc_link.specs.Frame.{IsOctets}
 unfoldable pub use Rattle.tc_link.specs.Window.{some_of_first}
 pub use Rattle.tc_link.specs.declared.Kind.TheVariants.{Bc}
 pub use Rattle.tc_link.specs.declared.Link.{Link}
-pub use Rattle.tc_loop.specs.Examples.{acknowledged, around, by_bd, learnt_by_9, trap}
+pub use Rattle.tc_loop.specs.Examples.{acknowledged, around, by_bd, learnt_by_9, plain_start, trap}
 pub use Rattle.tc_loop.specs.Loop.{Action, Arrive, events_at, GoesOn, GoesOnBy, Hear, Idle, IsKnownSo, IsLoop, IsNumbered, IsOther, IsSession, KeepOrder, LocksOut, Loop, Other, Send, above, accepted, begun, begun_from, events, heard, journal, known, known_from, last_of, new_loop, receiver, releases, reported, round, sends, sent, smallest}
 pub use Rattle.tc_loop.specs.Start.{IsObeyed, IsStart, NamesAnother, Start, action_before, era, era_action, era_actions, era_before, era_session, known_since, session_before}
 pub use Rattle.tc_loop.specs.Watched.{event_at, is_here_or_ahead, is_here_or_behind}

@@ -1,5 +1,5 @@
--- The starts that were worked out by hand. One of them meets each premise.
-use Rattle.tc_loop.proofs.Names.{Action, All, Arrive, Bool, ChannelState, Frame, Hear, Idle, IsAllowed, IsLawfulWithin, IsLoop, IsNumbered, IsOctets, IsOther, IsStart, IsWhole, KeepOrder, List, NamesAnother, None, NoneSetsWithin, Other, QueueSetting, Release, Send, Some, Take, [], arith, around, begun, clcw_within, drop, era, era_before, events, false, header_of, inl, inr, journal, known, acknowledged, by_bd, known_since, learnt_by_9, nat_lt, nat_tests, no_limits, octets-append, octets-cons, passed_on, receiver, refl, run_within, session_before, set_by, slice_get, smallest, some_of_first, subst, suc, take, trap, true, zero, ℕ, ◌%◌, ◌&&◌, ◌+◌, ◌<◌, ◌∷◌, ◌≡◌, ◌≤◌, ◌⊎◌, All-cons, All-nil}
+-- The starts that were worked out by hand. Two of them meet each premise.
+use Rattle.tc_loop.proofs.Names.{Action, All, Arrive, Bool, ChannelState, Frame, Hear, Idle, IsAllowed, IsLawfulWithin, IsLoop, IsNumbered, IsOctets, IsOther, IsStart, IsWhole, KeepOrder, List, NamesAnother, None, NoneSetsWithin, Other, QueueSetting, Release, Send, Some, Take, [], arith, around, begun, clcw_within, drop, era, era_before, events, false, header_of, inl, inr, journal, known, acknowledged, by_bd, known_since, learnt_by_9, nat_lt, nat_tests, no_limits, octets-append, octets-cons, passed_on, plain_start, receiver, refl, run_within, session_before, set_by, slice_get, smallest, some_of_first, subst, suc, take, trap, true, zero, ℕ, ◌%◌, ◌&&◌, ◌+◌, ◌<◌, ◌∷◌, ◌≡◌, ◌≤◌, ◌⊎◌, All-cons, All-nil}
 use Rattle.tc_channel.specs.Examples as example
 use Rattle.tc_loop.proofs.Begun.{smallest-whole}
 use Rattle.tc_loop.proofs.Actions.{so-at}
@@ -127,6 +127,57 @@ each-premise = record {
   sends = λ t i e. sends t i (at t (Send (learnt_by_9.directive + 1 + i)) e);
   links = in-order;
   others = λ t e h. let p = at t (Other e) h in (p.0, p.1 (receiver learnt_by_9.loop (take t learnt_by_9.session)));
+}
+
+-- ---- the plain start, whose sender may have any window below 256
+
+whole-unlock : IsWhole example.unlock
+whole-unlock = record { each = octets-by example.unlock refl; least = omega arith; most = omega arith; version = refl; spare = refl; named = refl }
+
+plain-lawful : (window : ℕ) → IsLawfulWithin (plain_start window).loop.limits (plain_start window).loop.settings (journal (plain_start window).loop (plain_start window).session)
+unfolding IsLawfulWithin some_of_first passed_on no_limits
+plain-lawful window = ((whole-1, refl), ((whole-unlock, refl), tt))
+
+abbrev IsPlain : ℕ → Action → Type 0
+IsPlain t (Send j) = (t ≡ 0) × (j ≡ 1)
+IsPlain t (Arrive j s) = (t ≡ 1) × (j ≡ 1) × (s ≡ 0)
+IsPlain t (Hear m) = (t ≡ 2) × (m ≡ 2)
+IsPlain t (Other e) = IsOther e × ((state : ChannelState) → set_by (example.buffer_of 2) state e ≡ None)
+IsPlain t Idle = ⊥
+
+at-plain : (window t : ℕ) (a : Action) → slice_get (plain_start window).session t ≡ Some a → IsPlain t a
+at-plain window t a e = so-at IsPlain (plain_start window).session t a ((refl, refl), ((refl, refl, refl), ((refl, refl), ((λ low control. absurd cc, λ state. refl), tt)))) e
+
+plain-last : (window : ℕ) → NoneSetsWithin (plain_start window).loop.limits (plain_start window).loop.settings (journal (plain_start window).loop (take 2 (plain_start window).session)) (events (plain_start window).loop (drop 2 (plain_start window).session))
+unfolding run_within some_of_first passed_on no_limits
+plain-last window zero e h = let q : Frame example.unlock ≡ e = cc in rw (← q) refl
+plain-last window (suc i) e h = absurd cc
+
+plain-in-order : (window : ℕ) → KeepOrder (plain_start window).session
+plain-in-order window = record {
+  arrives = λ t i s e. let p = at-plain window t (Arrive i s) e in rw (p.0, p.1, p.2) (omega arith, refl);
+  hears = λ t m e. let p = at-plain window t (Hear m) e in omega (arith, p.0, p.1);
+  frames_in_order = λ t u i j s r order e f. let p = at-plain window t (Arrive i s) e in let q = at-plain window u (Arrive j r) f in omega (arith, p.2, q.2);
+  reports_in_order = λ t u m n order e f. let p = at-plain window t (Hear m) e in let q = at-plain window u (Hear n) f in omega (arith, p.1, q.1);
+}
+
+pub each-window : (window : ℕ) → window < 256 → IsStart (plain_start window)
+unfolding run_within some_of_first clcw_within
+each-window window low = record {
+  window = low;
+  directive = refl;
+  numbered = λ i. let n = numbered i in record { whole = n.whole; bypass = n.bypass; control = n.control; ns = n.ns };
+  allowed = allowed-2;
+  lawful = plain-lawful window;
+  obeyed = (0, refl, refl);
+  again = (omega arith, (0, refl, refl));
+  last = plain-last window;
+  believes = (2, refl, omega arith);
+  stops = λ t u j e before f. let p = at-plain window t (Send j) e in let q = at-plain window u (Send 1) f in absurd (omega (arith, p.1, before));
+  asks = λ t e. let p = at-plain window t (Send 1) e in omega (arith, p.0);
+  sends = λ t i e. let p = at-plain window t (Send ((plain_start window).directive + 1 + i)) e in absurd (omega (arith, p.1));
+  links = plain-in-order window;
+  others = λ t e h. let p = at-plain window t (Other e) h in (p.0, p.1 (receiver (plain_start window).loop (take t (plain_start window).session)));
 }
 
 -- ---- the earlier session: it is one of a loop, and none of its CLCWs can have the number 9

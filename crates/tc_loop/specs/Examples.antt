@@ -89,3 +89,15 @@ acknowledged x = record {
   again = 4;
   believed = 5;
 }
+
+-- A start of a new receiver, and of a sender with a window of this width. Set V(R) to 9 is obeyed once, and the sender
+-- hears of it. Then an Unlock comes, which sets nothing.
+abbrev pub plain_start : ℕ → Start
+plain_start window = record {
+  loop = record (around_set_to 9) { window = window };
+  directive = 1;
+  session = Send 1 ∷ Arrive 1 0 ∷ Hear 2 ∷ Other (Frame example.unlock) ∷ [];
+  obeyed = 1;
+  again = 1;
+  believed = 2;
+}

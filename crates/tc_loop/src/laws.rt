@@ -108,14 +108,16 @@ pub fn a_number_of_its_own_shows_that_set_v_r_was_obeyed()
 /// These starts come to the results that were worked out by hand. By FOP-1's rule alone, a sender believes that Set
 /// V(R) was obeyed if a CLCW has the number that Set V(R) names. This rule isn't enough (`trap`). There, an earlier CLCW
 /// has the number 0, too, and the sender takes a lost frame for accepted. A Set V(R) to 9 meets each premise of both
-/// laws (`met`, `before_met`, `another_met`), although it is obeyed twice. A Set V(R) may also name the number of a
-/// frame that is known to be accepted (`known_named`), but not that of the next frame (`next_not_named`).
+/// laws (`met`, `before_met`, `another_met`), although it is obeyed twice. It may also be obeyed once. The sender may
+/// then have any window below 256, and an Unlock may come (`plain_met`). A Set V(R) may also name the number of a frame
+/// that is known to be accepted (`known_named`), but not that of the next frame (`next_not_named`).
 pub fn starts_come_to_this()
     ensures trap_says { reported example.trap.loop example.trap.session 0 ≡ example.trap.loop.first }
     ensures trap_known { known_since example.trap 7 ≡ 1 }
     ensures trap_names_one_of_before { NamesAnother example.trap 0 5 (smallest 0) 2 → ⊥ }
     ensures trap_accepted { accepted (era example.trap) (era_session example.trap) ≡ 0 }
     ensures met { IsStart example.learnt_by_9 }
+    ensures plain_met { (window : ℕ) → window < 256 → IsStart (example.plain_start window) }
     ensures before_met { IsLoop (era_before example.learnt_by_9 0 5 (smallest 0)) (session_before example.learnt_by_9) }
     ensures another_met { NamesAnother example.learnt_by_9 0 5 (smallest 0) 2 }
     ensures known_named { NamesAnother (example.acknowledged 0) 0 5 (smallest 0) 3 }

@@ -1,5 +1,5 @@
 use Rattle.tc_loop.proofs.Names.{clcw_within, no_limits, passed_on, refl, run_within, some_of_first}
-use Rattle.tc_loop.proofs.Starts.{another, before-loop, each-premise, known-named, next-not-another, trap-not-another}
+use Rattle.tc_loop.proofs.Starts.{another, before-loop, each-premise, each-window, known-named, next-not-another, trap-not-another}
 use Rattle.tc_loop.proofs.laws.starts_come_to_this.Goals as goal
 
 pub returns : goal.returns
@@ -10,6 +10,7 @@ returns c = record {
   trap_names_one_of_before = trap-not-another;
   trap_accepted = refl;
   met = each-premise;
+  plain_met = each-window;
   before_met = before-loop;
   another_met = another;
   known_named = known-named;
