@@ -1,0 +1,9 @@
+pub mod Silent
+pub mod Onward
+pub mod Unions
+pub mod Flagged
+pub mod Turns
+pub mod Places
+pub mod Judged
+pub mod Trimmed
+pub mod Flags
