@@ -95,7 +95,8 @@ impl Judge {
     /// until [`Judge::restart`].
     pub fn sent(&mut self, frame: SentFrame)
         ensures allows { length self.old.way < self.old.most → (items : List Item) → Allows self.new items ↔ Allows self.old (Sent frame ∷ items) }
-        ensures noted { length self.old.way < self.old.most → (length self.new.way ≡ length self.old.way + 1) × (self.new.overrun ≡ self.old.overrun) }
+        ensures noted { length self.old.way < self.old.most
+            → (length self.new.way ≡ length self.old.way + 1) × (self.new.overrun ≡ self.old.overrun) }
         ensures overrun { self.old.most ≤ length self.old.way → self.new ≡ record self.old { overrun = true } }
         ensures kept { (self.new.rules ≡ self.old.rules) × (self.new.most ≡ self.old.most) }
     {
@@ -220,7 +221,9 @@ fn trim(way: &mut Vec<SentFrame>, marks: &mut Vec<bool>)
     ensures marks { length marks.new.items ≡ length way.new.items + 1 }
     ensures shorter { length way.new.items ≤ length way.old.items }
     ensures room { (vec_capacity way.new ≡ vec_capacity way.old) × (vec_capacity marks.new ≡ vec_capacity marks.old) }
-    ensures some { (rules : Rules) (r : Report) (items : List Item) → SomeAt (λ s. Explains rules s r items) marks.new.items way.new.items ↔ SomeAt (λ s. Explains rules s r items) marks.old.items way.old.items }
+    ensures some { (rules : Rules) (r : Report) (items : List Item)
+        → SomeAt (λ s. Explains rules s r items) marks.new.items way.new.items ↔ SomeAt
+        (λ s. Explains rules s r items) marks.old.items way.old.items }
 {
     while way.len() > 0 {
         if marks[0] {

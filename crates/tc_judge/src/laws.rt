@@ -18,18 +18,21 @@ ghost use Rattle.tc_judge.specs.declared.account.SentFrame.TheVariants.{Known, O
 
 /// A frame that is noted as sent is the newest on its way, and nothing else follows from the note.
 pub fn a_frame_that_is_sent_is_on_its_way()
-    ensures { (rules : Rules) (way : List SentFrame) (r : Report) (frame : SentFrame) (items : List Item) → Explains rules way r (Sent frame ∷ items) ↔ Explains rules (way ++ frame ∷ []) r items }
+    ensures { (rules : Rules) (way : List SentFrame) (r : Report) (frame : SentFrame) (items : List Item)
+        → Explains rules way r (Sent frame ∷ items) ↔ Explains rules (way ++ frame ∷ []) r items }
 {}
 
 /// If no frame is on its way to a unit, the next CLCW shows the components that the unit has, with or without a release.
 pub fn only_a_release_changes_a_unit_to_which_nothing_is_on_its_way()
-    ensures { (rules : Rules) (r shown : Report) (items : List Item) → Explains rules [] r (Heard shown ∷ items) → (shown ≡ r) ⊎ (shown ≡ after E10 r) }
+    ensures { (rules : Rules) (r shown : Report) (items : List Item) → Explains rules [] r (Heard shown ∷ items)
+        → (shown ≡ r) ⊎ (shown ≡ after E10 r) }
 {}
 
 /// If the flags of a unit show its state at first, those of each CLCW do. Lockout is set exactly in S3, and Wait
 /// without Lockout exactly in S2.
 pub fn a_clcw_shows_the_state()
-    ensures components { (rules : Rules) (way : List SentFrame) (r shown : Report) (items : List Item) → IsShown r → Explains rules way r (Heard shown ∷ items) → IsShown shown }
+    ensures components { (rules : Rules) (way : List SentFrame) (r shown : Report) (items : List Item) → IsShown r
+        → Explains rules way r (Heard shown ∷ items) → IsShown shown }
     ensures lockout { (r : Report) → IsShown r → (r.state ≡ S3) ↔ (r.lockout ≡ true) }
     ensures wait { (r : Report) → IsShown r → (r.state ≡ S2) ↔ ((r.lockout ≡ false) × (r.wait ≡ true)) }
 {}
@@ -42,8 +45,10 @@ pub fn a_clcw_reads_as_the_components()
 /// An account that has a history remains one that has, if frames may be lost, or if the unit may take the other entry
 /// of a cell.
 pub fn milder_rules_explain_more()
-    ensures lossy { (rules : Rules) (way : List SentFrame) (r : Report) (items : List Item) → Explains rules way r items → Explains (record rules { lossy = true }) way r items }
-    ensures profile { (rules : Rules) (way : List SentFrame) (r : Report) (items : List Item) → Explains rules way r items → Explains (record rules { profile = false }) way r items }
+    ensures lossy { (rules : Rules) (way : List SentFrame) (r : Report) (items : List Item) → Explains rules way r items
+        → Explains (record rules { lossy = true }) way r items }
+    ensures profile { (rules : Rules) (way : List SentFrame) (r : Report) (items : List Item) → Explains rules way r items
+        → Explains (record rules { profile = false }) way r items }
 {}
 
 /// States examples of frames as a unit takes them, and of the components that CLCWs show, worked out by hand.

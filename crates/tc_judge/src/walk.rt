@@ -40,7 +40,8 @@ pub fn hear(
     requires marks { length marks.now ≡ length way.now + 1 }
     requires room { length marks.now ≤ vec_capacity found.old }
     requires layers { (length layers.old.here.items ≡ 8192) × (length layers.old.next.items ≡ 8192) }
-    ensures heard { (items : List Item) → SomeAt (λ s. Explains rules.now s shown items) found.new.items way.now ↔ SomeAt (λ s. Explains rules.now s now (Heard shown ∷ items)) marks.now way.now }
+    ensures heard { (items : List Item) → SomeAt (λ s. Explains rules.now s shown items) found.new.items way.now ↔ SomeAt
+        (λ s. Explains rules.now s now (Heard shown ∷ items)) marks.now way.now }
     ensures len { length found.new.items ≡ length marks.now }
     ensures room { vec_capacity found.new ≡ vec_capacity found.old }
     ensures layers { (length layers.new.here.items ≡ 8192) × (length layers.new.next.items ≡ 8192) }
@@ -73,7 +74,8 @@ fn take_turn(
     requires now { IsShown now }
     requires layer { IsLayer layers.old.here.items }
     requires layers { (length layers.old.here.items ≡ 8192) × (length layers.old.next.items ≡ 8192) }
-    ensures turn { (way : List SentFrame) (items : List Item) → slice_get way 0 ≡ coming → IsTurn rules.now now shown here layers.old.here.items (IsTrue result) layers.new.here.items way items }
+    ensures turn { (way : List SentFrame) (items : List Item) → slice_get way 0 ≡ coming
+        → IsTurn rules.now now shown here layers.old.here.items (IsTrue result) layers.new.here.items way items }
     ensures layer { IsLayer layers.new.here.items }
     ensures none { coming ≡ None → IsEmpty layers.new.here.items }
     ensures layers { (length layers.new.here.items ≡ 8192) × (length layers.new.next.items ≡ 8192) }
@@ -97,7 +99,8 @@ fn turn(
     requires layer { IsLayer layer.old }
     requires len { length layer.old ≡ 8192 }
     requires next { length next.old ≡ 8192 }
-    ensures turn { (way : List SentFrame) (items : List Item) → slice_get way 0 ≡ coming → IsTurn rules.now now shown here layer.old (IsTrue result) next.new way items }
+    ensures turn { (way : List SentFrame) (items : List Item) → slice_get way 0 ≡ coming
+        → IsTurn rules.now now shown here layer.old (IsTrue result) next.new way items }
     ensures layer { IsLayer next.new }
     ensures none { coming ≡ None → IsEmpty next.new }
     ensures len { length layer.new ≡ 8192 }
