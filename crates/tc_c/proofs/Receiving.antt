@@ -1,9 +1,15 @@
 -- Lemmas about the step that a decoder takes for an octet, and about its steps for several octets. The decoder's octets
 -- are in a buffer.
-use Rattle.tc_c.proofs.Names.{◌≡◌, ℕ, ◌+◌, ◌<◌, ◌≤◌, false, List, ◌∷◌, [], ◌++◌, Option, Some, length, take, drop, set, refl, ap, sym, ◌∙◌, arith, append_assoc, length-append, ltb, length-drop, length-take-le, take-set-le, drop-set-add, take_more_set, take_at, take-append-drop, take-take, drop-take, decoded, Reception, Decoding, reception_step, after_block, fate_after, fate_of, state_after, frames_of, counted_in, state-append, frames-append, counted-append, reception_of}
+use Rattle.tc_c.proofs.Names.{◌≡◌, ℕ, ◌+◌, ◌<◌, ◌≤◌, Bool, true, false, if◌then◌else◌, List, ◌∷◌, [], ◌++◌, Option, Some, length, take, drop, set, refl, ap, sym, ◌∙◌, arith, ltb, length-drop, length-take-le, take-set-le, drop-set-add, take_more_set, take-append-drop, take-take, drop-take, decoded, Reception, Decoding, reception_step, after_block, fate_after, fate_of, rejections_of, overruns_of, state_after, frames_of, counted_in, state-append, frames-append, counted-append, reception_of}
+use Rattle.std.proofs.Math.Seq.{take-append-add}
 use Rattle.std.proofs.lemmas.Bool.{le-ltb, lt-ltb}
+use Rattle.std.proofs.lemmas.List.{take-append-le}
 use Rattle.tc_cltu.specs.declared.block.Mode.{Mode}
+use Rattle.tc_cltu.specs.declared.block.Mode.TheVariants.{Detect}
 use Rattle.tc_cltu.specs.declared.block.Fate.{Fate}
+use Rattle.tc_cltu.specs.declared.block.Fate.TheVariants.{Right, Corrected, Overlong}
+use Rattle.tc_cltu.specs.Reception.{fate_in, fate_behind, rejected_as}
+use Rattle.std.specs.Prelude.{is_some}
 use Rattle.tc_c.specs.declared.decoder.DecoderRecord.{DecoderRecord}
 
 -- a new octet of a block stands behind the octets of the block that have come before it
@@ -44,16 +50,35 @@ pub last-fate : (mode : Mode) (o : ℕ) (d : DecoderRecord) (f g : List ℕ) →
 last-fate mode o d f g on last room made =
     rw (on, made, last, full d.carried f room, carried-stays d.carried 7 o f, block-more d.carried 7 o f room)
 
+pub carried-behind : (h : ℕ) (f front block rest : List ℕ) → h ≤ length f → front ≡ take h f → 7 ≤ length block → take (h + 7) (front ++ (block ++ rest)) ≡ take h f ++ take 7 block
+carried-behind h f front block rest within is long =
+    let front_long : length front ≡ h = ap length is ∙ length-take-le h f within in
+    ap (λ (n : ℕ). take (n + 7) (front ++ (block ++ rest))) (sym front_long) ∙ take-append-add front (block ++ rest) 7
+    ∙ ap (λ (x : List ℕ). x ++ take 7 (block ++ rest)) is ∙ ap (λ (x : List ℕ). take h f ++ x) (take-append-le 7 block rest long)
+
 -- the octets that an accepted block carries go behind those that were carried before
-pub taken-state : (d n : DecoderRecord) (f x rest information : List ℕ) (o : Option (List ℕ)) → d.decoding ≡ 1 → d.carried + 7 ≤ 1029 → d.carried ≤ length f
-    → length information ≡ 7 → o ≡ Some information → n ≡ record d { count = 0; carried = d.carried + 7 } → x ≡ take d.carried f ++ (information ++ rest)
-    → reception_of n x ≡ (after_block 1029 (take d.carried f) o).0
-taken-state d n f x rest information o on fits room seven is next whole =
-    let front = length-take-le d.carried f room in
-    let both = length-append (take d.carried f) information in
-    let small = le-ltb 1029 (length (take d.carried f) + 7) (omega arith) in
-    let cut = take_at (take d.carried f ++ information) rest (d.carried + 7) (omega arith) in
-    rw (next, on, is, small, whole, ← append_assoc (take d.carried f) information rest, cut)
+pub accepted : (carried : ℕ) (f x information : List ℕ) (o : Option (List ℕ)) → carried + 7 ≤ 1029 → carried ≤ length f → o ≡ Some information
+    → take (carried + 7) x ≡ take carried f ++ information → after_block 1029 (take carried f) o ≡ (Decoding (take (carried + 7) x) [], [])
+accepted carried f x information o fits room is whole =
+    let front = length-take-le carried f room in
+    let small = le-ltb 1029 (length (take carried f) + 7) (omega arith) in
+    rw (is, small, whole) refl
+
+-- the fate of such a block
+pub accepted-fate : (mode : Mode) (frame block information : List ℕ) → length frame + 7 ≤ 1029 → decoded mode block ≡ Some information → fate_after mode 1029 frame block ≡ fate_in mode block
+accepted-fate mode frame block information fits is =
+    ap (λ (o : Option (List ℕ)). fate_behind 1029 frame o (fate_in mode block)) is
+    ∙ ap (λ (t : Bool). if t then Overlong else fate_in mode block) (le-ltb 1029 (length frame + 7) fits)
+
+right-or-corrected : (right : Bool) (fate : Fate) → fate ≡ Corrected → (rejections_of (Some (if right then Right else fate)) ≡ 0) × (overruns_of (Some (if right then Right else fate)) ≡ 0)
+right-or-corrected true fate is = (refl, refl)
+right-or-corrected false fate is = (ap (λ (x : Fate). rejections_of (Some x)) is, ap (λ (x : Fate). overruns_of (Some x)) is)
+
+pub accepted-counts : (mode : Mode) (block information : List ℕ) → decoded mode block ≡ Some information
+    → (rejections_of (Some (fate_in mode block)) ≡ 0) × (overruns_of (Some (fate_in mode block)) ≡ 0)
+accepted-counts mode block information is =
+    right-or-corrected (is_some (decoded Detect block)) (if is_some (decoded mode block) then Corrected else rejected_as block)
+    (ap (λ (o : Option (List ℕ)). if is_some o then Corrected else rejected_as block) is)
 
 -- ---- several octets
 both : (i n : ℕ) (os : List ℕ) → take (i + n) os ≡ take i os ++ take n (drop i os)

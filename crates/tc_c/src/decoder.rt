@@ -1,8 +1,8 @@
 //! The receiving end of CLTUs. The caller keeps it as a record of numbers and a buffer.
 
-ghost use Rattle.std.specs.Prelude.{◌≡◌, ◌<◌, ◌≤◌, ◌+◌, ◌-◌, ◌∷◌, [], ℕ, Option, Ok, Err, Some, None, length, take, IfOk, IfErr, MatchResult, if◌then◌else◌};
+ghost use Rattle.std.specs.Prelude.{◌≡◌, ◌<◌, ◌≤◌, ◌+◌, ◌-◌, ◌∷◌, ◌++◌, [], ℕ, Option, Ok, Err, Some, None, length, take, IfSome, IfNone, IfOk, IfErr, MatchResult, if◌then◌else◌};
 ghost use Rattle.tc_cltu.specs.Cltu.{most_octets};
-ghost use Rattle.tc_cltu.specs.Reception.{is_start, reception_step, state_after, frames_of, fate_of, fate_after, after_block, counted_in, corrected_in, rejected_in, overlong_in};
+ghost use Rattle.tc_cltu.specs.Reception.{Decoding, is_start, reception_step, state_after, frames_of, fate_of, fate_after, after_block, counted_in, corrections_of, corrected_in, rejected_in, overlong_in};
 ghost use Rattle.tc_cltu.specs.declared.block.Fate.{Fate};
 ghost use Rattle.tc_cltu.specs.CodeBlock.{decoded};
 ghost use Rattle.tc_c_base.specs.Status.{code_of};
@@ -10,7 +10,7 @@ ghost use Rattle.tc_c.specs.Decoder.{decoder_room, decoder_given, reception_of, 
 
 use crate::farm::flag;
 use tc_c_base::{Status, code};
-use tc_cltu::{Blocks, Fate, Judged, MOST_OCTETS, Mode, begins, judge};
+use tc_cltu::{Blocks, Fate, Judged, MOST_OCTETS, Mode, accept, begins, judge};
 
 /// A decoder of CLTUs without the octets that it holds, which are in a buffer. Flags are 0 or 1.
 #[repr(C)]
@@ -170,6 +170,12 @@ fn take_octets(mode: Mode, decoder: DecoderRecord, octets: &[u8], frame: &mut [u
                 overlong: counts.overlong,
             };
         }
+        if now.decoding == 1 && now.count == 0 {
+            let blocks = take_blocks(mode, now.carried, &octets[taken..], frame);
+            now.carried = blocks.carried;
+            taken += blocks.taken;
+            counts.corrected += blocks.corrected;
+        }
     }
     DecodedRecord {
         status: code(Status::Done),
@@ -216,7 +222,7 @@ fn take_front(mode: Mode, decoder: DecoderRecord, octets: &[u8], frame: &mut [u8
 {
     if decoder.decoding == 1 && decoder.count == 0 {
         if let Some(block) = octets.first_chunk::<8>() {
-            return (end_block(mode, decoder, *block, frame), 8);
+            return (end_block(mode, decoder, block, frame), 8);
         }
     }
     (take_octet(mode, decoder, octets[0], frame), 1)
@@ -249,7 +255,7 @@ fn take_octet(mode: Mode, decoder: DecoderRecord, octet: u8, frame: &mut [u8]) -
         let mut block = [0; 8];
         let carried = usize::from(decoder.carried);
         block.copy_from_slice(&frame[carried..carried + 8]);
-        return end_block(mode, decoder, block, frame);
+        return end_block(mode, decoder, &block, frame);
     }
     Taken {
         decoder: DecoderRecord {
@@ -301,7 +307,7 @@ fn search(mode: Mode, decoder: DecoderRecord, octet: u8) -> DecoderRecord
 
 // Ends a code block whose last octet has come.
 #[inline(always)]
-fn end_block(mode: Mode, decoder: DecoderRecord, block: [u8; 8], frame: &mut [u8]) -> Taken
+fn end_block(mode: Mode, decoder: DecoderRecord, block: &[u8; 8], frame: &mut [u8]) -> Taken
     requires decoding { decoder.decoding ≡ 1 }
     requires carried { decoder.carried ≤ most_octets }
     requires room { decoder_room ≤ length frame.old }
@@ -310,25 +316,25 @@ fn end_block(mode: Mode, decoder: DecoderRecord, block: [u8; 8], frame: &mut [u8
     ensures carried { result.decoder.carried ≤ most_octets }
     ensures decoding { result.decoder.decoding < 2 }
     ensures length { length frame.new ≡ length frame.old }
-    ensures state { reception_of result.decoder frame.new ≡ (after_block most_octets (take decoder.carried frame.old) (decoded mode block)).0 }
-    ensures given { (if result.ended then take result.decoder.carried frame.new ∷ [] else []) ≡ (after_block most_octets (take decoder.carried frame.old) (decoded mode block)).1 }
-    ensures fate { result.fate ≡ Some (fate_after mode most_octets (take decoder.carried frame.old) block) }
+    ensures state { reception_of result.decoder frame.new ≡ (after_block most_octets (take decoder.carried frame.old) (decoded mode block.now)).0 }
+    ensures given { (if result.ended then take result.decoder.carried frame.new ∷ [] else []) ≡ (after_block most_octets (take decoder.carried frame.old) (decoded mode block.now)).1 }
+    ensures fate { result.fate ≡ Some (fate_after mode most_octets (take decoder.carried frame.old) block.now) }
 {
     let carried = usize::from(decoder.carried);
-    let Judged { fate, information } = judge(block, mode);
+    let Judged { fate, block } = judge(block, mode);
     let searching = DecoderRecord {
         decoding: 0,
         last: 0,
         count: 0,
         ..decoder
     };
-    match information {
+    match block {
         None => Taken {
             decoder: searching,
             fate: Some(fate),
             ended: carried > 0,
         },
-        Some(information) => {
+        Some(block) => {
             if carried + 7 > MOST_OCTETS {
                 return Taken {
                     decoder: searching,
@@ -336,9 +342,7 @@ fn end_block(mode: Mode, decoder: DecoderRecord, block: [u8; 8], frame: &mut [u8
                     ended: false,
                 };
             }
-            let (_, rest) = frame.split_at_mut(carried);
-            let (next, _) = rest.split_at_mut(7);
-            next.copy_from_slice(&information);
+            carry(carried, &block, frame);
             Taken {
                 decoder: DecoderRecord {
                     count: 0,
@@ -349,5 +353,96 @@ fn end_block(mode: Mode, decoder: DecoderRecord, block: [u8; 8], frame: &mut [u8
                 ended: false,
             }
         }
+    }
+}
+
+// Writes what a block carries behind the octets that were carried before it. The whole block is written, so that its
+// last octet is behind them.
+#[inline(always)]
+fn carry(carried: usize, block: &[u8; 8], frame: &mut [u8])
+    requires { carried + 8 ≤ length frame.old }
+    ensures carried { take (carried + 7) frame.new ≡ take carried frame.old ++ take 7 block.now }
+    ensures length { length frame.new ≡ length frame.old }
+{
+    let (_, rest) = frame.split_at_mut(carried);
+    if let Some(next) = rest.first_chunk_mut::<8>() {
+        *next = *block;
+    }
+}
+
+// The outcome for code blocks that are accepted.
+#[derive(Clone, Copy)]
+struct Accepted {
+    // the number of octets that were carried, with those of the blocks
+    carried: u16,
+    // the number of octets in the blocks
+    taken: usize,
+    // the number of blocks that had one bit corrected
+    corrected: u64,
+}
+
+// Takes the code blocks at the front of the octets, up to the first that is rejected or finds no room, behind the octets
+// that were carried before. The loop isn't inlined, so that the loop over all octets, which calls it, stays short.
+#[inline(never)]
+fn take_blocks(mode: Mode, before: u16, octets: &[u8], frame: &mut [u8]) -> Accepted
+    requires carried { before ≤ most_octets }
+    requires room { decoder_room ≤ length frame.old }
+    ensures carried { result.carried ≤ most_octets }
+    ensures length { length frame.new ≡ length frame.old }
+    ensures within { result.taken ≤ length octets.now }
+    ensures state { Decoding (take result.carried frame.new) [] ≡ state_after mode most_octets (Decoding (take before frame.old) []) (take result.taken octets.now) }
+    ensures given { frames_of mode most_octets (Decoding (take before frame.old) []) (take result.taken octets.now) ≡ [] }
+    ensures corrected { result.corrected ≡ corrected_in mode most_octets (Decoding (take before frame.old) []) (take result.taken octets.now) }
+    ensures few { result.corrected ≤ result.taken }
+    ensures rejected { rejected_in mode most_octets (Decoding (take before frame.old) []) (take result.taken octets.now) ≡ 0 }
+    ensures overlong { overlong_in mode most_octets (Decoding (take before frame.old) []) (take result.taken octets.now) ≡ 0 }
+{
+    let mut carried = usize::from(before);
+    let mut taken = 0usize;
+    let mut corrected = 0;
+    while let Some(corrections) = accept_block(mode, carried, &octets[taken..], frame) {
+        carried += 7;
+        taken += 8;
+        corrected += corrections;
+    }
+    Accepted {
+        carried: carried as u16,
+        taken,
+        corrected,
+    }
+}
+
+// Takes the code block at the front of the octets, and returns how many of its bits were corrected. Returns `None` if
+// no whole code block is there, or if it is rejected or finds no room. Then the buffer stays as it was.
+#[inline(always)]
+fn accept_block(mode: Mode, carried: usize, octets: &[u8], frame: &mut [u8]) -> Option<u64>
+    requires room { decoder_room ≤ length frame.old }
+    ensures length { length frame.new ≡ length frame.old }
+    ensures none { IfNone result (frame.new ≡ frame.old) }
+    ensures whole { IfSome result (λ _. 8 ≤ length octets.now) }
+    ensures room { IfSome result (λ _. carried + 7 ≤ most_octets) }
+    ensures state { IfSome result (λ _. Decoding (take (carried + 7) frame.new) [] ≡ state_after mode most_octets (Decoding (take carried frame.old) []) (take 8 octets.now)) }
+    ensures given { IfSome result (λ _. frames_of mode most_octets (Decoding (take carried frame.old) []) (take 8 octets.now) ≡ []) }
+    ensures corrected { IfSome result (λ n. n ≡ corrected_in mode most_octets (Decoding (take carried frame.old) []) (take 8 octets.now)) }
+    ensures few { IfSome result (λ n. n ≤ 1) }
+    ensures rejected { IfSome result (λ _. rejected_in mode most_octets (Decoding (take carried frame.old) []) (take 8 octets.now) ≡ 0) }
+    ensures overlong { IfSome result (λ _. overlong_in mode most_octets (Decoding (take carried frame.old) []) (take 8 octets.now) ≡ 0) }
+{
+    if carried > MOST_OCTETS - 7 {
+        return None;
+    }
+    let block = octets.first_chunk::<8>()?;
+    let (fate, right) = accept(block, mode)?;
+    carry(carried, &right, frame);
+    Some(corrections(fate))
+}
+
+fn corrections(fate: Fate) -> u64
+    ensures corrected { result ≡ corrections_of (Some fate) }
+    ensures few { result ≤ 1 }
+{
+    match fate {
+        Fate::Corrected => 1,
+        _ => 0,
     }
 }

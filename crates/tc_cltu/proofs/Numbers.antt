@@ -81,3 +81,7 @@ seven_of r = get_or r 0 0 ∷ get_or r 1 0 ∷ get_or r 2 0 ∷ get_or r 3 0 ∷
 
 pub parts : (r block : List ℕ) → length block ≡ 8 → r ≡ block → seven_of r ++ get_or r 7 0 ∷ [] ≡ block
 parts r block l h = sym (eight_list r (ap length h ∙ l)) ∙ h
+
+pub seven-first : (r : List ℕ) → length r ≡ 8 → seven_of r ≡ take 7 r
+seven-first (a ∷ b ∷ c ∷ d ∷ e ∷ f ∷ g ∷ h ∷ []) l = refl
+seven-first _ l = absurd (omega arith)

@@ -1,6 +1,6 @@
 //! Code blocks.
 
-ghost use Rattle.std.specs.Prelude.{◌≡◌, ◌≢◌, ◌+◌, ◌^◌, ◌<◌, ◌≤◌, ◌++◌, ◌∷◌, [], ℕ, List, Some, None, length, take, bit_xor, IfSome, MatchOption};
+ghost use Rattle.std.specs.Prelude.{◌≡◌, ◌≢◌, ◌+◌, ◌^◌, ◌<◌, ◌≤◌, ◌++◌, ◌∷◌, [], ℕ, List, Some, None, length, take, bit_xor, IfSome, MatchOption, option_map};
 ghost use Rattle.std.specs.Int.{w64, from_le_bytes, to_le_bytes};
 ghost use Rattle.tc_link.specs.Frame.{IsOctets};
 ghost use Rattle.tc_cltu.specs.CodeBlock.{parity_of, code_block, decoded, errors, most_errors, IsInformation};
@@ -39,8 +39,8 @@ pub enum Fate {
 #[derive(Clone, Copy, Debug, PartialEq, Eq)]
 pub struct Judged {
     pub fate: Fate,
-    /// The seven octets that the block carries, if it is accepted.
-    pub information: Option<[u8; 7]>,
+    /// The block without its wrong bit, if it is accepted. Its first seven octets are those that it carries.
+    pub block: Option<[u8; 8]>,
 }
 
 // Returns the seven parity bits over seven octets.
@@ -80,39 +80,49 @@ pub fn decode_block(block: [u8; 8], mode: Mode) -> Option<[u8; 7]>
     ensures refused { (information : List ℕ) → IsInformation information → most_errors mode < errors block information
         → errors block information + most_errors mode ≤ 3 → result ≡ None }
 {
-    judge(block, mode).information
+    let (_, right) = accept(&block, mode)?;
+    let [a, b, c, d, e, f, g, _] = right;
+    Some([a, b, c, d, e, f, g])
 }
 
-/// Returns the fate of a code block and, if it is accepted, the seven octets that it carries.
+/// Returns the fate of a code block and, if it is accepted, the block without its wrong bit.
+#[inline(always)]
+pub fn judge(block: &[u8; 8], mode: Mode) -> Judged
+    ensures fate { result.fate ≡ fate_in mode block.now }
+    ensures carried { option_map (λ right. take 7 right) result.block ≡ decoded mode block.now }
+{
+    let Some(accepted) = accept(block, mode) else {
+        return Judged {
+            fate: rejection(block),
+            block: None,
+        };
+    };
+    let (fate, right) = accepted;
+    Judged {
+        fate,
+        block: Some(right),
+    }
+}
+
+/// Returns the fate of a code block, and the block without its wrong bit, or `None` if the mode rejects it. This takes
+/// less time than [`judge`], which also says whether a rejected block is the tail sequence.
 #[inline(always)]
 #[tactic(auto, using(crate::proofs::Numbers::parts))]
-pub fn judge(block: [u8; 8], mode: Mode) -> Judged
-    ensures fate { result.fate ≡ fate_in mode block }
-    ensures information { result.information ≡ decoded mode block }
-    ensures parts { (own : List ℕ) × (last : ℕ) × IsInformation own × (block ≡ own ++ last ∷ []) }
+pub fn accept(block: &[u8; 8], mode: Mode) -> Option<(Fate, [u8; 8])>
+    ensures fate { MatchOption result (fate_in mode block.now ≡ rejected_as block.now) (λ p. p.0 ≡ fate_in mode block.now) }
+    ensures carried { MatchOption result (decoded mode block.now ≡ None) (λ p. decoded mode block.now ≡ Some (take 7 p.1)) }
+    ensures parts { (own : List ℕ) × (last : ℕ) × IsInformation own × (block.now ≡ own ++ last ∷ []) }
 {
-    let word = word_of(block);
-    let [a, b, c, d, e, f, g, last] = word.to_le_bytes();
-    let information = [a, b, c, d, e, f, g];
-    match error_of(&information, last, mode) {
-        None => Judged {
-            fate: rejection(block),
-            information: None,
-        },
-        Some(0) => Judged {
-            fate: Fate::Right,
-            information: Some(information),
-        },
-        Some(error) => Judged {
-            fate: Fate::Corrected,
-            information: Some(first_seven(word ^ error)),
-        },
+    let [a, b, c, d, e, f, g, last] = *block;
+    match error_of(&[a, b, c, d, e, f, g], last, mode)? {
+        0 => Some((Fate::Right, *block)),
+        error => Some((Fate::Corrected, inverted(block, error))),
     }
 }
 
 // Returns the fate of a block that isn't accepted.
-fn rejection(block: [u8; 8]) -> Fate
-    ensures { result ≡ rejected_as block }
+fn rejection(block: &[u8; 8]) -> Fate
+    ensures { result ≡ rejected_as block.now }
 {
     if block.as_slice() == TAIL.as_slice() {
         Fate::Tail
@@ -121,20 +131,11 @@ fn rejection(block: [u8; 8]) -> Fate
     }
 }
 
-// Returns a block as a number whose lowest octet is the first of the block. One XOR then inverts a wrong bit.
-fn word_of(block: [u8; 8]) -> u64
-    ensures number { result ≡ from_le_bytes w64 block }
-    ensures octets { to_le_bytes w64 result ≡ block }
+// Returns the block in which the bits of a number are inverted. The lowest octet of the number is for the first octet.
+fn inverted(block: &[u8; 8], bits: u64) -> [u8; 8]
+    ensures { result ≡ to_le_bytes w64 (bit_xor (from_le_bytes w64 block.now) bits) }
 {
-    u64::from_le_bytes(block)
-}
-
-// Returns the first seven octets of a number.
-fn first_seven(word: u64) -> [u8; 7]
-    ensures { result ≡ take 7 (to_le_bytes w64 word) }
-{
-    let [a, b, c, d, e, f, g, _] = word.to_le_bytes();
-    [a, b, c, d, e, f, g]
+    (u64::from_le_bytes(*block) ^ bits).to_le_bytes()
 }
 
 // Finds the wrong bit of the block that consists of `own` and `last`. Returns the number in which only this bit is set,

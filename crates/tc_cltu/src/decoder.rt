@@ -99,18 +99,18 @@ impl Decoder {
         }
         self.count = 0;
         let block = self.block;
-        self.end_block(block)
+        self.end_block(&block)
     }
 
     /// Processes the next eight octets of the stream at once, if a code block begins with them. Otherwise it processes
     /// none, and returns `None`. No memory is requested.
     #[inline(always)]
-    pub fn feed_block(&mut self, block: [u8; 8]) -> Option<Fed>
+    pub fn feed_block(&mut self, block: &[u8; 8]) -> Option<Fed>
         ensures mode { self.new.mode ≡ self.old.mode }
         ensures begins { IfSome result (λ fed. self.old.state ≡ Decoding self.old.carried []) }
-        ensures state { IfSome result (λ fed. self.new.state ≡ state_after self.old.mode most_octets self.old.state block) }
-        ensures given { IfSome result (λ fed. (if fed.ended then self.new.carried ∷ [] else []) ≡ frames_of self.old.mode most_octets self.old.state block) }
-        ensures fate { IfSome result (λ fed. fed.fate ≡ Some (fate_after self.old.mode most_octets self.old.carried block)) }
+        ensures state { IfSome result (λ fed. self.new.state ≡ state_after self.old.mode most_octets self.old.state block.now) }
+        ensures given { IfSome result (λ fed. (if fed.ended then self.new.carried ∷ [] else []) ≡ frames_of self.old.mode most_octets self.old.state block.now) }
+        ensures fate { IfSome result (λ fed. fed.fate ≡ Some (fate_after self.old.mode most_octets self.old.carried block.now)) }
         ensures none { IfNone result ((self.old.state ≢ Decoding self.old.carried []) × (self.new ≡ self.old)) }
     {
         if !self.decoding || self.count != 0 {
@@ -136,7 +136,7 @@ impl Decoder {
         ensures none { IfNone result ((piece.now ≡ []) × (self.new ≡ self.old)) }
     {
         if let Some((block, rest)) = piece.split_first_chunk::<8>() {
-            if let Some(fed) = self.feed_block(*block) {
+            if let Some(fed) = self.feed_block(block) {
                 return Some((fed, rest));
             }
         }
@@ -146,15 +146,15 @@ impl Decoder {
 
     // Processes a code block after its last octet.
     #[inline(always)]
-    fn end_block(&mut self, block: [u8; 8]) -> Fed
+    fn end_block(&mut self, block: &[u8; 8]) -> Fed
         requires { self.old.state ≡ Decoding self.old.carried [] }
         ensures mode { self.new.mode ≡ self.old.mode }
-        ensures state { self.new.state ≡ (after_block most_octets self.old.carried (decoded self.old.mode block)).0 }
-        ensures given { (if result.ended then self.new.carried ∷ [] else []) ≡ (after_block most_octets self.old.carried (decoded self.old.mode block)).1 }
-        ensures fate { result.fate ≡ Some (fate_after self.old.mode most_octets self.old.carried block) }
+        ensures state { self.new.state ≡ (after_block most_octets self.old.carried (decoded self.old.mode block.now)).0 }
+        ensures given { (if result.ended then self.new.carried ∷ [] else []) ≡ (after_block most_octets self.old.carried (decoded self.old.mode block.now)).1 }
+        ensures fate { result.fate ≡ Some (fate_after self.old.mode most_octets self.old.carried block.now) }
     {
-        let Judged { fate, information } = judge(block, self.mode);
-        match information {
+        let Judged { fate, block } = judge(block, self.mode);
+        match block {
             None => {
                 self.decoding = false;
                 self.last = 0;
@@ -163,7 +163,7 @@ impl Decoder {
                     ended: self.frame.len() > 0,
                 }
             }
-            Some(information) => {
+            Some(block) => {
                 if self.frame.len() + 7 > MOST_OCTETS {
                     self.decoding = false;
                     self.last = 0;
@@ -172,7 +172,7 @@ impl Decoder {
                         ended: false,
                     };
                 }
-                self.frame.extend_from_slice(&information).unwrap();
+                self.frame.extend_from_slice(&block[..7]).unwrap();
                 Fed {
                     fate: Some(fate),
                     ended: false,

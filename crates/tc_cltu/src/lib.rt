@@ -14,7 +14,7 @@ mod randomiser;
 mod tables;
 mod writer;
 
-pub use block::{Blocks, Fate, Judged, Mode, decode_block, encode_block, judge};
+pub use block::{Blocks, Fate, Judged, Mode, accept, decode_block, encode_block, judge};
 pub use decoder::{Decoder, Fed, begins};
 pub use laws::{
     a_cltu_gives_its_frame, a_cltu_gives_its_frames, a_cltu_is_so, code_blocks_are_so,
