@@ -105,10 +105,17 @@ pub fn frame_with_steps<C: Tick>(
     octets: &[u8],
     steps: &mut C,
 ) -> ReplyRecord
-    ensures done { IfNone (fault_of octets.now) ((frame : List ℕ) × BeginsWith octets.now frame × (result ≡ reply_record (frame_reply_within (limit_of channel.old.limits) channel.old.settings channel.old.journal frame)) × (channel.new ≡ with_limited_event channel.old (Event.Frame frame))) }
+    ensures done { IfNone (fault_of octets.now)
+        ((frame : List ℕ) × BeginsWith octets.now frame
+        × (result ≡ reply_record (frame_reply_within
+        (limit_of channel.old.limits) channel.old.settings channel.old.journal frame))
+        × (channel.new ≡ with_limited_event channel.old (Event.Frame frame))) }
     ensures fault { IfSome (fault_of octets.now) (λ fault. (result ≡ no_reply (frame_status fault)) × (channel.new ≡ channel.old)) }
     ensures refused { 0 < result.status → channel.new ≡ channel.old }
-    ensures cost { IfNone (fault_of octets.now) ((frame : List ℕ) × BeginsWith octets.now frame × (C.taken steps.new ≤ C.taken steps.old + frame_steps_within (limit_of channel.old.limits) channel.old.settings channel.old.journal frame)) }
+    ensures cost { IfNone (fault_of octets.now)
+        ((frame : List ℕ) × BeginsWith octets.now frame
+        × (C.taken steps.new ≤ C.taken steps.old + frame_steps_within
+        (limit_of channel.old.limits) channel.old.settings channel.old.journal frame)) }
     ensures quiet { 0 < result.status → C.taken steps.new ≡ C.taken steps.old }
 {
     match read_frame(octets) {
@@ -124,7 +131,10 @@ pub fn frame_with_steps<C: Tick>(
 /// with no frame. It never runs out of memory, because only the call that creates the channel requests memory.
 #[unsafe(no_mangle)]
 pub extern "C" fn tcrx_channel_frame_at(seat: &mut Seat, octets: &[u8]) -> ReplyRecord
-    ensures done { IfSome seat.old.place.channel (λ h. IfNone (fault_of octets.now) ((frame : List ℕ) × BeginsWith octets.now frame × (result ≡ reply_record (frame_reply_within (limit_of h.limits) h.settings h.journal frame)) × (seat.new.place.channel ≡ Some (with_limited_event h (Event.Frame frame))))) }
+    ensures done { IfSome seat.old.place.channel
+        (λ h. IfNone (fault_of octets.now) ((frame : List ℕ) × BeginsWith octets.now frame
+        × (result ≡ reply_record (frame_reply_within (limit_of h.limits) h.settings h.journal frame))
+        × (seat.new.place.channel ≡ Some (with_limited_event h (Event.Frame frame))))) }
     ensures fault { IfSome seat.old.place.channel (λ h. IfSome (fault_of octets.now) (λ fault. result ≡ no_reply (frame_status fault))) }
     ensures refused { 0 < result.status → seat.new.place.channel ≡ seat.old.place.channel }
     ensures no_channel { IfNone seat.old.place.channel (result ≡ no_reply Status.NoChannel) }
@@ -138,10 +148,14 @@ pub extern "C" fn tcrx_channel_frame_at(seat: &mut Seat, octets: &[u8]) -> Reply
 /// Does the work of [`tcrx_channel_release_at`]. That call runs this function once, with the channel of its seat and a
 /// counter that counts nothing. Steps are counted as in [`frame_with_steps`].
 pub fn release_with_steps<C: Tick>(channel: &mut FixedChannel, steps: &mut C) -> DeliveryRecord
-    ensures done { buffered_fields_within (limit_of channel.old.limits) channel.old.settings channel.old.journal ≢ [] → (result ≡ delivery_record (release_reply_within (limit_of channel.old.limits) channel.old.settings channel.old.journal)) × (channel.new ≡ with_limited_event channel.old Event.Release) }
-    ensures empty { buffered_fields_within (limit_of channel.old.limits) channel.old.settings channel.old.journal ≡ [] → result ≡ no_delivery Status.Empty }
+    ensures done { buffered_fields_within (limit_of channel.old.limits) channel.old.settings channel.old.journal ≢ []
+        → (result ≡ delivery_record (release_reply_within (limit_of channel.old.limits) channel.old.settings channel.old.journal))
+        × (channel.new ≡ with_limited_event channel.old Event.Release) }
+    ensures empty { buffered_fields_within (limit_of channel.old.limits) channel.old.settings channel.old.journal ≡ []
+        → result ≡ no_delivery Status.Empty }
     ensures refused { 0 < result.status → channel.new ≡ channel.old }
-    ensures cost { C.taken steps.new ≤ C.taken steps.old + release_steps_within (limit_of channel.old.limits) channel.old.settings channel.old.journal }
+    ensures cost { C.taken steps.new ≤ C.taken steps.old + release_steps_within
+        (limit_of channel.old.limits) channel.old.settings channel.old.journal }
 {
     match channel.release_with_steps(steps) {
         Ok(delivery) => delivery_reported(delivery),
@@ -156,8 +170,12 @@ pub fn release_with_steps<C: Tick>(channel: &mut FixedChannel, steps: &mut C) ->
 /// stays as it was.
 #[unsafe(no_mangle)]
 pub extern "C" fn tcrx_channel_release_at(seat: &mut Seat) -> DeliveryRecord
-    ensures done { IfSome seat.old.place.channel (λ h. buffered_fields_within (limit_of h.limits) h.settings h.journal ≢ [] → (result ≡ delivery_record (release_reply_within (limit_of h.limits) h.settings h.journal)) × (seat.new.place.channel ≡ Some (with_limited_event h Event.Release))) }
-    ensures empty { IfSome seat.old.place.channel (λ h. buffered_fields_within (limit_of h.limits) h.settings h.journal ≡ [] → result ≡ no_delivery Status.Empty) }
+    ensures done { IfSome seat.old.place.channel
+        (λ h. buffered_fields_within (limit_of h.limits) h.settings h.journal ≢ []
+        → (result ≡ delivery_record (release_reply_within (limit_of h.limits) h.settings h.journal))
+        × (seat.new.place.channel ≡ Some (with_limited_event h Event.Release))) }
+    ensures empty { IfSome seat.old.place.channel
+        (λ h. buffered_fields_within (limit_of h.limits) h.settings h.journal ≡ [] → result ≡ no_delivery Status.Empty) }
     ensures refused { 0 < result.status → seat.new.place.channel ≡ seat.old.place.channel }
     ensures no_channel { IfNone seat.old.place.channel (result ≡ no_delivery Status.NoChannel) }
 {

@@ -20,9 +20,14 @@ use tc_cltu::{MOST_OCTETS, START, TAIL, encode_block, randomise};
 #[unsafe(no_mangle)]
 pub extern "C" fn tcrx_write_cltu_at(frame: &[u8], octets: &mut [u8]) -> WrittenRecord
     ensures written { IfNone (cltu_fault_of frame.now) (length (cltu frame.now) ≤ length octets.old → result ≡ taken (length (cltu frame.now))) }
-    ensures cltu { IfNone (cltu_fault_of frame.now) (length (cltu frame.now) ≤ length octets.old → take (length (cltu frame.now)) octets.new ≡ cltu frame.now) }
-    ensures rest { IfNone (cltu_fault_of frame.now) (length (cltu frame.now) ≤ length octets.old → drop (length (cltu frame.now)) octets.new ≡ drop (length (cltu frame.now)) octets.old) }
-    ensures no_room { IfNone (cltu_fault_of frame.now) (length octets.old < length (cltu frame.now) → (result ≡ too_short (length (cltu frame.now))) × (octets.new ≡ octets.old)) }
+    ensures cltu { IfNone (cltu_fault_of frame.now)
+        (length (cltu frame.now) ≤ length octets.old → take (length (cltu frame.now)) octets.new ≡ cltu frame.now) }
+    ensures rest { IfNone (cltu_fault_of frame.now)
+        (length (cltu frame.now) ≤ length octets.old
+        → drop (length (cltu frame.now)) octets.new ≡ drop (length (cltu frame.now)) octets.old) }
+    ensures no_room { IfNone (cltu_fault_of frame.now)
+        (length octets.old < length (cltu frame.now)
+        → (result ≡ too_short (length (cltu frame.now))) × (octets.new ≡ octets.old)) }
     ensures refused { IfSome (cltu_fault_of frame.now) (λ fault. (result ≡ no_octets (cltu_status fault)) × (octets.new ≡ octets.old)) }
 {
     if let Err(fault) = check_carried(frame) {
@@ -39,7 +44,8 @@ pub extern "C" fn tcrx_write_cltu_at(frame: &[u8], octets: &mut [u8]) -> Written
 
 // Checks that a CLTU can carry these octets.
 fn check_carried(octets: &[u8]) -> Result<(), Status>
-    ensures fault { MatchResult result (λ _. cltu_fault_of octets.now ≡ None) (λ status. option_map cltu_status (cltu_fault_of octets.now) ≡ Some status) }
+    ensures fault { MatchResult result (λ _. cltu_fault_of octets.now ≡ None)
+        (λ status. option_map cltu_status (cltu_fault_of octets.now) ≡ Some status) }
     ensures most { IfOk result (λ _. length octets.now ≤ most_octets) }
 {
     if octets.is_empty() {
@@ -137,9 +143,12 @@ fn with_fill(octets: &[u8]) -> [u8; 7]
 #[unsafe(no_mangle)]
 pub extern "C" fn tcrx_randomise_at(given: &[u8], octets: &mut [u8]) -> WrittenRecord
     ensures written { IfNone (cltu_fault_of given.now) (length given.now ≤ length octets.old → result ≡ taken (length given.now)) }
-    ensures octets { IfNone (cltu_fault_of given.now) (length given.now ≤ length octets.old → take (length given.now) octets.new ≡ randomised given.now) }
-    ensures rest { IfNone (cltu_fault_of given.now) (length given.now ≤ length octets.old → drop (length given.now) octets.new ≡ drop (length given.now) octets.old) }
-    ensures no_room { IfNone (cltu_fault_of given.now) (length octets.old < length given.now → (result ≡ too_short (length given.now)) × (octets.new ≡ octets.old)) }
+    ensures octets { IfNone (cltu_fault_of given.now)
+        (length given.now ≤ length octets.old → take (length given.now) octets.new ≡ randomised given.now) }
+    ensures rest { IfNone (cltu_fault_of given.now)
+        (length given.now ≤ length octets.old → drop (length given.now) octets.new ≡ drop (length given.now) octets.old) }
+    ensures no_room { IfNone (cltu_fault_of given.now)
+        (length octets.old < length given.now → (result ≡ too_short (length given.now)) × (octets.new ≡ octets.old)) }
     ensures refused { IfSome (cltu_fault_of given.now) (λ fault. (result ≡ no_octets (cltu_status fault)) × (octets.new ≡ octets.old)) }
 {
     if let Err(fault) = check_carried(given) {

@@ -44,7 +44,11 @@ pub(crate) fn not_counted(fault: Status) -> CountRecord
 }
 
 fn clcw(channel: &FixedChannel, no_rf: u8, no_bit_lock: u8) -> ClcwRecord
-    ensures word { IfOk (link_of no_rf no_bit_lock) (λ link. result ≡ record { status = code_of Status.Done; word = clcw_within (limit_of channel.now.limits) channel.now.settings channel.now.journal link }) }
+    ensures word { IfOk (link_of no_rf no_bit_lock)
+        (λ link. result ≡ record {
+          status = code_of Status.Done;
+          word = clcw_within (limit_of channel.now.limits) channel.now.settings channel.now.journal link;
+        }) }
     ensures refused { IfErr (link_of no_rf no_bit_lock) (λ fault. result ≡ record { status = code_of fault; word = 0 }) }
 {
     match link(no_rf, no_bit_lock) {
@@ -62,8 +66,11 @@ fn clcw(channel: &FixedChannel, no_rf: u8, no_bit_lock: u8) -> ClcwRecord
 /// is 0. The channel stays as it was.
 #[unsafe(no_mangle)]
 pub extern "C" fn tcrx_channel_clcw_at(seat: &mut Seat, no_rf: u8, no_bit_lock: u8) -> ClcwRecord
-    ensures word { IfSome seat.old.place.channel (λ h. IfOk (link_of no_rf no_bit_lock) (λ link. result ≡ record { status = code_of Status.Done; word = clcw_within (limit_of h.limits) h.settings h.journal link })) }
-    ensures refused { IfSome seat.old.place.channel (λ h. IfErr (link_of no_rf no_bit_lock) (λ fault. result ≡ record { status = code_of fault; word = 0 })) }
+    ensures word { IfSome seat.old.place.channel
+        (λ h. IfOk (link_of no_rf no_bit_lock) (λ link. result
+        ≡ record { status = code_of Status.Done; word = clcw_within (limit_of h.limits) h.settings h.journal link })) }
+    ensures refused { IfSome seat.old.place.channel
+        (λ h. IfErr (link_of no_rf no_bit_lock) (λ fault. result ≡ record { status = code_of fault; word = 0 })) }
     ensures no_channel { IfNone seat.old.place.channel (result ≡ record { status = code_of Status.NoChannel; word = 0 }) }
     ensures unchanged { seat.new.place.channel ≡ seat.old.place.channel }
 {
@@ -77,7 +84,13 @@ fn farm_of(channel: &FixedChannel) -> FarmAnswer
     ensures allowed { IsAllowed channel.now.settings }
     ensures lawful { IsLawfulWithin (limit_of channel.now.limits) channel.now.settings channel.now.journal }
     ensures era { CountsUpInItsEraWithin (limit_of channel.now.limits) channel.now.settings channel.now.journal }
-    ensures farm { result ≡ record { status = code_of Status.Done; farm = record_of (record { width = channel.now.settings.width; report = (run_within (limit_of channel.now.limits) channel.now.settings channel.now.journal).report }) } }
+    ensures farm { result ≡ record {
+      status = code_of Status.Done;
+      farm = record_of (record {
+        width = channel.now.settings.width;
+        report = (run_within (limit_of channel.now.limits) channel.now.settings channel.now.journal).report;
+      });
+    } }
 {
     FarmAnswer {
         status: code(Status::Done),
@@ -91,7 +104,14 @@ fn farm_of(channel: &FixedChannel) -> FarmAnswer
 /// stays as it was.
 #[unsafe(no_mangle)]
 pub extern "C" fn tcrx_channel_report_at(seat: &mut Seat) -> FarmAnswer
-    ensures farm { IfSome seat.old.place.channel (λ h. result ≡ record { status = code_of Status.Done; farm = record_of (record { width = h.settings.width; report = (run_within (limit_of h.limits) h.settings h.journal).report }) }) }
+    ensures farm { IfSome seat.old.place.channel
+        (λ h. result ≡ record {
+          status = code_of Status.Done;
+          farm = record_of (record {
+            width = h.settings.width;
+            report = (run_within (limit_of h.limits) h.settings h.journal).report;
+          });
+        }) }
     ensures no_channel { IfNone seat.old.place.channel (result ≡ record { status = code_of Status.NoChannel; farm = no_record }) }
     ensures unchanged { seat.new.place.channel ≡ seat.old.place.channel }
     ensures allowed { IfSome seat.old.place.channel (λ h. IsAllowed h.settings) }
@@ -108,7 +128,8 @@ pub extern "C" fn tcrx_channel_report_at(seat: &mut Seat) -> FarmAnswer
 /// channel. The channel stays as it was.
 #[unsafe(no_mangle)]
 pub extern "C" fn tcrx_channel_buffered_at(seat: &mut Seat) -> CountRecord
-    ensures count { IfSome seat.old.place.channel (λ h. result ≡ count_record (length (buffered_fields_within (limit_of h.limits) h.settings h.journal))) }
+    ensures count { IfSome seat.old.place.channel
+        (λ h. result ≡ count_record (length (buffered_fields_within (limit_of h.limits) h.settings h.journal))) }
     ensures no_channel { IfNone seat.old.place.channel (result ≡ no_count Status.NoChannel) }
     ensures unchanged { seat.new.place.channel ≡ seat.old.place.channel }
 {
@@ -119,8 +140,10 @@ pub extern "C" fn tcrx_channel_buffered_at(seat: &mut Seat) -> CountRecord
 }
 
 fn packets(channel: &FixedChannel, apid: u16) -> CountRecord
-    ensures count { IfSome (waiting_packets_within (limit_of channel.now.limits) channel.now.settings channel.now.journal apid) (λ packets. result ≡ count_record (length packets)) }
-    ensures no_queue { IfNone (waiting_packets_within (limit_of channel.now.limits) channel.now.settings channel.now.journal apid) (result ≡ no_count Status.NoQueue) }
+    ensures count { IfSome (waiting_packets_within (limit_of channel.now.limits) channel.now.settings channel.now.journal apid)
+        (λ packets. result ≡ count_record (length packets)) }
+    ensures no_queue { IfNone (waiting_packets_within (limit_of channel.now.limits) channel.now.settings channel.now.journal apid)
+        (result ≡ no_count Status.NoQueue) }
 {
     match channel.queued(apid) {
         Some(count) => counted(count as u64),
@@ -132,8 +155,11 @@ fn packets(channel: &FixedChannel, apid: u16) -> CountRecord
 /// no channel, and with NoQueue if no queue has the APID. The channel stays as it was.
 #[unsafe(no_mangle)]
 pub extern "C" fn tcrx_channel_queued_at(seat: &mut Seat, apid: u16) -> CountRecord
-    ensures count { IfSome seat.old.place.channel (λ h. IfSome (waiting_packets_within (limit_of h.limits) h.settings h.journal apid) (λ packets. result ≡ count_record (length packets))) }
-    ensures no_queue { IfSome seat.old.place.channel (λ h. IfNone (waiting_packets_within (limit_of h.limits) h.settings h.journal apid) (result ≡ no_count Status.NoQueue)) }
+    ensures count { IfSome seat.old.place.channel
+        (λ h. IfSome (waiting_packets_within (limit_of h.limits) h.settings h.journal apid)
+        (λ packets. result ≡ count_record (length packets))) }
+    ensures no_queue { IfSome seat.old.place.channel
+        (λ h. IfNone (waiting_packets_within (limit_of h.limits) h.settings h.journal apid) (result ≡ no_count Status.NoQueue)) }
     ensures no_channel { IfNone seat.old.place.channel (result ≡ no_count Status.NoChannel) }
     ensures unchanged { seat.new.place.channel ≡ seat.old.place.channel }
 {
@@ -144,8 +170,10 @@ pub extern "C" fn tcrx_channel_queued_at(seat: &mut Seat, apid: u16) -> CountRec
 }
 
 fn units(channel: &FixedChannel, map: u8) -> CountRecord
-    ensures count { IfSome (waiting_units_within (limit_of channel.now.limits) channel.now.settings channel.now.journal map) (λ units. result ≡ count_record (length units)) }
-    ensures no_map { IfNone (waiting_units_within (limit_of channel.now.limits) channel.now.settings channel.now.journal map) (result ≡ no_count Status.NoMap) }
+    ensures count { IfSome (waiting_units_within (limit_of channel.now.limits) channel.now.settings channel.now.journal map)
+        (λ units. result ≡ count_record (length units)) }
+    ensures no_map { IfNone (waiting_units_within (limit_of channel.now.limits) channel.now.settings channel.now.journal map)
+        (result ≡ no_count Status.NoMap) }
 {
     match channel.units(map) {
         Some(count) => counted(count as u64),
@@ -157,8 +185,11 @@ fn units(channel: &FixedChannel, map: u8) -> CountRecord
 /// holds no channel, and with NoMap if the MAP isn't chosen. The channel stays as it was.
 #[unsafe(no_mangle)]
 pub extern "C" fn tcrx_channel_units_at(seat: &mut Seat, map: u8) -> CountRecord
-    ensures count { IfSome seat.old.place.channel (λ h. IfSome (waiting_units_within (limit_of h.limits) h.settings h.journal map) (λ units. result ≡ count_record (length units))) }
-    ensures no_map { IfSome seat.old.place.channel (λ h. IfNone (waiting_units_within (limit_of h.limits) h.settings h.journal map) (result ≡ no_count Status.NoMap)) }
+    ensures count { IfSome seat.old.place.channel
+        (λ h. IfSome (waiting_units_within (limit_of h.limits) h.settings h.journal map)
+        (λ units. result ≡ count_record (length units))) }
+    ensures no_map { IfSome seat.old.place.channel
+        (λ h. IfNone (waiting_units_within (limit_of h.limits) h.settings h.journal map) (result ≡ no_count Status.NoMap)) }
     ensures no_channel { IfNone seat.old.place.channel (result ≡ no_count Status.NoChannel) }
     ensures unchanged { seat.new.place.channel ≡ seat.old.place.channel }
 {

@@ -67,14 +67,24 @@ pub extern "C" fn tcrx_cltu_octets_at(
 ) -> DecodedRecord
     ensures status { IfOk (decoder_given decoder (length frame.old)) (λ mode. result.status ≡ code_of Status.Done) }
     ensures kept { IfOk (decoder_given decoder (length frame.old)) (λ mode. decoder_given result.decoder (length frame.new) ≡ Ok mode) }
-    ensures state { IfOk (decoder_given decoder (length frame.old)) (λ mode. reception_of result.decoder frame.new ≡ state_after mode most_octets (reception_of decoder frame.old) (take result.taken octets.now)) }
-    ensures given { IfOk (decoder_given decoder (length frame.old)) (λ mode. given_by result frame.new ≡ frames_of mode most_octets (reception_of decoder frame.old) (take result.taken octets.now)) }
-    ensures before { IfOk (decoder_given decoder (length frame.old)) (λ mode. result.ended ≡ 1 → frames_of mode most_octets (reception_of decoder frame.old) (take (result.taken - 1) octets.now) ≡ []) }
+    ensures state { IfOk (decoder_given decoder (length frame.old))
+        (λ mode. reception_of result.decoder frame.new
+        ≡ state_after mode most_octets (reception_of decoder frame.old) (take result.taken octets.now)) }
+    ensures given { IfOk (decoder_given decoder (length frame.old))
+        (λ mode. given_by result frame.new ≡ frames_of mode most_octets (reception_of decoder frame.old)
+        (take result.taken octets.now)) }
+    ensures before { IfOk (decoder_given decoder (length frame.old))
+        (λ mode. result.ended ≡ 1 → frames_of mode most_octets (reception_of decoder frame.old)
+        (take (result.taken - 1) octets.now) ≡ []) }
     ensures all { IfOk (decoder_given decoder (length frame.old)) (λ mode. result.ended ≡ 0 → result.taken ≡ length octets.now) }
     ensures flag { IfOk (decoder_given decoder (length frame.old)) (λ mode. result.ended < 2) }
-    ensures corrected { IfOk (decoder_given decoder (length frame.old)) (λ mode. result.corrected ≡ corrected_in mode most_octets (reception_of decoder frame.old) (take result.taken octets.now)) }
-    ensures rejected { IfOk (decoder_given decoder (length frame.old)) (λ mode. result.rejected ≡ rejected_in mode most_octets (reception_of decoder frame.old) (take result.taken octets.now)) }
-    ensures overlong { IfOk (decoder_given decoder (length frame.old)) (λ mode. result.overlong ≡ overlong_in mode most_octets (reception_of decoder frame.old) (take result.taken octets.now)) }
+    ensures corrected { IfOk (decoder_given decoder (length frame.old))
+        (λ mode. result.corrected ≡ corrected_in mode most_octets (reception_of decoder frame.old)
+        (take result.taken octets.now)) }
+    ensures rejected { IfOk (decoder_given decoder (length frame.old))
+        (λ mode. result.rejected ≡ rejected_in mode most_octets (reception_of decoder frame.old) (take result.taken octets.now)) }
+    ensures overlong { IfOk (decoder_given decoder (length frame.old))
+        (λ mode. result.overlong ≡ overlong_in mode most_octets (reception_of decoder frame.old) (take result.taken octets.now)) }
     ensures refused { IfErr (decoder_given decoder (length frame.old)) (λ fault. (result ≡ none_taken fault decoder) × (frame.new ≡ frame.old)) }
 {
     match read_decoder(decoder, frame.len()) {
@@ -138,7 +148,8 @@ fn take_octets(mode: Mode, decoder: DecoderRecord, octets: &[u8], frame: &mut [u
     ensures carried { result.decoder.carried ≤ most_octets }
     ensures decoding { result.decoder.decoding < 2 }
     ensures length { length frame.new ≡ length frame.old }
-    ensures state { reception_of result.decoder frame.new ≡ state_after mode most_octets (reception_of decoder frame.old) (take result.taken octets.now) }
+    ensures state { reception_of result.decoder frame.new
+        ≡ state_after mode most_octets (reception_of decoder frame.old) (take result.taken octets.now) }
     ensures given { given_by result frame.new ≡ frames_of mode most_octets (reception_of decoder frame.old) (take result.taken octets.now) }
     ensures before { result.ended ≡ 1 → frames_of mode most_octets (reception_of decoder frame.old) (take (result.taken - 1) octets.now) ≡ [] }
     ensures all { result.ended ≡ 0 → result.taken ≡ length octets.now }
@@ -215,10 +226,13 @@ fn take_front(mode: Mode, decoder: DecoderRecord, octets: &[u8], frame: &mut [u8
     ensures length { length frame.new ≡ length frame.old }
     ensures some { 0 < result.1 }
     ensures within { result.1 ≤ length octets.now }
-    ensures state { reception_of result.0.decoder frame.new ≡ state_after mode most_octets (reception_of decoder frame.old) (take result.1 octets.now) }
-    ensures given { (if result.0.ended then take result.0.decoder.carried frame.new ∷ [] else []) ≡ frames_of mode most_octets (reception_of decoder frame.old) (take result.1 octets.now) }
+    ensures state { reception_of result.0.decoder frame.new
+        ≡ state_after mode most_octets (reception_of decoder frame.old) (take result.1 octets.now) }
+    ensures given { (if result.0.ended then take result.0.decoder.carried frame.new ∷ [] else [])
+        ≡ frames_of mode most_octets (reception_of decoder frame.old) (take result.1 octets.now) }
     ensures before { frames_of mode most_octets (reception_of decoder frame.old) (take (result.1 - 1) octets.now) ≡ [] }
-    ensures fates { (count : Option Fate → ℕ) → count None ≡ 0 → count result.0.fate ≡ counted_in count mode most_octets (reception_of decoder frame.old) (take result.1 octets.now) }
+    ensures fates { (count : Option Fate → ℕ) → count None ≡ 0
+        → count result.0.fate ≡ counted_in count mode most_octets (reception_of decoder frame.old) (take result.1 octets.now) }
 {
     if decoder.decoding == 1 && decoder.count == 0 {
         if let Some(block) = octets.first_chunk::<8>() {
@@ -240,7 +254,8 @@ fn take_octet(mode: Mode, decoder: DecoderRecord, octet: u8, frame: &mut [u8]) -
     ensures decoding { result.decoder.decoding < 2 }
     ensures length { length frame.new ≡ length frame.old }
     ensures state { reception_of result.decoder frame.new ≡ (reception_step mode most_octets (reception_of decoder frame.old) octet).0 }
-    ensures given { (if result.ended then take result.decoder.carried frame.new ∷ [] else []) ≡ (reception_step mode most_octets (reception_of decoder frame.old) octet).1 }
+    ensures given { (if result.ended then take result.decoder.carried frame.new ∷ [] else [])
+        ≡ (reception_step mode most_octets (reception_of decoder frame.old) octet).1 }
     ensures fate { result.fate ≡ fate_of mode most_octets (reception_of decoder frame.old) octet }
 {
     if decoder.decoding == 0 {
@@ -288,7 +303,11 @@ fn read_decoder(decoder: DecoderRecord, room: usize) -> Result<Mode, Status>
 
 // Takes an octet of a decoder that looks for a start sequence.
 fn search(mode: Mode, decoder: DecoderRecord, octet: u8) -> DecoderRecord
-    ensures { result ≡ (if is_start mode decoder.last octet then record decoder { decoding = 1; count = 0; carried = 0 } else record decoder { last = octet }) }
+    ensures { result ≡ (if is_start mode decoder.last octet then record decoder {
+      decoding = 1;
+      count = 0;
+      carried = 0;
+    } else record decoder { last = octet }) }
 {
     if begins(mode, decoder.last, octet) {
         DecoderRecord {
@@ -317,7 +336,8 @@ fn end_block(mode: Mode, decoder: DecoderRecord, block: &[u8; 8], frame: &mut [u
     ensures decoding { result.decoder.decoding < 2 }
     ensures length { length frame.new ≡ length frame.old }
     ensures state { reception_of result.decoder frame.new ≡ (after_block most_octets (take decoder.carried frame.old) (decoded mode block.now)).0 }
-    ensures given { (if result.ended then take result.decoder.carried frame.new ∷ [] else []) ≡ (after_block most_octets (take decoder.carried frame.old) (decoded mode block.now)).1 }
+    ensures given { (if result.ended then take result.decoder.carried frame.new ∷ [] else [])
+        ≡ (after_block most_octets (take decoder.carried frame.old) (decoded mode block.now)).1 }
     ensures fate { result.fate ≡ Some (fate_after mode most_octets (take decoder.carried frame.old) block.now) }
 {
     let carried = usize::from(decoder.carried);
@@ -390,7 +410,8 @@ fn take_blocks(mode: Mode, before: u16, octets: &[u8], frame: &mut [u8]) -> Acce
     ensures carried { result.carried ≤ most_octets }
     ensures length { length frame.new ≡ length frame.old }
     ensures within { result.taken ≤ length octets.now }
-    ensures state { Decoding (take result.carried frame.new) [] ≡ state_after mode most_octets (Decoding (take before frame.old) []) (take result.taken octets.now) }
+    ensures state { Decoding (take result.carried frame.new) []
+        ≡ state_after mode most_octets (Decoding (take before frame.old) []) (take result.taken octets.now) }
     ensures given { frames_of mode most_octets (Decoding (take before frame.old) []) (take result.taken octets.now) ≡ [] }
     ensures corrected { result.corrected ≡ corrected_in mode most_octets (Decoding (take before frame.old) []) (take result.taken octets.now) }
     ensures few { result.corrected ≤ result.taken }
@@ -421,7 +442,8 @@ fn accept_block(mode: Mode, carried: usize, octets: &[u8], frame: &mut [u8]) -> 
     ensures none { IfNone result (frame.new ≡ frame.old) }
     ensures whole { IfSome result (λ _. 8 ≤ length octets.now) }
     ensures room { IfSome result (λ _. carried + 7 ≤ most_octets) }
-    ensures state { IfSome result (λ _. Decoding (take (carried + 7) frame.new) [] ≡ state_after mode most_octets (Decoding (take carried frame.old) []) (take 8 octets.now)) }
+    ensures state { IfSome result (λ _. Decoding (take (carried + 7) frame.new) []
+        ≡ state_after mode most_octets (Decoding (take carried frame.old) []) (take 8 octets.now)) }
     ensures given { IfSome result (λ _. frames_of mode most_octets (Decoding (take carried frame.old) []) (take 8 octets.now) ≡ []) }
     ensures corrected { IfSome result (λ n. n ≡ corrected_in mode most_octets (Decoding (take carried frame.old) []) (take 8 octets.now)) }
     ensures few { IfSome result (λ n. n ≤ 1) }

@@ -101,8 +101,10 @@ pub extern "C" fn tcrx_farm_step(
     ensures status { OnOk (asked_of before arrival number room) (result.status ≡ code_of Status.Done) }
     ensures farm { IfOk (asked_of before arrival number room) (λ asked. result.farm ≡ record_of (left asked.0 asked.1)) }
     ensures event { IfOk (asked_of before arrival number room) (λ asked. result.event ≡ number_of (row_of asked.0.width asked.0.report.vr asked.1)) }
-    ensures accepted { IfOk (asked_of before arrival number room) (λ asked. result.accepted ≡ bit (accepts (row_of asked.0.width asked.0.report.vr asked.1) asked.0.report)) }
-    ensures refused { IfErr (asked_of before arrival number room) (λ fault. result ≡ record { status = code_of fault; farm = before; event = 0; accepted = 0 }) }
+    ensures accepted { IfOk (asked_of before arrival number room)
+        (λ asked. result.accepted ≡ bit (accepts (row_of asked.0.width asked.0.report.vr asked.1) asked.0.report)) }
+    ensures refused { IfErr (asked_of before arrival number room)
+        (λ fault. result ≡ record { status = code_of fault; farm = before; event = 0; accepted = 0 }) }
 {
     match asked(before, arrival, number, room) {
         Ok((mut farm, arrival)) => {

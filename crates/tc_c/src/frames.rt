@@ -101,7 +101,8 @@ fn reported(header: Header) -> HeaderRecord
 /// fails as `tcrx_read_frame` does.
 #[unsafe(no_mangle)]
 pub extern "C" fn tcrx_kind_at(octets: &[u8]) -> KindRecord
-    ensures kind { IfNone (fault_of octets.now) ((frame : List ℕ) × BeginsWith octets.now frame × (result ≡ kind_record (kind_of (header_of frame) (drop 5 frame)))) }
+    ensures kind { IfNone (fault_of octets.now)
+        ((frame : List ℕ) × BeginsWith octets.now frame × (result ≡ kind_record (kind_of (header_of frame) (drop 5 frame)))) }
     ensures fault { IfSome (fault_of octets.now) (λ fault. result ≡ no_kind (frame_status fault)) }
 {
     match read_frame(octets) {
@@ -143,11 +144,19 @@ pub extern "C" fn tcrx_write_frame_at(
     field: &[u8],
     octets: &mut [u8],
 ) -> WrittenRecord
-    ensures written { IfOk (header_to_write header field.now) (λ h. 5 + length field.now ≤ length octets.old → result ≡ record { status = code_of Status.Done; length = 5 + length field.now }) }
-    ensures frame { IfOk (header_to_write header field.now) (λ h. 5 + length field.now ≤ length octets.old → IsFrame (take (5 + length field.now) octets.new) h field.now) }
-    ensures rest { IfOk (header_to_write header field.now) (λ h. 5 + length field.now ≤ length octets.old → drop (5 + length field.now) octets.new ≡ drop (5 + length field.now) octets.old) }
-    ensures no_room { IfOk (header_to_write header field.now) (λ h. length octets.old < 5 + length field.now → (result ≡ record { status = code_of Status.NoRoom; length = 5 + length field.now }) × (octets.new ≡ octets.old)) }
-    ensures refused { IfErr (header_to_write header field.now) (λ fault. (result ≡ record { status = code_of fault; length = 0 }) × (octets.new ≡ octets.old)) }
+    ensures written { IfOk (header_to_write header field.now)
+        (λ h. 5 + length field.now ≤ length octets.old
+        → result ≡ record { status = code_of Status.Done; length = 5 + length field.now }) }
+    ensures frame { IfOk (header_to_write header field.now)
+        (λ h. 5 + length field.now ≤ length octets.old → IsFrame (take (5 + length field.now) octets.new) h field.now) }
+    ensures rest { IfOk (header_to_write header field.now)
+        (λ h. 5 + length field.now ≤ length octets.old
+        → drop (5 + length field.now) octets.new ≡ drop (5 + length field.now) octets.old) }
+    ensures no_room { IfOk (header_to_write header field.now)
+        (λ h. length octets.old < 5 + length field.now
+        → (result ≡ record { status = code_of Status.NoRoom; length = 5 + length field.now }) × (octets.new ≡ octets.old)) }
+    ensures refused { IfErr (header_to_write header field.now)
+        (λ fault. (result ≡ record { status = code_of fault; length = 0 }) × (octets.new ≡ octets.old)) }
 {
     match front(header, field) {
         Ok(front) => put(&front, field, octets),
@@ -159,7 +168,8 @@ pub extern "C" fn tcrx_write_frame_at(
 fn front(header: HeaderRecord, field: &[u8]) -> Result<[u8; 5], Status>
     ensures five { IfOk result (λ front. length front ≡ 5) }
     ensures frame { IfOk result (λ front. IfOk (header_to_write header field.now) (λ h. IsFrame (front ++ field.now) h field.now)) }
-    ensures fault { MatchResult result (λ front. IfErr (header_to_write header field.now) (λ fault. ⊥)) (λ fault. header_to_write header field.now ≡ Err fault) }
+    ensures fault { MatchResult result (λ front. IfErr (header_to_write header field.now) (λ fault. ⊥))
+        (λ fault. header_to_write header field.now ≡ Err fault) }
 {
     let header = read_header(header)?;
     match written_header(&header, field) {

@@ -46,7 +46,8 @@ pub fn a_step_leaves_a_farm()
 /// lawful journal.
 pub fn each_channel_has_a_farm()
     ensures start { (width first : ℕ) (farm : Machine) → first_farm width first ≡ Ok farm → IsFarm farm }
-    ensures run { (limits : ℕ → ℕ) (s : Settings) (journal : List Event) → IsAllowed s → IsLawfulWithin limits s journal → IsFarm (record { width = s.width; report = (run_within limits s journal).report }) }
+    ensures run { (limits : ℕ → ℕ) (s : Settings) (journal : List Event) → IsAllowed s → IsLawfulWithin limits s journal
+        → IsFarm (record { width = s.width; report = (run_within limits s journal).report }) }
 {
     a_step_leaves_a_farm();
 }
@@ -78,14 +79,23 @@ pub fn each_fault_has_a_status_of_its_own()
 /// settings and their limits, and those for CLTUs and telemetry frames. The last ones are for sessions, in
 /// `dist/tcrx_lines.h`.
 pub fn statuses_have_these_numbers()
-    ensures frames { map code_of (st.Done ∷ st.Short ∷ st.Version ∷ st.Spare ∷ st.LengthSmall ∷ st.Truncated ∷ st.Fill ∷ st.NoFecf ∷ st.WrongFecf ∷ []) ≡ 0 ∷ 1 ∷ 2 ∷ 3 ∷ 4 ∷ 5 ∷ 6 ∷ 7 ∷ 8 ∷ [] }
-    ensures writing { map code_of (st.BadField ∷ st.EmptyData ∷ st.TooLong ∷ st.NoMemory ∷ st.LongPacket ∷ st.LongUnit ∷ st.LongFrame ∷ st.BadSize ∷ st.NoSegment ∷ st.BadCommand ∷ []) ≡ 10 ∷ 11 ∷ 12 ∷ 13 ∷ 14 ∷ 15 ∷ 16 ∷ 17 ∷ 18 ∷ 19 ∷ [] }
-    ensures parts { map code_of (st.BadWidth ∷ st.BadState ∷ st.BadFarmB ∷ st.BadFlag ∷ st.FlagsDisagree ∷ st.BadArrival ∷ st.NoEntry ∷ st.BadVcid ∷ st.NoClcw ∷ st.NoPacket ∷ st.NoRoom ∷ st.Null ∷ st.NoStatus ∷ []) ≡ 20 ∷ 21 ∷ 22 ∷ 23 ∷ 24 ∷ 25 ∷ 26 ∷ 30 ∷ 31 ∷ 40 ∷ 50 ∷ 51 ∷ 52 ∷ [] }
-    ensures settings { map code_of (st.BadBuffer ∷ st.BadApid ∷ st.DoubleApid ∷ st.BadCapacity ∷ st.BadMap ∷ st.DoubleMap ∷ st.BadUnits ∷ st.PlainMap ∷ []) ≡ 60 ∷ 61 ∷ 62 ∷ 63 ∷ 64 ∷ 65 ∷ 66 ∷ 67 ∷ [] }
-    ensures channels { map code_of (st.NoChannel ∷ st.InUse ∷ st.NoQueue ∷ st.NoMap ∷ st.Empty ∷ st.OtherSpacecraft ∷ st.UnknownChannel ∷ []) ≡ 70 ∷ 71 ∷ 72 ∷ 73 ∷ 74 ∷ 75 ∷ 76 ∷ [] }
-    ensures limits { map code_of (st.BadOthers ∷ st.BadLimitMap ∷ st.DoubleLimit ∷ st.BadLimit ∷ st.PlainLimit ∷ st.UnlistedMap ∷ []) ≡ 80 ∷ 81 ∷ 82 ∷ 83 ∷ 84 ∷ 85 ∷ [] }
+    ensures frames { map code_of (st.Done ∷ st.Short ∷ st.Version ∷ st.Spare ∷ st.LengthSmall ∷ st.Truncated ∷ st.Fill ∷ st.NoFecf
+        ∷ st.WrongFecf ∷ []) ≡ 0 ∷ 1 ∷ 2 ∷ 3 ∷ 4 ∷ 5 ∷ 6 ∷ 7 ∷ 8 ∷ [] }
+    ensures writing { map code_of (st.BadField ∷ st.EmptyData ∷ st.TooLong ∷ st.NoMemory ∷ st.LongPacket ∷ st.LongUnit
+        ∷ st.LongFrame ∷ st.BadSize ∷ st.NoSegment ∷ st.BadCommand ∷ [])
+        ≡ 10 ∷ 11 ∷ 12 ∷ 13 ∷ 14 ∷ 15 ∷ 16 ∷ 17 ∷ 18 ∷ 19 ∷ [] }
+    ensures parts { map code_of (st.BadWidth ∷ st.BadState ∷ st.BadFarmB ∷ st.BadFlag ∷ st.FlagsDisagree ∷ st.BadArrival
+        ∷ st.NoEntry ∷ st.BadVcid ∷ st.NoClcw ∷ st.NoPacket ∷ st.NoRoom ∷ st.Null ∷ st.NoStatus ∷ [])
+        ≡ 20 ∷ 21 ∷ 22 ∷ 23 ∷ 24 ∷ 25 ∷ 26 ∷ 30 ∷ 31 ∷ 40 ∷ 50 ∷ 51 ∷ 52 ∷ [] }
+    ensures settings { map code_of (st.BadBuffer ∷ st.BadApid ∷ st.DoubleApid ∷ st.BadCapacity ∷ st.BadMap ∷ st.DoubleMap
+        ∷ st.BadUnits ∷ st.PlainMap ∷ []) ≡ 60 ∷ 61 ∷ 62 ∷ 63 ∷ 64 ∷ 65 ∷ 66 ∷ 67 ∷ [] }
+    ensures channels { map code_of (st.NoChannel ∷ st.InUse ∷ st.NoQueue ∷ st.NoMap ∷ st.Empty ∷ st.OtherSpacecraft
+        ∷ st.UnknownChannel ∷ []) ≡ 70 ∷ 71 ∷ 72 ∷ 73 ∷ 74 ∷ 75 ∷ 76 ∷ [] }
+    ensures limits { map code_of (st.BadOthers ∷ st.BadLimitMap ∷ st.DoubleLimit ∷ st.BadLimit ∷ st.PlainLimit ∷ st.UnlistedMap
+        ∷ []) ≡ 80 ∷ 81 ∷ 82 ∷ 83 ∷ 84 ∷ 85 ∷ [] }
     ensures edges { map code_of (st.LongCltu ∷ st.BadLength ∷ st.NoControl ∷ st.BadDecoder ∷ []) ≡ 90 ∷ 91 ∷ 92 ∷ 93 ∷ [] }
-    ensures sessions { map code_of (st.NoSession ∷ st.SessionInUse ∷ st.BadScid ∷ st.BadLine ∷ st.Waiting ∷ st.Lost ∷ st.Over ∷ []) ≡ 100 ∷ 101 ∷ 102 ∷ 103 ∷ 104 ∷ 105 ∷ 106 ∷ [] }
+    ensures sessions { map code_of (st.NoSession ∷ st.SessionInUse ∷ st.BadScid ∷ st.BadLine ∷ st.Waiting ∷ st.Lost ∷ st.Over
+        ∷ []) ≡ 100 ∷ 101 ∷ 102 ∷ 103 ∷ 104 ∷ 105 ∷ 106 ∷ [] }
 {}
 
 /// In S2 and S3, Wait is never set without Retransmit. FARM-1 sets both when it has no room for a frame, and both stay
@@ -99,7 +109,8 @@ pub fn no_farm_waits_without_retransmit()
 pub fn what_was_written_reads_back()
     ensures frame { (frame field : List ℕ) (header : Header) → IsFrame frame header field
         → frame_record frame ≡ record { status = code_of Status.Done; header = header_record header; length = length frame } }
-    ensures packet { (packet field : List ℕ) (header : PacketHeader) → IsPacketOf packet header field → packet_record packet ≡ written_packet (length packet) header }
+    ensures packet { (packet field : List ℕ) (header : PacketHeader) → IsPacketOf packet header field
+        → packet_record packet ≡ written_packet (length packet) header }
 {}
 
 /// Each text fits 64 octets with the octet 0 after it.

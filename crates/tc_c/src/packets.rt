@@ -35,7 +35,8 @@ pub struct PacketRecord {
 /// of version 0, the call fails with NoPacket, and each other number of the record is 0.
 #[unsafe(no_mangle)]
 pub extern "C" fn tcrx_read_packet_at(octets: &[u8]) -> PacketRecord
-    ensures packet { result.status ≡ code_of Status.Done → (packet : List ℕ) × IsPacket packet × (packet ≡ take (length packet) octets.now) × (result ≡ packet_record packet) }
+    ensures packet { result.status ≡ code_of Status.Done
+        → (packet : List ℕ) × IsPacket packet × (packet ≡ take (length packet) octets.now) × (result ≡ packet_record packet) }
     ensures none { result.status ≡ code_of Status.NoPacket → ((n : ℕ) → IsPacket (take n octets.now) → ⊥) × (result ≡ no_packet) }
     ensures status { result.status ≢ code_of Status.Done → result.status ≡ code_of Status.NoPacket }
 {

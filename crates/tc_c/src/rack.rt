@@ -94,7 +94,8 @@ fn vcid_in(seat: &mut Seat) -> Option<u8>
 
 // Returns the place of the first channel with this id.
 fn place_of(seats: &mut [Seat], vcid: u8) -> Option<usize>
-    ensures place { MatchOption result (¬ IsHeld (channels_in seats.old) vcid) (λ place. (h : LimitedHistory) × IsFirstWithVcid (channels_in seats.old) vcid place h) }
+    ensures place { MatchOption result (¬ IsHeld (channels_in seats.old) vcid)
+        (λ place. (h : LimitedHistory) × IsFirstWithVcid (channels_in seats.old) vcid place h) }
     ensures bound { IfSome result (λ place. place < length seats.new) }
     ensures unchanged { channels_in seats.new ≡ channels_in seats.old }
 {
@@ -108,7 +109,9 @@ fn place_of(seats: &mut [Seat], vcid: u8) -> Option<usize>
 
 // Returns the place of the channel that the frame at the front of the octets is for, and its virtual channel id.
 fn located(seats: &mut [Seat], scid: u16, octets: &[u8]) -> Result<(usize, u8), LocateFault>
-    ensures located { MatchResult result (λ found. (frame : List ℕ) × (h : LimitedHistory) × IsLocatedAmong (channels_in seats.old) scid octets.now found.0 frame h × ((header_of frame).vcid ≡ found.1)) (IsLocateFaultAmong (channels_in seats.old) scid octets.now) }
+    ensures located { MatchResult result (λ found. (frame : List ℕ) × (h : LimitedHistory)
+        × IsLocatedAmong (channels_in seats.old) scid octets.now found.0 frame h × ((header_of frame).vcid ≡ found.1))
+        (IsLocateFaultAmong (channels_in seats.old) scid octets.now) }
     ensures frame { IfOk result (λ _. fault_of octets.now ≡ None) }
     ensures bound { IfOk result (λ found. found.0 < length seats.new) }
     ensures unchanged { channels_in seats.new ≡ channels_in seats.old }
@@ -127,7 +130,10 @@ fn located(seats: &mut [Seat], scid: u16, octets: &[u8]) -> Result<(usize, u8), 
 // Brings the frame at the front of the octets to the channel in a seat, whose id is `vcid`. It uses the call for one
 // channel, so that the library has the code for a frame only once.
 fn answer(seat: &mut Seat, vcid: u8, octets: &[u8]) -> RackReplyRecord
-    ensures answer { IfSome seat.old.place.channel (λ h. IfNone (fault_of octets.now) ((frame : List ℕ) × BeginsWith octets.now frame × (result ≡ rack_reply vcid (frame_reply_within (limit_of h.limits) h.settings h.journal frame)) × (seat.new.place.channel ≡ Some (with_limited_event h (Event.Frame frame))))) }
+    ensures answer { IfSome seat.old.place.channel
+        (λ h. IfNone (fault_of octets.now) ((frame : List ℕ) × BeginsWith octets.now frame
+        × (result ≡ rack_reply vcid (frame_reply_within (limit_of h.limits) h.settings h.journal frame))
+        × (seat.new.place.channel ≡ Some (with_limited_event h (Event.Frame frame))))) }
 {
     let reply = tcrx_channel_frame_at(seat, octets);
     RackReplyRecord {
@@ -155,8 +161,11 @@ fn bring(seats: &mut [Seat], scid: u16, octets: &[u8]) -> RackReplyRecord
 
 // Checks the frame error control field with which a frame ends, and brings the frame without it to its channel.
 fn bring_checked(seats: &mut [Seat], scid: u16, octets: &[u8]) -> RackReplyRecord
-    ensures right { IfNone (taking_fault_of octets.now) ((frame : List ℕ) × IsWhole frame × (octets.now ≡ frame_with_field frame) × IsRackReplied (channels_in seats.old) scid frame result (channels_in seats.new)) }
-    ensures wrong { IfSome (taking_fault_of octets.now) (λ fault. (result ≡ no_rack_reply (field_status fault)) × (channels_in seats.new ≡ channels_in seats.old)) }
+    ensures right { IfNone (taking_fault_of octets.now)
+        ((frame : List ℕ) × IsWhole frame × (octets.now ≡ frame_with_field frame)
+        × IsRackReplied (channels_in seats.old) scid frame result (channels_in seats.new)) }
+    ensures wrong { IfSome (taking_fault_of octets.now)
+        (λ fault. (result ≡ no_rack_reply (field_status fault)) × (channels_in seats.new ≡ channels_in seats.old)) }
 {
     if let Err(fault) = check_taking(octets) {
         return reply_refused(field_fault(fault));
@@ -184,7 +193,9 @@ pub extern "C" fn tcrx_rack_frame_at(
     octets: &[u8],
 ) -> RackReplyRecord
     ensures bare { fecf ≡ 0 → IsRackReplied (channels_in seats.old) scid octets.now result (channels_in seats.new) }
-    ensures right { fecf ≡ 1 → IfNone (taking_fault_of octets.now) ((frame : List ℕ) × IsWhole frame × (octets.now ≡ frame_with_field frame) × IsRackReplied (channels_in seats.old) scid frame result (channels_in seats.new)) }
+    ensures right { fecf ≡ 1 → IfNone (taking_fault_of octets.now)
+        ((frame : List ℕ) × IsWhole frame × (octets.now ≡ frame_with_field frame)
+        × IsRackReplied (channels_in seats.old) scid frame result (channels_in seats.new)) }
     ensures wrong { fecf ≡ 1 → IfSome (taking_fault_of octets.now) (λ fault. result ≡ no_rack_reply (field_status fault)) }
     ensures bad_flag { 1 < fecf → result ≡ no_rack_reply Status.BadFlag }
     ensures refused { 0 < result.status → channels_in seats.new ≡ channels_in seats.old }

@@ -39,7 +39,8 @@ fn lent<'a>(
     queues: &'a [QueueSetting],
     maps: &'a [MapSetting],
 ) -> Result<LentSettings<'a>, Status>
-    ensures settings { MatchResult result (λ lent. settings_in_records given queues.now maps.now ≡ Ok (owned_of lent)) (λ fault. settings_in_records given queues.now maps.now ≡ Err fault) }
+    ensures settings { MatchResult result (λ lent. settings_in_records given queues.now maps.now ≡ Ok (owned_of lent))
+        (λ fault. settings_in_records given queues.now maps.now ≡ Err fault) }
     ensures refusal { IfErr result (λ fault. 0 < code_of fault) }
 {
     let segmented = flag(given.segmented)?;
@@ -98,7 +99,8 @@ fn channel(
     queues: &[QueueSetting],
     maps: &[MapSetting],
 ) -> Result<Box<FixedChannel>, Status>
-    ensures made { IfOk result (λ held. (s : ChannelSettings) × (settings_in_records given queues.now maps.now ≡ Ok s) × IsAllowed s × (held.value ≡ record { settings = s; limits = none; journal = [] })) }
+    ensures made { IfOk result (λ held. (s : ChannelSettings) × (settings_in_records given queues.now maps.now ≡ Ok s)
+        × IsAllowed s × (held.value ≡ record { settings = s; limits = none; journal = [] })) }
     ensures fault { IfErr result (λ fault. IsRefusedBy (settings_in_records given queues.now maps.now) fault) }
     ensures refusal { IfErr result (λ fault. 0 < code_of fault) }
 {
@@ -119,7 +121,9 @@ fn channel_within(
     maps: &[MapSetting],
     limits: LentLimits<'_>,
 ) -> Result<Box<FixedChannel>, Status>
-    ensures made { IfOk result (λ held. (s : ChannelSettings) × (settings_in_records given queues.now maps.now ≡ Ok s) × IsAllowed s × AreLimits s (limits_of limits.entry) × (held.value ≡ record { settings = s; limits = limits_of limits.entry; journal = [] })) }
+    ensures made { IfOk result (λ held. (s : ChannelSettings) × (settings_in_records given queues.now maps.now ≡ Ok s)
+        × IsAllowed s × AreLimits s (limits_of limits.entry)
+        × (held.value ≡ record { settings = s; limits = limits_of limits.entry; journal = [] })) }
     ensures fault { IfErr result (λ fault. IsRefusedWithin (settings_in_records given queues.now maps.now) (limits_of limits.entry) fault) }
     ensures refusal { IfErr result (λ fault. 0 < code_of fault) }
 {
@@ -154,8 +158,12 @@ pub extern "C" fn tcrx_channel_new_at(
     queues: &[QueueSetting],
     maps: &[MapSetting],
 ) -> u32
-    ensures made { IfNone seat.old.place.channel (result ≡ 0 → (s : ChannelSettings) × (settings_in_records given queues.now maps.now ≡ Ok s) × IsAllowed s × (seat.new.place.channel ≡ Some (record { settings = s; limits = none; journal = [] }))) }
-    ensures fault { IfNone seat.old.place.channel (0 < result → (fault : StatusName) × IsRefusedBy (settings_in_records given queues.now maps.now) fault × (result ≡ code_of fault)) }
+    ensures made { IfNone seat.old.place.channel
+        (result ≡ 0 → (s : ChannelSettings) × (settings_in_records given queues.now maps.now ≡ Ok s) × IsAllowed s
+        × (seat.new.place.channel ≡ Some (record { settings = s; limits = none; journal = [] }))) }
+    ensures fault { IfNone seat.old.place.channel
+        (0 < result → (fault : StatusName) × IsRefusedBy (settings_in_records given queues.now maps.now) fault
+        × (result ≡ code_of fault)) }
     ensures in_use { IfSome seat.old.place.channel (λ _. result ≡ code_of Status.InUse) }
     ensures refused { 0 < result → seat.new.place.channel ≡ seat.old.place.channel }
 {
@@ -187,8 +195,13 @@ pub extern "C" fn tcrx_channel_new_with_limits_at(
     others: u32,
     limits: &[MapLimit],
 ) -> u32
-    ensures made { IfNone seat.old.place.channel (result ≡ 0 → (s : ChannelSettings) × (settings_in_records given queues.now maps.now ≡ Ok s) × IsAllowed s × AreLimits s (limits_given others limits.now) × (seat.new.place.channel ≡ Some (record { settings = s; limits = limits_given others limits.now; journal = [] }))) }
-    ensures fault { IfNone seat.old.place.channel (0 < result → (fault : StatusName) × IsRefusedWithin (settings_in_records given queues.now maps.now) (limits_given others limits.now) fault × (result ≡ code_of fault)) }
+    ensures made { IfNone seat.old.place.channel
+        (result ≡ 0 → (s : ChannelSettings) × (settings_in_records given queues.now maps.now ≡ Ok s) × IsAllowed s
+        × AreLimits s (limits_given others limits.now)
+        × (seat.new.place.channel ≡ Some (record { settings = s; limits = limits_given others limits.now; journal = [] }))) }
+    ensures fault { IfNone seat.old.place.channel
+        (0 < result → (fault : StatusName) × IsRefusedWithin (settings_in_records given queues.now maps.now)
+        (limits_given others limits.now) fault × (result ≡ code_of fault)) }
     ensures in_use { IfSome seat.old.place.channel (λ _. result ≡ code_of Status.InUse) }
     ensures refused { 0 < result → seat.new.place.channel ≡ seat.old.place.channel }
 {

@@ -21,7 +21,8 @@ fn storage(
     queues: &[QueueSetting],
     maps: &[MapSetting],
 ) -> Result<u64, Status>
-    ensures storage { IfOk result (λ octets. (s : ChannelSettings) × (settings_in_records given queues.now maps.now ≡ Ok s) × IsAllowed s × (octets ≡ min (storage_of s) (2 ^ 64 - 1))) }
+    ensures storage { IfOk result (λ octets. (s : ChannelSettings) × (settings_in_records given queues.now maps.now ≡ Ok s)
+        × IsAllowed s × (octets ≡ min (storage_of s) (2 ^ 64 - 1))) }
     ensures fault { IfErr result (λ fault. IsUnfit (settings_in_records given queues.now maps.now) fault) }
     ensures refusal { IfErr result (λ fault. 0 < code_of fault) }
 {
@@ -35,7 +36,9 @@ fn limited_storage(
     maps: &[MapSetting],
     limits: LentLimits<'_>,
 ) -> Result<u64, Status>
-    ensures storage { IfOk result (λ octets. (s : ChannelSettings) × (settings_in_records given queues.now maps.now ≡ Ok s) × IsAllowed s × AreLimits s (limits_of limits.entry) × (octets ≡ min (storage_within s (limits_of limits.entry)) (2 ^ 64 - 1))) }
+    ensures storage { IfOk result (λ octets. (s : ChannelSettings) × (settings_in_records given queues.now maps.now ≡ Ok s)
+        × IsAllowed s × AreLimits s (limits_of limits.entry)
+        × (octets ≡ min (storage_within s (limits_of limits.entry)) (2 ^ 64 - 1))) }
     ensures fault { IfErr result (λ fault. IsUnfitWithin (settings_in_records given queues.now maps.now) (limits_of limits.entry) fault) }
     ensures refusal { IfErr result (λ fault. 0 < code_of fault) }
 {
@@ -53,8 +56,10 @@ pub extern "C" fn tcrx_storage_at(
     queues: &[QueueSetting],
     maps: &[MapSetting],
 ) -> CountRecord
-    ensures storage { result.status ≡ 0 → (s : ChannelSettings) × (settings_in_records given queues.now maps.now ≡ Ok s) × IsAllowed s × (result ≡ count_record (min (storage_of s) (2 ^ 64 - 1))) }
-    ensures fault { 0 < result.status → (fault : StatusName) × IsUnfit (settings_in_records given queues.now maps.now) fault × (result ≡ no_count fault) }
+    ensures storage { result.status ≡ 0 → (s : ChannelSettings) × (settings_in_records given queues.now maps.now ≡ Ok s)
+        × IsAllowed s × (result ≡ count_record (min (storage_of s) (2 ^ 64 - 1))) }
+    ensures fault { 0 < result.status → (fault : StatusName) × IsUnfit (settings_in_records given queues.now maps.now) fault
+        × (result ≡ no_count fault) }
 {
     match storage(given, queues, maps) {
         Ok(octets) => counted(octets),
@@ -73,8 +78,12 @@ pub extern "C" fn tcrx_storage_with_limits_at(
     others: u32,
     limits: &[MapLimit],
 ) -> CountRecord
-    ensures storage { result.status ≡ 0 → (s : ChannelSettings) × (settings_in_records given queues.now maps.now ≡ Ok s) × IsAllowed s × AreLimits s (limits_given others limits.now) × (result ≡ count_record (min (storage_within s (limits_given others limits.now)) (2 ^ 64 - 1))) }
-    ensures fault { 0 < result.status → (fault : StatusName) × IsUnfitWithin (settings_in_records given queues.now maps.now) (limits_given others limits.now) fault × (result ≡ no_count fault) }
+    ensures storage { result.status ≡ 0 → (s : ChannelSettings) × (settings_in_records given queues.now maps.now ≡ Ok s)
+        × IsAllowed s × AreLimits s (limits_given others limits.now)
+        × (result ≡ count_record (min (storage_within s (limits_given others limits.now)) (2 ^ 64 - 1))) }
+    ensures fault { 0 < result.status → (fault : StatusName)
+        × IsUnfitWithin (settings_in_records given queues.now maps.now) (limits_given others limits.now) fault
+        × (result ≡ no_count fault) }
 {
     let limits = LentLimits {
         others,

@@ -22,10 +22,16 @@ pub fn take_with_steps<C: Tick>(
     to: &mut [u8],
     steps: &mut C,
 ) -> WrittenRecord
-    ensures taken { IfSome (take_reply_within (limit_of channel.old.limits) channel.old.settings channel.old.journal apid) (λ packet. length packet ≤ length to.old → (result ≡ taken (length packet)) × IsCopied packet to.old to.new × (channel.new ≡ with_limited_event channel.old (Event.Take apid))) }
-    ensures no_room { IfSome (take_reply_within (limit_of channel.old.limits) channel.old.settings channel.old.journal apid) (λ packet. length to.old < length packet → result ≡ too_short (length packet)) }
-    ensures no_queue { waiting_packets_within (limit_of channel.old.limits) channel.old.settings channel.old.journal apid ≡ None → result ≡ no_octets Status.NoQueue }
-    ensures empty { waiting_packets_within (limit_of channel.old.limits) channel.old.settings channel.old.journal apid ≡ Some [] → result ≡ no_octets Status.Empty }
+    ensures taken { IfSome (take_reply_within (limit_of channel.old.limits) channel.old.settings channel.old.journal apid)
+        (λ packet. length packet ≤ length to.old
+        → (result ≡ taken (length packet)) × IsCopied packet to.old to.new
+        × (channel.new ≡ with_limited_event channel.old (Event.Take apid))) }
+    ensures no_room { IfSome (take_reply_within (limit_of channel.old.limits) channel.old.settings channel.old.journal apid)
+        (λ packet. length to.old < length packet → result ≡ too_short (length packet)) }
+    ensures no_queue { waiting_packets_within (limit_of channel.old.limits) channel.old.settings channel.old.journal apid ≡ None
+        → result ≡ no_octets Status.NoQueue }
+    ensures empty { waiting_packets_within (limit_of channel.old.limits) channel.old.settings channel.old.journal apid ≡ Some []
+        → result ≡ no_octets Status.Empty }
     ensures refused { 0 < result.status → (to.new ≡ to.old) × (channel.new ≡ channel.old) }
     ensures once { C.taken steps.new ≤ C.taken steps.old + looks_for apid (length channel.old.settings.queues) }
 {
@@ -48,10 +54,18 @@ pub extern "C" fn tcrx_channel_take_at(
     apid: u16,
     buffer: &mut [u8],
 ) -> WrittenRecord
-    ensures taken { IfSome seat.old.place.channel (λ h. IfSome (take_reply_within (limit_of h.limits) h.settings h.journal apid) (λ packet. length packet ≤ length buffer.old → (result ≡ taken (length packet)) × IsCopied packet buffer.old buffer.new × (seat.new.place.channel ≡ Some (with_limited_event h (Event.Take apid))))) }
-    ensures no_room { IfSome seat.old.place.channel (λ h. IfSome (take_reply_within (limit_of h.limits) h.settings h.journal apid) (λ packet. length buffer.old < length packet → result ≡ too_short (length packet))) }
-    ensures no_queue { IfSome seat.old.place.channel (λ h. waiting_packets_within (limit_of h.limits) h.settings h.journal apid ≡ None → result ≡ no_octets Status.NoQueue) }
-    ensures empty { IfSome seat.old.place.channel (λ h. waiting_packets_within (limit_of h.limits) h.settings h.journal apid ≡ Some [] → result ≡ no_octets Status.Empty) }
+    ensures taken { IfSome seat.old.place.channel
+        (λ h. IfSome (take_reply_within (limit_of h.limits) h.settings h.journal apid)
+        (λ packet. length packet ≤ length buffer.old
+        → (result ≡ taken (length packet)) × IsCopied packet buffer.old buffer.new
+        × (seat.new.place.channel ≡ Some (with_limited_event h (Event.Take apid))))) }
+    ensures no_room { IfSome seat.old.place.channel
+        (λ h. IfSome (take_reply_within (limit_of h.limits) h.settings h.journal apid)
+        (λ packet. length buffer.old < length packet → result ≡ too_short (length packet))) }
+    ensures no_queue { IfSome seat.old.place.channel
+        (λ h. waiting_packets_within (limit_of h.limits) h.settings h.journal apid ≡ None → result ≡ no_octets Status.NoQueue) }
+    ensures empty { IfSome seat.old.place.channel
+        (λ h. waiting_packets_within (limit_of h.limits) h.settings h.journal apid ≡ Some [] → result ≡ no_octets Status.Empty) }
     ensures refused { 0 < result.status → (buffer.new ≡ buffer.old) × (seat.new.place.channel ≡ seat.old.place.channel) }
     ensures no_channel { IfNone seat.old.place.channel (result ≡ no_octets Status.NoChannel) }
 {
@@ -69,10 +83,15 @@ pub fn take_unit_with_steps<C: Tick>(
     to: &mut [u8],
     steps: &mut C,
 ) -> WrittenRecord
-    ensures taken { IfSome (unit_reply_within (limit_of channel.old.limits) channel.old.settings channel.old.journal map) (λ unit. length unit ≤ length to.old → (result ≡ taken (length unit)) × IsCopied unit to.old to.new × (channel.new ≡ with_limited_event channel.old (Event.TakeUnit map))) }
-    ensures no_room { IfSome (unit_reply_within (limit_of channel.old.limits) channel.old.settings channel.old.journal map) (λ unit. length to.old < length unit → result ≡ too_short (length unit)) }
-    ensures no_map { waiting_units_within (limit_of channel.old.limits) channel.old.settings channel.old.journal map ≡ None → result ≡ no_octets Status.NoMap }
-    ensures empty { waiting_units_within (limit_of channel.old.limits) channel.old.settings channel.old.journal map ≡ Some [] → result ≡ no_octets Status.Empty }
+    ensures taken { IfSome (unit_reply_within (limit_of channel.old.limits) channel.old.settings channel.old.journal map)
+        (λ unit. length unit ≤ length to.old → (result ≡ taken (length unit)) × IsCopied unit to.old to.new
+        × (channel.new ≡ with_limited_event channel.old (Event.TakeUnit map))) }
+    ensures no_room { IfSome (unit_reply_within (limit_of channel.old.limits) channel.old.settings channel.old.journal map)
+        (λ unit. length to.old < length unit → result ≡ too_short (length unit)) }
+    ensures no_map { waiting_units_within (limit_of channel.old.limits) channel.old.settings channel.old.journal map ≡ None
+        → result ≡ no_octets Status.NoMap }
+    ensures empty { waiting_units_within (limit_of channel.old.limits) channel.old.settings channel.old.journal map ≡ Some []
+        → result ≡ no_octets Status.Empty }
     ensures refused { 0 < result.status → (to.new ≡ to.old) × (channel.new ≡ channel.old) }
     ensures once { C.taken steps.new ≤ C.taken steps.old + looks_for map (length channel.old.settings.maps) }
 {
@@ -95,10 +114,18 @@ pub extern "C" fn tcrx_channel_take_unit_at(
     map: u8,
     buffer: &mut [u8],
 ) -> WrittenRecord
-    ensures taken { IfSome seat.old.place.channel (λ h. IfSome (unit_reply_within (limit_of h.limits) h.settings h.journal map) (λ unit. length unit ≤ length buffer.old → (result ≡ taken (length unit)) × IsCopied unit buffer.old buffer.new × (seat.new.place.channel ≡ Some (with_limited_event h (Event.TakeUnit map))))) }
-    ensures no_room { IfSome seat.old.place.channel (λ h. IfSome (unit_reply_within (limit_of h.limits) h.settings h.journal map) (λ unit. length buffer.old < length unit → result ≡ too_short (length unit))) }
-    ensures no_map { IfSome seat.old.place.channel (λ h. waiting_units_within (limit_of h.limits) h.settings h.journal map ≡ None → result ≡ no_octets Status.NoMap) }
-    ensures empty { IfSome seat.old.place.channel (λ h. waiting_units_within (limit_of h.limits) h.settings h.journal map ≡ Some [] → result ≡ no_octets Status.Empty) }
+    ensures taken { IfSome seat.old.place.channel
+        (λ h. IfSome (unit_reply_within (limit_of h.limits) h.settings h.journal map)
+        (λ unit. length unit ≤ length buffer.old
+        → (result ≡ taken (length unit)) × IsCopied unit buffer.old buffer.new
+        × (seat.new.place.channel ≡ Some (with_limited_event h (Event.TakeUnit map))))) }
+    ensures no_room { IfSome seat.old.place.channel
+        (λ h. IfSome (unit_reply_within (limit_of h.limits) h.settings h.journal map)
+        (λ unit. length buffer.old < length unit → result ≡ too_short (length unit))) }
+    ensures no_map { IfSome seat.old.place.channel
+        (λ h. waiting_units_within (limit_of h.limits) h.settings h.journal map ≡ None → result ≡ no_octets Status.NoMap) }
+    ensures empty { IfSome seat.old.place.channel
+        (λ h. waiting_units_within (limit_of h.limits) h.settings h.journal map ≡ Some [] → result ≡ no_octets Status.Empty) }
     ensures refused { 0 < result.status → (buffer.new ≡ buffer.old) × (seat.new.place.channel ≡ seat.old.place.channel) }
     ensures no_channel { IfNone seat.old.place.channel (result ≡ no_octets Status.NoChannel) }
 {

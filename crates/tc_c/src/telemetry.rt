@@ -52,9 +52,11 @@ pub extern "C" fn tcrx_write_tm_at(
     octets: &mut [u8],
 ) -> WrittenRecord
     ensures written { IfOk (tm_to_write header fecf size) (λ error. size ≤ length octets.old → result ≡ taken size) }
-    ensures frame { IfOk (tm_to_write header fecf size) (λ error. size ≤ length octets.old → take size octets.new ≡ tm_frame_carrying error header clcw size) }
+    ensures frame { IfOk (tm_to_write header fecf size)
+        (λ error. size ≤ length octets.old → take size octets.new ≡ tm_frame_carrying error header clcw size) }
     ensures rest { IfOk (tm_to_write header fecf size) (λ error. size ≤ length octets.old → drop size octets.new ≡ drop size octets.old) }
-    ensures no_room { IfOk (tm_to_write header fecf size) (λ error. length octets.old < size → (result ≡ too_short size) × (octets.new ≡ octets.old)) }
+    ensures no_room { IfOk (tm_to_write header fecf size)
+        (λ error. length octets.old < size → (result ≡ too_short size) × (octets.new ≡ octets.old)) }
     ensures refused { IfErr (tm_to_write header fecf size) (λ fault. (result ≡ no_octets fault) × (octets.new ≡ octets.old)) }
 {
     match allowed(header, fecf, usize::from(size)) {

@@ -51,10 +51,16 @@ pub extern "C" fn tcrx_write_packet_at(
     field: &[u8],
     octets: &mut [u8],
 ) -> WrittenRecord
-    ensures written { IfOk (packet_to_write header field.now) (λ h. 6 + length field.now ≤ length octets.old → result ≡ taken (6 + length field.now)) }
-    ensures packet { IfOk (packet_to_write header field.now) (λ h. 6 + length field.now ≤ length octets.old → IsPacketOf (take (6 + length field.now) octets.new) h field.now) }
-    ensures rest { IfOk (packet_to_write header field.now) (λ h. 6 + length field.now ≤ length octets.old → drop (6 + length field.now) octets.new ≡ drop (6 + length field.now) octets.old) }
-    ensures no_room { IfOk (packet_to_write header field.now) (λ h. length octets.old < 6 + length field.now → (result ≡ too_short (6 + length field.now)) × (octets.new ≡ octets.old)) }
+    ensures written { IfOk (packet_to_write header field.now)
+        (λ h. 6 + length field.now ≤ length octets.old → result ≡ taken (6 + length field.now)) }
+    ensures packet { IfOk (packet_to_write header field.now)
+        (λ h. 6 + length field.now ≤ length octets.old → IsPacketOf (take (6 + length field.now) octets.new) h field.now) }
+    ensures rest { IfOk (packet_to_write header field.now)
+        (λ h. 6 + length field.now ≤ length octets.old
+        → drop (6 + length field.now) octets.new ≡ drop (6 + length field.now) octets.old) }
+    ensures no_room { IfOk (packet_to_write header field.now)
+        (λ h. length octets.old < 6 + length field.now
+        → (result ≡ too_short (6 + length field.now)) × (octets.new ≡ octets.old)) }
     ensures refused { IfErr (packet_to_write header field.now) (λ fault. (result ≡ no_octets fault) × (octets.new ≡ octets.old)) }
 {
     match front(header, field) {
@@ -67,7 +73,8 @@ pub extern "C" fn tcrx_write_packet_at(
 fn front(header: PacketHeaderRecord, field: &[u8]) -> Result<[u8; 6], Status>
     ensures six { IfOk result (λ front. length front ≡ 6) }
     ensures packet { IfOk result (λ front. IfOk (packet_to_write header field.now) (λ h. IsPacketOf (front ++ field.now) h field.now)) }
-    ensures fault { MatchResult result (λ front. IfErr (packet_to_write header field.now) (λ fault. ⊥)) (λ fault. packet_to_write header field.now ≡ Err fault) }
+    ensures fault { MatchResult result (λ front. IfErr (packet_to_write header field.now) (λ fault. ⊥))
+        (λ fault. packet_to_write header field.now ≡ Err fault) }
 {
     let header = read_packet_header(header)?;
     if header.apid > 2047 || header.count > 16_383 || header.flags > 3 {
@@ -115,10 +122,17 @@ pub extern "C" fn tcrx_write_segment_at(
     unit: &[u8],
     octets: &mut [u8],
 ) -> WrittenRecord
-    ensures written { IfOk (segment_to_write header map size place unit.now) (λ h. segment_length size place unit.now ≤ length octets.old → result ≡ taken (segment_length size place unit.now)) }
-    ensures frame { IfOk (segment_to_write header map size place unit.now) (λ h. segment_length size place unit.now ≤ length octets.old → IsSegmentFrame (take (segment_length size place unit.now) octets.new) h map size place unit.now) }
-    ensures rest { IfOk (segment_to_write header map size place unit.now) (λ h. segment_length size place unit.now ≤ length octets.old → drop (segment_length size place unit.now) octets.new ≡ drop (segment_length size place unit.now) octets.old) }
-    ensures no_room { IfOk (segment_to_write header map size place unit.now) (λ h. length octets.old < segment_length size place unit.now → (result ≡ too_short (segment_length size place unit.now)) × (octets.new ≡ octets.old)) }
+    ensures written { IfOk (segment_to_write header map size place unit.now)
+        (λ h. segment_length size place unit.now ≤ length octets.old → result ≡ taken (segment_length size place unit.now)) }
+    ensures frame { IfOk (segment_to_write header map size place unit.now)
+        (λ h. segment_length size place unit.now ≤ length octets.old
+        → IsSegmentFrame (take (segment_length size place unit.now) octets.new) h map size place unit.now) }
+    ensures rest { IfOk (segment_to_write header map size place unit.now)
+        (λ h. segment_length size place unit.now ≤ length octets.old
+        → drop (segment_length size place unit.now) octets.new ≡ drop (segment_length size place unit.now) octets.old) }
+    ensures no_room { IfOk (segment_to_write header map size place unit.now)
+        (λ h. length octets.old < segment_length size place unit.now
+        → (result ≡ too_short (segment_length size place unit.now)) × (octets.new ≡ octets.old)) }
     ensures refused { IfErr (segment_to_write header map size place unit.now) (λ fault. (result ≡ no_octets fault) × (octets.new ≡ octets.old)) }
 {
     match header_at(header, map, size, place, unit) {
@@ -139,7 +153,8 @@ fn header_at(
     place: u32,
     unit: &[u8],
 ) -> Result<Header, Status>
-    ensures header { MatchResult result (λ h. segment_to_write header map size place unit.now ≡ Ok h) (λ fault. segment_to_write header map size place unit.now ≡ Err fault) }
+    ensures header { MatchResult result (λ h. segment_to_write header map size place unit.now ≡ Ok h)
+        (λ fault. segment_to_write header map size place unit.now ≡ Err fault) }
     ensures scid { IfOk result (λ h. h.scid < 1024) }
     ensures vcid { IfOk result (λ h. h.vcid < 64) }
     ensures map { IfOk result (λ h. map < 64) }
@@ -178,7 +193,8 @@ fn put_segment(header: &Header, segment: Segment, piece: &[u8], octets: &mut [u8
     requires map { segment.map < 64 }
     requires most { length piece.now ≤ 1018 }
     ensures put { length piece.now + 6 ≤ length octets.old → result ≡ taken (length piece.now + 6) }
-    ensures frame { length piece.now + 6 ≤ length octets.old → IsMadeFrame (take (length piece.now + 6) octets.new) header.now (Some segment) piece.now }
+    ensures frame { length piece.now + 6 ≤ length octets.old
+        → IsMadeFrame (take (length piece.now + 6) octets.new) header.now (Some segment) piece.now }
     ensures rest { length piece.now + 6 ≤ length octets.old → drop (length piece.now + 6) octets.new ≡ drop (length piece.now + 6) octets.old }
     ensures no_room { length octets.old < length piece.now + 6 → (result ≡ too_short (length piece.now + 6)) × (octets.new ≡ octets.old) }
 {
@@ -205,10 +221,17 @@ pub extern "C" fn tcrx_write_command_at(
     number: u8,
     octets: &mut [u8],
 ) -> WrittenRecord
-    ensures written { IfOk (command_to_write scid vcid kind number) (λ command. 5 + command_length command ≤ length octets.old → result ≡ taken (5 + command_length command)) }
-    ensures frame { IfOk (command_to_write scid vcid kind number) (λ command. 5 + command_length command ≤ length octets.old → IsCommandFrame (take (5 + command_length command) octets.new) scid vcid command) }
-    ensures rest { IfOk (command_to_write scid vcid kind number) (λ command. 5 + command_length command ≤ length octets.old → drop (5 + command_length command) octets.new ≡ drop (5 + command_length command) octets.old) }
-    ensures no_room { IfOk (command_to_write scid vcid kind number) (λ command. length octets.old < 5 + command_length command → (result ≡ too_short (5 + command_length command)) × (octets.new ≡ octets.old)) }
+    ensures written { IfOk (command_to_write scid vcid kind number)
+        (λ command. 5 + command_length command ≤ length octets.old → result ≡ taken (5 + command_length command)) }
+    ensures frame { IfOk (command_to_write scid vcid kind number)
+        (λ command. 5 + command_length command ≤ length octets.old
+        → IsCommandFrame (take (5 + command_length command) octets.new) scid vcid command) }
+    ensures rest { IfOk (command_to_write scid vcid kind number)
+        (λ command. 5 + command_length command ≤ length octets.old
+        → drop (5 + command_length command) octets.new ≡ drop (5 + command_length command) octets.old) }
+    ensures no_room { IfOk (command_to_write scid vcid kind number)
+        (λ command. length octets.old < 5 + command_length command
+        → (result ≡ too_short (5 + command_length command)) × (octets.new ≡ octets.old)) }
     ensures refused { IfErr (command_to_write scid vcid kind number) (λ fault. (result ≡ no_octets fault) × (octets.new ≡ octets.old)) }
 {
     if scid > 1023 || vcid > 63 {
@@ -238,9 +261,13 @@ pub extern "C" fn tcrx_write_command_at(
 #[unsafe(no_mangle)]
 pub extern "C" fn tcrx_add_fecf_at(frame: &[u8], octets: &mut [u8]) -> WrittenRecord
     ensures written { IfNone (adding_fault_of frame.now) (length frame.now + 2 ≤ length octets.old → result ≡ taken (length frame.now + 2)) }
-    ensures frame { IfNone (adding_fault_of frame.now) (length frame.now + 2 ≤ length octets.old → take (length frame.now + 2) octets.new ≡ frame_with_field frame.now) }
-    ensures rest { IfNone (adding_fault_of frame.now) (length frame.now + 2 ≤ length octets.old → drop (length frame.now + 2) octets.new ≡ drop (length frame.now + 2) octets.old) }
-    ensures no_room { IfNone (adding_fault_of frame.now) (length octets.old < length frame.now + 2 → (result ≡ too_short (length frame.now + 2)) × (octets.new ≡ octets.old)) }
+    ensures frame { IfNone (adding_fault_of frame.now)
+        (length frame.now + 2 ≤ length octets.old → take (length frame.now + 2) octets.new ≡ frame_with_field frame.now) }
+    ensures rest { IfNone (adding_fault_of frame.now)
+        (length frame.now + 2 ≤ length octets.old
+        → drop (length frame.now + 2) octets.new ≡ drop (length frame.now + 2) octets.old) }
+    ensures no_room { IfNone (adding_fault_of frame.now)
+        (length octets.old < length frame.now + 2 → (result ≡ too_short (length frame.now + 2)) × (octets.new ≡ octets.old)) }
     ensures refused { IfSome (adding_fault_of frame.now) (λ fault. (result ≡ no_octets (field_status fault)) × (octets.new ≡ octets.old)) }
 {
     if let Err(fault) = check_adding(frame) {
@@ -265,10 +292,14 @@ pub extern "C" fn tcrx_add_fecf_at(frame: &[u8], octets: &mut [u8]) -> WrittenRe
 #[unsafe(no_mangle)]
 pub extern "C" fn tcrx_check_fecf_at(frame: &[u8], octets: &mut [u8]) -> WrittenRecord
     ensures written { IfNone (taking_fault_of frame.now) (length frame.now ≤ length octets.old + 2 → result ≡ taken (length frame.now - 2)) }
-    ensures frame { IfNone (taking_fault_of frame.now) (length frame.now ≤ length octets.old + 2 → frame.now ≡ frame_with_field (take (length frame.now - 2) octets.new)) }
+    ensures frame { IfNone (taking_fault_of frame.now)
+        (length frame.now ≤ length octets.old + 2 → frame.now ≡ frame_with_field (take (length frame.now - 2) octets.new)) }
     ensures whole { IfNone (taking_fault_of frame.now) (length frame.now ≤ length octets.old + 2 → IsWhole (take (length frame.now - 2) octets.new)) }
-    ensures rest { IfNone (taking_fault_of frame.now) (length frame.now ≤ length octets.old + 2 → drop (length frame.now - 2) octets.new ≡ drop (length frame.now - 2) octets.old) }
-    ensures no_room { IfNone (taking_fault_of frame.now) (length octets.old + 2 < length frame.now → (result ≡ too_short (length frame.now - 2)) × (octets.new ≡ octets.old)) }
+    ensures rest { IfNone (taking_fault_of frame.now)
+        (length frame.now ≤ length octets.old + 2
+        → drop (length frame.now - 2) octets.new ≡ drop (length frame.now - 2) octets.old) }
+    ensures no_room { IfNone (taking_fault_of frame.now)
+        (length octets.old + 2 < length frame.now → (result ≡ too_short (length frame.now - 2)) × (octets.new ≡ octets.old)) }
     ensures refused { IfSome (taking_fault_of frame.now) (λ fault. (result ≡ no_octets (field_status fault)) × (octets.new ≡ octets.old)) }
 {
     if let Err(fault) = check_taking(frame) {

@@ -109,7 +109,8 @@ impl Decoder {
         ensures mode { self.new.mode ≡ self.old.mode }
         ensures begins { IfSome result (λ fed. self.old.state ≡ Decoding self.old.carried []) }
         ensures state { IfSome result (λ fed. self.new.state ≡ state_after self.old.mode most_octets self.old.state block.now) }
-        ensures given { IfSome result (λ fed. (if fed.ended then self.new.carried ∷ [] else []) ≡ frames_of self.old.mode most_octets self.old.state block.now) }
+        ensures given { IfSome result (λ fed. (if fed.ended then self.new.carried ∷ [] else [])
+            ≡ frames_of self.old.mode most_octets self.old.state block.now) }
         ensures fate { IfSome result (λ fed. fed.fate ≡ Some (fate_after self.old.mode most_octets self.old.carried block.now)) }
         ensures none { IfNone result ((self.old.state ≢ Decoding self.old.carried []) × (self.new ≡ self.old)) }
     {
@@ -127,11 +128,15 @@ impl Decoder {
     pub fn feed_front<'a>(&mut self, piece: &'a [u8]) -> Option<(Fed, &'a [u8])>
         ensures mode { self.new.mode ≡ self.old.mode }
         ensures less { IfSome result (λ p. length p.1.now < length piece.now) }
-        ensures front { IfSome result (λ p. IsTaken most_octets self.old self.new piece.now p.1.now (if p.0.ended then self.new.carried ∷ [] else [])) }
-        ensures state { IfSome result (λ p. state_after self.old.mode most_octets self.new.state p.1.now ≡ state_after self.old.mode most_octets self.old.state piece.now) }
-        ensures given { IfSome result (λ p. (if p.0.ended then self.new.carried ∷ [] else []) ++ frames_of self.old.mode most_octets self.new.state p.1.now
+        ensures front { IfSome result (λ p. IsTaken most_octets self.old self.new piece.now p.1.now
+            (if p.0.ended then self.new.carried ∷ [] else [])) }
+        ensures state { IfSome result (λ p. state_after self.old.mode most_octets self.new.state p.1.now
+            ≡ state_after self.old.mode most_octets self.old.state piece.now) }
+        ensures given { IfSome result (λ p. (if p.0.ended then self.new.carried ∷ [] else [])
+            ++ frames_of self.old.mode most_octets self.new.state p.1.now
             ≡ frames_of self.old.mode most_octets self.old.state piece.now) }
-        ensures fates { IfSome result (λ p. (count : Option Fate → ℕ) → count None ≡ 0 → count p.0.fate + counted_in count self.old.mode most_octets self.new.state p.1.now
+        ensures fates { IfSome result (λ p. (count : Option Fate → ℕ) → count None ≡ 0
+            → count p.0.fate + counted_in count self.old.mode most_octets self.new.state p.1.now
             ≡ counted_in count self.old.mode most_octets self.old.state piece.now) }
         ensures none { IfNone result ((piece.now ≡ []) × (self.new ≡ self.old)) }
     {
@@ -150,7 +155,8 @@ impl Decoder {
         requires { self.old.state ≡ Decoding self.old.carried [] }
         ensures mode { self.new.mode ≡ self.old.mode }
         ensures state { self.new.state ≡ (after_block most_octets self.old.carried (decoded self.old.mode block.now)).0 }
-        ensures given { (if result.ended then self.new.carried ∷ [] else []) ≡ (after_block most_octets self.old.carried (decoded self.old.mode block.now)).1 }
+        ensures given { (if result.ended then self.new.carried ∷ [] else [])
+            ≡ (after_block most_octets self.old.carried (decoded self.old.mode block.now)).1 }
         ensures fate { result.fate ≡ Some (fate_after self.old.mode most_octets self.old.carried block.now) }
     {
         let Judged { fate, block } = judge(block, self.mode);
@@ -213,7 +219,8 @@ impl Decoder {
     ) -> Result<(), AllocError>
         ensures mode { self.new.mode ≡ self.old.mode }
         ensures state { OnOk result (self.new.state ≡ state_after self.old.mode most_octets self.old.state piece.now) }
-        ensures short { OnErr result ((given : List (List ℕ)) × (map (λ frame. frame.items) frames.new.items ≡ map (λ frame. frame.items) frames.old.items ++ given)
+        ensures short { OnErr result ((given : List (List ℕ))
+            × (map (λ frame. frame.items) frames.new.items ≡ map (λ frame. frame.items) frames.old.items ++ given)
             × StopsShort most_octets self.old self.new piece.now given) }
         ensures frames { OnOk result (map (λ frame. frame.items) frames.new.items
             ≡ map (λ frame. frame.items) frames.old.items ++ frames_of self.old.mode most_octets self.old.state piece.now) }

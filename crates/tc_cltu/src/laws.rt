@@ -40,7 +40,8 @@ pub fn code_blocks_are_so()
     ensures one { code_block (0x00 ∷ 0x00 ∷ 0x00 ∷ 0x00 ∷ 0x00 ∷ 0x00 ∷ 0x01 ∷ []) ≡ 0x00 ∷ 0x00 ∷ 0x00 ∷ 0x00 ∷ 0x00 ∷ 0x00 ∷ 0x01 ∷ 0x74 ∷ [] }
     ensures three { code_block (0x00 ∷ 0x00 ∷ 0x00 ∷ 0x00 ∷ 0x00 ∷ 0x00 ∷ 0x03 ∷ []) ≡ 0x00 ∷ 0x00 ∷ 0x00 ∷ 0x00 ∷ 0x00 ∷ 0x00 ∷ 0x03 ∷ 0xea ∷ [] }
     ensures four { code_block (0x00 ∷ 0x00 ∷ 0x00 ∷ 0x00 ∷ 0x00 ∷ 0x00 ∷ 0x04 ∷ []) ≡ 0x00 ∷ 0x00 ∷ 0x00 ∷ 0x00 ∷ 0x00 ∷ 0x00 ∷ 0x04 ∷ 0x48 ∷ [] }
-    ensures first_bit { code_block (0x80 ∷ 0x00 ∷ 0x00 ∷ 0x00 ∷ 0x00 ∷ 0x00 ∷ 0x00 ∷ []) ≡ 0x80 ∷ 0x00 ∷ 0x00 ∷ 0x00 ∷ 0x00 ∷ 0x00 ∷ 0x00 ∷ 0x3a ∷ [] }
+    ensures first_bit { code_block (0x80 ∷ 0x00 ∷ 0x00 ∷ 0x00 ∷ 0x00 ∷ 0x00 ∷ 0x00 ∷ [])
+        ≡ 0x80 ∷ 0x00 ∷ 0x00 ∷ 0x00 ∷ 0x00 ∷ 0x00 ∷ 0x00 ∷ 0x3a ∷ [] }
     ensures ones { code_block (0xff ∷ 0xff ∷ 0xff ∷ 0xff ∷ 0xff ∷ 0xff ∷ 0xff ∷ []) ≡ 0xff ∷ 0xff ∷ 0xff ∷ 0xff ∷ 0xff ∷ 0xff ∷ 0xff ∷ 0x86 ∷ [] }
     ensures idle { code_block (0x55 ∷ 0x55 ∷ 0x55 ∷ 0x55 ∷ 0x55 ∷ 0x55 ∷ 0x55 ∷ []) ≡ 0x55 ∷ 0x55 ∷ 0x55 ∷ 0x55 ∷ 0x55 ∷ 0x55 ∷ 0x55 ∷ 0xd6 ∷ [] }
     ensures mixed { code_block (0x22 ∷ 0xf6 ∷ 0x00 ∷ 0xff ∷ 0x00 ∷ 0x42 ∷ 0x1a ∷ []) ≡ 0x22 ∷ 0xf6 ∷ 0x00 ∷ 0xff ∷ 0x00 ∷ 0x42 ∷ 0x1a ∷ 0x12 ∷ [] }
@@ -52,7 +53,8 @@ pub fn code_blocks_are_so()
 
 /// Two code blocks that differ in at most three of their 63 bits carry equal octets.
 pub fn code_blocks_differ_in_four_places()
-    ensures { (one other : List ℕ) → IsInformation one → IsInformation other → differences (word (code_block one)) (word (code_block other)) ≤ 3 → one ≡ other }
+    ensures { (one other : List ℕ) → IsInformation one → IsInformation other
+        → differences (word (code_block one)) (word (code_block other)) ≤ 3 → one ≡ other }
 {}
 
 /// One inverted bit among the 63 bits of a code block is one error, two are two errors, and three are three.
@@ -68,10 +70,17 @@ pub fn each_turned_bit_is_an_error()
 /// and the tail sequence. The frames are an Unlock and a frame with a packet.
 #[tactic(auto, unfolding(crate::specs::CodeBlock::block_times_x, tc_fecf::specs::Checksum::octet_bits))]
 pub fn a_cltu_is_so()
-    ensures one_block { cltu (0x00 ∷ 0x00 ∷ 0x00 ∷ 0x00 ∷ 0x00 ∷ 0x00 ∷ 0x01 ∷ []) ≡ 0xeb ∷ 0x90 ∷ 0x00 ∷ 0x00 ∷ 0x00 ∷ 0x00 ∷ 0x00 ∷ 0x00 ∷ 0x01 ∷ 0x74 ∷ 0xc5 ∷ 0xc5 ∷ 0xc5 ∷ 0xc5 ∷ 0xc5 ∷ 0xc5 ∷ 0xc5 ∷ 0x79 ∷ [] }
-    ensures one_octet { cltu (0x00 ∷ []) ≡ 0xeb ∷ 0x90 ∷ 0x00 ∷ 0x55 ∷ 0x55 ∷ 0x55 ∷ 0x55 ∷ 0x55 ∷ 0x55 ∷ 0x68 ∷ 0xc5 ∷ 0xc5 ∷ 0xc5 ∷ 0xc5 ∷ 0xc5 ∷ 0xc5 ∷ 0xc5 ∷ 0x79 ∷ [] }
-    ensures unlock { cltu (0x30 ∷ 0x2a ∷ 0x04 ∷ 0x05 ∷ 0x00 ∷ 0x00 ∷ []) ≡ 0xeb ∷ 0x90 ∷ 0x30 ∷ 0x2a ∷ 0x04 ∷ 0x05 ∷ 0x00 ∷ 0x00 ∷ 0x55 ∷ 0x94 ∷ 0xc5 ∷ 0xc5 ∷ 0xc5 ∷ 0xc5 ∷ 0xc5 ∷ 0xc5 ∷ 0xc5 ∷ 0x79 ∷ [] }
-    ensures two_blocks { cltu (0x00 ∷ 0x2a ∷ 0x04 ∷ 0x0c ∷ 0x00 ∷ 0xc0 ∷ 0x10 ∷ 0x05 ∷ 0xc0 ∷ 0x00 ∷ 0x00 ∷ 0x00 ∷ 0xaa ∷ []) ≡ 0xeb ∷ 0x90 ∷ 0x00 ∷ 0x2a ∷ 0x04 ∷ 0x0c ∷ 0x00 ∷ 0xc0 ∷ 0x10 ∷ 0xaa ∷ 0x05 ∷ 0xc0 ∷ 0x00 ∷ 0x00 ∷ 0x00 ∷ 0xaa ∷ 0x55 ∷ 0xe0 ∷ 0xc5 ∷ 0xc5 ∷ 0xc5 ∷ 0xc5 ∷ 0xc5 ∷ 0xc5 ∷ 0xc5 ∷ 0x79 ∷ [] }
+    ensures one_block { cltu (0x00 ∷ 0x00 ∷ 0x00 ∷ 0x00 ∷ 0x00 ∷ 0x00 ∷ 0x01 ∷ [])
+        ≡ 0xeb ∷ 0x90 ∷ 0x00 ∷ 0x00 ∷ 0x00 ∷ 0x00 ∷ 0x00 ∷ 0x00 ∷ 0x01 ∷ 0x74 ∷ 0xc5 ∷ 0xc5 ∷ 0xc5 ∷ 0xc5 ∷ 0xc5 ∷ 0xc5 ∷ 0xc5
+        ∷ 0x79 ∷ [] }
+    ensures one_octet { cltu (0x00 ∷ []) ≡ 0xeb ∷ 0x90 ∷ 0x00 ∷ 0x55 ∷ 0x55 ∷ 0x55 ∷ 0x55 ∷ 0x55 ∷ 0x55 ∷ 0x68 ∷ 0xc5 ∷ 0xc5
+        ∷ 0xc5 ∷ 0xc5 ∷ 0xc5 ∷ 0xc5 ∷ 0xc5 ∷ 0x79 ∷ [] }
+    ensures unlock { cltu (0x30 ∷ 0x2a ∷ 0x04 ∷ 0x05 ∷ 0x00 ∷ 0x00 ∷ [])
+        ≡ 0xeb ∷ 0x90 ∷ 0x30 ∷ 0x2a ∷ 0x04 ∷ 0x05 ∷ 0x00 ∷ 0x00 ∷ 0x55 ∷ 0x94 ∷ 0xc5 ∷ 0xc5 ∷ 0xc5 ∷ 0xc5 ∷ 0xc5 ∷ 0xc5 ∷ 0xc5
+        ∷ 0x79 ∷ [] }
+    ensures two_blocks { cltu (0x00 ∷ 0x2a ∷ 0x04 ∷ 0x0c ∷ 0x00 ∷ 0xc0 ∷ 0x10 ∷ 0x05 ∷ 0xc0 ∷ 0x00 ∷ 0x00 ∷ 0x00 ∷ 0xaa ∷ [])
+        ≡ 0xeb ∷ 0x90 ∷ 0x00 ∷ 0x2a ∷ 0x04 ∷ 0x0c ∷ 0x00 ∷ 0xc0 ∷ 0x10 ∷ 0xaa ∷ 0x05 ∷ 0xc0 ∷ 0x00 ∷ 0x00 ∷ 0x00 ∷ 0xaa ∷ 0x55
+        ∷ 0xe0 ∷ 0xc5 ∷ 0xc5 ∷ 0xc5 ∷ 0xc5 ∷ 0xc5 ∷ 0xc5 ∷ 0xc5 ∷ 0x79 ∷ [] }
     ensures longest { cltu_fault_of (replicate 1029 0) ≡ None }
     ensures too_long { cltu_fault_of (replicate 1030 0) ≡ Some TooLong }
     ensures empty { cltu_fault_of [] ≡ Some Empty }
@@ -84,7 +93,8 @@ pub fn a_cltu_gives_its_frame()
     ensures given { (mode : Mode) (last : ℕ) (frame rest : List ℕ) → IsOctets frame → cltu_fault_of frame ≡ None
         → frames_of mode most_octets (Searching last) (cltu frame ++ rest) ≡ filled frame ∷ frames_of mode most_octets (Searching 0) rest }
     ensures begun { (last k : ℕ) (frame rest : List ℕ) → k < 16 → IsOctets frame → cltu_fault_of frame ≡ None
-        → frames_of Correct most_octets (Searching last) (flipped (cltu frame) k ++ rest) ≡ filled frame ∷ frames_of Correct most_octets (Searching 0) rest }
+        → frames_of Correct most_octets (Searching last) (flipped (cltu frame) k ++ rest)
+        ≡ filled frame ∷ frames_of Correct most_octets (Searching 0) rest }
     ensures fill { (frame : List ℕ) → (k : ℕ) × (k < 7) × (filled frame ≡ frame ++ take k fill) }
     ensures pieces { (mode : Mode) (one other : List ℕ) (state : Reception) → frames_of mode most_octets state (one ++ other)
         ≡ frames_of mode most_octets state one ++ frames_of mode most_octets (state_after mode most_octets state one) other }
@@ -92,9 +102,11 @@ pub fn a_cltu_gives_its_frame()
 
 /// The whole frames that a CLTU carries are found again by their length fields. Exactly the CLTU's fill follows them.
 pub fn a_cltu_gives_its_frames()
-    ensures { (mode : Mode) (last most : ℕ) (frames : List (List ℕ)) (rest : List ℕ) → AllByRecursion IsWhole frames → 1 ≤ length frames → length frames ≤ most
+    ensures { (mode : Mode) (last most : ℕ) (frames : List (List ℕ)) (rest : List ℕ) → AllByRecursion IsWhole frames
+        → 1 ≤ length frames → length frames ≤ most
         → length (concat frames) ≤ most_octets → (fill : List ℕ)
-        × (frames_of mode most_octets (Searching last) (cltu (concat frames) ++ rest) ≡ (concat frames ++ fill) ∷ frames_of mode most_octets (Searching 0) rest)
+        × (frames_of mode most_octets (Searching last) (cltu (concat frames) ++ rest)
+        ≡ (concat frames ++ fill) ∷ frames_of mode most_octets (Searching 0) rest)
         × (is_fill fill ≡ true) × AreDelimited most (concat frames ++ fill) frames fill }
 {}
 
@@ -102,7 +114,8 @@ pub fn a_cltu_gives_its_frames()
 /// lead to, 15 octets of the idle sequence lead back to the search. The CLTU after the idle sequence is then found.
 pub fn the_next_cltu_is_found()
     ensures quiet { (mode : Mode) (last : ℕ) (before frame rest : List ℕ) → HasNoStart mode last before → IsOctets frame → cltu_fault_of frame ≡ None
-        → frames_of mode most_octets (Searching last) (before ++ (cltu frame ++ rest)) ≡ filled frame ∷ frames_of mode most_octets (Searching 0) rest }
+        → frames_of mode most_octets (Searching last) (before ++ (cltu frame ++ rest))
+        ≡ filled frame ∷ frames_of mode most_octets (Searching 0) rest }
     ensures kept { (mode : Mode) (octets : List ℕ) (state : Reception) → IsReception state → IsReception (state_after mode most_octets state octets) }
     ensures back { (mode : Mode) (state : Reception) → IsReception state → IsSearching (state_after mode most_octets state (idle 15)) }
     ensures found { (mode : Mode) (state : Reception) (before frame rest : List ℕ) → IsReception state → IsOctets frame → cltu_fault_of frame ≡ None

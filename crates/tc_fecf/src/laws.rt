@@ -38,7 +38,8 @@ pub fn just_frames_with_room_for_the_field_have_no_fault()
 ///
 /// Each change of one bit and each burst of up to 16 bits is therefore detected.
 pub fn a_burst_of_16_bits_is_detected()
-    ensures { (one other : List ℕ) (i : ℕ) → SameOctets one other → SameBits one other (λ k. (k < i) ⊎ (i + 16 ≤ k)) → Passes one → Passes other → one ≡ other }
+    ensures { (one other : List ℕ) (i : ℕ) → SameOctets one other → SameBits one other (λ k. (k < i) ⊎ (i + 16 ≤ k)) → Passes one
+        → Passes other → one ≡ other }
 {}
 
 /// Two lists with the same number of octets that differ in two bits, less than 32,767 bits apart, don't both pass. Any
@@ -51,7 +52,8 @@ pub fn a_change_of_two_bits_is_detected()
 /// Two lists with the same number of octets that differ in three bits, all less than 32,767 bits apart, don't both
 /// pass.
 pub fn a_change_of_three_bits_is_detected()
-    ensures { (one other : List ℕ) (i j k : ℕ) → i < j → j < k → k < i + 32767 → SameOctets one other → SameBits one other (λ p. (p ≢ i) × (p ≢ j) × (p ≢ k))
+    ensures { (one other : List ℕ) (i j k : ℕ) → i < j → j < k → k < i + 32767 → SameOctets one other
+        → SameBits one other (λ p. (p ≢ i) × (p ≢ j) × (p ≢ k))
         → Passes one → Passes other → one ≡ other }
 {}
 
@@ -63,7 +65,8 @@ pub fn a_change_of_an_odd_number_of_bits_is_detected()
 /// The octets that a CLTU carried divide into frames and a rest in only one way. If at most `most` whole frames stand
 /// in front of fill, exactly these frames are found.
 pub fn each_candidate_is_delimited_in_one_way()
-    ensures one { (octets frame other rest behind : List ℕ) → IsDelimited octets frame rest → IsDelimited octets other behind → (frame ≡ other) × (rest ≡ behind) }
+    ensures one { (octets frame other rest behind : List ℕ) → IsDelimited octets frame rest → IsDelimited octets other behind
+        → (frame ≡ other) × (rest ≡ behind) }
     ensures only { (most : ℕ) (octets rest behind : List ℕ) (frames others : List (List ℕ)) → AreDelimited most octets frames rest
         → AreDelimited most octets others behind → (frames ≡ others) × (rest ≡ behind) }
     ensures filled { (most : ℕ) (rest : List ℕ) (frames : List (List ℕ)) → AllByRecursion IsWhole frames → length frames ≤ most → is_fill rest ≡ true

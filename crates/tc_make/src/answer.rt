@@ -39,7 +39,8 @@ pub fn answer_line<W: Write>(
     octets: &[u8],
     writer: &mut W,
 ) -> io::Result<()>
-    ensures answer { OnOk result (Writes (W.contents writer.old) (W.contents writer.new) (IsAnswer maker.old (maker_line_of (words_of octets.now)) maker.new)) }
+    ensures answer { OnOk result (Writes (W.contents writer.old) (W.contents writer.new)
+        (IsAnswer maker.old (maker_line_of (words_of octets.now)) maker.new)) }
 {
     match parse_line(alloc, octets) {
         Ok(line) => answer(alloc, maker, &line, writer),
@@ -126,7 +127,8 @@ fn write_frame<W: Write>(
     octets: &[u8],
     writer: &mut W,
 ) -> io::Result<()>
-    ensures { OnOk result (Writes (W.contents writer.old) (W.contents writer.new) (OrNoMemory (IsMadeFrameSaid ending header.now segment octets.now))) }
+    ensures { OnOk result (Writes (W.contents writer.old) (W.contents writer.new)
+        (OrNoMemory (IsMadeFrameSaid ending header.now segment octets.now))) }
 {
     match make_frame(alloc, header, segment, octets) {
         Ok(frame) => write_ended(alloc, ending, frame, writer),

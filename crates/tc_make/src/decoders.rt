@@ -144,7 +144,8 @@ fn write_blocks<W: Write>(blocks: Blocks, writer: &mut W) -> io::Result<()>
 
 // Writes the candidate frame, if `ended` is set because the last octet ended one.
 fn write_ended<W: Write>(decoder: &Decoder, ended: bool, writer: &mut W) -> io::Result<()>
-    ensures { OnOk result (Appends (W.contents writer.old) (W.contents writer.new) (candidates_text (if ended then decoder.now.carried ∷ [] else []))) }
+    ensures { OnOk result (Appends (W.contents writer.old) (W.contents writer.new)
+        (candidates_text (if ended then decoder.now.carried ∷ [] else []))) }
 {
     if ended {
         return write_named("frame", decoder.carried(), writer);

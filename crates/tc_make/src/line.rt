@@ -139,7 +139,8 @@ pub fn parse_line(alloc: Global, octets: &[u8]) -> Result<Line, Reason>
 #[tactic(auto, unfolding(crate::specs::Line::link_line_of))]
 fn link_line(alloc: Global, command: &[u8], arguments: &[&[u8]]) -> Result<Line, Reason>
     ensures line { IfOk result (λ line. link_line_of command.now (map (λ word. word.now) arguments.now) ≡ Ok line) }
-    ensures reason { IfErr result (λ reason. (reason ≡ Reason.NoMemory) ⊎ (link_line_of command.now (map (λ word. word.now) arguments.now) ≡ Err reason)) }
+    ensures reason { IfErr result (λ reason. (reason ≡ Reason.NoMemory) ⊎
+        (link_line_of command.now (map (λ word. word.now) arguments.now) ≡ Err reason)) }
 {
     if command == b"cltu".as_slice() {
         Ok(Line::Cltu(alone(alloc, Form::Cltu, arguments)?))

@@ -157,7 +157,8 @@ fn next_frame(
     counts: &mut Counts,
     order: TmOrder,
 ) -> Result<Vec<u8>, Reason>
-    ensures frame { IfOk result (λ frame. frame.items ≡ tm_frame (telemetry_ending ending) (next_header counts.old order.scid order.vcid) order.control order.size) }
+    ensures frame { IfOk result (λ frame. frame.items
+        ≡ tm_frame (telemetry_ending ending) (next_header counts.old order.scid order.vcid) order.control order.size) }
     ensures counted { OnOk result (counts.new ≡ frame_counted counts.old order.scid order.vcid) }
     ensures unchanged { OnErr result (counts.new ≡ counts.old) }
     ensures made { OnOk result (tm_reason_of ending order ≡ None) }

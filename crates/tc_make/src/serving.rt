@@ -43,8 +43,10 @@ pub fn answer_lines<R: BufRead, W: Write>(
     reader: &mut R,
     writer: &mut W,
 ) -> Result<(), ServingFault>
-    ensures written { OnOk result (IfSome (R.remaining reader.old) (λ octets. AreWritten ending octets (W.contents writer.old) (W.contents writer.new))) }
-    ensures cut_short { IfErr result (λ fault. IfSome (R.remaining reader.old) (λ octets. IsMakingCutShort ending octets (W.contents writer.old) (W.contents writer.new) fault)) }
+    ensures written { OnOk result (IfSome (R.remaining reader.old)
+        (λ octets. AreWritten ending octets (W.contents writer.old) (W.contents writer.new))) }
+    ensures cut_short { IfErr result (λ fault. IfSome (R.remaining reader.old)
+        (λ octets. IsMakingCutShort ending octets (W.contents writer.old) (W.contents writer.new) fault)) }
 {
     let Ok(mut maker) = Maker::new(alloc, ending) else {
         return Err(ServingFault::NoMemory);

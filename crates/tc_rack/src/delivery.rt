@@ -13,7 +13,8 @@ use std::io::Write;
 /// Takes each packet of each queue, and then each unit of each chosen MAP, in the order of the settings, until no item
 /// waits. Writes the answer to each take, and then the CLCW. Each answer is written before the next item is taken.
 pub(crate) fn hand_on<W: Write>(channel: &mut LinkedChannel, writer: &mut W) -> io::Result<()>
-    ensures reported { OnOk result (AreAnswersWritten (W.contents writer.old) (W.contents writer.new) (λ answers. IsHandedOn channel.old answers channel.new)) }
+    ensures reported { OnOk result (AreAnswersWritten (W.contents writer.old) (W.contents writer.new)
+        (λ answers. IsHandedOn channel.old answers channel.new)) }
     ensures settings { channel.new.history.settings ≡ channel.old.history.settings }
 {
     empty_packet_queues(channel, writer)?;
@@ -23,7 +24,8 @@ pub(crate) fn hand_on<W: Write>(channel: &mut LinkedChannel, writer: &mut W) -> 
 }
 
 fn empty_packet_queues<W: Write>(channel: &mut LinkedChannel, writer: &mut W) -> io::Result<()>
-    ensures reported { OnOk result (AreAnswersWritten (W.contents writer.old) (W.contents writer.new) (λ answers. AreEmptied (packet_queues channel.old.history.settings) channel.old answers channel.new)) }
+    ensures reported { OnOk result (AreAnswersWritten (W.contents writer.old) (W.contents writer.new)
+        (λ answers. AreEmptied (packet_queues channel.old.history.settings) channel.old answers channel.new)) }
     ensures settings { channel.new.history.settings ≡ channel.old.history.settings }
 {
     let count = channel.settings().queues.len();
@@ -35,7 +37,8 @@ fn empty_packet_queues<W: Write>(channel: &mut LinkedChannel, writer: &mut W) ->
 }
 
 fn empty_unit_queues<W: Write>(channel: &mut LinkedChannel, writer: &mut W) -> io::Result<()>
-    ensures reported { OnOk result (AreAnswersWritten (W.contents writer.old) (W.contents writer.new) (λ answers. AreEmptied (unit_queues channel.old.history.settings) channel.old answers channel.new)) }
+    ensures reported { OnOk result (AreAnswersWritten (W.contents writer.old) (W.contents writer.new)
+        (λ answers. AreEmptied (unit_queues channel.old.history.settings) channel.old answers channel.new)) }
     ensures settings { channel.new.history.settings ≡ channel.old.history.settings }
 {
     let count = channel.settings().maps.len();
@@ -52,7 +55,8 @@ fn empty_queue<W: Write>(
     queue: QueueId,
     writer: &mut W,
 ) -> io::Result<()>
-    ensures reported { OnOk result (AreAnswersWritten (W.contents writer.old) (W.contents writer.new) (λ answers. AreTakenFrom queue channel.old answers channel.new × (waiting_in queue channel.new ≡ []))) }
+    ensures reported { OnOk result (AreAnswersWritten (W.contents writer.old) (W.contents writer.new)
+        (λ answers. AreTakenFrom queue channel.old answers channel.new × (waiting_in queue channel.new ≡ []))) }
     ensures settings { channel.new.history.settings ≡ channel.old.history.settings }
 {
     let count = channel.waiting(queue);

@@ -143,7 +143,8 @@ impl Rack {
     /// and each answer is written before the next item is taken. If the writer fails, the item that was taken last is
     /// lost.
     pub fn hand_on<W: Write>(&mut self, vcid: u8, writer: &mut W) -> io::Result<()>
-        ensures { OnOk result (AreAnswersWritten (W.contents writer.old) (W.contents writer.new) (λ answers. IsDeliveryEnded vcid self.old answers self.new)) }
+        ensures { OnOk result (AreAnswersWritten (W.contents writer.old) (W.contents writer.new)
+            (λ answers. IsDeliveryEnded vcid self.old answers self.new)) }
     {
         match place_of(&self.channels, vcid) {
             Some(place) => hand_on(&mut self.channels[place], writer),
