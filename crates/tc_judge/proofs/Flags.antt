@@ -1,5 +1,5 @@
 -- The components that a CLCW shows.
-use Rattle.std.specs.Prelude.{◌≡◌, ◌+◌, ◌%◌, ◌↔◌, ◌⊎◌, Bool, true, false, List, ◌∷◌, Option, Some, None, unwrap_or}
+use Rattle.std.specs.Prelude.{◌≡◌, ◌+◌, ◌%◌, ◌↔◌, Bool, true, false, List, ◌∷◌, Some, unwrap_or}
 use Rattle.std.proofs.Common.{refl, sym, ◌∙◌, subst, inl, inr, arith, ◌<◌}
 use Rattle.tc_judge.specs.declared.account.Rules.{Rules}
 use Rattle.tc_judge.specs.declared.account.SentFrame.{SentFrame}
@@ -8,7 +8,7 @@ use Rattle.tc_link.specs.declared.farm.State.{State}
 use Rattle.tc_link.specs.declared.farm.State.TheVariants.{S1, S2, S3}
 use Rattle.tc_link.specs.Farm.{Row, E1, E2, E3, E4, E5, E6, E7, E8, E9, E10, entry_at, after, frame_row}
 use Rattle.tc_judge.specs.Account.{Explains, heard, lost, comes, released}
-use Rattle.tc_judge.specs.Alternatives.{Leads, usual, other, other_at}
+use Rattle.tc_judge.specs.Alternatives.{Leads, other_at}
 use Rattle.tc_judge.specs.Reading.{shown_state, IsShown}
 use Rattle.tc_judge.specs.declared.account.SentFrame.TheVariants.{Known, OtherCommand}
 use Rattle.tc_judge.specs.declared.account.Item.{Item}
@@ -183,17 +183,3 @@ shown-on rules way r q items f (heard e) = f
 shown-on rules (k ∷ way) r q items f (lost l e) = shown-on rules way r q items f e
 shown-on rules (k ∷ way) r q items f (comes {new = new} room step e) = shown-on rules way new q items (shown-leads rules k room r new f step) e
 shown-on rules way r q items f (released e) = shown-on rules way (after E10 r) q items (shown-free r f) e
-
--- components that a frame makes of components that a CLCW can show
-pub shown-usual : (rules : Rules) (k : SentFrame) (room : Bool) (r y : Report) (o : Option Report) → IsShown r → o ≡ usual rules.window k room r → o ≡ Some y → IsShown y
-shown-usual rules k room r y o f e is = shown-leads rules k room r y f (inl (sym e ∙ is))
-
-pub shown-other : (rules : Rules) (k : SentFrame) (r y : Report) (o : Option Report) → IsShown r → (rules.profile ≡ true → o ≡ None) → (rules.profile ≡ false → o ≡ other rules.window k r) → o ≡ Some y → IsShown y
-shown-other rules k r y o f none e is = by (cases rules.profile) where
-  cases : (b : Bool) → (b ≡ true) ⊎ (b ≡ false)
-  cases true = inl refl
-  cases false = inr refl
-
-  by : (rules.profile ≡ true) ⊎ (rules.profile ≡ false) → IsShown y
-  by (inl p) = let n : o ≡ None = none p in absurd (cc (n, is))
-  by (inr p) = shown-leads rules k false r y f (inr (p, sym (e p) ∙ is))

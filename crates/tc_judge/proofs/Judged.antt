@@ -43,26 +43,6 @@ after-sent rules r k way at items n = (there, back) where
         subst (λ ks. Explains rules ks r items) (sym (drop-append-le s.0 way (k ∷ []) le)) (sent-later rules (drop s.0 way) r k items s.3),
       )
 
-pub at-start : (rules : Rules) (r : Report) (way : List SentFrame) (at : List Bool) (items : List Item) → way ≡ [] → at ≡ true ∷ []
-    → SomeAt (λ s. Explains rules s r items) at way ↔ Explains rules [] r items
-at-start rules r way at items we ae = (there, back) where
-  none : (k : ℕ) → drop k way ≡ []
-  none k = ap (λ w. drop k w) we ∙ empty k where
-    empty : (k : ℕ) → drop {A = SentFrame} k [] ≡ []
-    empty zero = refl
-    empty (suc k) = refl
-
-  there : SomeAt (λ s. Explains rules s r items) at way → Explains rules [] r items
-  there s = subst (λ ks. Explains rules ks r items) (none s.0) s.3
-
-  back : Explains rules [] r items → SomeAt (λ s. Explains rules s r items) at way
-  back e = (
-    0,
-    subst (λ xs. 0 < length xs) (sym ae) (omega arith),
-    subst (λ xs. IsTrue (slice_index_or xs 0 false)) (sym ae) refl,
-    subst (λ ks. Explains rules ks r items) (sym (none 0)) e,
-  )
-
 pub hears : (rules : Rules) (now q : Report) (w way : List SentFrame) (a at out : List Bool) → w ≡ way → a ≡ at
     → ((items : List Item) → SomeAt (λ s. Explains rules s q items) out w ↔ SomeAt (λ s. Explains rules s now (Heard q ∷ items)) a w)
     → (items : List Item) → SomeAt (λ s. Explains rules s q items) out way ↔ SomeAt (λ s. Explains rules s now (Heard q ∷ items)) at way

@@ -110,14 +110,6 @@ turn-on rules now q way at out layer next is i items h e turn =
     (drop-one way i) turn)
     (one-after (λ s. Explains rules s now (Heard q ∷ items)) i at way h)
 
-pub at-first : (rules : Rules) (now q : Report) (way : List SentFrame) (at out : List Bool) (layer : List Bool) (items : List Item) → out ≡ [] → IsEmpty layer
-    → IsSoFar rules now q way at 0 out layer items ↔ SomeAt (λ s. Explains rules s now (Heard q ∷ items)) at way
-at-first rules now q way at out layer items oe le = (there, λ s. inr (s.0, omega arith, s.1, s.2, s.3)) where
-  there : IsSoFar rules now q way at 0 out layer items → SomeAt (λ s. Explains rules s now (Heard q ∷ items)) at way
-  there (inl (inl s)) = let n : length out ≡ 0 = ap length oe in absurd (omega (arith, n, s.1))
-  there (inl (inr s)) = absurd (le s.0 s.1)
-  there (inr s) = (s.0, s.2, s.3, s.4)
-
 pub at-last : (rules : Rules) (now q : Report) (way : List SentFrame) (at out : List Bool) (layer : List Bool) (i : ℕ) (items : List Item) → IsEmpty layer → length at ≤ i
     → IsSoFar rules now q way at i out layer items ↔ SomeAt (λ s. Explains rules s q items) out way
 at-last rules now q way at out layer i items le h = (there, λ s. inl (inl s)) where

@@ -1,6 +1,6 @@
 -- What is added to a layer.
 use Rattle.std.specs.Prelude.{◌≡◌, ◌⊎◌, ◌↔◌, Bool, true, false, Option, Some, None}
-use Rattle.std.proofs.Common.{subst, sym, refl, inl, inr, ap, ◌∙◌}
+use Rattle.std.proofs.Common.{sym, refl, inl, inr, ap, ◌∙◌}
 use Rattle.tc_judge.specs.declared.account.Rules.{Rules}
 use Rattle.tc_judge.specs.declared.account.SentFrame.{SentFrame}
 use Rattle.tc_link.specs.declared.farm.Report.{Report}
@@ -39,17 +39,6 @@ Near y new = (y ≡ new) ⊎ (y ≡ after E10 new)
 
 abbrev pub NearSome : Option Report → Report → Type 0
 NearSome x y = (new : Report) × (x ≡ Some new) × Near y new
-
-pub near-some : (x : Option Report) (r y : Report) → x ≡ Some r → Near y r ↔ NearSome x y
-near-some x r y is = ((λ n. (r, is, n)), back) where
-  back : NearSome x y → Near y r
-  back s = let q : s.0 ≡ r = cc (is, s.1) in subst (λ z. Near y z) q s.2
-
-pub near-none : (x : Option Report) (y : Report) {X : Type 0} → x ≡ None → X ↔ (X ⊎ NearSome x y)
-near-none x y {X = X} is = ((λ p. inl p), back) where
-  back : X ⊎ NearSome x y → X
-  back (inl p) = p
-  back (inr s) = absurd (cc (is, s.1))
 
 cases : (b : Bool) → (b ≡ true) ⊎ (b ≡ false)
 cases true = inl refl

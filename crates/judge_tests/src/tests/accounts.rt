@@ -101,10 +101,13 @@ const WRONG: [Wrong; 12] = [
     },
 ];
 
+fn window(rt: &impl Abort) -> Window {
+    Window::new(10).expect(rt, "a width")
+}
+
 fn rules(rt: &impl Abort, lossy: bool, profile: bool) -> Rules {
-    let window = Window::new(10).expect(rt, "a width");
     Rules {
-        window,
+        window: window(rt),
         lossy,
         profile,
     }
@@ -114,35 +117,45 @@ fn rules(rt: &impl Abort, lossy: bool, profile: bool) -> Rules {
 fn judge(
     rt: &(impl Abort + Print),
     alloc: Global,
-    rules: Rules,
+    lossy: bool,
+    profile: bool,
     vr: u8,
     most: usize,
 ) -> Result<Judge, AllocError> {
-    let first = Farm::new(rules.window, vr).report();
-    match Judge::new(alloc, rules, first, most) {
-        Ok(judge) => Ok(judge),
-        Err(_) => {
-            let _ = println!(rt; "refused: Judge::new");
-            Judge::new(alloc, rules, first, most)
-        }
+    let first = Farm::new(window(rt), vr).report();
+    let made = Judge::new(alloc, rules(rt, lossy, profile), first, most);
+    if made.is_err() {
+        let _ = println!(rt; "refused: Judge::new");
+        return Judge::new(alloc, rules(rt, lossy, profile), first, most);
     }
+    made
 }
 
 // Notes an item. The verdict on a frame is `Possible`.
 fn note(rt: &impl Abort, judge: &mut Judge, item: &str) -> Verdict {
-    let mut octets = [0; 8];
-    let octets = &mut octets[..item.len() / 2];
-    assert!(rt; hex::decode_to_slice(item, octets).is_ok());
-    match octets {
-        [a, b, c, d] => {
-            let word = u32::from_be_bytes([*a, *b, *c, *d]);
-            judge.heard(read_heard(word, 1).expect(rt, "a CLCW"))
+    match item.len() {
+        8 => {
+            let mut word = [0; 4];
+            assert!(rt; hex::decode_to_slice(item, &mut word).is_ok());
+            let shown = read_heard(u32::from_be_bytes(word), 1).expect(rt, "a CLCW");
+            judge.heard(shown)
         }
-        octets => {
-            judge.sent(read_sent(octets, 42, 1, true).expect(rt, "a frame"));
-            Verdict::Possible
+        12 => {
+            let mut octets = [0; 6];
+            assert!(rt; hex::decode_to_slice(item, &mut octets).is_ok());
+            send(rt, judge, &octets)
+        }
+        _ => {
+            let mut octets = [0; 8];
+            assert!(rt; hex::decode_to_slice(item, &mut octets).is_ok());
+            send(rt, judge, &octets)
         }
     }
+}
+
+fn send(rt: &impl Abort, judge: &mut Judge, octets: &[u8]) -> Verdict {
+    judge.sent(read_sent(octets, 42, 1, true).expect(rt, "a frame"));
+    Verdict::Possible
 }
 
 // Notes items until one isn't possible, and returns the last verdict.
@@ -160,8 +173,7 @@ fn noted(rt: &impl Abort, judge: &mut Judge, items: &str, most: usize) -> Verdic
 fn growth_of_a_judge_of_a_right_unit(rt: HostRuntime) {
     for lossy in [false, true] {
         for profile in [false, true] {
-            let rules = rules(&rt, lossy, profile);
-            let mut judge = judge(&rt, rt.alloc(), rules, 252, 8).expect(&rt, "memory");
+            let mut judge = judge(&rt, rt.alloc(), lossy, true, 252, 8).expect(&rt, "memory");
             assert_eq!(rt; noted(&rt, &mut judge, RIGHT, 72), Verdict::Possible);
         }
     }
@@ -171,8 +183,7 @@ fn growth_of_a_judge_of_a_right_unit(rt: HostRuntime) {
 fn units_with_one_fault(rt: HostRuntime) {
     for wrong in &WRONG {
         for lossy in [false, true] {
-            let rules = rules(&rt, lossy, true);
-            let mut judge = judge(&rt, rt.alloc(), rules, 252, 8).expect(&rt, "memory");
+            let mut judge = judge(&rt, rt.alloc(), lossy, true, 252, 8).expect(&rt, "memory");
             let right = noted(&rt, &mut judge, RIGHT, wrong.right);
             assert_eq!(rt; right, Verdict::Possible);
             let expected = if lossy && !wrong.lossy {
@@ -197,8 +208,7 @@ const OTHERWISE: [&str; 3] = [
 fn units_that_fill_a_cell_otherwise(rt: HostRuntime) {
     for account in OTHERWISE {
         for profile in [false, true] {
-            let rules = rules(&rt, false, profile);
-            let mut judge = judge(&rt, rt.alloc(), rules, 0, 3).expect(&rt, "memory");
+            let mut judge = judge(&rt, rt.alloc(), false, profile, 0, 3).expect(&rt, "memory");
             let expected = if profile {
                 Verdict::Impossible
             } else {
@@ -211,8 +221,7 @@ fn units_that_fill_a_cell_otherwise(rt: HostRuntime) {
 
 #[test]
 fn a_judge_goes_on_after_an_overrun_and_an_impossible_clcw(rt: HostRuntime) {
-    let rules = rules(&rt, false, true);
-    let mut judge = judge(&rt, rt.alloc(), rules, 0, 1).expect(&rt, "memory");
+    let mut judge = judge(&rt, rt.alloc(), false, true, 0, 1).expect(&rt, "memory");
     let items = "202a040500aa 202a040500aa 01040400";
     assert_eq!(rt; noted(&rt, &mut judge, items, 9), Verdict::Unknown);
     judge.restart(read_heard(0x01040000, 1).expect(&rt, "a CLCW"));
@@ -226,21 +235,19 @@ fn a_judge_goes_on_after_an_overrun_and_an_impossible_clcw(rt: HostRuntime) {
 
 #[test]
 fn growth_of_the_verdict_on_a_whole_account(rt: HostRuntime) {
-    let rules = rules(&rt, false, true);
-    let first = Farm::new(rules.window, 0).report();
+    let first = Farm::new(window(&rt), 0).report();
     let sent = read_sent(&[0x00, 0x2a, 0x04, 0x05, 0x00, 0xaa], 42, 1, true).expect(&rt, "a frame");
     let shown = read_heard(0x01040001, 1).expect(&rt, "a CLCW");
     for (expected, account) in [
         (true, [Item::Sent(sent), Item::Heard(shown)]),
         (false, [Item::Heard(shown), Item::Sent(sent)]),
     ] {
-        let judged = match is_possible(rt.alloc(), rules, first, &account) {
-            Ok(judged) => judged,
-            Err(_) => {
-                let _ = println!(rt; "refused: is_possible");
-                is_possible(rt.alloc(), rules, first, &account).expect(&rt, "memory")
-            }
-        };
+        let mut judged = is_possible(rt.alloc(), rules(&rt, false, true), first, &account);
+        if judged.is_err() {
+            let _ = println!(rt; "refused: is_possible");
+            judged = is_possible(rt.alloc(), rules(&rt, false, true), first, &account);
+        }
+        let judged = judged.expect(&rt, "memory");
         assert_eq!(rt; judged, expected);
     }
 }
