@@ -15,6 +15,7 @@ import gc
 import os
 import pickle
 import re
+import shutil
 import subprocess
 import sys
 import tempfile
@@ -420,27 +421,19 @@ def check_places(module: ModuleType, header: str, least: int) -> None:
 
 
 def check_found(library: str) -> None:
-    """Where no variable names its folder: the library beside an installed `tclive`, to which a link may lead, or else by its name alone."""
+    """Where no variable names its folder: the library beside the client, that of a clone in `dist`, or else by its name alone."""
     os.environ.pop("TCRX_LIB_DIR", None)
-    found = "import tcrx_channel as at; print(at.find_library())"
-    made = f"{found}; print(at.Channel(1, width=10, buffer=2, first=0).events)"
-
-    def printed(program: str, **names: str) -> Tuple[str, str]:
-        ran = run(sys.executable, "-c", program, names={"PYTHONPATH": str(TOP / "clients/python"), **names})
-        return ran.stdout, ran.stderr
+    found = "import tcrx_channel as at; print(at.find_library(), at.file_of(at.load(None)))"
     with tempfile.TemporaryDirectory() as folder:
         top = Path(folder).resolve()
-        for place in ("bin", "lib", "other/bin"):
-            (top / place).mkdir(parents=True)
-        (top / "bin/tclive").touch(0o755)
-        (top / "other/bin/tclive").symlink_to(top / "bin/tclive")
-        (top / "lib/libtcrx.so.0").symlink_to(Path(library).resolve())
-        for place in ("bin", "other/bin"):
-            same(printed(made, PATH=str(top / place)), (f"{top}/lib/libtcrx.so.0\n0\n", ""), f"the library beside tclive, by {place}")
-        by_loader = printed(made, PATH=str(top / "lib"), LD_LIBRARY_PATH=str(top / "lib"))
-        same(by_loader, ("libtcrx.so.0\n0\n", ""), "the library without tclive, where the loader finds it")
-        (top / "lib/libtcrx.so.0").unlink()
-        same(printed(found, PATH=str(top / "bin")), ("libtcrx.so.0\n", ""), "the library by its name, where none is beside tclive")
+        client, at_root, by_loader = (top / place for place in ("clients/python", "dist", "lib"))
+        shutil.copytree(TOP / "clients/python", client, ignore=shutil.ignore_patterns("__pycache__", "lib*"))
+        for place in (by_loader, at_root, client):
+            place.mkdir(exist_ok=True)
+            made = place / "libtcrx.so.0"
+            shutil.copy(library, made)
+            ran = run(sys.executable, "-c", found, names={"PYTHONPATH": str(client), "LD_LIBRARY_PATH": str(by_loader)})
+            same((ran.stdout, ran.stderr), (f"{made.name if place == by_loader else made} {made}\n", ""), f"the library in {place}")
 
 
 def main() -> int:

@@ -81,7 +81,7 @@ def run(seed: int, udp: bool = False, mode: str = "correct", randomised: bool = 
     """Sends packets until each has arrived. Returns how many frames that took, and what the bench prints about
     the sender."""
     said: List[str] = []
-    words = ["--tc-udp" if udp else "--tc-tcp", "0", "--cltu", mode, *["--randomised"] * randomised, "--tcmake", str(tcmake), "--tm-udp", "PLACE",
+    words = ["--tc-udp" if udp else "--tc-tcp", "0", "--cltu", mode, *["--randomised"] * randomised, "--tm-udp", "PLACE",
              "--tm-rate", RATE, "--tm-length", "64", "--tm-fecf", "--sender", "1", "10"]
     begin = partial(bench_udp.start, words=words, made=partial(Edges, seed=seed, randomised=randomised, tcmake=tcmake), said=said)
     good, bench.link = bench.link, through

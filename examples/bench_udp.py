@@ -73,12 +73,12 @@ def start(fecf: bool, tclive: Optional[Path], words: Sequence[str] = PORTS,
     clcws = socket.socket(socket.AF_INET, socket.SOCK_DGRAM)
     clcws.bind(("127.0.0.1", 0))
     clcws.settimeout(60)
+    del tclive
     with tempfile.NamedTemporaryFile("w") as setup:
         setup.write("channel 1 20 4 0\nqueue 1 5 4\n")
         setup.flush()
         given: List[str] = [sys.executable, str(TOP / "clients/python/tcrx_bench.py"), "--scid", "42", "--setup", setup.name, "--packets-tcp", "0",
                             *["--fecf"] * fecf, *(word.replace("PLACE", f"127.0.0.1:{clcws.getsockname()[1]}") for word in words)]
-        given += ["--program", str(tclive)] if tclive else []
         with subprocess.Popen(given, stdout=subprocess.PIPE, text=True) as child:
             assert child.stdout
             ports: Dict[str, int] = {}

@@ -31,7 +31,6 @@ from __future__ import annotations
 
 import ctypes
 import os
-import shutil
 import threading
 import weakref
 from ctypes import byref
@@ -82,17 +81,23 @@ class NoMemory(Fault, MemoryError):
 
 def find_library() -> str:
     """Returns the path of the shared library. It is looked for in the folder that TCRX_LIB_DIR names, next to this
-    file, where pip builds it, and in `lib` next to the folder of the path that has `tclive`, where tools/install puts
-    it. Otherwise its name alone is returned, by which the loader looks for it."""
+    file, where pip and tools/install put it, and in a clone in `dist`, where `make -C dist` builds it. Otherwise its
+    name alone is returned, by which the loader looks for it."""
     named = os.environ.get("TCRX_LIB_DIR")
     if named:
         return str(Path(named) / LIBRARY)
-    own = Path(__file__).resolve().parent / LIBRARY
-    if own.is_file():
-        return str(own)
-    program = shutil.which("tclive")
-    near = Path(program).resolve().parent.parent / "lib" / LIBRARY if program else None
-    return str(near) if near and near.is_file() else LIBRARY
+    here = Path(__file__).resolve()
+    places = [here.with_name(LIBRARY)] + [here.parents[2] / "dist" / LIBRARY] * (here.parts[-3:-1] == ("clients", "python"))
+    return next((str(place) for place in places if place.is_file()), LIBRARY)
+
+
+def file_of(library: ctypes.PyDLL) -> str:
+    """Returns the path of a library that is loaded, which the kernel knows also if the loader found it by its name."""
+    name = str(library._name)  # pylint: disable=protected-access  # ctypes has no other name of it
+    if "/" in name:
+        return name
+    with open("/proc/self/maps", encoding="utf-8", errors="replace") as maps:
+        return next((line.split(None, 5)[5].rstrip() for line in maps if line.rstrip().endswith(f"/{name}")), name)
 
 
 _libraries: Dict[str, ctypes.PyDLL] = {}
@@ -109,7 +114,7 @@ def load(path: Library) -> ctypes.PyDLL:
                 function.restype, function.argtypes = answer, arguments
         except (OSError, AttributeError) as error:
             raise NotStarted(f"there is no library {name}: {error}. Name it by library=, or its folder by TCRX_LIB_DIR, or "
-                             "install the client by pip from a clone, on a machine with a C compiler and make") from error
+                             "type `make -C dist` in a clone, on a machine with a C compiler and make") from error
         _libraries[name] = library
     return _libraries[name]
 
