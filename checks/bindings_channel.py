@@ -29,10 +29,10 @@ from typing import Any, Callable, Dict, List, Tuple, Type
 from comparing import PATIENCE, TOP, close, expect, run
 from client_parts import NOTHING, ONE, UNLOCK, cltu, frame, packet, raises, same, whole
 import tcrx
-import tcrx_channel
+import tcrx.channel as tcrx_channel
 from tcrx import (Brought, Channel, Clcw, Delivery, Ended, Event, Final, NotSetUp, NotStarted, Outcome, Packet, Refusal, Refused,
                   Released, Report, State)
-from tcrx_channel import (BadSettings, Decoder, Frame, NoMemory, NotRead, NotWritten, Rack, Tm, add_fecf, check_fecf, randomise, read_frame,
+from tcrx.channel import (BadSettings, Decoder, Frame, NoMemory, NotRead, NotWritten, Rack, Tm, add_fecf, check_fecf, randomise, read_frame,
                           read_tm, storage, write_cltu, write_frame, write_packet, write_segments, write_set_vr, write_tm, write_unlock)
 
 HEADER = TOP / "c/tcrx.h"
@@ -423,16 +423,16 @@ def check_places(module: ModuleType, header: str, least: int) -> None:
 def check_found(library: str) -> None:
     """Where no variable names its folder: the library beside the client, that of a clone in `dist`, or else by its name alone."""
     os.environ.pop("TCRX_LIB_DIR", None)
-    found = "import tcrx_channel as at; print(at.find_library(), at.file_of(at.load(None)))"
+    found = "import tcrx.channel as at; print(at.find_library(), at.file_of(at.load(None)))"
     with tempfile.TemporaryDirectory() as folder:
         top = Path(folder).resolve()
-        client, at_root, by_loader = (top / place for place in ("clients/python", "dist", "lib"))
-        shutil.copytree(TOP / "clients/python", client, ignore=shutil.ignore_patterns("__pycache__", "lib*"))
-        for place in (by_loader, at_root, client):
+        package, at_root, by_loader = (top / place for place in ("clients/python/tcrx", "dist", "lib"))
+        shutil.copytree(TOP / "clients/python/tcrx", package, ignore=shutil.ignore_patterns("__pycache__", "lib*"))
+        for place in (by_loader, at_root, package):
             place.mkdir(exist_ok=True)
             made = place / "libtcrx.so.0"
             shutil.copy(library, made)
-            ran = run(sys.executable, "-c", found, names={"PYTHONPATH": str(client), "LD_LIBRARY_PATH": str(by_loader)})
+            ran = run(sys.executable, "-c", found, names={"PYTHONPATH": str(package.parent), "LD_LIBRARY_PATH": str(by_loader)})
             same((ran.stdout, ran.stderr), (f"{made.name if place == by_loader else made} {made}\n", ""), f"the library in {place}")
 
 

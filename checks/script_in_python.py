@@ -1,9 +1,9 @@
 #!/usr/bin/env python3
 """Runs a script on standard input through channels of the Python client, and prints its answers and its final report in the words of the
-program tcrx, for checks/bindings and checks/drawn. The script has no bad line. With a program it is this `tclive` that answers, by a
-receiver of the client; each line is then one for which that has a call, and may be bad.
+program tcrx, for checks/bindings and checks/drawn. The script has no bad line. With a second word it is a receiver of the client that
+answers; each line is then one for which that has a call, and may be bad.
 
-usage: checks/script_in_python.py SCID [PROGRAM]
+usage: checks/script_in_python.py SCID [live]
 """
 from __future__ import annotations
 
@@ -16,7 +16,7 @@ sys.dont_write_bytecode = True
 sys.path.insert(0, str(Path(__file__).resolve().parent.parent / "clients/python"))
 # pylint: disable=wrong-import-position  # it is found by the path above
 from tcrx import BadLine, Brought, Channel, Clcw, Delivered, Final, Packet, Receiver, Refusal, Refused, Report, Unit  # noqa: E402
-from tcrx_channel import Rack  # noqa: E402
+from tcrx.channel import Rack  # noqa: E402
 
 
 def line_of(answer: Any) -> str:
@@ -67,9 +67,9 @@ def answer_by(receiver: Receiver, words: List[str]) -> str:
     return " ".join(words) + "\n" if answer is True else f"{line_of(answer)}\n"
 
 
-def talk(scid: int, program: str, lines: List[List[str]]) -> None:
+def talk(scid: int, lines: List[List[str]]) -> None:
     """Does all lines by a receiver."""
-    with Receiver(scid, program=program) as receiver:
+    with Receiver(scid) as receiver:
         for words in lines:
             print(answer_by(receiver, words), end="")
     for vcid, final in receiver.final.items():
@@ -93,7 +93,7 @@ def main() -> None:
     lines = [re.findall(r"[^ \t\r]+", line) for line in sys.stdin.buffer.read().decode(errors="replace").split("\n")]
     lines = [words for words in lines if words and not words[0].startswith("#")]
     if len(sys.argv) > 2:
-        talk(int(sys.argv[1]), sys.argv[2], lines)
+        talk(int(sys.argv[1]), lines)
         return
     settings: Dict[int, Dict[str, Any]] = {}
     for words in lines:

@@ -67,13 +67,12 @@ class Remote:
 
 
 @contextmanager
-def start(fecf: bool, tclive: Optional[Path], words: Sequence[str] = PORTS,
+def start(fecf: bool, words: Sequence[str] = PORTS,
           made: Callable[[Dict[str, int], socket.socket], Remote] = Remote, said: Optional[List[str]] = None) -> Iterator[Remote]:
     """Starts a bench on free ports. Adds what the bench prints at its end to `said`."""
     clcws = socket.socket(socket.AF_INET, socket.SOCK_DGRAM)
     clcws.bind(("127.0.0.1", 0))
     clcws.settimeout(60)
-    del tclive
     with tempfile.NamedTemporaryFile("w") as setup:
         setup.write("channel 1 20 4 0\nqueue 1 5 4\n")
         setup.flush()

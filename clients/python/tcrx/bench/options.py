@@ -7,8 +7,7 @@ import resource
 from pathlib import Path
 from typing import Any, List, Optional, Sequence, Tuple
 
-from tcrx import __version__
-
+from .. import __version__
 from .ports import Network, Place, parse_place
 
 # What is listened on: the option's name, and what it is for.

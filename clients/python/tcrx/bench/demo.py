@@ -14,7 +14,7 @@ import tty
 from binascii import crc_hqx
 from typing import Any, Callable, List, Optional, Tuple
 
-from tcrx import Clcw
+from ..values import Clcw
 
 SETUP = ("channel 1 20 8 0", "queue 1 5 16", "channel 2 10 4 0", "queue 2 6 8")
 # Each channel with the application that its packets are for.

@@ -20,9 +20,10 @@ from pathlib import Path
 from functools import partial
 from typing import Iterable, Iterator, List, NamedTuple, Optional, Sequence
 
-from tcrx import LONGEST_ANSWER, Fault, __version__
-from tcrx_lines import Session
-
+from .. import __version__
+from ..lines import Session
+from ..remote import LONGEST_ANSWER
+from ..values import Fault
 from .octets import HEADER, without_sum
 from .watch import Watches
 

@@ -12,10 +12,8 @@ import time
 from collections import Counter, deque
 from typing import Callable, Deque, Dict, List, Optional, Tuple
 
-from tcrx import Clcw, Fault, why_bad, without_hint
-from tcrx_channel import NoMemory
-from tcrx_lines import Session
-
+from ..lines import Session
+from ..values import Clcw, Fault, NoMemory, why_bad, without_hint
 from .journal import SET_UP, Journal, printable
 from .octets import ends_with_sum
 

@@ -12,8 +12,7 @@ import time
 from pathlib import Path
 from typing import Collection, Dict, Iterator, List, Mapping, Optional, Set, Tuple, cast
 
-from tcrx import __version__
-
+from .. import __version__
 from .options import is_loopback
 from .ports import Connection, Hub, Port
 

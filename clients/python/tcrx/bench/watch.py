@@ -13,8 +13,8 @@ from __future__ import annotations
 
 from typing import Callable, Dict, List, NamedTuple, Optional, Sequence, Tuple
 
-from tcrx import Clcw
-from tcrx_lines import Session
+from ..lines import Session
+from ..values import Clcw
 
 # A frame of Type-AD has neither flag in its first octet.
 FLAGS = 0x30

@@ -7,9 +7,8 @@ from argparse import Namespace
 from collections import Counter
 from typing import Dict, Iterator, Optional
 
-from tcrx_channel import Decoder, randomise
-from tcrx_lines import Session
-
+from ..channel import Decoder, randomise
+from ..lines import Session
 from .octets import BROWSER, LONGEST_FRONT, begins_frame, begins_request
 from .ports import Hub, Port, SendingConnection
 from .scheduler import work_on

@@ -5,9 +5,8 @@ import asyncio
 from argparse import Namespace
 from typing import Callable, Dict
 
-from tcrx import Clcw
-from tcrx_channel import write_tm
-
+from ..channel import write_tm
+from ..values import Clcw
 from .spacecraft import Spacecraft
 
 # The attached synchronization marker of telemetry frames (CCSDS 131.0-B).

@@ -13,19 +13,9 @@ The functions of the library are proved: each returns what its definition says. 
 records as in the header, passes each argument on, makes a value from each record that is returned, and frees a channel
 once. That is tested, by the same cases as the calls from C. Nothing is proved about Python, ctypes or libffi.
 
-`tcrx_c` declares the records and calls of the library. The values are those of `tcrx`: the answer to an operation is
+`c.py` declares the records and calls of the library. The values are those of `values.py`: the answer to an operation is
 `Brought`, `Released`, `Packet`, `Unit`, `Clcw` or `Report`, or `Refused` with its reason. If a call has no answer, it
 raises an exception.
-
-- Threads. A call of the library keeps the GIL, because it takes about a microsecond. So calls on one channel from
-  several threads take turns, and each is whole. Channels of several threads don't run at the same time. In a Python
-  without a GIL, a lock in each channel makes its calls take turns.
-- An interrupt (Ctrl-C) never comes during a call of the library. The channel goes on, but the answer may be lost.
-- After a fork each process has the channel as it was then, and the two have nothing in common from then on.
-- A channel that is neither closed nor in a `with` is freed by its finaliser, when nothing refers to it or when Python
-  ends.
-
-The module needs only the standard library, and Python 3.9 or later.
 """
 from __future__ import annotations
 
@@ -41,17 +31,16 @@ from pathlib import Path
 from types import TracebackType
 from typing import Any, Dict, Iterable, Iterator, List, Mapping, NoReturn, Optional, Tuple, Type, Union
 
-from tcrx import (Brought, Clcw, Delivery, Ended, Event, Fault, Final, NotSetUp, NotStarted, Packet, Refusal, Refused, Released, Report,
-                  State, Unit, octets_of)
-from tcrx_c import *  # pylint: disable=wildcard-import,unused-wildcard-import  # everything that the header declares
-from tcrx_c import _Channel, _Decoder, _Header, _Limit, _Map, _PacketHeader, _Queue, _Settings, _TmHeader
+from .values import (BadSettings, Brought, Clcw, Delivery, Ended, Event, Fault, Final, NoMemory, NotSetUp, NotStarted, Octets, Packet, Refusal,
+                     Refused, Released, Report, State, Unit, octets_of)
+from .c import *  # pylint: disable=wildcard-import,unused-wildcard-import  # everything that the header declares
+from .c import _Channel, _Decoder, _Header, _Limit, _Map, _PacketHeader, _Queue, _Settings, _TmHeader
 
 __all__ = ["BadSettings", "Carried", "Channel", "Decoder", "Frame", "NoMemory", "NotRead", "NotWritten", "Rack", "Tm", "add_fecf", "check_fecf",
            "find_library", "randomise", "read_frame", "read_tm", "storage", "write_cltu", "write_frame", "write_packet", "write_segments",
            "write_set_vr", "write_tm", "write_unlock"]
 
 LIBRARY = "libtcrx.so.0"
-Octets = Union[bytes, bytearray, memoryview]
 Library = Union[str, "os.PathLike[str]", None]
 # The statuses that are refusals, each with its answer.
 REFUSED = {SHORT: Refused(Refusal.SHORT), BAD_VERSION: Refused(Refusal.VERSION), SPARE: Refused(Refusal.SPARE),
@@ -70,15 +59,6 @@ FIRST_ROOM = 4096
 PIECE = 4096
 
 
-class BadSettings(Fault):
-    """No channel is created from these settings."""
-
-
-class NoMemory(Fault, MemoryError):
-    """There is too little memory for a channel, or for a line of a session, which can then be given again. Once a
-    channel is created, none of its calls requests any."""
-
-
 def find_library() -> str:
     """Returns the path of the shared library. It is looked for in the folder that TCRX_LIB_DIR names, next to this
     file, where pip and tools/install put it, and in a clone in `dist`, where `make -C dist` builds it. Otherwise its
@@ -87,7 +67,7 @@ def find_library() -> str:
     if named:
         return str(Path(named) / LIBRARY)
     here = Path(__file__).resolve()
-    places = [here.with_name(LIBRARY)] + [here.parents[2] / "dist" / LIBRARY] * (here.parts[-3:-1] == ("clients", "python"))
+    places = [here.with_name(LIBRARY)] + [here.parents[3] / "dist" / LIBRARY] * (here.parts[-4:-1] == ("clients", "python", "tcrx"))
     return next((str(place) for place in places if place.is_file()), LIBRARY)
 
 
