@@ -287,6 +287,7 @@ class Decoder:
         self._library = load(library)
         self._kept = _Decoder(int(bool(correct)), 0, 0, 0, 0)
         self._carried = ctypes.create_string_buffer(DECODER_ROOM)
+        self._seen = memoryview(self._carried)
         self.corrected = self.rejected = self.overlong = 0
 
     def feed(self, octets: Octets) -> List[bytes]:
@@ -303,7 +304,7 @@ class Decoder:
                 self.rejected += answer.rejected
                 self.overlong += answer.overlong
                 if answer.ended:
-                    frames.append(self._carried.raw[:self._kept.carried])
+                    frames.append(self._seen[:self._kept.carried].tobytes())
         return frames
 
     def search(self) -> bool:

@@ -89,6 +89,7 @@ class Session:
         self._held = _Lines(0, None)
         self._at = byref(self._held)
         self._room = ctypes.create_string_buffer(FIRST_ROOM)
+        self._seen = memoryview(self._room)
         status = getattr(self._library, f"tcrx_lines_{kind}_at")(self._at, *given)
         if status != DONE:
             self._raise(status)
@@ -136,10 +137,11 @@ class Session:
         while written.status == NO_ROOM:
             try:
                 self._room = ctypes.create_string_buffer(written.length)
+                self._seen = memoryview(self._room)
             except MemoryError as error:
                 raise NoRoom(f"there is too little memory for the text of {written.length} octets, which waits") from error
             written = self._text()
-        text = ctypes.string_at(self._room, written.length).decode("ascii") if written.status in (DONE, BAD_LINE) else ""
+        text = str(self._seen[:written.length], "ascii") if written.status in (DONE, BAD_LINE) else ""
         return text if written.status == DONE else self._raise(written.status, text)
 
     def answer(self, line: Union[str, Octets]) -> str:
@@ -151,7 +153,9 @@ class Session:
         `Ended` if the session was closed."""
         octets = line.encode("utf-8", "surrogateescape") if isinstance(line, str) else octets_of(line)
         with self._lock:
-            return self._whole(self._library.tcrx_lines_answer_at(self._at, octets, len(octets), self._room, len(self._room)))
+            written = self._library.tcrx_lines_answer_at(self._at, octets, len(octets), self._room, len(self._room))
+            # Most texts have room.
+            return self._whole(written) if written.status else str(self._seen[:written.length], "ascii")
 
     def text(self) -> str:
         """Returns the text that waits after `NoRoom`, as the call that raised it would have. It is empty if none

@@ -735,6 +735,9 @@ class Target:
 
 def all_senders(senders: List[Callable[[bytes], None]]) -> Callable[[bytes], None]:
     """Returns a function that calls each of these."""
+    if len(senders) == 1:
+        return senders[0]
+
     def send(octets: bytes) -> None:
         for each in senders:
             each(octets)

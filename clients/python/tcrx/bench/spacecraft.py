@@ -95,6 +95,7 @@ class Spacecraft:  # pylint: disable=too-many-instance-attributes  # what is kno
     # pylint: disable-next=too-many-arguments  # the receiver and what was chosen
     def __init__(self, session: Session, journal: Journal, scid: int, fecf: bool, release: Release, release_after: float) -> None:
         self.session, self.journal, self.scid, self.fecf, self.release, self.release_after = session, journal, scid, fecf, release, release_after
+        self.behind = BEHIND[release]
         self.begun = time.monotonic()
         self.channels: Dict[int, Channel] = {}
         self.refused: Counter[str] = Counter()
@@ -159,9 +160,10 @@ class Spacecraft:  # pylint: disable=too-many-instance-attributes  # what is kno
             self._order(arrival)
 
     def answers_to(self, line: str) -> List[str]:
-        """Returns the answers to a line. Raises a `Fault` where memory ran out at one, after which there are no more."""
+        """Returns the answers to a line, of which the first is empty if there is none. Raises a `Fault` where memory ran out at one, after
+        which there are no more."""
         try:
-            answers = self.session.answer(line.encode("latin-1")).split("\n")[:-1]
+            answers = self.session.answer(line.encode("latin-1"))[:-1].split("\n")
         except NoMemory:
             # Nothing was done.
             answers = ["bad no memory"]
@@ -179,9 +181,9 @@ class Spacecraft:  # pylint: disable=too-many-instance-attributes  # what is kno
 
     def set_up(self, line: str) -> str:
         """Sets up a channel, queue or MAP of the options. Returns why the line is bad, or an empty text."""
-        answers = self.answers_to(line)
-        if answers:
-            return why_bad(answers[0])
+        answer = self.answers_to(line)[0]
+        if answer:
+            return why_bad(answer)
         self._note_set_up(line)
         return ""
 
@@ -195,7 +197,8 @@ class Spacecraft:  # pylint: disable=too-many-instance-attributes  # what is kno
 
     def _log_origin(self, arrival: Arrival) -> None:
         """Writes to the log where an arrival came from, and when it was answered."""
-        self.journal.origin(arrival.came, self.now(), arrival.source)
+        if self.journal.file:
+            self.journal.origin(arrival.came, self.now(), arrival.source)
 
     # --- Frames ---
 
@@ -226,11 +229,12 @@ class Spacecraft:  # pylint: disable=too-many-instance-attributes  # what is kno
             self.took_sum(arrival.source)
         channel.last = arrival.octets[4], event
         self.active = channel.vcid
-        answers = self.answers_to(f"{BEHIND[self.release]} {channel.vcid}")
+        answers = self.answers_to(f"{self.behind} {channel.vcid}")
         self._note_event(arrival, answer, answers[-1][-8:] if answers[-1].startswith("clcw ") else "")
         arrival.answer(answer)
-        self._log_origin(arrival)
-        self.journal.answer(arrival.line, answer)
+        if self.journal.file:
+            self._log_origin(arrival)
+            self.journal.answer(arrival.line, answer)
         self._hand_on(channel, answers)
         if self.release is Release.AFTER and words[4] == "1" and event == "E1":
             asyncio.get_running_loop().call_later(self.release_after, self._release_later, channel)
@@ -329,7 +333,7 @@ class Spacecraft:  # pylint: disable=too-many-instance-attributes  # what is kno
 
     def _set_up(self, arrival: Arrival) -> None:
         """Notes what a line sets up, or why it is bad."""
-        answer = "".join(self.answers_to(arrival.line))
+        answer = self.answers_to(arrival.line)[0]
         self._log_origin(arrival)
         arrival.answer(answer)
         if answer:
