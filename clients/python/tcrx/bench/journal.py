@@ -21,10 +21,11 @@ from functools import partial
 from typing import Iterable, Iterator, List, NamedTuple, Optional, Sequence
 
 from .. import __version__
+from ..channel import check_fecf
 from ..lines import Session
 from ..remote import LONGEST_ANSWER
 from ..values import Fault
-from .octets import HEADER, without_sum
+from .octets import HEADER
 from .watch import Watches
 
 # The bits of a CLCW that `tcrx` never sets: No RF Available and No Bit Lock.
@@ -170,7 +171,9 @@ class Journal:
         if answer == "refused check":
             self.write(f"#> {line}", f"#~ {answer}")
         else:
-            self.write(f"#* {line}", f"frame {without_sum(bytes.fromhex(line[6:])).hex()}", f"#= {answer}")
+            plain = check_fecf(bytes.fromhex(line[6:]))
+            assert isinstance(plain, bytes)  # the receiver found its sum right
+            self.write(f"#* {line}", f"frame {plain.hex()}", f"#= {answer}")
 
     def end(self, report: List[str]) -> None:
         """The final report."""

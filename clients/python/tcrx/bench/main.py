@@ -215,13 +215,21 @@ class Bench:  # pylint: disable=too-many-instance-attributes  # it is made of th
 
     def _renew(self, arrival: Arrival) -> None:
         """Ends the receiver with its report, and begins another one, with another file of the log."""
-        session = self._new_session()
+        try:
+            session = self._new_session()
+        except Fault as fault:
+            arrival.answer(f"bad {fault}")
+            return
         report = self.spacecraft.session.end()
         self.journal.end(report.split("\n")[:-1])
         self._print(report)
         self.journal.begin_part()
         self.spacecraft.begin_anew(session)
-        self.set_up()
+        try:
+            self.set_up()
+        except NotUp as fault:
+            # Memory ran out, since the same lines were good before.
+            self._fail(str(fault))
         self.spacecraft.note_text(arrival.source, "the receiver was begun anew")
         arrival.answer(f"anew {self.journal.part}")
         if self.link_watch and self.link_watch.lost:
