@@ -11,7 +11,7 @@ from collections import deque
 from typing import Deque, Iterator, Protocol
 
 # How many frames, or lines, are answered in a round.
-MOST_IN_TURN = 128
+MOST_IN_TURN = 64
 
 
 class Source(Protocol):  # pylint: disable=too-few-public-methods  # it is what others have
