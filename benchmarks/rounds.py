@@ -1,8 +1,8 @@
-"""Makes COUNT rounds of c/checks/rounds.c by the client in Python. A round is a frame, its release and its take.
+"""Makes COUNT rounds of c/checks/rounds.c by the package in Python. A round is a frame, its release and its take.
 
 usage: benchmarks/rounds.py channel|receiver COUNT
 
-The rounds are made by a channel in the process, or by a receiver over the program tclive.
+The rounds are made by a channel, or by a receiver, whose calls are lines.
 """
 from __future__ import annotations
 
@@ -13,8 +13,7 @@ from typing import Callable, List
 
 TOP = Path(__file__).resolve().parent.parent
 sys.path.insert(0, str(TOP / "clients/python"))
-from tcrx import Brought, Packet, Receiver, Refused, Released  # noqa: E402  # pylint: disable=wrong-import-position
-from tcrx_channel import Channel  # noqa: E402  # pylint: disable=wrong-import-position
+from tcrx import Brought, Channel, Packet, Receiver, Refused, Released  # noqa: E402  # pylint: disable=wrong-import-position
 
 # The frame of each number.
 FRAMES: List[bytes] = [bytes.fromhex(f"002a040c{number:02x}c01005c0000000aa") for number in range(256)]

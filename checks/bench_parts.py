@@ -14,17 +14,18 @@ from pathlib import Path
 from typing import Any, Callable, Dict, List, Sequence, Tuple
 
 from client_parts import word
-from comparing import PATIENCE, TOP, attempt, begun, close, expect, need, run, same, until
+from comparing import PATIENCE, TOP, attempt, begun, close, expect, need, need_library, run, same, until
 
 PROGRAM = TOP / "clients/python/tcrx_bench.py"
-# The programs of this tree, which must be built.
-TCLIVE, TCRX, TCMAKE = (TOP / f"crates/{name}/out/{name}" for name in ("tclive", "tcrx", "tcmake"))
+# The programs of this tree, which must be built: what makes CLTUs, and whose answers are compared with those of a log.
+TCRX, TCMAKE = (TOP / f"crates/{name}/out/{name}" for name in ("tcrx", "tcmake"))
 SETUP = "channel 1 10 8 0\nqueue 1 5 16\n"
 
 
 def attempt_all(checks: Sequence[Callable[[Path], None]]) -> int:
     """Does each check, or those that the variable ONLY names, over a folder; the status."""
-    need("tclive", "tcrx", "tcmake")
+    need("tcrx", "tcmake")
+    need_library()
     only = os.environ.get("ONLY", "").split()
     with tempfile.TemporaryDirectory() as folder:
         for check in checks:
@@ -41,42 +42,6 @@ def numbered(apid: int, number: int) -> bytes:
 def word_of(channel: int, flags: int, farm_b: int, report: int) -> str:
     """A CLCW's eight digits."""
     return f"{word(channel, flags, farm_b, report).word:08x}"
-
-
-# A tclive before which stands a program that does something with each line, and passes the line on where that has set no answer.
-STAND_IN = """#!/usr/bin/env python3
-import subprocess, sys, time
-child = subprocess.Popen([{tclive!r}, *sys.argv[1:]], stdin=subprocess.PIPE, stdout=subprocess.PIPE)
-frames = 0
-for line in sys.stdin.buffer:
-    is_frame, answer = line.startswith(b"frame"), None
-    frames += is_frame
-    {step}
-    if answer is None:
-        child.stdin.write(line)
-        child.stdin.flush()
-        answer = b"" if line.startswith((b"channel", b"queue", b"map")) else child.stdout.readline()
-        while line.startswith(b"deliver") and not answer.startswith((b"bad", b"refused channel")) and b"clcw" not in answer:
-            answer += child.stdout.readline()
-    sys.stdout.buffer.write(answer)
-    sys.stdout.buffer.flush()
-child.stdin.close()
-sys.stdout.buffer.write(child.stdout.read())
-sys.exit(child.wait())
-"""
-
-
-def stand_in(work: Path, step: str) -> Path:
-    """A tclive with a statement that is run for each line, before it: it may use `is_frame` and `frames`, and set `answer`."""
-    return written(work, STAND_IN.format(tclive=str(TCLIVE), step=step))
-
-
-def written(work: Path, text: str) -> Path:
-    """A program of this text, in a folder of its own."""
-    program = Path(tempfile.mkdtemp(dir=work)) / "program"
-    program.write_text(text)
-    program.chmod(0o755)
-    return program
 
 
 def read_on(link: socket.socket, octets: bytearray) -> None:
@@ -115,7 +80,7 @@ def free_port(kind: int = socket.SOCK_STREAM) -> int:
 class Bench:
     """A bench that runs, from its start to its end. Its ports are free ones."""
 
-    def __init__(self, work: Path, *words: str, tclive: Path = TCLIVE, setup: str = SETUP, python: str = sys.executable,
+    def __init__(self, work: Path, *words: str, setup: str = SETUP, python: str = sys.executable,
                  limit: str = "-f unlimited", stdin: int = subprocess.DEVNULL) -> None:
         self.folder = Path(tempfile.mkdtemp(dir=work))
         self.log = self.folder / "log"
@@ -123,7 +88,7 @@ class Bench:
         (self.folder / "setup").write_text(setup)
         log = [] if "--log" in words else ["--log", str(self.log)]
         # With a limit: -f of the kibibytes that a file may have, -n of the files that may be open.
-        given = ["bash", "-c", f'ulimit {limit}; exec "$0" "$@"', python, str(PROGRAM), "--scid", "42", "--program", str(tclive),
+        given = ["bash", "-c", f'ulimit {limit}; exec "$0" "$@"', python, str(PROGRAM), "--scid", "42",
                  *(["--setup", str(self.folder / "setup")] if setup else []), *log, *words]
         # pylint: disable-next=consider-using-with  # it is ended in `ended`, or by the check
         self.child = subprocess.Popen(given, stdin=stdin, stdout=subprocess.PIPE, stderr=self.errors)
@@ -208,10 +173,6 @@ class Bench:
         """How many threads the process has."""
         return len(os.listdir(f"/proc/{self.child.pid}/task"))
 
-    def receiver(self) -> int:
-        """The process of its tclive."""
-        return int(Path(f"/proc/{self.child.pid}/task/{self.child.pid}/children").read_text(encoding="ascii").split()[0])
-
 
 # --- The log ---
 
@@ -254,13 +215,13 @@ def same_lines(answer: str, wanted: str, what: str) -> None:
     expect(not found and wanted, f"{what}: {found or 'nothing to compare'}")
 
 
-def replay(bench: Bench, *words: str, tclive: Path = TCLIVE) -> subprocess.CompletedProcess[str]:
+def replay(bench: Bench, *words: str) -> subprocess.CompletedProcess[str]:
     """A run of --replay over a log."""
-    return run(sys.executable, PROGRAM, "--replay", bench.log, "--program", tclive, *words)
+    return run(sys.executable, PROGRAM, "--replay", bench.log, *words)
 
 
 def is_replayed(bench: Bench, what: str) -> None:
-    """Compares the answers of a log with those of `tclive` by the bench itself."""
+    """Compares the answers of a log with those of a new receiver by the bench itself."""
     ran = replay(bench)
     good = (ran.returncode, ran.stderr) == (0, "") and re.fullmatch(r"\d+ answers and the final report are those of the log\n", ran.stdout)
     expect(good, f"{what}: the log by --replay: {ran}")

@@ -15,6 +15,7 @@ import gc
 import os
 import pickle
 import re
+import shutil
 import subprocess
 import sys
 import tempfile
@@ -28,10 +29,10 @@ from typing import Any, Callable, Dict, List, Tuple, Type
 from comparing import PATIENCE, TOP, close, expect, run
 from client_parts import NOTHING, ONE, UNLOCK, cltu, frame, packet, raises, same, whole
 import tcrx
-import tcrx_channel
+import tcrx.channel as tcrx_channel
 from tcrx import (Brought, Channel, Clcw, Delivery, Ended, Event, Final, NotSetUp, NotStarted, Outcome, Packet, Refusal, Refused,
                   Released, Report, State, Unit)
-from tcrx_channel import (BadSettings, Decoder, Frame, NoMemory, NotRead, NotWritten, Rack, Tm, add_fecf, check_fecf, randomise, read_frame,
+from tcrx.channel import (BadSettings, Decoder, Frame, NoMemory, NotRead, NotWritten, Rack, Tm, add_fecf, check_fecf, randomise, read_frame,
                           read_tm, storage, write_cltu, write_frame, write_packet, write_segments, write_set_vr, write_tm, write_unlock)
 
 HEADER = TOP / "dist/tcrx.h"
@@ -468,27 +469,19 @@ def check_places(module: ModuleType, header: str, least: int) -> None:
 
 
 def check_found(library: str) -> None:
-    """Where no variable names its folder: the library beside an installed `tclive`, to which a link may lead, or else by its name alone."""
+    """Where no variable names its folder: the library beside the client, that of a clone in `dist`, or else by its name alone."""
     os.environ.pop("TCRX_LIB_DIR", None)
-    found = "import tcrx_channel as at; print(at.find_library())"
-    made = f"{found}; print(at.Channel(1, width=10, buffer=2, first=0).events)"
-
-    def printed(program: str, **names: str) -> Tuple[str, str]:
-        ran = run(sys.executable, "-c", program, names={"PYTHONPATH": str(TOP / "clients/python"), **names})
-        return ran.stdout, ran.stderr
+    found = "import tcrx.channel as at; print(at.find_library(), at.file_of(at.load(None)))"
     with tempfile.TemporaryDirectory() as folder:
         top = Path(folder).resolve()
-        for place in ("bin", "lib", "other/bin"):
-            (top / place).mkdir(parents=True)
-        (top / "bin/tclive").touch(0o755)
-        (top / "other/bin/tclive").symlink_to(top / "bin/tclive")
-        (top / "lib/libtcrx.so.0").symlink_to(Path(library).resolve())
-        for place in ("bin", "other/bin"):
-            same(printed(made, PATH=str(top / place)), (f"{top}/lib/libtcrx.so.0\n0\n", ""), f"the library beside tclive, by {place}")
-        by_loader = printed(made, PATH=str(top / "lib"), LD_LIBRARY_PATH=str(top / "lib"))
-        same(by_loader, ("libtcrx.so.0\n0\n", ""), "the library without tclive, where the loader finds it")
-        (top / "lib/libtcrx.so.0").unlink()
-        same(printed(found, PATH=str(top / "bin")), ("libtcrx.so.0\n", ""), "the library by its name, where none is beside tclive")
+        package, at_root, by_loader = (top / place for place in ("clients/python/tcrx", "dist", "lib"))
+        shutil.copytree(TOP / "clients/python/tcrx", package, ignore=shutil.ignore_patterns("__pycache__", "lib*"))
+        for place in (by_loader, at_root, package):
+            place.mkdir(exist_ok=True)
+            made = place / "libtcrx.so.0"
+            shutil.copy(library, made)
+            ran = run(sys.executable, "-c", found, names={"PYTHONPATH": str(package.parent), "LD_LIBRARY_PATH": str(by_loader)})
+            same((ran.stdout, ran.stderr), (f"{made.name if place == by_loader else made} {made}\n", ""), f"the library in {place}")
 
 
 def main() -> int:

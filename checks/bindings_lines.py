@@ -24,10 +24,10 @@ from comparing import TOP, cases, close, expect, same
 from client_parts import raises
 from bindings_channel import check_places, refusing_memory
 import tcrx
-import tcrx_lines_c
+import tcrx.lines_c as tcrx_lines_c
 from tcrx import Channel, Ended, NotStarted
-from tcrx_channel import BadSettings, NoMemory, Octets
-from tcrx_lines import BadScript, NoRoom, Over, Session, Waiting
+from tcrx.values import BadSettings, NoMemory, Octets
+from tcrx.lines import BadScript, NoRoom, Over, Session, Waiting
 
 # The texts of answers, and why a script ended.
 Come = Tuple[str, str]

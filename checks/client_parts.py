@@ -10,8 +10,8 @@ from typing import Any, Callable
 
 from comparing import TOP, begun, expect
 
-CLIENT = TOP / "clients/python/tcrx.py"
-sys.path.insert(0, str(CLIENT.parent))
+CLIENT = TOP / "clients/python"
+sys.path.insert(0, str(CLIENT))
 # pylint: disable-next=wrong-import-position  # the client is found by the path above
 from tcrx import BadLine, Clcw, Delivery  # noqa: E402
 

@@ -133,6 +133,14 @@ def need(*goals: str) -> None:
         sys.exit(ran.returncode)
 
 
+def need_library() -> None:
+    """Builds the library of dist that the package tcrx of Python calls. Ends the check if that can't be done."""
+    ran = run(TOP / "tools/library", names={"TCRX_BUILD": ""})
+    if ran.returncode:
+        print(f"{ran.stderr}{NAME}: nothing was compared")
+        sys.exit(ran.returncode)
+
+
 class Stuck(BaseException):
     """A check doesn't end. It is no `Exception`, so that nothing else takes it for an answer."""
 

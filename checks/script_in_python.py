@@ -1,8 +1,8 @@
 #!/usr/bin/env python3
-"""Has a `tclive` answer the lines of standard input by a receiver of the client in Python, for checks/drawn, and prints what the client
-returns in the words of that program. Each line is one for which the client has a call, and may be bad.
+"""Answers the lines of standard input by a receiver of the client in Python, for checks/drawn, and prints what the client returns in the
+words of `tclive`. Each line is one for which the client has a call, and may be bad.
 
-usage: checks/script_in_python.py SCID PROGRAM
+usage: checks/script_in_python.py SCID
 """
 from __future__ import annotations
 
@@ -68,7 +68,7 @@ def main() -> None:
     """Brings all lines to a receiver, and prints its final report."""
     # The client writes lines with one space between words, so these lines have no others.
     lines = [line.split(" ") for line in sys.stdin.buffer.read().decode("ascii").splitlines()]
-    with Receiver(int(sys.argv[1]), program=sys.argv[2]) as receiver:
+    with Receiver(int(sys.argv[1])) as receiver:
         for words in lines:
             print(answer_by(receiver, words), end="")
     for vcid, final in receiver.final.items():

@@ -6,18 +6,17 @@ Usage: python3 examples/bench_cltu.py SEED [--udp] [--detect] [--randomised]
 import random
 import select
 import socket
-import subprocess
 import sys
 from functools import partial
 from pathlib import Path
-from typing import Dict, Iterator, List, Optional
+from typing import Dict, Iterator, List
 
 TOP = Path(__file__).resolve().parent.parent
 sys.path[:0] = [str(TOP / "examples"), str(TOP / "clients/python")]
 # pylint: disable=wrong-import-position  # all are found by the path above
 import bench
 import bench_udp
-from tcrx import Clcw
+from tcrx import Clcw, randomise, read_tm, write_cltu
 
 # The share of CLTUs that are lost, the share of bits that are flipped, the octets between CLTUs, and the telemetry frames per second.
 LOST, TURNED, IDLE, RATE = 0.2, 0.001, b"\x55" * 16, "250"
@@ -29,27 +28,16 @@ def turned(dice: random.Random, octets: bytes) -> bytes:
     return (int.from_bytes(octets, "big") ^ wrong).to_bytes(len(octets), "big")
 
 
-class Edges(bench_udp.Remote):
-    """A receiver that the sender reaches over CLTUs and telemetry frames. A tcmake makes the CLTUs and reads the telemetry
-    frames."""
+class Coded(bench_udp.Remote):
+    """A receiver that the sender reaches over CLTUs and telemetry frames."""
 
-    # pylint: disable-next=too-many-arguments  # the bench, and the options
-    def __init__(self, ports: Dict[str, int], clcws: socket.socket, seed: int, randomised: bool, tcmake: Path) -> None:
+    def __init__(self, ports: Dict[str, int], clcws: socket.socket, seed: int, randomised: bool) -> None:
         super().__init__(ports, clcws)
-        self.dice, self.randomised, self.heard = random.Random(seed), randomised, 0
-        # pylint: disable-next=consider-using-with  # it is ended in `close`
-        self.maker = subprocess.Popen([tcmake, "--fecf"], stdin=subprocess.PIPE, stdout=subprocess.PIPE, text=True, bufsize=1)
-
-    def ask(self, line: str) -> List[str]:
-        """Returns the words of the answer to a line."""
-        assert self.maker.stdin and self.maker.stdout
-        self.maker.stdin.write(line + "\n")
-        return self.maker.stdout.readline().split()
+        self.dice, self.randomised = random.Random(seed), randomised
 
     def bring(self, octets: bytes) -> None:
         """Sends a frame in its CLTU over the bad link, or only the octets between CLTUs if the CLTU is lost."""
-        digits = self.ask(f"random {octets.hex()}")[1] if self.randomised else octets.hex()
-        cltu = bytes.fromhex(self.ask(f"cltu {digits}")[1])
+        cltu = write_cltu(randomise(octets) if self.randomised else octets)
         self.frames.send(turned(self.dice, IDLE + (b"" if self.dice.random() < LOST else cltu) + IDLE))
 
     def clcw(self, vcid: int) -> Clcw:
@@ -58,15 +46,9 @@ class Edges(bench_udp.Remote):
         while select.select([self.clcws], [], [], 0)[0]:
             self.clcws.recv(2048)
         self.clcws.recv(2048)
-        _, _, scid, _, _, *_, word = self.ask(f"telemetry {self.clcws.recv(2048).hex()}")
-        clcw = Clcw(int(word, 16))
-        assert scid == "42" and clcw.channel == vcid
-        return clcw
-
-    def close(self) -> None:
-        """Closes its sockets, and ends its program."""
-        super().close()
-        self.maker.communicate()
+        came = read_tm(self.clcws.recv(2048), fecf=True)
+        assert came.scid == 42 and came.clcw and came.clcw.channel == vcid
+        return came.clcw
 
 
 def through(dice: random.Random, past: List[bytes], turning: bool) -> Iterator[bytes]:
@@ -75,18 +57,16 @@ def through(dice: random.Random, past: List[bytes], turning: bool) -> Iterator[b
     yield past[-1]
 
 
-# pylint: disable-next=too-many-arguments  # the options
-def run(seed: int, udp: bool = False, mode: str = "correct", randomised: bool = False, tclive: Optional[Path] = None,
-        tcmake: Path = TOP / "tcmake") -> str:
-    """Sends packets until each has arrived. Returns a line that says how many frames that took, and the line that the
-    bench prints about the sender."""
+def run(seed: int, udp: bool = False, mode: str = "correct", randomised: bool = False) -> str:
+    """Sends packets until each has arrived. Returns how many frames that took, and what the bench prints about
+    the sender."""
     said: List[str] = []
-    words = ["--tc-udp" if udp else "--tc-tcp", "0", "--cltu", mode, *["--randomised"] * randomised, "--tcmake", str(tcmake), "--tm-udp", "PLACE",
+    words = ["--tc-udp" if udp else "--tc-tcp", "0", "--cltu", mode, *["--randomised"] * randomised, "--tm-udp", "PLACE",
              "--tm-rate", RATE, "--tm-length", "64", "--tm-fecf", "--sender", "1", "10"]
-    begin = partial(bench_udp.start, words=words, made=partial(Edges, seed=seed, randomised=randomised, tcmake=tcmake), said=said)
+    begin = partial(bench_udp.start, words=words, made=partial(Coded, seed=seed, randomised=randomised), said=said)
     good, bench.link = bench.link, through
     try:
-        return f"{bench.run(seed, True, tclive=tclive, tcmake=tcmake, begin=begin)}\n{said[-1]}"
+        return f"{bench.run(seed, True, begin=begin)}\n{said[-1]}"
     finally:
         bench.link = good
 

@@ -67,7 +67,7 @@ class Remote:
 
 
 @contextmanager
-def start(fecf: bool, tclive: Optional[Path], words: Sequence[str] = PORTS,
+def start(fecf: bool, words: Sequence[str] = PORTS,
           made: Callable[[Dict[str, int], socket.socket], Remote] = Remote, said: Optional[List[str]] = None) -> Iterator[Remote]:
     """Starts a bench on free ports. Adds the text that the bench prints at its end to `said`."""
     clcws = socket.socket(socket.AF_INET, socket.SOCK_DGRAM)
@@ -78,7 +78,6 @@ def start(fecf: bool, tclive: Optional[Path], words: Sequence[str] = PORTS,
         setup.flush()
         given: List[str] = [sys.executable, str(TOP / "clients/python/tcrx_bench.py"), "--scid", "42", "--setup", setup.name, "--packets-tcp", "0",
                             *["--fecf"] * fecf, *(word.replace("PLACE", f"127.0.0.1:{clcws.getsockname()[1]}") for word in words)]
-        given += ["--program", str(tclive)] if tclive else []
         with subprocess.Popen(given, stdout=subprocess.PIPE, text=True) as child:
             assert child.stdout
             ports: Dict[str, int] = {}

@@ -2,8 +2,7 @@
 control field, and the packets of a channel are for one application."""
 from contextlib import ExitStack
 
-from tcrx import Brought, Channel, Rack
-from tcrx_channel import add_fecf, write_packet, write_segments
+from tcrx import Brought, Channel, Rack, add_fecf, write_packet, write_segments
 
 SPACECRAFT = 42
 APPLICATIONS = {1: 5, 2: 7}

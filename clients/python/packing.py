@@ -1,8 +1,7 @@
-"""Packs the client for pip: what pip asks of a build backend (PEP 517), with the standard library alone.
+"""Packs the package tcrx for pip: what pip asks of a build backend (PEP 517), with the standard library alone.
 
-In the wheel each module is a package of one file, since only a package can say by `py.typed` that it has types (PEP 561). In a clone of
-the repository that of the channel has the library, too, which a C compiler and `make` make of the text in `dist`; without them, or
-elsewhere, the client alone is packed, and this says so.
+In a clone of the repository the package gets the library, which a C compiler and `make` make of the text in `dist`, and where it was
+installed or unpacked, the library that is next to it. Without one the package alone is packed, and this says so.
 """
 from __future__ import annotations
 
@@ -24,50 +23,56 @@ from typing import Dict, List, Mapping, Optional
 
 HERE = Path(__file__).resolve().parent
 NAME = "dekorihe"
-MODULES = ("tcrx", "tcrx_c", "tcrx_channel", "tcrx_lines", "tcrx_lines_c")
 LIBRARY = "libtcrx.so.0"
 DIST = HERE.parent.parent / "dist"
-OWN_FILES = ("pyproject.toml", "packing.py", "py.typed", *(f"{module}.py" for module in MODULES))
+OWN_FILES = ("pyproject.toml", "packing.py", "tcrx_bench.py")
+SCRIPTS = "[console_scripts]\ntcrx-bench = tcrx.bench.main:main\n"
 
 
 def version() -> str:
     """Returns the version of the client."""
-    found = re.search(r'^__version__ = "(.*)"$', (HERE / "tcrx.py").read_text(encoding="utf-8"), re.M)
+    found = re.search(r'^__version__ = "(.*)"$', (HERE / "tcrx/__init__.py").read_text(encoding="utf-8"), re.M)
     if found is None:
-        raise ValueError("tcrx.py has no version")
+        raise ValueError("tcrx has no version")
     return found[1]
 
 
 def metadata() -> str:
     """Returns the metadata of the package."""
     return (f"Metadata-Version: 2.1\nName: {NAME}\nVersion: {version()}\n"
-            "Summary: A CCSDS telecommand receiver: a live program's client, and a virtual channel and sessions of lines in the process\n"
+            "Summary: A CCSDS telecommand receiver: a receiver, channels and frames in the process, and a test bench\n"
             "License: Apache-2.0\nRequires-Python: >=3.9\nClassifier: Typing :: Typed\n")
 
 
 def library() -> Optional[bytes]:
-    """The shared library, compiled here; `None` where that can't be done. A compiler that fails ends the packing."""
+    """The shared library, that next to the package or compiled here; `None` if there is neither. A compiler that fails ends the packing."""
+    if (HERE / "tcrx" / LIBRARY).is_file():
+        return (HERE / "tcrx" / LIBRARY).read_bytes()
     compiler = shlex.split(os.environ.get("CC", "cc"))[0]
     missing = [command for command in (compiler, "make") if not shutil.which(command)] + [DIST / "portable"] * (not (DIST / "portable").is_dir())
     if missing:
-        print(f"packing: there is no {missing[0]}, so the client is packed alone: Channel, Rack and Session look for {LIBRARY} elsewhere", file=sys.stderr)
+        print(f"packing: there is no {missing[0]}, so the package is packed without {LIBRARY}, for which it looks elsewhere", file=sys.stderr)
         return None
     with tempfile.TemporaryDirectory() as folder:
         subprocess.run(["make", "-s", "-C", DIST, f"OUT={folder}", f"{folder}/libtcrx.so"], check=True, stdout=sys.stderr)
         return (Path(folder) / LIBRARY).read_bytes()
 
 
+def sources() -> Dict[str, bytes]:
+    """The files of the package, by their paths."""
+    paths = sorted(path for path in (HERE / "tcrx").glob("**/*") if path.is_file() and path.name != LIBRARY and "__pycache__" not in path.parts)
+    return {path.relative_to(HERE).as_posix(): path.read_bytes() for path in paths}
+
+
 def contents(made: Optional[bytes], tag: str) -> Dict[str, bytes]:
     """The files of the wheel, apart from the list of them."""
-    files = {} if made is None else {f"tcrx_channel/{LIBRARY}": made}
-    for module in MODULES:
-        files[f"{module}/__init__.py"] = (HERE / f"{module}.py").read_bytes()
-        files[f"{module}/py.typed"] = b""
+    files = sources() if made is None else {f"tcrx/{LIBRARY}": made, **sources()}
     about = f"{NAME}-{version()}.dist-info"
     for name in ("LICENSE", "NOTICE"):
         if (HERE.parent.parent / name).is_file():
             files[f"{about}/{name}"] = (HERE.parent.parent / name).read_bytes()
     files[f"{about}/METADATA"] = metadata().encode()
+    files[f"{about}/entry_points.txt"] = SCRIPTS.encode()
     is_pure = str(made is None).lower()
     files[f"{about}/WHEEL"] = f"Wheel-Version: 1.0\nGenerator: packing\nRoot-Is-Purelib: {is_pure}\nTag: {tag}\n".encode()
     return files
@@ -104,7 +109,7 @@ def build_sdist(sdist_directory: str, config_settings: Optional[Mapping[str, obj
     """Writes the archive of the sources, and answers its name."""
     del config_settings
     folder = f"{NAME}-{version()}"
-    files = {name: (HERE / name).read_bytes() for name in OWN_FILES}
+    files = {**{name: (HERE / name).read_bytes() for name in OWN_FILES}, **sources()}
     files["PKG-INFO"] = metadata().encode()
     with tarfile.open(Path(sdist_directory) / f"{folder}.tar.gz", "w:gz", format=tarfile.PAX_FORMAT) as archive:
         for name, octets in files.items():

@@ -1,7 +1,7 @@
 "use strict";
 /*
  * The receiver that the page shows, without the drawing. The library is here as a WebAssembly module, and its sessions
- * (c/tcrx_lines.h) return all answers: those of tclive to the lines of a script, and those of tcmake about frames. This
+ * (dist/tcrx_lines.h) return all answers: those of tclive to the lines of a script, and those of tcmake about frames. This
  * file takes from these texts what the page draws.
  */
 

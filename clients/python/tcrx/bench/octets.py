@@ -18,15 +18,6 @@ LONGEST_FRONT = max(map(len, (*METHODS, HELLO)))
 BROWSER = "a browser asks here, and isn't obeyed; the page is at --http"
 
 
-def without_sum(octets: bytes) -> bytes:
-    """A frame without the frame error control field at its end: two octets fewer, and so it says in its length field."""
-    shorter = bytearray(octets[:-2])
-    length = len(shorter) - 1
-    shorter[2] = shorter[2] & 0xFC | length >> 8
-    shorter[3] = length & 255
-    return bytes(shorter)
-
-
 def ends_with_sum(octets: bytes) -> bool:
     """Whether the frame at the front of octets ends with the right frame error control field."""
     return not crc_hqx(octets[:((octets[2] & 3) << 8 | octets[3]) + 1], 0xFFFF)

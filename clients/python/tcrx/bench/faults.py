@@ -17,7 +17,7 @@ class Faults:  # pylint: disable=too-few-public-methods  # it is called by the p
     a port."""
 
     def __init__(self, options: Namespace, hub: Hub) -> None:
-        self.options, self.craft, self.loop = options, hub.craft, asyncio.get_running_loop()
+        self.options, self.spacecraft, self.loop = options, hub.spacecraft, asyncio.get_running_loop()
         # Two, so that CLCWs change nothing for the frames.
         self.dice, self.dice_of_clcws = random.Random(options.seed), random.Random(options.seed)
         self.delayed = 0
@@ -46,14 +46,14 @@ class Faults:  # pylint: disable=too-few-public-methods  # it is called by the p
                     port.count("delayed")
                     self.loop.call_later(late, self._bring_late, arrives, source)
                 else:
-                    self.craft.bring(arrives, source)
+                    self.spacecraft.bring(arrives, source)
         return bring
 
     def _bring_late(self, octets: bytes, source: str) -> None:
         """Brings a frame that was delayed, unless the bench ends: then it is still under way."""
         self.delayed -= 1
-        if not self.craft.is_ending:
-            self.craft.bring(octets, source)
+        if not self.spacecraft.is_ending:
+            self.spacecraft.bring(octets, source)
 
     def sender(self, send: Callable[[bytes], None], ports: List[Port]) -> Callable[[bytes], None]:
         """Returns a function that sends CLCWs or telemetry frames to these ports, apart from those that are lost."""

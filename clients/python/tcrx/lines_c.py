@@ -3,7 +3,7 @@ dist/tcrx_lines.h, which describes them."""
 from ctypes import POINTER, Structure, c_char_p, c_size_t, c_uint8, c_uint16, c_uint32, c_void_p
 from typing import Any, Dict, List, Tuple
 
-from tcrx_c import _Written
+from .c import _Written
 
 __all__ = ["CALLS", "NO_SESSION", "SESSION_IN_USE", "BAD_SCID", "BAD_LINE", "WAITING", "LOST", "OVER", "_Lines", "_FlagAnswer"]
 

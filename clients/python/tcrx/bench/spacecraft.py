@@ -1,24 +1,24 @@
-"""The spacecraft that all connections share: frames and lines in the order of their arrival, what they lead to, and what is counted.
+"""The spacecraft that all connections share: it answers frames and lines as they arrive, hands on what they lead to, and counts.
 
-Behind each frame goes a line by which the receiver hands on all that comes of it. So nothing is waited for, and nothing foreseen.
+Its receiver is a session of the library. A line is a call, and its answers are there when the call returns. Behind each frame goes a line by
+which the receiver hands on all that comes of it, so nothing is foreseen.
 """
 from __future__ import annotations
 
+import asyncio
 import enum
 import re
 import time
 from collections import Counter, deque
-from functools import partial
 from typing import Callable, Deque, Dict, List, Optional, Tuple
 
-from tcrx import Clcw, why_bad, without_hint
-
-from .engine import Engine
+from ..lines import Session
+from ..values import Clcw, Fault, NoMemory, why_bad, without_hint
 from .journal import SET_UP, Journal, printable
 from .octets import ends_with_sum
 
-# Frames and lines that are under way, and at the end, where they are to be answered soon; turns that wait, and events that are kept.
-MOST_UNDER_WAY, MOST_AT_END, MOST_WAITING, LAST_EVENTS = 256, 16, 2048, 200
+# Events that are kept.
+LAST_EVENTS = 200
 # Octets of a frame line: more than a frame has change no answer.
 MOST_OCTETS = 2048
 # Notes of ports that are kept.
@@ -42,31 +42,34 @@ class Release(enum.Enum):
 BEHIND = {Release.AUTO: "deliver", Release.AFTER: "collect", Release.MANUAL: "clcw"}
 
 
-class Turn:  # pylint: disable=too-few-public-methods  # a record, made for each frame
-    """One arrival, with what is to be known when it is answered."""
+class Arrival:  # pylint: disable=too-few-public-methods  # a record, made for each frame
+    """A frame or line that arrived, with what is to be known when it is answered."""
 
-    __slots__ = ("came", "source", "line", "octets", "asker", "first", "event")
+    __slots__ = ("came", "source", "line", "octets", "asker", "event")
 
     def __init__(self, came: float, source: str, line: str, octets: bytes = b"", asker: Optional[Asker] = None) -> None:
         self.came, self.source, self.line, self.octets, self.asker = came, source, line, octets, asker
-        self.first = 1
-        """Which of its answers is the first that may be the last: behind a frame's, but where a person has all handed on."""
         self.event: Optional[Event] = None
+
+    def answer(self, text: str) -> None:
+        """Gives an answer to the one who asked, if there is one."""
+        if self.asker:
+            self.asker(text)
 
 
 class Event:  # pylint: disable=too-few-public-methods  # a record, made for each frame
     """An event for the connections that watch: its number, its answer, and the CLCW after it."""
 
-    __slots__ = ("number", "turn", "answer", "word")
+    __slots__ = ("number", "arrival", "answer", "word")
 
-    def __init__(self, number: int, turn: Turn, answer: str, word: str) -> None:
-        self.number, self.turn, self.answer, self.word = number, turn, answer, word
+    def __init__(self, number: int, arrival: Arrival, answer: str, word: str) -> None:
+        self.number, self.arrival, self.answer, self.word = number, arrival, answer, word
 
     def state(self) -> Dict[str, object]:
         """The event as values of JSON."""
-        turn = self.turn
-        return {"id": self.number, "time": round(turn.came, 6), "source": turn.source, "line": "" if turn.octets else printable(turn.line),
-                "octets": turn.octets.hex(), "answer": self.answer, "clcw": self.word}
+        came = self.arrival
+        return {"id": self.number, "time": round(came.came, 6), "source": came.source, "line": "" if came.octets else printable(came.line),
+                "octets": came.octets.hex(), "answer": self.answer, "clcw": self.word}
 
 
 class Channel:  # pylint: disable=too-few-public-methods,too-many-instance-attributes  # what is known of a channel
@@ -86,17 +89,15 @@ class Channel:  # pylint: disable=too-few-public-methods,too-many-instance-attri
         self.changed = True
 
 
-class Craft:  # pylint: disable=too-many-instance-attributes  # what is known of a spacecraft
+class Spacecraft:  # pylint: disable=too-many-instance-attributes  # what is known of a spacecraft
     """The receiver with all that is known of it. `outputs` are what is called with CLCWs, packets and units."""
 
     # pylint: disable-next=too-many-arguments  # the receiver and what was chosen
-    def __init__(self, engine: Engine, journal: Journal, scid: int, fecf: bool, release: Release, release_after: float) -> None:
-        self.engine, self.journal, self.scid, self.fecf, self.release, self.release_after = engine, journal, scid, fecf, release, release_after
+    def __init__(self, session: Session, journal: Journal, scid: int, fecf: bool, release: Release, release_after: float) -> None:
+        self.session, self.journal, self.scid, self.fecf, self.release, self.release_after = session, journal, scid, fecf, release, release_after
+        self.behind = BEHIND[release]
         self.begun = time.monotonic()
         self.channels: Dict[int, Channel] = {}
-        self.waiting: Deque[Turn] = deque()
-        self.barred = False
-        """What sets up is under way, or the receiver is begun anew: what comes behind it waits."""
         self.refused: Counter[str] = Counter()
         self.bad: Counter[str] = Counter()
         self.frames = self.packets = self.units = self.refused_of_ports = 0
@@ -107,31 +108,27 @@ class Craft:  # pylint: disable=too-many-instance-attributes  # what is known of
         self.send_clcw: Callable[[bytes], None] = lambda octets: None
         self.send_packet: Callable[[bytes], None] = lambda octets: None
         self.send_unit: Callable[[bytes], None] = lambda octets: None
-        self.edges: Callable[[], Dict[str, object]] = lambda: {"cltu": None, "telemetry": None}
+        self.coding: Callable[[], Dict[str, object]] = lambda: {"cltu": None, "telemetry": None}
         """Returns the state of CLTUs and telemetry frames as values of JSON."""
         self.senders: Callable[[], List[Dict[str, object]]] = list
         """Returns the reports on senders as values of JSON."""
         self.begun_channel: Callable[[int, int], None] = lambda vcid, first: None
         """Called with a channel that is set up, and its V(R)."""
-        self.is_behind: Callable[[], bool] = lambda: False
-        """Whether the receiver is given nothing for now, since what it answered before is still looked at."""
+        self.answered: Callable[[str, List[str]], None] = lambda line, answers: None
+        """Called with a line and its answers."""
+        self.failed: Callable[[str], None] = lambda why: None
+        """Called if the receiver gives no more answers, with the reason."""
         self.arrived: Callable[[], None] = lambda: None
         """Called when a frame arrives."""
         self.took_sum: Callable[[str], None] = lambda source: None
         """Called where the first frame of a channel ends with its frame error control field, and that was data."""
-        self.slow: Callable[[bool], None] = lambda slow: None
-        """Called when more waits than should, and when that is over."""
-        self.is_slow = False
-        self.is_ending = self.closed = False
-        """From the end on nothing is written that nobody asked for; and once it is closed, only what is under way leads to lines."""
+        self.renew: Callable[[Arrival], None] = lambda arrival: None
+        """Called to have the receiver begun anew."""
+        self.is_ending = False
+        """From the end on nothing is written that nobody asked for."""
         self.next_in_turn = 0
         self.active: Optional[int] = None
         """The channel that took in the last frame, until telemetry has reported it."""
-        self.renew: Callable[[Turn], None] = lambda turn: None
-        """Called to have the receiver begun anew."""
-        self.is_renewing = False
-        """From then on nothing is written, until `go_on`."""
-        engine.answered = self.step
 
     def now(self) -> float:
         """Seconds since the begin."""
@@ -143,9 +140,12 @@ class Craft:  # pylint: disable=too-many-instance-attributes  # what is known of
         """Octets of a link, with a frame at their front; or what a CLTU carried, where the word is `candidate`."""
         self.arrived()
         octets = octets[:MOST_OCTETS] or b"\0"
-        self.waiting.append(Turn(self.now(), source, f"{word} {octets.hex()}", octets, asker))
-        if not self.barred or len(self.waiting) > MOST_WAITING:
-            self.step()
+        arrival = Arrival(self.now(), source, f"{word} {octets.hex()}", octets, asker)
+        answer, = self.answers_to(arrival.line)
+        if answer.startswith("frame "):
+            self._frame_answered(arrival, answer)
+        else:
+            self._refused(arrival, answer)
 
     def order(self, line: str, source: str, asker: Optional[Asker]) -> None:
         """A line of a person or a script: its words with a space between each two."""
@@ -153,110 +153,91 @@ class Craft:  # pylint: disable=too-many-instance-attributes  # what is known of
         if found:
             self.bring(bytes.fromhex(found[2]), source, asker, found[1])
             return
-        self.waiting.append(Turn(self.now(), source, line, b"", asker))
-        self.step()
-
-    def idle(self) -> bool:
-        """Whether all that arrived is answered."""
-        return not self.waiting and not self.engine.pending
-
-    def leave(self) -> List[Turn]:
-        """Writes nothing more of what waits, and gives it."""
-        self.closed = True
-        left = list(self.waiting)
-        self.waiting.clear()
-        return left
-
-    def step(self) -> None:
-        """Writes the lines of what waits, as far as may be."""
-        most = MOST_AT_END if self.is_ending else MOST_UNDER_WAY
-        while self.waiting and not self.barred and len(self.engine.pending) < most and not self.is_behind():
-            turn = self.waiting.popleft()
-            if turn.line == ANEW and not self.is_ending:
-                self.barred = self.is_renewing = True
-                self.renew(turn)
-                break
-            self._write(turn)
-        if (len(self.waiting) > (MOST_WAITING // 4 if self.is_slow else MOST_WAITING)) != self.is_slow:
-            self.is_slow = not self.is_slow
-            self.slow(self.is_slow)
-
-    def begin_anew(self, engine: Engine) -> None:
-        """Knows nothing of the receiver any more, as it is another one. What is to be released was the old one's."""
-        self.engine, self.next_in_turn, self.active = engine, 0, None
-        engine.answered = self.step
-        self.channels.clear()
-        self.waiting = deque(turn for turn in self.waiting if turn.source != RELEASE)
-
-    def go_on(self) -> None:
-        """Goes on once the receiver is set up."""
-        self.barred = self.is_renewing = False
-        self.changes += 1
-        self.step()
-
-    def _write(self, turn: Turn) -> None:
-        """Writes the lines of a turn."""
-        octets = turn.octets
-        if not octets:
-            self._write_order(turn)
-            return
-        channel = self.channels.get(octets[2] >> 2) if len(octets) > 4 and (octets[0] & 3) << 8 | octets[1] == self.scid else None
-        if channel is None:
-            self.engine.ask(turn.line, partial(self._refused, turn))
+        arrival = Arrival(self.now(), source, line, b"", asker)
+        if line == ANEW:
+            self.renew(arrival)
         else:
-            self.engine.ask_block(f"{turn.line}\n{BEHIND[self.release]} {channel.vcid}", self._frame_answered, turn)
+            self._order(arrival)
 
-    def _ask(self, turn: Turn, line: str, answered: Callable[[Turn, str, str], None]) -> None:
-        """Writes a line of a turn that has one answer."""
-        def note(answer: str) -> None:
-            self.journal.origin(turn.came, self.now(), turn.source)
-            self.journal.answer(line, answer)
-            self.changes += 1
-            answered(turn, line, answer)
-        self.engine.ask(line, note)
+    def answers_to(self, line: str) -> List[str]:
+        """Returns the answers to a line, of which the first is empty if there is none. Raises a `Fault` where memory ran out at one, after
+        which there are no more."""
+        try:
+            answers = self.session.answer(line.encode("latin-1"))[:-1].split("\n")
+        except NoMemory:
+            # Nothing was done.
+            answers = ["bad no memory"]
+        except Fault as fault:
+            self.failed(f"the receiver has ended: {fault}")
+            raise
+        self.answered(line, answers)
+        return answers
+
+    def begin_anew(self, session: Session) -> None:
+        """Knows nothing of the receiver any more, as it is another one."""
+        self.session, self.next_in_turn, self.active = session, 0, None
+        self.channels.clear()
+        self.changes += 1
+
+    def set_up(self, line: str) -> str:
+        """Sets up a channel, queue or MAP of the options. Returns why the line is bad, or an empty text."""
+        answer = self.answers_to(line)[0]
+        if answer:
+            return why_bad(answer)
+        self._note_set_up(line)
+        return ""
+
+    def _ask(self, arrival: Arrival, line: str) -> str:
+        """Returns the answer to a line that has one."""
+        answer, = self.answers_to(line)
+        self._log_origin(arrival)
+        self.journal.answer(line, answer)
+        self.changes += 1
+        return answer
+
+    def _log_origin(self, arrival: Arrival) -> None:
+        """Writes to the log where an arrival came from, and when it was answered."""
+        if self.journal.file:
+            self.journal.origin(arrival.came, self.now(), arrival.source)
 
     # --- Frames ---
 
-    def _refused(self, turn: Turn, answer: str) -> None:
+    def _refused(self, arrival: Arrival, answer: str) -> None:
         """Counts a frame that reached no channel, or of which nothing came, as where memory ran out."""
         self.frames += 1
         self.changes += 1
-        self.journal.origin(turn.came, self.now(), turn.source)
-        self.journal.answer(turn.line, answer)
-        self._note_event(turn, answer)
-        if turn.asker:
-            turn.asker(answer)
+        self._log_origin(arrival)
+        self.journal.answer(arrival.line, answer)
+        self._note_event(arrival, answer)
+        arrival.answer(answer)
         is_bad = answer.startswith("bad ")
         if is_bad:
             self.bad[without_hint(why_bad(answer))] += 1
         else:
             self.refused[answer.partition(" ")[2]] += 1
         # Nobody asks for the answer where a frame came by a port for frames.
-        self.refused_of_ports += not turn.asker and not is_bad
+        self.refused_of_ports += not arrival.asker and not is_bad
 
-    def _frame_answered(self, turn: Turn, answers: List[str]) -> None:
-        """Counts a frame, and hands on what came of it. Behind one that was refused nothing did."""
-        answer = answers[0]
+    def _frame_answered(self, arrival: Arrival, answer: str) -> None:
+        """Counts a frame, and hands on what comes of it."""
         words = answer.split(" ")
-        if words[0] != "frame":
-            self._refused(turn, answer)
-            return
         channel = self.channels[int(words[1])]
         event = words[2]
         self.frames += 1
         channel.events[event] += 1
-        if channel.last is None and not self.fecf and ends_with_sum(turn.octets):
-            self.took_sum(turn.source)
-        channel.last = turn.octets[4], event
+        if channel.last is None and not self.fecf and ends_with_sum(arrival.octets):
+            self.took_sum(arrival.source)
+        channel.last = arrival.octets[4], event
         self.active = channel.vcid
-        self._note_event(turn, answer, answers[-1][-8:] if answers[-1].startswith("clcw ") else "")
-        if turn.asker:
-            turn.asker(answer)
-        self.journal.origin(turn.came, self.now(), turn.source)
-        self.journal.answer(turn.line, answer)
-        self._hand_on(channel, answers[1:])
+        answers = self.answers_to(f"{self.behind} {channel.vcid}")
+        self._note_event(arrival, answer, answers[-1][-8:] if answers[-1].startswith("clcw ") else "")
+        arrival.answer(answer)
+        if self.journal.file:
+            self._log_origin(arrival)
+            self.journal.answer(arrival.line, answer)
+        self._hand_on(channel, answers)
         if self.release is Release.AFTER and words[4] == "1" and event == "E1":
-            self.engine.loop.call_later(self.release_after, self._release_later, channel)
+            asyncio.get_running_loop().call_later(self.release_after, self._release_later, channel)
 
     def _hand_on(self, channel: Channel, answers: List[str], asked: bool = False) -> None:
         """Sends all that a receiver has handed on: packets, units, and at last the CLCW. That nothing waited is noted if it was asked."""
@@ -282,37 +263,35 @@ class Craft:  # pylint: disable=too-many-instance-attributes  # what is known of
 
     def _release_later(self, channel: Channel) -> None:
         """Releases a data field whose time has come."""
-        if self.closed or self.channels.get(channel.vcid) is not channel:
-            return
-        self.waiting.append(Turn(self.now(), RELEASE, f"release {channel.vcid}"))
-        self.step()
+        if not self.is_ending and self.channels.get(channel.vcid) is channel:
+            self._deliver(Arrival(self.now(), RELEASE, f"release {channel.vcid}"))
 
-    def _delivered(self, turn: Turn, answers: List[str]) -> None:
-        """Hands on what was released by a line, or by the bench after some time."""
-        if turn.asker:
-            turn.asker("\n".join(answers) if turn.line.startswith("deliver") else answers[0])
-        self.journal.origin(turn.came, self.now(), turn.source)
+    def _deliver(self, arrival: Arrival) -> None:
+        """Hands on what is released by a line, or by the bench after some time."""
+        answers = self.answers_to(f"deliver{arrival.line[7:]}")
+        arrival.answer("\n".join(answers) if arrival.line.startswith("deliver") else answers[0])
+        self._log_origin(arrival)
         if len(answers) == 1:
-            self.journal.answer(f"release{turn.line[7:]}", answers[0])
+            self.journal.answer(f"release{arrival.line[7:]}", answers[0])
             return
         if answers[0].startswith("release "):
-            self._note_event(turn, answers[0], answers[-1][-8:])
+            self._note_event(arrival, answers[0], answers[-1][-8:])
         self._hand_on(self.channels[int(answers[-1].split(" ")[1])], answers, asked=True)
 
-    def _collected(self, turn: Turn, answers: List[str]) -> None:
-        """Hands on what waited, by a line."""
-        if turn.asker:
-            turn.asker("\n".join(answers))
-        self.journal.origin(turn.came, self.now(), turn.source)
+    def _collect(self, arrival: Arrival) -> None:
+        """Hands on what waits, by a line."""
+        answers = self.answers_to(arrival.line)
+        arrival.answer("\n".join(answers))
+        self._log_origin(arrival)
         if answers[-1].startswith("clcw "):
             self._hand_on(self.channels[int(answers[-1].split(" ")[1])], answers)
         else:
-            self.journal.answer(f"clcw{turn.line[7:]}", answers[0])
+            self.journal.answer(f"clcw{arrival.line[7:]}", answers[0])
 
-    def _taken(self, turn: Turn, line: str, answer: str) -> None:
+    def _take(self, arrival: Arrival) -> None:
         """Sends a packet or unit."""
-        if turn.asker and turn.line == line:
-            turn.asker(answer)
+        answer = self._ask(arrival, arrival.line)
+        arrival.answer(answer)
         if not answer.startswith(("refused ", "bad ")):
             self.channels[int(answer.split(" ")[1])].changed = True
             if answer.startswith("take "):
@@ -321,98 +300,94 @@ class Craft:  # pylint: disable=too-many-instance-attributes  # what is known of
             else:
                 self._send_unit(answer)
 
-    def _clcw_answered(self, turn: Turn, _: str, answer: str) -> None:
-        """Sends a CLCW."""
+    def _send_clcw(self, arrival: Arrival, vcid: int) -> None:
+        """Sends the CLCW of a channel."""
+        answer = self._ask(arrival, f"clcw {vcid}")
         if answer.startswith("clcw "):
-            if turn.event:
-                turn.event.word = answer[-8:]
-            channel = self.channels[int(answer.split(" ")[1])]
+            if arrival.event:
+                arrival.event.word = answer[-8:]
+            channel = self.channels[vcid]
             channel.word, channel.changed = answer[-8:], True
             self.send_clcw(bytes.fromhex(channel.word))
 
     # --- Lines of people, and the bench's own ---
 
-    def _write_order(self, turn: Turn) -> None:
-        """Writes a line that isn't a frame."""
-        word = turn.line.partition(" ")[0]
+    def _order(self, arrival: Arrival) -> None:
+        """Carries out a line that isn't a frame."""
+        word = arrival.line.partition(" ")[0]
         if word in SET_UP:
-            self.barred = True
-            self.engine.set_up(turn.line, lambda answer: self._was_set_up(turn, answer))
-        elif word == "deliver" or (word == "release" and self.release is not Release.MANUAL and turn.line.count(" ") == 1):
+            self._set_up(arrival)
+        elif word == "deliver" or (word == "release" and self.release is not Release.MANUAL and arrival.line.count(" ") == 1):
             # A person's release has all handed on as the bench's own, but with --release manual.
-            turn.first = 0
-            self.engine.ask_block(f"deliver{turn.line[7:]}", self._delivered, turn)
+            self._deliver(arrival)
         elif word == "collect":
-            turn.first = 0
-            self.engine.ask_block(turn.line, self._collected, turn)
+            self._collect(arrival)
         elif word in ("take", "unit"):
-            self._ask(turn, turn.line, self._taken)
+            self._take(arrival)
         else:
-            self._ask(turn, turn.line, self._ordered)
-            vcid = turn.line.split(" ")[1:2]
+            self._do_other(arrival)
+            vcid = arrival.line.split(" ")[1:2]
             if word == "link" and vcid and vcid[0].isascii() and vcid[0].isdecimal() and int(vcid[0][:9]) in self.channels:
                 # A flag of the link is in the CLCW that follows.
-                self._ask(turn, f"clcw {int(vcid[0][:9])}", self._clcw_answered)
+                self._send_clcw(arrival, int(vcid[0][:9]))
 
-    def _was_set_up(self, turn: Turn, answer: str) -> None:
-        """Notes what a line set up, or why it was bad."""
-        self.journal.origin(turn.came, self.now(), turn.source)
-        if turn.asker:
-            turn.asker(answer)
+    def _set_up(self, arrival: Arrival) -> None:
+        """Notes what a line sets up, or why it is bad."""
+        answer = self.answers_to(arrival.line)[0]
+        self._log_origin(arrival)
+        arrival.answer(answer)
         if answer:
-            self.journal.answer(turn.line, answer)
+            self.journal.answer(arrival.line, answer)
             self.bad[without_hint(why_bad(answer))] += 1
         else:
-            self.journal.write(turn.line)
-            word, *numbers = turn.line.split(" ")
-            self.note_set_up(word, [int(number) for number in numbers if number != "plain"], numbers[-1] == "plain")
+            self._note_set_up(arrival.line)
         self.changes += 1
-        self.barred = False
 
-    def note_set_up(self, word: str, numbers: List[int], plain: bool) -> None:
+    def _note_set_up(self, line: str) -> None:
         """Notes a channel, queue or MAP that was set up."""
+        self.journal.write(line)
+        word, *others = line.split(" ")
+        numbers = [int(number) for number in others if number != "plain"]
         if word == "channel":
-            self.channels[numbers[0]] = Channel(numbers[0], numbers[1], numbers[2], numbers[3], plain)
+            self.channels[numbers[0]] = Channel(numbers[0], numbers[1], numbers[2], numbers[3], others[-1] == "plain")
             self.begun_channel(numbers[0], numbers[3])
         elif word == "queue":
             self.channels[numbers[0]].queues[numbers[1]] = numbers[2]
         else:
             self.channels[numbers[0]].maps[numbers[1]] = numbers[2]
 
-    def _ordered(self, turn: Turn, _: str, answer: str) -> None:
-        """Any other line."""
-        if turn.asker:
-            turn.asker(answer)
+    def _do_other(self, arrival: Arrival) -> None:
+        """Carries out any other line."""
+        answer = self._ask(arrival, arrival.line)
+        arrival.answer(answer)
         if answer.startswith("bad "):
             self.bad[without_hint(why_bad(answer))] += 1
         elif answer.startswith(("link ", "release ")):
             vcid = int(answer.split(" ")[1])
-            self._note_event(turn, answer)
+            self._note_event(arrival, answer)
             self.channels[vcid].changed = True
             if answer.startswith("release "):
-                self._ask(turn, f"clcw {vcid}", self._clcw_answered)
+                self._send_clcw(arrival, vcid)
 
     def say_next_clcw(self) -> None:
-        """Has the CLCW of the next channel made, in turn."""
-        if self.channels and not self.is_renewing:
+        """Sends the CLCW of the next channel, in turn."""
+        if self.channels:
             vcids = sorted(self.channels)
-            vcid = vcids[self.next_in_turn % len(vcids)]
             self.next_in_turn += 1
-            self._ask(Turn(self.now(), "period", ""), f"clcw {vcid}", self._clcw_answered)
+            self._send_clcw(Arrival(self.now(), "period", ""), vcids[(self.next_in_turn - 1) % len(vcids)])
 
     def set_link(self, lost: bool) -> None:
         """Sets both flags of the link on each channel, or takes them back."""
         for vcid in sorted(self.channels):
-            self.waiting.append(Turn(self.now(), "link-timeout", f"link {vcid} {int(lost)} {int(lost)}"))
-        self.step()
+            self._order(Arrival(self.now(), "link-timeout", f"link {vcid} {int(lost)} {int(lost)}"))
 
     # --- What is shown ---
 
-    def _note_event(self, turn: Turn, answer: str, word: str = "") -> None:
+    def _note_event(self, arrival: Arrival, answer: str, word: str = "") -> None:
         """Keeps an event for those who watch."""
         self.count_of_events += 1
-        turn.event = Event(self.count_of_events, turn, answer, word)
-        self.last_events.append(turn.event)
+        arrival.event = Event(self.count_of_events, arrival, answer, word)
+        self.last_events.append(arrival.event)
 
     def events_since(self, since: int) -> List[Dict[str, object]]:
         """The events after one of this number, as values of JSON."""
@@ -431,25 +406,17 @@ class Craft:  # pylint: disable=too-many-instance-attributes  # what is known of
             channel.in_queues, channel.in_maps = ({int(place): int(count) for place, count in re.findall(rf" {word} (\d+) (\d+)", answer)}
                                                   for word in ("queue", "map"))
 
-    def refresh(self, done: Callable[[], None]) -> None:
-        """Has reports made of the channels that changed, and calls `done` when they are in."""
-        changed = [channel for channel in self.channels.values() if channel.changed]
-        if self.closed or self.is_renewing or not changed:
-            done()
-            return
-        for channel in changed:
-            def read(answer: str, channel: Channel = channel) -> None:
-                # Not before, so that another one who asks in the meantime waits for a report as well.
+    def refresh(self) -> None:
+        """Has reports made of the channels that changed."""
+        for channel in self.channels.values():
+            if channel.changed and not self.is_ending:
                 channel.changed = False
-                self.read_report(channel, answer)
-                if channel is changed[-1]:
-                    done()
-            self.engine.ask(f"report {channel.vcid}", read)
+                self.read_report(channel, self.answers_to(f"report {channel.vcid}")[0])
 
     def state(self) -> Dict[str, object]:
         """All that is known of the receiver, as values of JSON."""
         return {"spacecraft": self.scid, "fecf": self.fecf, "release": self.release.value, "frames": self.frames,
-                "packets": self.packets, "units": self.units, "refused": dict(self.refused), "bad": dict(self.bad), **self.edges(),
+                "packets": self.packets, "units": self.units, "refused": dict(self.refused), "bad": dict(self.bad), **self.coding(),
                 "senders": self.senders(), "channels": [state_of(self.channels[vcid]) for vcid in sorted(self.channels)]}
 
 

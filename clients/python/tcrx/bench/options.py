@@ -7,8 +7,7 @@ import resource
 from pathlib import Path
 from typing import Any, List, Optional, Sequence, Tuple
 
-from tcrx import __version__
-
+from .. import __version__
 from .ports import Network, Place, parse_place
 
 # What is listened on: the option's name, and what it is for.
@@ -25,6 +24,8 @@ LISTENS = (
 SENDS = (("clcw-udp", "CLCWs to HOST:PORT, one in each datagram"), ("packets-udp", "packets to HOST:PORT, one in each datagram"),
          ("units-udp", "units to HOST:PORT, one in each datagram"), ("tm-udp", "telemetry frames to HOST:PORT, one in each datagram"))
 
+# Options that do nothing any more.
+OLD = ("program", "tcmake")
 # Octets of a telemetry frame, frames a second and virtual channel, where they aren't given.
 # As many of the shortest frames as the 1,029 octets of a CLTU have room for.
 MOST_FRAMES = 171
@@ -138,16 +139,15 @@ class Lines(argparse.RawDescriptionHelpFormatter):
 def make_parser() -> argparse.ArgumentParser:
     """The parser of the command line."""
     made = argparse.ArgumentParser(prog="tcrx-bench", allow_abbrev=False, formatter_class=Lines, usage="tcrx-bench --scid N [OPTION]...", description=(
-        "Starts one spacecraft's telecommand receiver (tclive) and opens ports to it. Frames or CLTUs come in over TCP and UDP;\n"
+        "Runs one spacecraft's telecommand receiver and opens ports to it. Frames or CLTUs come in over TCP and UDP;\n"
         "CLCWs, packets, units and telemetry frames go out. PORT is a port of 127.0.0.1, or HOST:PORT. Port 0 takes a free port."))
     made.add_argument("-V", "--version", action="version", version=f"tcrx-bench {__version__}")
     made.add_argument("--scid", type=number_in(0, 1023), metavar="<N>", help="the spacecraft identifier, 0 to 1023; with --demo 42 if not given")
     made.add_argument("--fecf", action="store_true", help="each frame ends with its frame error control field")
     made.add_argument("--setup", type=Path, metavar="<FILE>",
                       help="a file of channel, queue and map lines; without it, lines at the port of --lines set the receiver up")
-    made.add_argument("--program", metavar="<FILE>", help="the tclive to start; without it the one of this tree, or else the one on the path")
-    made.add_argument("--tcmake", metavar="<FILE>",
-                      help="the tcmake to start for CLTUs and telemetry frames; without it the one of this tree, or else the one on the path")
+    for name in OLD:
+        made.add_argument(f"--{name}", metavar="<FILE>", help="does nothing any more, and goes with the next version: the bench starts no program")
     for name, text in LISTENS:
         made.add_argument(f"--{name}", action=Listen, dest="places", metavar="<PORT>", help=text)
     for name, text in SENDS:
@@ -198,8 +198,8 @@ def add_behaviour(made: argparse.ArgumentParser) -> None:
     made.add_argument("--connections-per-address", type=number_in(1, 10000), default=0, metavar="<N>",
                       help="how many connections a port takes from one address at a time; no such limit if not given")
     made.add_argument("--patience", type=seconds, default=10.0, metavar="<SECONDS>",
-                      help="how long the bench waits for the rest of a frame or request, for an answer of tclive or tcmake, and "
-                           "for all that is left when it is asked to end; 10 if not given")
+                      help="how long the bench waits for the rest of a frame or request, and for all that is left when it is asked to "
+                           "end; 10 if not given")
     for name, text in FAULTS:
         made.add_argument(f"--{name}", type=share, default=0.0, metavar="<SHARE>", help=text)
     made.add_argument("--delay", type=seconds, default=0.0, metavar="<SECONDS>",
@@ -210,7 +210,7 @@ def add_behaviour(made: argparse.ArgumentParser) -> None:
                       help="also start two senders over a link that loses a fifth of the frames, and print the address of the page")
     made.add_argument("--log", type=Path, metavar="<FILE>", help="write a log of frames, lines and answers, as a script, to this file, which must be new")
     made.add_argument("--replay", type=Path, metavar="<FILE>",
-                      help="give a log to tclive, compare its answers, and exit; with --sender, watch senders in the log, too")
+                      help="give a log to a new receiver, compare its answers, and exit; with --sender, watch senders in the log, too")
 
 
 def read_words(words: Sequence[str]) -> argparse.Namespace:
@@ -307,3 +307,9 @@ def warning_of_files(room: int) -> str:
     """Returns a warning that fewer files may be open than the connections could need."""
     limit = resource.getrlimit(resource.RLIMIT_NOFILE)[0]
     return f"warning: {limit} files may be open (ulimit -n), so each port takes {room} connections at a time"
+
+
+def note_of_old(options: argparse.Namespace) -> str:
+    """Returns a note about options that do nothing any more, or an empty text."""
+    given = [f"--{name}" for name in OLD if getattr(options, name)]
+    return f"{' and '.join(given)} {'do' if given[1:] else 'does'} nothing any more: the bench starts no program" if given else ""

@@ -11,8 +11,7 @@ A session answers as the program `tclive`, `tcrx` or `tcmake` does, octet for oc
 the library. This module is not proved. It passes each line on, returns the text, and frees a session once. That is
 tested, by the same cases as the programs.
 
-What tcrx_channel says of threads, interrupts, forks and finalisers also holds for a session. The library has sessions
-on x86-64 and aarch64. In portable C they are missing, and `Session` raises `NotStarted` there.
+The library has sessions on x86-64 and aarch64. In portable C they are missing, and `Session` raises `NotStarted` there.
 """
 from __future__ import annotations
 
@@ -23,10 +22,10 @@ from ctypes import byref
 from types import TracebackType
 from typing import Any, Dict, NoReturn, Optional, Tuple, Type, Union
 
-from tcrx import Ended, Fault, NotStarted, octets_of
-from tcrx_c import DONE, NO_MEMORY, NO_ROOM
-from tcrx_channel import FIRST_ROOM, BadSettings, Library, NoMemory, Octets, in_range, load
-from tcrx_lines_c import BAD_LINE, BAD_SCID, CALLS, LOST, NO_SESSION, OVER, WAITING, _Lines
+from .c import DONE, NO_MEMORY, NO_ROOM
+from .channel import FIRST_ROOM, Library, in_range, load
+from .lines_c import BAD_LINE, BAD_SCID, CALLS, LOST, NO_SESSION, OVER, WAITING, _Lines
+from .values import BadSettings, Ended, Fault, NoMemory, NotStarted, Octets, octets_of
 
 __all__ = ["BadScript", "Lost", "NoRoom", "Over", "Session", "Waiting"]
 
@@ -90,6 +89,7 @@ class Session:
         self._held = _Lines(0, None)
         self._at = byref(self._held)
         self._room = ctypes.create_string_buffer(FIRST_ROOM)
+        self._seen = memoryview(self._room)
         status = getattr(self._library, f"tcrx_lines_{kind}_at")(self._at, *given)
         if status != DONE:
             self._raise(status)
@@ -99,7 +99,7 @@ class Session:
     def live(cls, scid: int, *, fecf: bool = False, library: Library = None) -> Session:
         """Creates a session that answers lines as `tclive` does, for the spacecraft with the id `scid` (0 to 1,023).
         With `fecf` each frame must end with a frame error control field, which is checked and removed. `library` is the
-        path of libtcrx.so.0. Without it, the library is looked for by `tcrx_channel.find_library`.
+        path of libtcrx.so.0. Without it, the library is looked for by `find_library`.
 
         Raises `NotStarted` if the library isn't there or has no sessions, `BadSettings`, and `NoMemory`."""
         return cls(library, "live", in_range(scid, 65535, "scid"), int(bool(fecf)))
@@ -137,10 +137,11 @@ class Session:
         while written.status == NO_ROOM:
             try:
                 self._room = ctypes.create_string_buffer(written.length)
+                self._seen = memoryview(self._room)
             except MemoryError as error:
                 raise NoRoom(f"there is too little memory for the text of {written.length} octets, which waits") from error
             written = self._text()
-        text = ctypes.string_at(self._room, written.length).decode("ascii") if written.status in (DONE, BAD_LINE) else ""
+        text = str(self._seen[:written.length], "ascii") if written.status in (DONE, BAD_LINE) else ""
         return text if written.status == DONE else self._raise(written.status, text)
 
     def answer(self, line: Union[str, Octets]) -> str:
@@ -152,7 +153,9 @@ class Session:
         `Ended` if the session was closed."""
         octets = line.encode("utf-8", "surrogateescape") if isinstance(line, str) else octets_of(line)
         with self._lock:
-            return self._whole(self._library.tcrx_lines_answer_at(self._at, octets, len(octets), self._room, len(self._room)))
+            written = self._library.tcrx_lines_answer_at(self._at, octets, len(octets), self._room, len(self._room))
+            # Most texts have room.
+            return self._whole(written) if written.status else str(self._seen[:written.length], "ascii")
 
     def text(self) -> str:
         """Returns the text that waits after `NoRoom`, as the call that raised it would have. It is empty if none

@@ -1,31 +1,31 @@
 """The journal of a session: a script that `tcrx` and `tools/draw_run` take, with answers and times in its comments; and its replay.
 
     # 1.204113 1.204467 tc-tcp 127.0.0.1:40122     when it came and was answered, in seconds from the begin, and from where
-    frame 002a040c00c01005c0000000aa                a line of a script, as `tclive` was given it
-    #= frame 1 E1 accepted 1 queued 0 ...          its answer by `tcrx`, which is that of `tclive`, too
-    #~ clcw 1 0104c001                             the answer of `tclive` where it differs: the CLCW with the flags of the link
-    #> link 1 1 1                                  a line that `tclive` has and `tcrx` hasn't
-    #* frame 002a040e00...                         what `tclive` was given in place of the script's next line: a frame with its sum
+    frame 002a040c00c01005c0000000aa                a line of a script, as the receiver was given it
+    #= frame 1 E1 accepted 1 queued 0 ...          its answer by `tcrx`, which is that of the receiver, too
+    #~ clcw 1 0104c001                             the answer of the receiver where it differs: the CLCW with the flags of the link
+    #> link 1 1 1                                  a line that the receiver has and `tcrx` hasn't
+    #* frame 002a040e00...                         what the receiver was given in place of the script's next line: a frame with its sum
 
 Lines that were bad are in comments of no such kind: they changed nothing.
 """
 from __future__ import annotations
 
-import os
 import re
-import subprocess
 import sys
 from datetime import datetime, timezone
 from io import FileIO
 from itertools import islice
 from pathlib import Path
-from threading import Thread
 from functools import partial
-from typing import Callable, Iterable, Iterator, List, NamedTuple, Optional, Sequence
+from typing import Iterable, Iterator, List, NamedTuple, Optional, Sequence
 
-from tcrx import LONGEST_ANSWER, NO_PROOF, NotStarted, __version__, find_program
-
-from .octets import HEADER, without_sum
+from .. import __version__
+from ..channel import check_fecf
+from ..lines import Session
+from ..remote import LONGEST_ANSWER
+from ..values import Fault
+from .octets import HEADER
 from .watch import Watches
 
 # The bits of a CLCW that `tcrx` never sets: No RF Available and No Bit Lock.
@@ -171,11 +171,9 @@ class Journal:
         if answer == "refused check":
             self.write(f"#> {line}", f"#~ {answer}")
         else:
-            self.write(f"#* {line}", f"frame {without_sum(bytes.fromhex(line[6:])).hex()}", f"#= {answer}")
-
-    def unanswered(self, line: str) -> None:
-        """A line that has no answer, as the session ended before."""
-        self.write("# unanswered: " + re.sub(r"[^ -~]", "?", line[:3000].replace("\n", " ")))
+            plain = check_fecf(bytes.fromhex(line[6:]))
+            assert isinstance(plain, bytes)  # the receiver found its sum right
+            self.write(f"#* {line}", f"frame {plain.hex()}", f"#= {answer}")
 
     def end(self, report: List[str]) -> None:
         """The final report."""
@@ -194,7 +192,7 @@ class Unfit(Exception):
 
 
 class Step(NamedTuple):
-    """A line that `tclive` is given, with the number of its line in the journal, and the answer that is noted, or none. One of the final
+    """A line that the receiver is given, with the number of its line in the journal, and the answer that is noted, or none. One of the final
     report has no line. And when it was answered."""
 
     line: str
@@ -204,7 +202,7 @@ class Step(NamedTuple):
 
 
 def steps_of(lines: Iterable[str]) -> Iterator[Step]:
-    """The lines of a journal that `tclive` is given, each with its answer. After the last come those of the report. Raises `Unfit` at a
+    """The lines of a journal that the receiver is given, each with its answer. After the last come those of the report. Raises `Unfit` at a
     second answer."""
     line, place, answer, time, coming = "", 0, None, 0.0, 0.0
     in_place_of_next = False
@@ -239,7 +237,7 @@ class Log:  # pylint: disable=too-few-public-methods  # it is gone through, more
         first = FIRST.fullmatch(next(self._lines(), ""))
         if first is None:
             raise Unfit(f"{path} isn't a log of tcrx-bench")
-        self.words = ["--scid", first[1]] + ["--fecf"] * bool(first[2])
+        self.scid, self.fecf = int(first[1]), bool(first[2])
 
     def _lines(self) -> Iterator[str]:
         """Its whole lines."""
@@ -256,26 +254,24 @@ class Log:  # pylint: disable=too-few-public-methods  # it is gone through, more
             raise Unfit(f"{self.path} can't be read: {error.strerror}") from None
 
     def steps(self) -> Iterator[Step]:
-        """The lines that `tclive` is given, and the final report."""
+        """The lines that the receiver is given, and the final report."""
         return steps_of(islice(self._lines(), 1, None))
 
 
 def without_link(answer: Optional[str]) -> Optional[str]:
-    """An answer of `tclive` as `tcrx` gives it: a CLCW has no flags of the link."""
+    """An answer of a receiver as `tcrx` gives it: a CLCW has no flags of the link."""
     if answer and re.fullmatch(r"clcw \d+ [0-9a-f]{8}", answer):
         return f"{answer[:-8]}{int(answer[-8:], 16) & ~LINK_FLAGS:08x}"
     return answer
 
 
-def feed(child: "subprocess.Popen[str]", log: Log) -> None:
-    """Gives a program the lines of a journal, as it takes them."""
-    assert child.stdin
-    try:
-        with child.stdin as lines:
-            lines.writelines(f"{step.line}\n" for step in log.steps() if step.line)
-    except (OSError, Unfit):
-        # Whoever reads the answers, or the journal, finds that out.
-        pass
+def answers_again(log: Log) -> Iterator[str]:
+    """Yields the answers of a new receiver to the lines of a journal, and its final report."""
+    with Session.live(log.scid, fecf=log.fecf) as session:
+        for step in log.steps():
+            if step.line:
+                yield from session.answer(step.line.encode("latin-1")).split("\n")[:-1]
+        yield from session.end().split("\n")[:-1]
 
 
 def compare(log: Log, answers: Iterator[str], watches: Optional[Watches] = None) -> str:
@@ -310,84 +306,17 @@ def compare(log: Log, answers: Iterator[str], watches: Optional[Watches] = None)
     return f"{count} answers {'and the final report are those of the log' if has_report else 'are those of the log, which has no final report'}"
 
 
-def run_again(log: Log, words: List[str], watches: Optional[Watches]) -> str:
-    """Has a program, of which these words begin, answer the lines of a journal, and compares its answers."""
-    try:
-        child = subprocess.Popen(words, stdin=subprocess.PIPE, stdout=subprocess.PIPE, encoding="latin-1", env={**os.environ, **NO_PROOF})
-    except OSError as error:
-        raise Unfit(f"{words[0]} can't be started: {error.strerror}") from None
-    with child:
-        assert child.stdout
-        feeder = Thread(target=feed, args=(child, log))
-        feeder.start()
-        try:
-            said = compare(log, (line.rstrip("\n") for line in child.stdout), watches)
-            for _ in child.stdout:
-                pass
-        except Unfit:
-            child.kill()
-            raise
-        finally:
-            feeder.join()
-    if child.returncode:
-        raise Unfit(f"{words[0]} ended with status {child.returncode}")
-    return said
-
-
-class Judge:
-    """A `tclive` that is asked about senders, one question after the other."""
-
-    def __init__(self, program: str) -> None:
-        # pylint: disable-next=consider-using-with  # it is ended in `end`
-        self.child = subprocess.Popen([program, "--scid", "0"], stdin=subprocess.PIPE, stdout=subprocess.PIPE, text=True, bufsize=1,
-                                      env={**os.environ, **NO_PROOF})
-
-    def write(self, lines: List[str]) -> None:
-        """Writes lines."""
-        assert self.child.stdin
-        self.child.stdin.writelines(line + "\n" for line in lines)
-
-    def ask(self, lines: List[str], answered: Callable[[str], None]) -> str:
-        """The answer to the last of these lines. Raises `Unfit` where there is none."""
-        del answered
-        assert self.child.stdout
-        try:
-            self.write(lines)
-            answer = [self.child.stdout.readline() for _ in lines][-1]
-        except OSError:
-            answer = ""
-        if not answer.startswith("frame "):
-            raise Unfit("the judge of senders has ended")
-        return answer
-
-    def end(self) -> None:
-        """Ends it."""
-        self.child.communicate()
-
-
-def replay(path: Path, program: Optional[str], senders: Sequence[Sequence[int]] = ()) -> int:
-    """Gives the lines of a journal to `tclive`, compares its answers with those of the journal, and says what was found, also of its senders;
-    the status."""
+def replay(path: Path, senders: Sequence[Sequence[int]] = ()) -> int:
+    """Gives the lines of a journal to a new receiver, compares its answers with those of the journal, and says what was found, also of its
+    senders; the status."""
     try:
         log = Log(path)
-        named = program or find_program(named_by="--program FILE")
-        if not senders:
-            print(run_again(log, [named, *log.words], None))
-            return 0
-        judge = Judge(named)
-        try:
-            watches = Watches(senders, judge.ask, lambda text, time: print(f"{time:.6f} s: {text}"))
-            judge.write(watches.setup())
-            said = run_again(log, [named, *log.words], watches)
-            if missing := watches.missing():
-                raise Unfit(f"--sender: channel {missing[0]} isn't set up in {path}")
-            print("\n".join([said, *watches.texts()]))
-        finally:
-            judge.end()
+        watches = Watches(senders, lambda text, time: print(f"{time:.6f} s: {text}")) if senders else None
+        said = compare(log, answers_again(log), watches)
+        if watches and (missing := watches.missing()):
+            raise Unfit(f"--sender: channel {missing[0]} isn't set up in {path}")
+        print("\n".join([said, *(watches.texts() if watches else ())]))
         return 0
-    except (Unfit, NotStarted) as error:
+    except (Unfit, Fault) as error:
         print(f"tcrx-bench: {error}", file=sys.stderr)
-        return 1
-    except OSError as error:
-        print(f"tcrx-bench: {named} can't be started: {error.strerror}", file=sys.stderr)
         return 1

@@ -11,28 +11,18 @@ import sys
 import termios
 import time
 import tty
-from binascii import crc_hqx
 from typing import Any, Callable, List, Optional, Tuple
 
-from tcrx import Clcw
+from ..channel import add_fecf, write_frame, write_packet
+from ..values import Clcw
 
 SETUP = ("channel 1 20 8 0", "queue 1 5 16", "channel 2 10 4 0", "queue 2 6 8")
 # Each channel with the application that its packets are for.
 SENDERS = ((1, 5), (2, 6))
 # Seconds between two frames of a sender; without a step forward after which it begins again with the oldest; frames under way at most.
 PACE, TIMER, MOST = 0.25, 1.5, 8
-# The standard's flags of a frame's kind: data in sequence, and a control command.
-AD, BC = 0, 3
 LOST = 5
 KEYS = "keys: l loses the next frames, o locks channel 1 out, u unlocks it, q ends"
-
-
-# pylint: disable-next=too-many-arguments  # the fields of a frame
-def frame_of(scid: int, fecf: bool, vcid: int, number: int, kind: int, data: bytes) -> bytes:
-    """A telecommand transfer frame."""
-    length = 5 + len(data) + 2 * fecf - 1
-    octets = bytes([kind << 4 | scid >> 8, scid & 255, vcid << 2 | length >> 8, length & 255, number % 256]) + data
-    return octets + crc_hqx(octets, 0xFFFF).to_bytes(2, "big") if fecf else octets
 
 
 class Sender:
@@ -65,8 +55,7 @@ class Sender:
             return None
         self.sent += 1
         number = self.sent - 1
-        packet = (0x1000 | self.apid).to_bytes(2, "big") + (0xC000 | number & 0x3FFF).to_bytes(2, "big") + b"\x00\x03" + number.to_bytes(4, "big")
-        return number, b"\xc0" + packet
+        return number, b"\xc0" + write_packet(self.apid, number & 0x3FFF, number.to_bytes(4, "big"))
 
 
 def is_in_background() -> bool:
@@ -120,10 +109,11 @@ class Demo:
             # Standard input is no terminal, a file, or closed.
             pass
 
-    def _send(self, number: int, data: bytes, kind: int = AD, vcid: int = 1) -> None:
-        """Sends a frame."""
+    def _send(self, number: int, data: bytes, vcid: int = 1, is_command: bool = False) -> None:
+        """Sends a frame: data in sequence, or a control command."""
+        frame = write_frame(self.scid, vcid, number % 256, data, bypass=is_command, control=is_command)
         try:
-            self.socket.sendto(frame_of(self.scid, self.fecf, vcid, number, kind, data), ("127.0.0.1", self.frames))
+            self.socket.sendto(add_fecf(frame) if self.fecf else frame, ("127.0.0.1", self.frames))
         except OSError:
             pass
 
@@ -167,7 +157,7 @@ class Demo:
                 if key == "o":
                     self._send(self.senders[1].accepted + 128, b"\xc0locked out")
                 elif key == "u":
-                    self._send(0, b"\x00", BC)
+                    self._send(0, b"\x00", is_command=True)
 
     def end(self) -> None:
         """Gives the terminal back, and sends nothing more."""

@@ -13,25 +13,14 @@ The functions of the library are proved: each returns what its definition says. 
 records as in the header, passes each argument on, makes a value from each record that is returned, and frees a channel
 once. That is tested, by the same cases as the calls from C. Nothing is proved about Python, ctypes or libffi.
 
-`tcrx_c` declares the records and calls of the library. The values are those of `tcrx`: the answer to an operation is
+`c.py` declares the records and calls of the library. The values are those of `values.py`: the answer to an operation is
 `Brought`, `Released`, `Packet`, `Unit`, `Clcw` or `Report`, or `Refused` with its reason. If a call has no answer, it
 raises an exception.
-
-- Threads. A call of the library keeps the GIL, because it takes about a microsecond. So calls on one channel from
-  several threads take turns, and each is whole. Channels of several threads don't run at the same time. In a Python
-  without a GIL, a lock in each channel makes its calls take turns.
-- An interrupt (Ctrl-C) never comes during a call of the library. The channel goes on, but the answer may be lost.
-- After a fork each process has the channel as it was then, and the two have nothing in common from then on.
-- A channel that is neither closed nor in a `with` is freed by its finaliser, when nothing refers to it or when Python
-  ends.
-
-The module needs only the standard library, and Python 3.9 or later.
 """
 from __future__ import annotations
 
 import ctypes
 import os
-import shutil
 import threading
 import weakref
 from ctypes import byref
@@ -42,17 +31,16 @@ from pathlib import Path
 from types import TracebackType
 from typing import Any, Dict, Iterable, Iterator, List, Mapping, NoReturn, Optional, Tuple, Type, Union
 
-from tcrx import (Brought, Clcw, Delivery, Ended, Event, Fault, Final, NotSetUp, NotStarted, Packet, Refusal, Refused, Released, Report,
-                  State, Unit, octets_of)
-from tcrx_c import *  # pylint: disable=wildcard-import,unused-wildcard-import  # everything that the header declares
-from tcrx_c import _Channel, _Decoder, _Header, _Limit, _Map, _PacketHeader, _Queue, _Settings, _TmHeader
+from .values import (BadSettings, Brought, Clcw, Delivery, Ended, Event, Fault, Final, NoMemory, NotSetUp, NotStarted, Octets, Packet, Refusal,
+                     Refused, Released, Report, State, Unit, octets_of)
+from .c import *  # pylint: disable=wildcard-import,unused-wildcard-import  # everything that the header declares
+from .c import _Channel, _Decoder, _Header, _Limit, _Map, _PacketHeader, _Queue, _Settings, _TmHeader
 
 __all__ = ["BadSettings", "Carried", "Channel", "Decoder", "Frame", "NoMemory", "NotRead", "NotWritten", "Rack", "Tm", "add_fecf", "check_fecf",
            "find_library", "randomise", "read_frame", "read_tm", "storage", "write_cltu", "write_frame", "write_packet", "write_segments",
            "write_set_vr", "write_tm", "write_unlock"]
 
 LIBRARY = "libtcrx.so.0"
-Octets = Union[bytes, bytearray, memoryview]
 Library = Union[str, "os.PathLike[str]", None]
 # The statuses that are refusals, each with its answer.
 REFUSED = {SHORT: Refused(Refusal.SHORT), BAD_VERSION: Refused(Refusal.VERSION), SPARE: Refused(Refusal.SPARE),
@@ -71,28 +59,25 @@ FIRST_ROOM = 4096
 PIECE = 4096
 
 
-class BadSettings(Fault):
-    """No channel is created from these settings."""
-
-
-class NoMemory(Fault, MemoryError):
-    """There is too little memory for a channel, or for a line of a session, which can then be given again. Once a
-    channel is created, none of its calls requests any."""
-
-
 def find_library() -> str:
     """Returns the path of the shared library. It is looked for in the folder that TCRX_LIB_DIR names, next to this
-    file, where pip builds it, and in `lib` next to the folder of the path that has `tclive`, where tools/install puts
-    it. Otherwise its name alone is returned, by which the loader looks for it."""
+    file, where pip and tools/install put it, and in a clone in `dist`, where `make -C dist` builds it. Otherwise its
+    name alone is returned, by which the loader looks for it."""
     named = os.environ.get("TCRX_LIB_DIR")
     if named:
         return str(Path(named) / LIBRARY)
-    own = Path(__file__).resolve().parent / LIBRARY
-    if own.is_file():
-        return str(own)
-    program = shutil.which("tclive")
-    near = Path(program).resolve().parent.parent / "lib" / LIBRARY if program else None
-    return str(near) if near and near.is_file() else LIBRARY
+    here = Path(__file__).resolve()
+    places = [here.with_name(LIBRARY)] + [here.parents[3] / "dist" / LIBRARY] * (here.parts[-4:-1] == ("clients", "python", "tcrx"))
+    return next((str(place) for place in places if place.is_file()), LIBRARY)
+
+
+def file_of(library: ctypes.PyDLL) -> str:
+    """Returns the path of a library that is loaded, which the kernel knows also if the loader found it by its name."""
+    name = str(library._name)  # pylint: disable=protected-access  # ctypes has no other name of it
+    if "/" in name:
+        return name
+    with open("/proc/self/maps", encoding="utf-8", errors="replace") as maps:
+        return next((line.split(None, 5)[5].rstrip() for line in maps if line.rstrip().endswith(f"/{name}")), name)
 
 
 _libraries: Dict[str, ctypes.PyDLL] = {}
@@ -109,7 +94,7 @@ def load(path: Library) -> ctypes.PyDLL:
                 function.restype, function.argtypes = answer, arguments
         except (OSError, AttributeError) as error:
             raise NotStarted(f"there is no library {name}: {error}. Name it by library=, or its folder by TCRX_LIB_DIR, or "
-                             "install the client by pip from a clone, on a machine with a C compiler and make") from error
+                             "type `make -C dist` in a clone, on a machine with a C compiler and make") from error
         _libraries[name] = library
     return _libraries[name]
 
@@ -302,6 +287,7 @@ class Decoder:
         self._library = load(library)
         self._kept = _Decoder(int(bool(correct)), 0, 0, 0, 0)
         self._carried = ctypes.create_string_buffer(DECODER_ROOM)
+        self._seen = memoryview(self._carried)
         self.corrected = self.rejected = self.overlong = 0
 
     def feed(self, octets: Octets) -> List[bytes]:
@@ -318,7 +304,7 @@ class Decoder:
                 self.rejected += answer.rejected
                 self.overlong += answer.overlong
                 if answer.ended:
-                    frames.append(self._carried.raw[:self._kept.carried])
+                    frames.append(self._seen[:self._kept.carried].tobytes())
         return frames
 
     def search(self) -> bool:

@@ -10,10 +10,9 @@ import socket
 import threading
 import time
 from pathlib import Path
-from typing import Collection, Dict, Iterator, List, Optional, Set, Tuple, cast
+from typing import Collection, Dict, Iterator, List, Mapping, Optional, Set, Tuple, cast
 
-from tcrx import __version__
-
+from .. import __version__
 from .options import is_loopback
 from .ports import Connection, Hub, Port
 
@@ -40,8 +39,8 @@ def policy_of(page: str) -> str:
 class Web:
     """The state that the connections of the page share."""
 
-    def __init__(self, hub: Hub, hosts: Collection[str]) -> None:
-        self.hub, self.craft = hub, hub.craft
+    def __init__(self, hub: Hub, hosts: Collection[str], library: Mapping[str, str]) -> None:
+        self.hub, self.spacecraft, self.library = hub, hub.spacecraft, library
         self.names = {"localhost", *(host.lower() for host in hosts), *names_of(socket.gethostname(), "")}
         if not all(map(is_loopback, hosts)):
             # It may be asked for over the network, where that takes its time: nobody waits for it.
@@ -49,20 +48,16 @@ class Web:
         self.page = PAGE.read_text(encoding="utf-8")
         self.policy = policy_of(self.page)
         self.begun = time.time()
-        self.receiver = "running"
         self.followers: List[Follower] = []
-        self.shown = 0
-        """How many changes the state has that was asked for last."""
-        self.asked = False
         self._tick()
 
     def state(self, since: int = 0, has_peers: bool = False) -> Dict[str, object]:
         """All that is known, with the events after one of this number, and perhaps with who is connected."""
         ports = [{**port.state(), **({"peers": port.peers()} if has_peers and port.server else {})} for port in self.hub.ports]
-        return {"program": f"tcrx-bench {__version__}", "receiver": self.receiver, "begun": round(self.begun, 3),
-                "seconds": round(self.craft.now(), 3), **self.craft.state(), "ports": ports,
-                "notes": list(self.craft.last_notes), "count_of_events": self.craft.count_of_events,
-                "events": self.craft.events_since(since)}
+        return {"program": f"tcrx-bench {__version__}", "receiver": "running", "library": self.library, "begun": round(self.begun, 3),
+                "seconds": round(self.spacecraft.now(), 3), **self.spacecraft.state(), "ports": ports,
+                "notes": list(self.spacecraft.last_notes), "count_of_events": self.spacecraft.count_of_events,
+                "events": self.spacecraft.events_since(since)}
 
     def _learn_full_name(self) -> None:
         """Looks up the full name of this machine, by which the page may be asked for as well."""
@@ -72,27 +67,20 @@ class Web:
         """Looks from time to time whether something changed that is to be sent."""
         if self.hub.closed:
             return
-        if not self.asked and any(each.is_behind(self.craft.changes) for each in self.followers):
-            self.asked = True
-            self.shown = self.craft.changes
-            self.craft.refresh(self.send)
+        if any(each.is_behind(self.spacecraft.changes) for each in self.followers):
+            self.send()
         self.hub.loop.call_later(PAUSE, self._tick)
 
     def send(self) -> None:
         """Sends what changed to each that follows and is not slow; one that is gets all of it later, but for events that are too old."""
-        self.asked = False
+        self.spacecraft.refresh()
         texts: Dict[int, bytes] = {}
         for each in self.followers:
             if not each.paused:
                 # It is made once for all that have seen the same events.
                 if each.seen not in texts:
                     texts[each.seen] = f"data: {json.dumps(self.state(each.seen))}\n\n".encode()
-                each.send(texts[each.seen], self.craft.count_of_events, self.shown)
-
-    def end(self, why: str) -> None:
-        """Says that the receiver is no more."""
-        self.receiver = why or "ended"
-        self.send()
+                each.send(texts[each.seen], self.spacecraft.count_of_events, self.spacecraft.changes)
 
 
 def names_of(own: str, full: str) -> Set[str]:
@@ -165,8 +153,8 @@ class Visitor(Connection):
         elif path == "/":
             self._say(200, self.web.page, "text/html", f"Content-Security-Policy: {self.web.policy}\r\n")
         elif path in ("/state", "/metrics"):
-            self.done = True
-            self.web.craft.refresh(lambda: self._say_state(path))
+            self.web.spacecraft.refresh()
+            self._say_state(path)
         elif path == "/events" and method == "GET":
             self.follower = Follower(self)
         else:
@@ -174,8 +162,6 @@ class Visitor(Connection):
 
     def _say_state(self, path: str) -> None:
         """The state at this moment."""
-        if self.transport.is_closing():
-            return
         if path == "/state":
             self._say(200, json.dumps(self.web.state(has_peers=True)) + "\n", "application/json")
         else:

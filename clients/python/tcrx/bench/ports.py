@@ -14,22 +14,21 @@ import time
 import traceback
 from collections import deque
 from pathlib import Path
-from typing import IO, Any, Callable, Deque, Dict, List, Mapping, NamedTuple, Optional, Set, Tuple, Union, cast
+from typing import IO, Any, Callable, Deque, Dict, Iterator, List, Mapping, NamedTuple, Optional, Set, Tuple, Union, cast
 
 from .admission import MOST_LINGERING, refusal_of
-from .craft import Craft
 from .octets import BROWSER, Cutter, has_request
-from .turns import Ring, Turns
+from .scheduler import FairQueue, Scheduler, work_on
+from .spacecraft import Spacecraft
 
-# Octets of a line, without its end; octets that wait for a slow reader of CLCWs, and of packets or units; lines of one connection that
-# wait for their answers.
-LONGEST_LINE, MOST_WORDS, MOST_KEPT, MOST_ASKED = 8192, 1024, 1 << 22, 512
+# Octets of a line, without its end; octets that wait for a slow reader of CLCWs, and of packets or units.
+LONGEST_LINE, MOST_WORDS, MOST_KEPT = 8192, 1024, 1 << 22
 # Octets of the kernel's buffer for a reader of CLCWs: old ones are of no use.
 CLCW_BUFFER = 4096
 # Octets that are read at once, so that nobody waits long for another.
 CHUNK = 1 << 14
-# Datagrams that are read at once, and the octets of one.
-MOST_AT_ONCE, LONGEST_DATAGRAM = 64, 65536
+# Octets of a datagram.
+LONGEST_DATAGRAM = 65536
 # Octets that the kernel keeps of datagrams, where it may; what Linux says of the memory of a socket, and where in it, how many it lost.
 DATAGRAM_BUFFER, SO_MEMINFO, DROPS = 1 << 22, 55, 8
 # After 60 seconds of silence the other end's machine is asked whether it is there, three times; else its place is given back.
@@ -154,7 +153,7 @@ class Port:
         self.address = shown(place.host, place.port)
         self.open: Set[Connection] = set()
         self.counts: Dict[str, int] = {}
-        self.bring: Callable[[bytes, str], None] = hub.craft.bring
+        self.bring: Callable[[bytes, str], None] = hub.spacecraft.bring
         """Called with each frame that arrives here, and from where."""
         self.look: Callable[[], None] = lambda: None
         """Called before the counts are looked at."""
@@ -168,12 +167,12 @@ class Port:
     def count(self, what: str, more: int = 1) -> None:
         """Counts what happened here."""
         self.counts[what] = self.counts.get(what, 0) + more
-        self.hub.craft.changes += 1
+        self.hub.spacecraft.changes += 1
 
     def note(self, source: str, text: str) -> None:
         """Says what happened with a peer, on standard error and among the notes of the page. The source names this port and the peer."""
         self.hub.notes.say(f"{source}: {text}")
-        self.hub.craft.note_text(source, text)
+        self.hub.spacecraft.note_text(source, text)
 
     def state(self) -> Dict[str, object]:
         """Returns the state of the port as values of JSON."""
@@ -190,39 +189,17 @@ class Hub:  # pylint: disable=too-many-instance-attributes  # what ports share
     """All ports with what they share."""
 
     # pylint: disable-next=too-many-arguments  # what ports share
-    def __init__(self, craft: Craft, notes: Notes, most: int, patience: float, per_address: int = 0) -> None:
-        self.craft, self.notes, self.most, self.patience, self.per_address = craft, notes, most, patience, per_address
+    def __init__(self, spacecraft: Spacecraft, notes: Notes, most: int, patience: float, per_address: int = 0) -> None:
+        self.spacecraft, self.notes, self.most, self.patience, self.per_address = spacecraft, notes, most, patience, per_address
         self.ports: List[Port] = []
         self.datagrams: List[Datagrams] = []
         self.loop = asyncio.get_running_loop()
         self.lingering: Dict[Connection, None] = {}
         """Those that were sent why they are closed, in that order."""
         self.closed = False
-        self.turn = 0
-        """How often something was read, on all ports."""
-        self.is_behind: Callable[[], bool] = lambda: False
-        """Whether nothing is to be read for now, as much waits elsewhere."""
-        self.turns = Turns(self.loop, lambda: not self.is_stopped, lambda: not self.closed and not craft.is_slow)
-        craft.slow = lambda slow: self.stop_all()
+        """From then on nothing more is read. What was read before is still answered."""
+        self.scheduler = Scheduler(self.loop)
         self._sweep()
-
-    @property
-    def is_stopped(self) -> bool:
-        """Whether nothing is read that leads to lines for the receiver: while much waits for it, and from the end on."""
-        return self.closed or self.craft.is_slow or self.is_behind()
-
-    def stop_all(self) -> None:
-        """Has all connections and datagrams read nothing, or read on."""
-        # What was read last comes last, so that each has its turn.
-        everyone: List[Union[Connection, Datagrams]] = [*self.datagrams, *(connection for port in self.ports for connection in port.open)]
-        for each in sorted(everyone, key=lambda each: each.turn):
-            each.stop(self.is_stopped)
-        self.turns.go_on()
-
-    def next_turn(self) -> int:
-        """The number of a turn that is taken now."""
-        self.turn += 1
-        return self.turn
 
     def _sweep(self) -> None:
         """Looks at each connection from time to time."""
@@ -253,7 +230,8 @@ class Hub:  # pylint: disable=too-many-instance-attributes  # what ports share
         for port in self.ports:
             if port.server:
                 port.server.close()
-        self.stop_all()
+            for connection in list(port.open):
+                connection.balance()
         while self.datagrams:
             self.datagrams.pop().close()
 
@@ -291,8 +269,6 @@ class Connection(asyncio.BufferedProtocol):  # pylint: disable=too-many-instance
         self.done = self.paused = False
         self.since, self.octets = time.monotonic(), 0
         """When it was made, and how many octets came."""
-        # As if it was just read, so that none that comes anew again and again is always the first.
-        self.turn = self.hub.turn
 
     def connection_made(self, transport: asyncio.BaseTransport) -> None:
         """Takes the connection, or says why not."""
@@ -309,12 +285,7 @@ class Connection(asyncio.BufferedProtocol):  # pylint: disable=too-many-instance
                 transport.get_extra_info("socket").setsockopt(*option)
             self.opened()
             # After this call, as older versions of asyncio begin to read behind it.
-            self.hub.loop.call_soon(self._stop_new)
-
-    def _stop_new(self) -> None:
-        """Has a new connection read nothing where all do."""
-        if self.hub.is_stopped:
-            self.stop(True)
+            self.hub.loop.call_soon(self.balance)
 
     def _refuse(self, why: str) -> None:
         """Counts and closes a connection that isn't taken."""
@@ -330,7 +301,6 @@ class Connection(asyncio.BufferedProtocol):  # pylint: disable=too-many-instance
 
     def buffer_updated(self, nbytes: int) -> None:
         """Called when this number of octets was read."""
-        self.turn = self.hub.next_turn()
         self.octets += nbytes
         self.data_received(bytes(self.room[:nbytes]))
 
@@ -373,10 +343,10 @@ class Connection(asyncio.BufferedProtocol):  # pylint: disable=too-many-instance
         """The connection is over."""
         self.hub.lingering.pop(self, None)
         self.port.open.discard(self)
-        self.hub.craft.changes += 1
+        self.hub.spacecraft.changes += 1
 
-    def stop(self, stopped: bool) -> None:
-        """Reads nothing for now, or reads on."""
+    def balance(self) -> None:
+        """Reads on, or not."""
 
     def look(self) -> None:
         """Looks whether it is time for something."""
@@ -390,35 +360,31 @@ class Connection(asyncio.BufferedProtocol):  # pylint: disable=too-many-instance
         self.paused = False
 
 
-class BringingConnection(Connection):
-    """One that brings frames or lines, by turns. While it waits for its turn it reads nothing, so little of it waits."""
+class SendingConnection(Connection):
+    """One that sends frames or lines, which are answered by turns. While it waits for its turn it reads nothing, so little of it waits."""
 
-    def __init__(self, port: Port, ring: Ring) -> None:
+    def __init__(self, port: Port, queue: FairQueue) -> None:
         super().__init__(port)
-        self.ring, self.wants_turn = ring, False
+        self.queue, self.wants_turn = queue, False
 
     def come(self) -> None:
         """Asks for a turn."""
         if not self.wants_turn:
-            self.hub.turns.come(self.ring, self)
+            self.hub.scheduler.come(self.queue, self)
 
     def take_turn(self, most: int) -> int:
-        """Brings up to so many, and returns how many."""
+        """Has up to so many frames or lines answered, and returns how many."""
         raise NotImplementedError
 
     def balance(self) -> None:
-        """Reads on, or not."""
         stop_transport(self, self.wants_turn or self.hub.closed)
 
-    def stop(self, stopped: bool) -> None:
-        self.balance()
 
-
-class FrameConnection(BringingConnection):
+class FrameConnection(SendingConnection):
     """Raw frames, one after the other."""
 
     def __init__(self, port: Port, cutter: Cutter) -> None:
-        super().__init__(port, port.hub.turns.frames)
+        super().__init__(port, port.hub.scheduler.frames)
         self.cutter = cutter
         self.begun: Optional[float] = None
         """Since when a frame has begun that isn't whole."""
@@ -496,16 +462,15 @@ def stop_transport(connection: Connection, stopped: bool) -> None:
         connection.transport.resume_reading()
 
 
-class LineConnection(BringingConnection):
+class LineConnection(SendingConnection):
     """Lines, as `tclive` reads them; the answers go back."""
 
     def __init__(self, port: Port) -> None:
-        super().__init__(port, port.hub.turns.lines)
+        super().__init__(port, port.hub.scheduler.lines)
         self.begun = b""
         self.lines: Deque[Optional[bytes]] = deque()
         """Lines that wait for their turn; None stands for one that is too long."""
         self.too_long = False
-        self.asked = 0
         self.ended = False
 
     def data_received(self, data: bytes) -> None:
@@ -530,8 +495,8 @@ class LineConnection(BringingConnection):
         self.too_long = False
 
     def _may_order(self) -> bool:
-        """Whether lines wait and can be passed on. They can't while many answers are to come, or aren't read."""
-        return bool(self.lines) and self.asked <= MOST_ASKED and not self.paused and not self.done
+        """Whether lines wait and can be carried out. They can't while the answers to others aren't read."""
+        return bool(self.lines) and not self.paused and not self.done
 
     def take_turn(self, most: int) -> int:
         count = 0
@@ -543,33 +508,25 @@ class LineConnection(BringingConnection):
         return count
 
     def _order(self, octets: Optional[bytes]) -> None:
-        """Passes a line on, unless it has neither an answer nor an effect."""
-        if octets is None:
-            # A line that is answered `bad` in any case, so that the answers keep their order.
-            self._ask("?", "bad too long")
-            return
-        words = [word for word in WORDS.split(octets.decode("latin-1")) if word]
+        """Has a line carried out, unless it has neither an answer nor an effect. One that is too long is answered as such, whatever it says."""
+        words = ["?" * (LONGEST_LINE + 1)] if octets is None else [word for word in WORDS.split(octets.decode("latin-1")) if word]
         if words and not words[0].startswith("#"):
-            self.port.count("lines")
-            self._ask(" ".join(words))
+            if octets is not None:
+                self.port.count("lines")
+            self.hub.spacecraft.order(" ".join(words), self.source, self._answered)
 
-    def _ask(self, line: str, instead: str = "") -> None:
-        """Passes a line on, and writes its answer, or another one instead. A good line that sets up has none."""
-        def answered(answer: str) -> None:
-            self.asked -= 1
-            if answer and not self.done and not self.transport.is_closing():
-                self.transport.write(f"{instead or answer}\n".encode("ascii", errors="replace"))
-            self.balance()
-        self.asked += 1
-        self.hub.craft.order(line, self.source, answered)
+    def _answered(self, answer: str) -> None:
+        """Writes an answer. A good line that sets up has none."""
+        if answer and not self.done and not self.transport.is_closing():
+            self.transport.write(f"{answer}\n".encode("ascii", errors="replace"))
 
     def balance(self) -> None:
-        """Reads no more lines while some wait, or while their answers do; asks for a turn where one is wanted; closes at the end."""
+        """Reads no more lines while some wait, or while answers do; asks for a turn where one is wanted; closes at the end."""
         if self._may_order():
             self.come()
         # One that was told why it is closed is read on, as that text would be lost otherwise.
-        stop_transport(self, not self.done and (bool(self.lines) or self.asked > MOST_ASKED or self.paused or self.hub.closed))
-        if self.ended and not self.asked and not self.lines and not self.transport.is_closing():
+        stop_transport(self, not self.done and (bool(self.lines) or self.paused or self.hub.closed))
+        if self.ended and not self.lines and not self.transport.is_closing():
             self.transport.close()
 
     def eof_received(self) -> bool:
@@ -583,7 +540,7 @@ class LineConnection(BringingConnection):
 
     def finish(self) -> None:
         """Says so where not all of its lines were answered."""
-        if (left := self.asked + len(self.lines)) and not self.done and not self.transport.is_closing():
+        if (left := len(self.lines)) and not self.done and not self.transport.is_closing():
             self.transport.write(self.last_words(f"lines of this connection that were left unanswered at the end: {left}"))
         super().finish()
 
@@ -680,26 +637,36 @@ def bound(place: Place) -> socket.socket:
 
 
 class Datagrams:
-    """A port that takes a frame in each datagram, or CLTUs, where it is given what does that. While it reads nothing the kernel keeps what
+    """A port that takes a frame in each datagram, or CLTUs where it is given what decodes them. While it waits for its turn the kernel keeps what
     comes, and loses what it has no room for."""
 
-    def __init__(self, place: Place, hub: Hub, fill: int, take: Optional[Callable[[Port, str, bytes], None]] = None) -> None:
-        self.port, self.hub, self.fill, self.take, self.stopped, self.turn = Port(place, hub), hub, fill, take, False, hub.turn
+    def __init__(self, place: Place, hub: Hub, fill: int, decode: Optional[Callable[[Port, str, bytes], Iterator[int]]] = None) -> None:
+        self.port, self.hub, self.fill, self.decode = Port(place, hub), hub, fill, decode
+        self.wants_turn = self.is_read = False
+        self.pieces: Iterator[int] = iter(())
+        """The work that the datagrams are that have come, piece by piece."""
         self.socket = bound(place)
         self.socket.setsockopt(socket.SOL_SOCKET, socket.SO_RCVBUF, DATAGRAM_BUFFER)
         self.port.address = address_of(self.socket)
         self.port.look = self._count_lost
         hub.ports.append(self.port)
         hub.datagrams.append(self)
-        self.stop(False)
+        self._balance()
 
-    def stop(self, stopped: bool) -> None:
-        """Reads nothing for now, or reads on."""
-        self.stopped = stopped
-        if stopped:
+    def _balance(self) -> None:
+        """Is called when a datagram comes, or not, while it waits for its turn anyway."""
+        is_read = not self.wants_turn and not self.hub.closed
+        if is_read and not self.is_read:
+            self.hub.loop.add_reader(self.socket, self._come)
+        elif self.is_read and not is_read:
             self.hub.loop.remove_reader(self.socket)
-        else:
-            self.hub.loop.add_reader(self.socket, self._read)
+        self.is_read = is_read
+
+    def _come(self) -> None:
+        """Asks for a turn."""
+        self.pieces = self._answer()
+        self.hub.scheduler.come(self.hub.scheduler.frames, self)
+        self._balance()
 
     def _count_lost(self) -> None:
         """Looks how many the kernel has lost."""
@@ -707,30 +674,37 @@ class Datagrams:
         if lost := int.from_bytes(found[4 * DROPS:], sys.byteorder):
             self.port.counts["lost"] = lost
 
-    def _read(self) -> None:
-        """Brings the frames of some datagrams."""
-        self.turn = self.hub.next_turn()
-        for _ in range(MOST_AT_ONCE):
-            if self.stopped:
-                return
+    def take_turn(self, most: int) -> int:
+        """Has some datagrams answered, each of which counts for its frames."""
+        count = work_on(self.pieces, most)
+        self.wants_turn = count >= most
+        self._balance()
+        return count
+
+    def _answer(self) -> Iterator[int]:
+        """Has the datagrams answered that are there, and yields for each piece how much work it was. At the end no more are read."""
+        while not self.hub.closed:
             try:
                 octets, sender = self.socket.recvfrom(LONGEST_DATAGRAM)
             except OSError:
                 return
+            source = f"{self.port.place.kind} {shown(sender[0], sender[1])}"
             if not self.port.place.allows(sender[0]):
                 self.port.count("turned_away")
-            elif self.take:
+                yield 1
+            elif self.decode:
                 self.port.count("datagrams")
-                self.take(self.port, f"{self.port.place.kind} {shown(sender[0], sender[1])}", octets)
+                yield from self.decode(self.port, source, octets)
             else:
                 self.port.count("frames")
                 if self.fill > 1 and len(octets) >= 4:
                     octets = octets[:((octets[2] & 3) << 8 | octets[3]) + 1]
-                self.port.bring(octets, f"{self.port.place.kind} {shown(sender[0], sender[1])}")
+                self.port.bring(octets, source)
+                yield 1
 
     def close(self) -> None:
         """Reads nothing more."""
-        self.stop(True)
+        self._balance()
         self._count_lost()
         self.port.look = lambda: None
         self.socket.close()
@@ -761,6 +735,9 @@ class Target:
 
 def all_senders(senders: List[Callable[[bytes], None]]) -> Callable[[bytes], None]:
     """Returns a function that calls each of these."""
+    if len(senders) == 1:
+        return senders[0]
+
     def send(octets: bytes) -> None:
         for each in senders:
             each(octets)
