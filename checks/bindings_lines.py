@@ -163,7 +163,7 @@ def check_growths(refusing: str) -> None:
             except BadScript as bad:
                 answer = bad.text
             was_refused = memory.tcrx_refuse(-1) < 0
-            # So a receiver answers if there is no memory for what the line sets up, which isn't set up then.
+            # A receiver gives this answer if there is no memory for what the line sets up. Then nothing is set up.
             if answer not in (None, "bad no memory\n"):
                 return answer
             refused += 1

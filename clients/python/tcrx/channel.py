@@ -11,7 +11,7 @@
 
 The functions of the library are proved: each returns what its definition says. This module is not proved. It builds its
 records as in the header, passes each argument on, makes a value from each record that is returned, and frees a channel
-once. That is tested, by the same cases as the calls from C. Nothing is proved about Python, ctypes or libffi.
+once. That is only tested, call by call. Nothing is proved about Python, ctypes or libffi.
 
 `c.py` declares the records and calls of the library. The values are those of `values.py`: the answer to an operation is
 `Brought`, `Released`, `Packet`, `Unit`, `Clcw` or `Report`, or `Refused` with its reason. If a call has no answer, it

@@ -9,7 +9,7 @@
 
 A session answers as the program `tclive`, `tcrx` or `tcmake` does, octet for octet, which is proved of the functions of
 the library. This module is not proved. It passes each line on, returns the text, and frees a session once. That is
-tested, by the same cases as the programs.
+only tested, by all stored cases.
 
 The library has sessions on x86-64 and aarch64. In portable C they are missing, and `Session` raises `NotStarted` there.
 """
@@ -164,8 +164,8 @@ class Session:
             return self._whole(self._text())
 
     def end(self) -> str:
-        """Ends the lines, and returns the final report of a receiver's channels. That of a maker is empty. Raises what
-        `answer` raises."""
+        """Ends the lines, and returns the final report of a receiver's channels. A maker has no channels, so its report is
+        empty. The call raises the exceptions of `answer`."""
         with self._lock:
             return self._whole(self._library.tcrx_lines_end_at(self._at, self._room, len(self._room)))
 
