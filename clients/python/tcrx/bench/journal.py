@@ -80,6 +80,12 @@ class Journal:
             except OSError as error:
                 self.fault = f"the log can't be written: {error.strerror}"
 
+    def discard(self) -> None:
+        """Removes the file, which this journal created."""
+        if self.file is not None and self.path is not None:
+            self._close_file()
+            self.path.unlink(missing_ok=True)
+
     def write(self, *lines: str) -> None:
         """Adds lines."""
         if self.file is not None:

@@ -384,7 +384,7 @@ async def serve(options: Namespace) -> int:
         bench.say_ports()
     except NotUp:
         await bench.hub.stop_listening()
-        journal.close()
+        journal.discard()
         raise
     if note := note_of_old(options):
         notes.say_once(note)
