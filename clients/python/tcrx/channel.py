@@ -213,7 +213,9 @@ def header_of(scid: int, vcid: int, ns: int, bypass: bool, control: bool) -> _He
 # pylint: disable-next=too-many-arguments  # they are the fields of a header
 def write_packet(apid: int, count: int, field: Octets, *, telecommand: bool = True, secondary: bool = False, sequence: int = 3,
                  library: Library = None) -> bytes:
-    """Returns a packet with a packet data field of 1 to 65,536 octets. Raises `NotWritten`."""
+    """Returns a packet of an application (`apid` 0 to 2,047) with a packet data field of 1 to 65,536 octets. `count` is
+    its sequence count (0 to 16,383), `sequence` its sequence flags (0 to 3, and 3 for unsegmented), and `secondary`
+    says that it has a secondary header. Raises `NotWritten`."""
     whole = octets_of(field)
     header = _PacketHeader(in_range(apid, 65535, "apid"), in_range(count, 65535, "count"), int(bool(telecommand)), int(bool(secondary)),
                            in_range(sequence, 255, "sequence"))
@@ -222,7 +224,9 @@ def write_packet(apid: int, count: int, field: Octets, *, telecommand: bool = Tr
 
 # pylint: disable-next=too-many-arguments  # they are the fields of a header
 def write_frame(scid: int, vcid: int, ns: int, field: Octets, *, bypass: bool = False, control: bool = False, library: Library = None) -> bytes:
-    """Returns a frame with a data field of 1 to 1,019 octets. Raises `NotWritten`."""
+    """Returns a frame of a spacecraft (0 to 1,023) on a virtual channel (0 to 63), with the N(S) `ns` (0 to 255) and a
+    data field of 1 to 1,019 octets. The frame is of Type-AD, with `bypass` of Type-BD, and with `bypass` and `control`
+    of Type-BC. The data field has the segment header, if the channel has segment headers. Raises `NotWritten`."""
     whole = octets_of(field)
     return made_by(load(library), "tcrx_write_frame_at", header_of(scid, vcid, ns, bypass, control), whole, len(whole))
 
@@ -230,9 +234,9 @@ def write_frame(scid: int, vcid: int, ns: int, field: Octets, *, bypass: bool = 
 # pylint: disable-next=too-many-arguments,redefined-builtin  # they are the fields of two headers, by their names in tcrx
 def write_segments(unit: Octets, *, scid: int, vcid: int, ns: int, map: int, size: int = 1018, bypass: bool = False,
                    library: Library = None) -> List[bytes]:
-    """Returns the frames that carry a unit of 1 to 65,542 octets in segments. Each carries `size` octets of it (1 to
-    1,018), and the last one carries the octets that are left. The N(S) of Type-AD frames counts up from `ns`. Raises
-    `NotWritten`."""
+    """Returns the frames that carry a unit of 1 to 65,542 octets in segments of a MAP (0 to 63). Each carries `size`
+    octets of it (1 to 1,018), and the last one carries the octets that are left. The frames are of Type-AD, whose N(S)
+    counts up from `ns`, and with `bypass` of Type-BD. Raises `NotWritten`."""
     loaded, whole = load(library), octets_of(unit)
     frames: List[bytes] = []
     given = (header_of(scid, vcid, ns, bypass, False), in_range(map, 255, "map"), in_range(size, 65535, "size"))
@@ -251,7 +255,8 @@ def write_unlock(scid: int, vcid: int, *, library: Library = None) -> bytes:
 
 
 def write_set_vr(scid: int, vcid: int, vr: int, *, library: Library = None) -> bytes:
-    """Returns the Type-BC frame with the control command Set V(R). Raises `NotWritten`."""
+    """Returns the Type-BC frame with the control command Set V(R), which sets V(R) to `vr` (0 to 255). Raises
+    `NotWritten`."""
     given = in_range(scid, 65535, "scid"), in_range(vcid, 255, "vcid"), SET_VR, in_range(vr, 255, "vr")
     return made_by(load(library), "tcrx_write_command_at", *given)
 
@@ -346,8 +351,8 @@ class NotRead(Fault):
 # pylint: disable-next=too-many-arguments  # they are the fields of a header
 def write_tm(scid: int, vcid: int, master_count: int, channel_count: int, clcw: Clcw, *, size: int, fecf: bool = False,
              library: Library = None) -> bytes:
-    """Returns a telemetry frame of `size` octets that carries a CLCW. All other data in it are idle. Raises
-    `NotWritten`."""
+    """Returns a telemetry frame of `size` octets (11 to 2,048, with `fecf` at least 13) that carries a CLCW, on a virtual
+    channel (0 to 7). All other data in it are idle. The counts are 0 to 255. Raises `NotWritten`."""
     header = _TmHeader(in_range(scid, 65535, "scid"), in_range(vcid, 255, "vcid"), in_range(master_count, 255, "master_count"),
                        in_range(channel_count, 255, "channel_count"))
     given = header, int(bool(fecf)), clcw.word, in_range(size, 65535, "size")

@@ -258,9 +258,10 @@ class LineReceiver:
 
     @property
     def final(self) -> Dict[int, Final]:
-        """The final report by channel, once the receiver is closed."""
+        """The final report by channel, once the receiver is closed. Raises `ValueError` before that, and if the receiver
+        was ended by an exception."""
         if self._final is None:
-            raise ValueError("the receiver isn't closed")
+            raise ValueError("there is no final report: the receiver wasn't closed, or it was ended by an exception")
         return self._final
 
     def _drop(self) -> None:
