@@ -577,11 +577,11 @@ DEFINE_TABLE_FILL(externref)
 
 static bool s_module_initialized = false;
 
-static u32 func_types[36];
+static u32 func_types[37];
 
 static void init_func_types(void) {
-  func_types[0] = wasm_rt_register_func_type(1, 0, WASM_RT_I64);
-  func_types[1] = wasm_rt_register_func_type(4, 1, WASM_RT_I64, WASM_RT_I32, WASM_RT_I64, WASM_RT_I32, WASM_RT_I32);
+  func_types[0] = wasm_rt_register_func_type(4, 1, WASM_RT_I64, WASM_RT_I32, WASM_RT_I64, WASM_RT_I32, WASM_RT_I32);
+  func_types[1] = wasm_rt_register_func_type(1, 0, WASM_RT_I64);
   func_types[2] = wasm_rt_register_func_type(0, 1, WASM_RT_I32);
   func_types[3] = wasm_rt_register_func_type(5, 0, WASM_RT_I64, WASM_RT_I64, WASM_RT_I64, WASM_RT_I64, WASM_RT_I64);
   func_types[4] = wasm_rt_register_func_type(2, 0, WASM_RT_I64, WASM_RT_I64);
@@ -606,16 +606,17 @@ static void init_func_types(void) {
   func_types[23] = wasm_rt_register_func_type(4, 0, WASM_RT_I64, WASM_RT_I64, WASM_RT_I64, WASM_RT_I64);
   func_types[24] = wasm_rt_register_func_type(5, 1, WASM_RT_I64, WASM_RT_I64, WASM_RT_I32, WASM_RT_I64, WASM_RT_I64, WASM_RT_I32);
   func_types[25] = wasm_rt_register_func_type(4, 0, WASM_RT_I64, WASM_RT_I32, WASM_RT_I32, WASM_RT_I64);
-  func_types[26] = wasm_rt_register_func_type(9, 0, WASM_RT_I64, WASM_RT_I64, WASM_RT_I64, WASM_RT_I64, WASM_RT_I64, WASM_RT_I64, WASM_RT_I32, WASM_RT_I64, WASM_RT_I64);
-  func_types[27] = wasm_rt_register_func_type(4, 0, WASM_RT_I64, WASM_RT_I32, WASM_RT_I64, WASM_RT_I64);
-  func_types[28] = wasm_rt_register_func_type(9, 0, WASM_RT_I64, WASM_RT_I64, WASM_RT_I32, WASM_RT_I32, WASM_RT_I32, WASM_RT_I64, WASM_RT_I64, WASM_RT_I64, WASM_RT_I64);
-  func_types[29] = wasm_rt_register_func_type(4, 0, WASM_RT_I64, WASM_RT_I64, WASM_RT_I64, WASM_RT_I32);
-  func_types[30] = wasm_rt_register_func_type(7, 0, WASM_RT_I64, WASM_RT_I32, WASM_RT_I32, WASM_RT_I32, WASM_RT_I32, WASM_RT_I64, WASM_RT_I64);
-  func_types[31] = wasm_rt_register_func_type(7, 0, WASM_RT_I64, WASM_RT_I64, WASM_RT_I32, WASM_RT_I32, WASM_RT_I32, WASM_RT_I64, WASM_RT_I64);
-  func_types[32] = wasm_rt_register_func_type(1, 1, WASM_RT_I32, WASM_RT_I64);
-  func_types[33] = wasm_rt_register_func_type(6, 1, WASM_RT_I32, WASM_RT_I32, WASM_RT_I32, WASM_RT_I32, WASM_RT_I64, WASM_RT_I32, WASM_RT_I32);
-  func_types[34] = wasm_rt_register_func_type(7, 1, WASM_RT_I32, WASM_RT_I32, WASM_RT_I32, WASM_RT_I64, WASM_RT_I32, WASM_RT_I64, WASM_RT_I32, WASM_RT_I32);
-  func_types[35] = wasm_rt_register_func_type(5, 1, WASM_RT_I32, WASM_RT_I32, WASM_RT_I32, WASM_RT_I64, WASM_RT_I32, WASM_RT_I32);
+  func_types[26] = wasm_rt_register_func_type(7, 0, WASM_RT_I64, WASM_RT_I32, WASM_RT_I32, WASM_RT_I64, WASM_RT_I64, WASM_RT_I64, WASM_RT_I64);
+  func_types[27] = wasm_rt_register_func_type(9, 0, WASM_RT_I64, WASM_RT_I64, WASM_RT_I64, WASM_RT_I64, WASM_RT_I64, WASM_RT_I64, WASM_RT_I32, WASM_RT_I64, WASM_RT_I64);
+  func_types[28] = wasm_rt_register_func_type(4, 0, WASM_RT_I64, WASM_RT_I32, WASM_RT_I64, WASM_RT_I64);
+  func_types[29] = wasm_rt_register_func_type(9, 0, WASM_RT_I64, WASM_RT_I64, WASM_RT_I32, WASM_RT_I32, WASM_RT_I32, WASM_RT_I64, WASM_RT_I64, WASM_RT_I64, WASM_RT_I64);
+  func_types[30] = wasm_rt_register_func_type(4, 0, WASM_RT_I64, WASM_RT_I64, WASM_RT_I64, WASM_RT_I32);
+  func_types[31] = wasm_rt_register_func_type(7, 0, WASM_RT_I64, WASM_RT_I32, WASM_RT_I32, WASM_RT_I32, WASM_RT_I32, WASM_RT_I64, WASM_RT_I64);
+  func_types[32] = wasm_rt_register_func_type(7, 0, WASM_RT_I64, WASM_RT_I64, WASM_RT_I32, WASM_RT_I32, WASM_RT_I32, WASM_RT_I64, WASM_RT_I64);
+  func_types[33] = wasm_rt_register_func_type(1, 1, WASM_RT_I32, WASM_RT_I64);
+  func_types[34] = wasm_rt_register_func_type(6, 1, WASM_RT_I32, WASM_RT_I32, WASM_RT_I32, WASM_RT_I32, WASM_RT_I64, WASM_RT_I32, WASM_RT_I32);
+  func_types[35] = wasm_rt_register_func_type(7, 1, WASM_RT_I32, WASM_RT_I32, WASM_RT_I32, WASM_RT_I64, WASM_RT_I32, WASM_RT_I64, WASM_RT_I32, WASM_RT_I32);
+  func_types[36] = wasm_rt_register_func_type(5, 1, WASM_RT_I32, WASM_RT_I32, WASM_RT_I32, WASM_RT_I64, WASM_RT_I32, WASM_RT_I32);
 }
 
 static u64 w2c_f0(Z_tcrx_instance_t*, u64, u64);
@@ -643,29 +644,28 @@ static void w2c_f21(Z_tcrx_instance_t*, u64, u64, u64);
 static void w2c_f22(Z_tcrx_instance_t*, u64, u32, u32, u64);
 static void w2c_f23(Z_tcrx_instance_t*, u64);
 static void w2c_f24(Z_tcrx_instance_t*, u64);
-static void w2c_f25(Z_tcrx_instance_t*, u64);
-static void w2c_f26(Z_tcrx_instance_t*, u64);
-static void w2c_f27(Z_tcrx_instance_t*, u64, u64, u64);
-static void w2c_f28(Z_tcrx_instance_t*, u64, u64, u32);
-static void w2c_f29(Z_tcrx_instance_t*, u64, u64, u32, u64, u64);
-static void w2c_f30(Z_tcrx_instance_t*, u64, u64, u32, u64, u64);
-static void w2c_f31(Z_tcrx_instance_t*, u64, u64, u64, u64, u64);
-static void w2c_f32(Z_tcrx_instance_t*, u64, u64, u64);
-static u32 w2c_f33(Z_tcrx_instance_t*, u64);
-static void w2c_f34(Z_tcrx_instance_t*, u64, u64, u64, u64, u64);
-static void w2c_f35(Z_tcrx_instance_t*, u64, u64, u64, u64, u64, u64);
-static void w2c_f36(Z_tcrx_instance_t*, u64, u64, u64, u64, u64, u64, u32, u64, u64);
-static void w2c_f37(Z_tcrx_instance_t*, u64, u32, u64, u64);
-static void w2c_f38(Z_tcrx_instance_t*, u64, u64, u64, u64, u64, u64);
-static void w2c_f39(Z_tcrx_instance_t*, u64, u64, u32, u32, u32, u64, u64, u64, u64);
-static void w2c_f40(Z_tcrx_instance_t*, u64, u64, u32);
+static void w2c_f25(Z_tcrx_instance_t*, u64, u64, u64);
+static void w2c_f26(Z_tcrx_instance_t*, u64, u64, u32);
+static void w2c_f27(Z_tcrx_instance_t*, u64, u64, u32, u64, u64);
+static void w2c_f28(Z_tcrx_instance_t*, u64, u64, u32, u64, u64);
+static void w2c_f29(Z_tcrx_instance_t*, u64, u64, u64, u64, u64);
+static void w2c_f30(Z_tcrx_instance_t*, u64, u64, u64);
+static u32 w2c_f31(Z_tcrx_instance_t*, u64);
+static void w2c_f32(Z_tcrx_instance_t*, u64, u32, u32, u64, u64, u64, u64);
+static void w2c_f33(Z_tcrx_instance_t*, u64, u64, u64, u64, u64);
+static void w2c_f34(Z_tcrx_instance_t*, u64, u64, u64, u64, u64, u64);
+static void w2c_f35(Z_tcrx_instance_t*, u64, u64, u64, u64, u64, u64, u32, u64, u64);
+static void w2c_f36(Z_tcrx_instance_t*, u64, u32, u64, u64);
+static void w2c_f37(Z_tcrx_instance_t*, u64, u64, u64, u64, u64, u64);
+static void w2c_f38(Z_tcrx_instance_t*, u64, u64, u32, u32, u32, u64, u64, u64, u64);
+static void w2c_f39(Z_tcrx_instance_t*, u64, u64, u32);
+static void w2c_f40(Z_tcrx_instance_t*, u64, u64, u64, u32, u64, u64);
 static void w2c_f41(Z_tcrx_instance_t*, u64, u64, u64, u32, u64, u64);
-static void w2c_f42(Z_tcrx_instance_t*, u64, u64, u64, u32, u64, u64);
-static void w2c_f43(Z_tcrx_instance_t*, u64, u64, u64, u32);
-static void w2c_f44(Z_tcrx_instance_t*, u64, u64, u64, u64, u64, u64);
-static void w2c_f45(Z_tcrx_instance_t*, u64, u32, u32, u32, u32, u64, u64);
-static void w2c_f46(Z_tcrx_instance_t*, u64, u64, u32, u32, u32, u64, u64);
-static void w2c_f47(Z_tcrx_instance_t*, u64, u64, u64, u64, u64);
+static void w2c_f42(Z_tcrx_instance_t*, u64, u64, u64, u32);
+static void w2c_f43(Z_tcrx_instance_t*, u64, u64, u64, u64, u64, u64);
+static void w2c_f44(Z_tcrx_instance_t*, u64, u32, u32, u32, u32, u64, u64);
+static void w2c_f45(Z_tcrx_instance_t*, u64, u64, u32, u32, u32, u64, u64);
+static void w2c_f46(Z_tcrx_instance_t*, u64, u64, u64, u64, u64);
 static u32 w2c_module_add_fecf(Z_tcrx_instance_t*, u64, u32, u64, u32);
 static u32 w2c_module_channel_buffered(Z_tcrx_instance_t*);
 static u32 w2c_module_channel_clcw(Z_tcrx_instance_t*, u32, u32);
@@ -6484,7 +6484,7 @@ static void w2c_f21(Z_tcrx_instance_t* instance, u64 w2c_p0, u64 w2c_p1, u64 w2c
   u32 w2c_i0, w2c_i1, w2c_i2, w2c_i3, w2c_i4, w2c_i5, w2c_i6;
   u64 w2c_j0, w2c_j1, w2c_j2, w2c_j3, w2c_j4;
   w2c_j0 = instance->w2c_g0;
-  w2c_j1 = 1216ull;
+  w2c_j1 = 1168ull;
   w2c_j0 -= w2c_j1;
   w2c_l3 = w2c_j0;
   instance->w2c_g0 = w2c_j0;
@@ -6643,7 +6643,7 @@ static void w2c_f21(Z_tcrx_instance_t* instance, u64 w2c_p0, u64 w2c_p1, u64 w2c
   w2c_j0 = (u64)(w2c_i0);
   w2c_l14 = w2c_j0;
   w2c_j0 = w2c_l3;
-  w2c_j1 = 1208ull;
+  w2c_j1 = 1160ull;
   w2c_j0 += w2c_j1;
   w2c_l15 = w2c_j0;
   w2c_j0 = 0ull;
@@ -6954,7 +6954,7 @@ static void w2c_f21(Z_tcrx_instance_t* instance, u64 w2c_p0, u64 w2c_p1, u64 w2c
     w2c_i0 = !(w2c_i0);
     if (w2c_i0) {goto w2c_B17;}
     w2c_j0 = w2c_l3;
-    w2c_j1 = 1208ull;
+    w2c_j1 = 1160ull;
     w2c_j0 += w2c_j1;
     w2c_l19 = w2c_j0;
     w2c_j0 = 0ull;
@@ -7175,34 +7175,6 @@ static void w2c_f21(Z_tcrx_instance_t* instance, u64 w2c_p0, u64 w2c_p1, u64 w2c
     w2c_i0 = w2c_j0 != w2c_j1;
     if (w2c_i0) {goto w2c_L22;}
   w2c_B19:;
-  w2c_j0 = w2c_l3;
-  w2c_i0 = (u32)(w2c_j0);
-  w2c_j1 = 0ull;
-  i64_store(&instance->w2c_memory, (u64)(w2c_i0) + 1160, w2c_j1);
-  w2c_j0 = w2c_l3;
-  w2c_i0 = (u32)(w2c_j0);
-  w2c_j1 = 0ull;
-  i64_store(&instance->w2c_memory, (u64)(w2c_i0) + 1168, w2c_j1);
-  w2c_j0 = w2c_l3;
-  w2c_i0 = (u32)(w2c_j0);
-  w2c_j1 = 0ull;
-  i64_store(&instance->w2c_memory, (u64)(w2c_i0) + 1176, w2c_j1);
-  w2c_j0 = w2c_l3;
-  w2c_i0 = (u32)(w2c_j0);
-  w2c_j1 = 0ull;
-  i64_store(&instance->w2c_memory, (u64)(w2c_i0) + 136, w2c_j1);
-  w2c_j0 = w2c_l3;
-  w2c_i0 = (u32)(w2c_j0);
-  w2c_j1 = 0ull;
-  i64_store(&instance->w2c_memory, (u64)(w2c_i0) + 144, w2c_j1);
-  w2c_j0 = w2c_l3;
-  w2c_i0 = (u32)(w2c_j0);
-  w2c_j1 = 0ull;
-  i64_store(&instance->w2c_memory, (u64)(w2c_i0) + 152, w2c_j1);
-  w2c_j0 = w2c_l3;
-  w2c_i0 = (u32)(w2c_j0);
-  w2c_j1 = 0ull;
-  i64_store(&instance->w2c_memory, (u64)(w2c_i0) + 160, w2c_j1);
   w2c_i0 = w2c_l31;
   w2c_i1 = 4294967294u;
   w2c_i0 += w2c_i1;
@@ -7352,7 +7324,7 @@ static void w2c_f21(Z_tcrx_instance_t* instance, u64 w2c_p0, u64 w2c_p1, u64 w2c
   w2c_i0 = w2c_j0 != w2c_j1;
   if (w2c_i0) {goto w2c_B26;}
   w2c_j0 = w2c_l3;
-  w2c_j1 = 1208ull;
+  w2c_j1 = 1160ull;
   w2c_j0 += w2c_j1;
   w2c_l24 = w2c_j0;
   w2c_l25 = w2c_j0;
@@ -7483,7 +7455,7 @@ static void w2c_f21(Z_tcrx_instance_t* instance, u64 w2c_p0, u64 w2c_p1, u64 w2c
   w2c_j0 = 0ull;
   w2c_l23 = w2c_j0;
   w2c_j0 = w2c_l3;
-  w2c_j1 = 1208ull;
+  w2c_j1 = 1160ull;
   w2c_j0 += w2c_j1;
   w2c_l25 = w2c_j0;
   goto w2c_B25;
@@ -7636,7 +7608,7 @@ static void w2c_f21(Z_tcrx_instance_t* instance, u64 w2c_p0, u64 w2c_p1, u64 w2c
   w2c_i0 = w2c_j0 != w2c_j1;
   if (w2c_i0) {goto w2c_B33;}
   w2c_j0 = w2c_l3;
-  w2c_j1 = 1208ull;
+  w2c_j1 = 1160ull;
   w2c_j0 += w2c_j1;
   w2c_l26 = w2c_j0;
   w2c_l13 = w2c_j0;
@@ -7767,7 +7739,7 @@ static void w2c_f21(Z_tcrx_instance_t* instance, u64 w2c_p0, u64 w2c_p1, u64 w2c
   w2c_j0 = 0ull;
   w2c_p1 = w2c_j0;
   w2c_j0 = w2c_l3;
-  w2c_j1 = 1208ull;
+  w2c_j1 = 1160ull;
   w2c_j0 += w2c_j1;
   w2c_l13 = w2c_j0;
   goto w2c_B1;
@@ -7909,17 +7881,17 @@ static void w2c_f21(Z_tcrx_instance_t* instance, u64 w2c_p0, u64 w2c_p1, u64 w2c
   w2c_j0 = w2c_l3;
   w2c_i0 = (u32)(w2c_j0);
   w2c_j1 = w2c_l8;
-  i64_store(&instance->w2c_memory, (u64)(w2c_i0) + 1200, w2c_j1);
+  i64_store(&instance->w2c_memory, (u64)(w2c_i0) + 152, w2c_j1);
   w2c_j0 = w2c_l3;
   w2c_i0 = (u32)(w2c_j0);
   w2c_j1 = w2c_l18;
-  i64_store(&instance->w2c_memory, (u64)(w2c_i0) + 1192, w2c_j1);
+  i64_store(&instance->w2c_memory, (u64)(w2c_i0) + 144, w2c_j1);
   w2c_j0 = w2c_l3;
   w2c_i0 = (u32)(w2c_j0);
   w2c_j1 = w2c_l26;
-  i64_store(&instance->w2c_memory, (u64)(w2c_i0) + 1184, w2c_j1);
+  i64_store(&instance->w2c_memory, (u64)(w2c_i0) + 136, w2c_j1);
   w2c_j0 = w2c_l3;
-  w2c_j1 = 1184ull;
+  w2c_j1 = 136ull;
   w2c_j0 += w2c_j1;
   w2c_f23(instance, w2c_j0);
   goto w2c_B2;
@@ -7940,42 +7912,6 @@ static void w2c_f21(Z_tcrx_instance_t* instance, u64 w2c_p0, u64 w2c_p1, u64 w2c
   w2c_j1 = 648ull;
   w2c_j0 += w2c_j1;
   w2c_f23(instance, w2c_j0);
-  w2c_j0 = w2c_l3;
-  w2c_i0 = (u32)(w2c_j0);
-  w2c_j1 = w2c_l11;
-  i64_store(&instance->w2c_memory, (u64)(w2c_i0) + 1176, w2c_j1);
-  w2c_j0 = w2c_l3;
-  w2c_i0 = (u32)(w2c_j0);
-  w2c_j1 = w2c_l11;
-  i64_store(&instance->w2c_memory, (u64)(w2c_i0) + 1168, w2c_j1);
-  w2c_j0 = w2c_l3;
-  w2c_i0 = (u32)(w2c_j0);
-  w2c_j1 = w2c_l24;
-  i64_store(&instance->w2c_memory, (u64)(w2c_i0) + 1160, w2c_j1);
-  w2c_j0 = w2c_l3;
-  w2c_j1 = 1160ull;
-  w2c_j0 += w2c_j1;
-  w2c_f24(instance, w2c_j0);
-  w2c_j0 = w2c_l3;
-  w2c_i0 = (u32)(w2c_j0);
-  w2c_j1 = 0ull;
-  i64_store(&instance->w2c_memory, (u64)(w2c_i0) + 160, w2c_j1);
-  w2c_j0 = w2c_l3;
-  w2c_i0 = (u32)(w2c_j0);
-  w2c_j1 = w2c_l19;
-  i64_store(&instance->w2c_memory, (u64)(w2c_i0) + 152, w2c_j1);
-  w2c_j0 = w2c_l3;
-  w2c_i0 = (u32)(w2c_j0);
-  w2c_j1 = w2c_l21;
-  i64_store(&instance->w2c_memory, (u64)(w2c_i0) + 144, w2c_j1);
-  w2c_j0 = w2c_l3;
-  w2c_i0 = (u32)(w2c_j0);
-  w2c_j1 = w2c_l22;
-  i64_store(&instance->w2c_memory, (u64)(w2c_i0) + 136, w2c_j1);
-  w2c_j0 = w2c_l3;
-  w2c_j1 = 136ull;
-  w2c_j0 += w2c_j1;
-  w2c_f25(instance, w2c_j0);
   goto w2c_B2;
   w2c_B6:;
   w2c_j0 = w2c_p0;
@@ -8013,17 +7949,17 @@ static void w2c_f21(Z_tcrx_instance_t* instance, u64 w2c_p0, u64 w2c_p1, u64 w2c
   w2c_j0 = w2c_l3;
   w2c_i0 = (u32)(w2c_j0);
   w2c_j1 = w2c_l11;
-  i64_store(&instance->w2c_memory, (u64)(w2c_i0) + 1200, w2c_j1);
+  i64_store(&instance->w2c_memory, (u64)(w2c_i0) + 152, w2c_j1);
   w2c_j0 = w2c_l3;
   w2c_i0 = (u32)(w2c_j0);
   w2c_j1 = w2c_l18;
-  i64_store(&instance->w2c_memory, (u64)(w2c_i0) + 1192, w2c_j1);
+  i64_store(&instance->w2c_memory, (u64)(w2c_i0) + 144, w2c_j1);
   w2c_j0 = w2c_l3;
   w2c_i0 = (u32)(w2c_j0);
   w2c_j1 = w2c_l24;
-  i64_store(&instance->w2c_memory, (u64)(w2c_i0) + 1184, w2c_j1);
+  i64_store(&instance->w2c_memory, (u64)(w2c_i0) + 136, w2c_j1);
   w2c_j0 = w2c_l3;
-  w2c_j1 = 1184ull;
+  w2c_j1 = 136ull;
   w2c_j0 += w2c_j1;
   w2c_f23(instance, w2c_j0);
   w2c_B2:;
@@ -8039,6 +7975,10 @@ static void w2c_f21(Z_tcrx_instance_t* instance, u64 w2c_p0, u64 w2c_p1, u64 w2c
   w2c_j0 = w2c_f6(instance, w2c_j0, w2c_i1, w2c_j2);
   goto w2c_B0;
   w2c_B1:;
+  w2c_j0 = w2c_p0;
+  w2c_i0 = (u32)(w2c_j0);
+  w2c_i1 = 0u;
+  i32_store8(&instance->w2c_memory, (u64)(w2c_i0), w2c_i1);
   w2c_j0 = w2c_p0;
   w2c_j1 = 12ull;
   w2c_j0 += w2c_j1;
@@ -8068,10 +8008,6 @@ static void w2c_f21(Z_tcrx_instance_t* instance, u64 w2c_p0, u64 w2c_p1, u64 w2c
   w2c_j0 += w2c_j1;
   w2c_i0 = (u32)(w2c_j0);
   w2c_i1 = w2c_l32;
-  i32_store8(&instance->w2c_memory, (u64)(w2c_i0), w2c_i1);
-  w2c_j0 = w2c_p0;
-  w2c_i0 = (u32)(w2c_j0);
-  w2c_i1 = 0u;
   i32_store8(&instance->w2c_memory, (u64)(w2c_i0), w2c_i1);
   w2c_j0 = w2c_p0;
   w2c_j1 = 13ull;
@@ -8340,7 +8276,7 @@ static void w2c_f21(Z_tcrx_instance_t* instance, u64 w2c_p0, u64 w2c_p1, u64 w2c
   i64_store(&instance->w2c_memory, (u64)(w2c_i0), w2c_j1);
   w2c_B0:;
   w2c_j0 = w2c_l3;
-  w2c_j1 = 1216ull;
+  w2c_j1 = 1168ull;
   w2c_j0 += w2c_j1;
   instance->w2c_g0 = w2c_j0;
   FUNC_EPILOGUE;
@@ -8745,17 +8681,7 @@ static void w2c_f24(Z_tcrx_instance_t* instance, u64 w2c_p0) {
   FUNC_EPILOGUE;
 }
 
-static void w2c_f25(Z_tcrx_instance_t* instance, u64 w2c_p0) {
-  FUNC_PROLOGUE;
-  FUNC_EPILOGUE;
-}
-
-static void w2c_f26(Z_tcrx_instance_t* instance, u64 w2c_p0) {
-  FUNC_PROLOGUE;
-  FUNC_EPILOGUE;
-}
-
-static void w2c_f27(Z_tcrx_instance_t* instance, u64 w2c_p0, u64 w2c_p1, u64 w2c_p2) {
+static void w2c_f25(Z_tcrx_instance_t* instance, u64 w2c_p0, u64 w2c_p1, u64 w2c_p2) {
   u32 w2c_l10 = 0, w2c_l11 = 0, w2c_l12 = 0, w2c_l13 = 0, w2c_l14 = 0, w2c_l15 = 0, w2c_l16 = 0;
   u64 w2c_l3 = 0, w2c_l4 = 0, w2c_l5 = 0, w2c_l6 = 0, w2c_l7 = 0, w2c_l8 = 0, w2c_l9 = 0;
   FUNC_PROLOGUE;
@@ -9092,7 +9018,7 @@ static void w2c_f27(Z_tcrx_instance_t* instance, u64 w2c_p0, u64 w2c_p1, u64 w2c
   FUNC_EPILOGUE;
 }
 
-static void w2c_f28(Z_tcrx_instance_t* instance, u64 w2c_p0, u64 w2c_p1, u32 w2c_p2) {
+static void w2c_f26(Z_tcrx_instance_t* instance, u64 w2c_p0, u64 w2c_p1, u32 w2c_p2) {
   u64 w2c_l3 = 0, w2c_l4 = 0, w2c_l5 = 0, w2c_l6 = 0;
   FUNC_PROLOGUE;
   u32 w2c_i0, w2c_i1;
@@ -9219,7 +9145,7 @@ static void w2c_f28(Z_tcrx_instance_t* instance, u64 w2c_p0, u64 w2c_p1, u32 w2c
   FUNC_EPILOGUE;
 }
 
-static void w2c_f29(Z_tcrx_instance_t* instance, u64 w2c_p0, u64 w2c_p1, u32 w2c_p2, u64 w2c_p3, u64 w2c_p4) {
+static void w2c_f27(Z_tcrx_instance_t* instance, u64 w2c_p0, u64 w2c_p1, u32 w2c_p2, u64 w2c_p3, u64 w2c_p4) {
   u32 w2c_l14 = 0;
   u64 w2c_l5 = 0, w2c_l6 = 0, w2c_l7 = 0, w2c_l8 = 0, w2c_l9 = 0, w2c_l10 = 0, w2c_l11 = 0, w2c_l12 = 0, 
       w2c_l13 = 0;
@@ -9732,7 +9658,7 @@ static void w2c_f29(Z_tcrx_instance_t* instance, u64 w2c_p0, u64 w2c_p1, u32 w2c
   FUNC_EPILOGUE;
 }
 
-static void w2c_f30(Z_tcrx_instance_t* instance, u64 w2c_p0, u64 w2c_p1, u32 w2c_p2, u64 w2c_p3, u64 w2c_p4) {
+static void w2c_f28(Z_tcrx_instance_t* instance, u64 w2c_p0, u64 w2c_p1, u32 w2c_p2, u64 w2c_p3, u64 w2c_p4) {
   u32 w2c_l14 = 0;
   u64 w2c_l5 = 0, w2c_l6 = 0, w2c_l7 = 0, w2c_l8 = 0, w2c_l9 = 0, w2c_l10 = 0, w2c_l11 = 0, w2c_l12 = 0, 
       w2c_l13 = 0;
@@ -10245,7 +10171,7 @@ static void w2c_f30(Z_tcrx_instance_t* instance, u64 w2c_p0, u64 w2c_p1, u32 w2c
   FUNC_EPILOGUE;
 }
 
-static void w2c_f31(Z_tcrx_instance_t* instance, u64 w2c_p0, u64 w2c_p1, u64 w2c_p2, u64 w2c_p3, u64 w2c_p4) {
+static void w2c_f29(Z_tcrx_instance_t* instance, u64 w2c_p0, u64 w2c_p1, u64 w2c_p2, u64 w2c_p3, u64 w2c_p4) {
   u32 w2c_l14 = 0, w2c_l15 = 0;
   u64 w2c_l5 = 0, w2c_l6 = 0, w2c_l7 = 0, w2c_l8 = 0, w2c_l9 = 0, w2c_l10 = 0, w2c_l11 = 0, w2c_l12 = 0, 
       w2c_l13 = 0;
@@ -10278,7 +10204,7 @@ static void w2c_f31(Z_tcrx_instance_t* instance, u64 w2c_p0, u64 w2c_p1, u64 w2c
   w2c_j1 += w2c_j2;
   w2c_l7 = w2c_j1;
   w2c_j2 = w2c_p2;
-  w2c_f32(instance, w2c_j0, w2c_j1, w2c_j2);
+  w2c_f30(instance, w2c_j0, w2c_j1, w2c_j2);
   w2c_j0 = w2c_l5;
   w2c_i0 = (u32)(w2c_j0);
   w2c_i0 = i32_load8_u(&instance->w2c_memory, (u64)(w2c_i0) + 12u);
@@ -10519,7 +10445,7 @@ static void w2c_f31(Z_tcrx_instance_t* instance, u64 w2c_p0, u64 w2c_p1, u64 w2c
   FUNC_EPILOGUE;
 }
 
-static void w2c_f32(Z_tcrx_instance_t* instance, u64 w2c_p0, u64 w2c_p1, u64 w2c_p2) {
+static void w2c_f30(Z_tcrx_instance_t* instance, u64 w2c_p0, u64 w2c_p1, u64 w2c_p2) {
   u32 w2c_l3 = 0, w2c_l4 = 0, w2c_l5 = 0;
   u64 w2c_l6 = 0;
   FUNC_PROLOGUE;
@@ -10765,7 +10691,7 @@ static void w2c_f32(Z_tcrx_instance_t* instance, u64 w2c_p0, u64 w2c_p1, u64 w2c
   FUNC_EPILOGUE;
 }
 
-static u32 w2c_f33(Z_tcrx_instance_t* instance, u64 w2c_p0) {
+static u32 w2c_f31(Z_tcrx_instance_t* instance, u64 w2c_p0) {
   FUNC_PROLOGUE;
   u32 w2c_i0, w2c_i1, w2c_i2, w2c_i3;
   u64 w2c_j0, w2c_j1, w2c_j2, w2c_j3;
@@ -10834,7 +10760,237 @@ static u32 w2c_f33(Z_tcrx_instance_t* instance, u64 w2c_p0) {
   return w2c_i0;
 }
 
-static void w2c_f34(Z_tcrx_instance_t* instance, u64 w2c_p0, u64 w2c_p1, u64 w2c_p2, u64 w2c_p3, u64 w2c_p4) {
+static void w2c_f32(Z_tcrx_instance_t* instance, u64 w2c_p0, u32 w2c_p1, u32 w2c_p2, u64 w2c_p3, u64 w2c_p4, u64 w2c_p5, u64 w2c_p6) {
+  u32 w2c_l12 = 0;
+  u64 w2c_l7 = 0, w2c_l8 = 0, w2c_l9 = 0, w2c_l10 = 0, w2c_l11 = 0;
+  FUNC_PROLOGUE;
+  u32 w2c_i0, w2c_i1, w2c_i2;
+  u64 w2c_j0, w2c_j1, w2c_j2;
+  w2c_j0 = 0ull;
+  w2c_l7 = w2c_j0;
+  w2c_i0 = w2c_p2;
+  w2c_i1 = 65535u;
+  w2c_i0 &= w2c_i1;
+  w2c_i1 = 1022u;
+  w2c_i0 = w2c_i0 <= w2c_i1;
+  if (w2c_i0) {goto w2c_B1;}
+  w2c_j0 = 0ull;
+  w2c_l8 = w2c_j0;
+  goto w2c_B0;
+  w2c_B1:;
+  w2c_j0 = w2c_p4;
+  w2c_j1 = 8ull;
+  w2c_i0 = w2c_j0 >= w2c_j1;
+  if (w2c_i0) {goto w2c_B2;}
+  w2c_j0 = 0ull;
+  w2c_l8 = w2c_j0;
+  goto w2c_B0;
+  w2c_B2:;
+  w2c_j0 = w2c_p4;
+  w2c_j1 = 18446744073709551608ull;
+  w2c_j0 += w2c_j1;
+  w2c_l9 = w2c_j0;
+  w2c_j0 = w2c_p6;
+  w2c_i1 = w2c_p2;
+  w2c_j1 = (u64)(w2c_i1);
+  w2c_j2 = 65535ull;
+  w2c_j1 &= w2c_j2;
+  w2c_l10 = w2c_j1;
+  w2c_j0 -= w2c_j1;
+  w2c_p6 = w2c_j0;
+  w2c_j0 = 0ull;
+  w2c_l8 = w2c_j0;
+  w2c_i0 = w2c_p1;
+  w2c_i1 = 255u;
+  w2c_i0 &= w2c_i1;
+  w2c_l12 = w2c_i0;
+  w2c_j0 = 0ull;
+  w2c_l7 = w2c_j0;
+  w2c_L4: 
+    w2c_j0 = w2c_p3;
+    w2c_j1 = w2c_l7;
+    w2c_j0 += w2c_j1;
+    w2c_p4 = w2c_j0;
+    w2c_i0 = (u32)(w2c_j0);
+    w2c_j0 = i64_load8_u(&instance->w2c_memory, (u64)(w2c_i0));
+    w2c_i0 = (u32)(w2c_j0);
+    w2c_i0 = i32_load8_u(&instance->w2c_memory, (u64)(w2c_i0) + 21064u);
+    w2c_j1 = w2c_p4;
+    w2c_j2 = 1ull;
+    w2c_j1 += w2c_j2;
+    w2c_i1 = (u32)(w2c_j1);
+    w2c_j1 = i64_load8_u(&instance->w2c_memory, (u64)(w2c_i1));
+    w2c_i1 = (u32)(w2c_j1);
+    w2c_i1 = i32_load8_u(&instance->w2c_memory, (u64)(w2c_i1) + 20808u);
+    w2c_i0 ^= w2c_i1;
+    w2c_j1 = w2c_p4;
+    w2c_j2 = 2ull;
+    w2c_j1 += w2c_j2;
+    w2c_i1 = (u32)(w2c_j1);
+    w2c_j1 = i64_load8_u(&instance->w2c_memory, (u64)(w2c_i1));
+    w2c_i1 = (u32)(w2c_j1);
+    w2c_i1 = i32_load8_u(&instance->w2c_memory, (u64)(w2c_i1) + 20552u);
+    w2c_i0 ^= w2c_i1;
+    w2c_j1 = w2c_p4;
+    w2c_j2 = 3ull;
+    w2c_j1 += w2c_j2;
+    w2c_i1 = (u32)(w2c_j1);
+    w2c_j1 = i64_load8_u(&instance->w2c_memory, (u64)(w2c_i1));
+    w2c_i1 = (u32)(w2c_j1);
+    w2c_i1 = i32_load8_u(&instance->w2c_memory, (u64)(w2c_i1) + 20296u);
+    w2c_i0 ^= w2c_i1;
+    w2c_j1 = w2c_p4;
+    w2c_j2 = 4ull;
+    w2c_j1 += w2c_j2;
+    w2c_i1 = (u32)(w2c_j1);
+    w2c_j1 = i64_load8_u(&instance->w2c_memory, (u64)(w2c_i1));
+    w2c_i1 = (u32)(w2c_j1);
+    w2c_i1 = i32_load8_u(&instance->w2c_memory, (u64)(w2c_i1) + 20040u);
+    w2c_i0 ^= w2c_i1;
+    w2c_j1 = w2c_p4;
+    w2c_j2 = 5ull;
+    w2c_j1 += w2c_j2;
+    w2c_i1 = (u32)(w2c_j1);
+    w2c_j1 = i64_load8_u(&instance->w2c_memory, (u64)(w2c_i1));
+    w2c_i1 = (u32)(w2c_j1);
+    w2c_i1 = i32_load8_u(&instance->w2c_memory, (u64)(w2c_i1) + 19784u);
+    w2c_i0 ^= w2c_i1;
+    w2c_j1 = w2c_p4;
+    w2c_j2 = 6ull;
+    w2c_j1 += w2c_j2;
+    w2c_i1 = (u32)(w2c_j1);
+    w2c_j1 = i64_load8_u(&instance->w2c_memory, (u64)(w2c_i1));
+    w2c_i1 = (u32)(w2c_j1);
+    w2c_i1 = i32_load8_u(&instance->w2c_memory, (u64)(w2c_i1) + 19528u);
+    w2c_i0 ^= w2c_i1;
+    w2c_i1 = 127u;
+    w2c_i0 ^= w2c_i1;
+    w2c_p2 = w2c_i0;
+    w2c_i1 = 255u;
+    w2c_i0 &= w2c_i1;
+    w2c_j1 = w2c_p4;
+    w2c_j2 = 7ull;
+    w2c_j1 += w2c_j2;
+    w2c_i1 = (u32)(w2c_j1);
+    w2c_i1 = i32_load8_u(&instance->w2c_memory, (u64)(w2c_i1));
+    w2c_i2 = 1u;
+    w2c_i1 >>= (w2c_i2 & 31);
+    w2c_p1 = w2c_i1;
+    w2c_i0 = w2c_i0 != w2c_i1;
+    if (w2c_i0) {goto w2c_B6;}
+    w2c_j0 = w2c_p4;
+    w2c_i0 = (u32)(w2c_j0);
+    w2c_j0 = i64_load(&instance->w2c_memory, (u64)(w2c_i0));
+    w2c_l11 = w2c_j0;
+    w2c_j0 = 0ull;
+    w2c_p4 = w2c_j0;
+    goto w2c_B5;
+    w2c_B6:;
+    w2c_i0 = w2c_l12;
+    if (w2c_i0) {goto w2c_B7;}
+    w2c_j0 = w2c_l10;
+    w2c_p4 = w2c_j0;
+    goto w2c_B3;
+    w2c_B7:;
+    w2c_i0 = w2c_p2;
+    w2c_i1 = w2c_p1;
+    w2c_i0 ^= w2c_i1;
+    w2c_j0 = (u64)(w2c_i0);
+    w2c_j1 = 255ull;
+    w2c_j0 &= w2c_j1;
+    w2c_j1 = 3ull;
+    w2c_j0 <<= (w2c_j1 & 63);
+    w2c_i0 = (u32)(w2c_j0);
+    w2c_j0 = i64_load(&instance->w2c_memory, (u64)(w2c_i0) + 18504u);
+    w2c_l11 = w2c_j0;
+    w2c_i0 = !(w2c_j0);
+    w2c_i0 = !(w2c_i0);
+    if (w2c_i0) {goto w2c_B8;}
+    w2c_j0 = w2c_l10;
+    w2c_p4 = w2c_j0;
+    goto w2c_B3;
+    w2c_B8:;
+    w2c_j0 = w2c_p4;
+    w2c_i0 = (u32)(w2c_j0);
+    w2c_j0 = i64_load(&instance->w2c_memory, (u64)(w2c_i0));
+    w2c_j1 = w2c_l11;
+    w2c_j0 ^= w2c_j1;
+    w2c_l11 = w2c_j0;
+    w2c_j0 = 1ull;
+    w2c_p4 = w2c_j0;
+    w2c_B5:;
+    w2c_j0 = w2c_p6;
+    w2c_j1 = 8ull;
+    w2c_i0 = w2c_j0 < w2c_j1;
+    if (w2c_i0) {goto w2c_B9;}
+    w2c_j0 = w2c_p5;
+    w2c_j1 = w2c_l10;
+    w2c_j0 += w2c_j1;
+    w2c_i0 = (u32)(w2c_j0);
+    w2c_j1 = w2c_l11;
+    i64_store(&instance->w2c_memory, (u64)(w2c_i0), w2c_j1);
+    w2c_B9:;
+    w2c_j0 = w2c_p4;
+    w2c_j1 = w2c_l8;
+    w2c_j0 += w2c_j1;
+    w2c_l8 = w2c_j0;
+    w2c_j0 = w2c_l7;
+    w2c_j1 = 8ull;
+    w2c_j0 += w2c_j1;
+    w2c_l7 = w2c_j0;
+    w2c_j0 = w2c_l10;
+    w2c_j1 = 7ull;
+    w2c_j0 += w2c_j1;
+    w2c_p4 = w2c_j0;
+    w2c_j0 = w2c_l10;
+    w2c_j1 = 1015ull;
+    w2c_i0 = w2c_j0 > w2c_j1;
+    if (w2c_i0) {goto w2c_B3;}
+    w2c_j0 = w2c_p6;
+    w2c_j1 = 18446744073709551609ull;
+    w2c_j0 += w2c_j1;
+    w2c_p6 = w2c_j0;
+    w2c_j0 = w2c_l9;
+    w2c_j1 = 7ull;
+    w2c_i0 = w2c_j0 > w2c_j1;
+    w2c_p2 = w2c_i0;
+    w2c_j0 = w2c_l9;
+    w2c_j1 = 18446744073709551608ull;
+    w2c_j0 += w2c_j1;
+    w2c_l9 = w2c_j0;
+    w2c_j0 = w2c_p4;
+    w2c_l10 = w2c_j0;
+    w2c_i0 = w2c_p2;
+    if (w2c_i0) {goto w2c_L4;}
+  w2c_B3:;
+  w2c_j0 = w2c_p4;
+  w2c_i0 = (u32)(w2c_j0);
+  w2c_p2 = w2c_i0;
+  w2c_B0:;
+  w2c_j0 = w2c_p0;
+  w2c_i0 = (u32)(w2c_j0);
+  w2c_i1 = 0u;
+  i32_store(&instance->w2c_memory, (u64)(w2c_i0) + 2, w2c_i1);
+  w2c_j0 = w2c_p0;
+  w2c_i0 = (u32)(w2c_j0);
+  w2c_i1 = w2c_p2;
+  i32_store16(&instance->w2c_memory, (u64)(w2c_i0), w2c_i1);
+  w2c_j0 = w2c_p0;
+  w2c_i0 = (u32)(w2c_j0);
+  w2c_i1 = 0u;
+  i32_store16(&instance->w2c_memory, (u64)(w2c_i0) + 6, w2c_i1);
+  w2c_j0 = w2c_p0;
+  w2c_i0 = (u32)(w2c_j0);
+  w2c_j1 = w2c_l8;
+  i64_store(&instance->w2c_memory, (u64)(w2c_i0) + 16, w2c_j1);
+  w2c_j0 = w2c_p0;
+  w2c_i0 = (u32)(w2c_j0);
+  w2c_j1 = w2c_l7;
+  i64_store(&instance->w2c_memory, (u64)(w2c_i0) + 8, w2c_j1);
+  FUNC_EPILOGUE;
+}
+
+static void w2c_f33(Z_tcrx_instance_t* instance, u64 w2c_p0, u64 w2c_p1, u64 w2c_p2, u64 w2c_p3, u64 w2c_p4) {
   u32 w2c_l13 = 0;
   u64 w2c_l5 = 0, w2c_l6 = 0, w2c_l7 = 0, w2c_l8 = 0, w2c_l9 = 0, w2c_l10 = 0, w2c_l11 = 0, w2c_l12 = 0;
   FUNC_PROLOGUE;
@@ -11209,7 +11365,7 @@ static void w2c_f34(Z_tcrx_instance_t* instance, u64 w2c_p0, u64 w2c_p1, u64 w2c
   FUNC_EPILOGUE;
 }
 
-static void w2c_f35(Z_tcrx_instance_t* instance, u64 w2c_p0, u64 w2c_p1, u64 w2c_p2, u64 w2c_p3, u64 w2c_p4, u64 w2c_p5) {
+static void w2c_f34(Z_tcrx_instance_t* instance, u64 w2c_p0, u64 w2c_p1, u64 w2c_p2, u64 w2c_p3, u64 w2c_p4, u64 w2c_p5) {
   u32 w2c_l17 = 0, w2c_l18 = 0;
   u64 w2c_l6 = 0, w2c_l7 = 0, w2c_l8 = 0, w2c_l9 = 0, w2c_l10 = 0, w2c_l11 = 0, w2c_l12 = 0, w2c_l13 = 0, 
       w2c_l14 = 0, w2c_l15 = 0, w2c_l16 = 0;
@@ -11722,7 +11878,7 @@ static void w2c_f35(Z_tcrx_instance_t* instance, u64 w2c_p0, u64 w2c_p1, u64 w2c
   FUNC_EPILOGUE;
 }
 
-static void w2c_f36(Z_tcrx_instance_t* instance, u64 w2c_p0, u64 w2c_p1, u64 w2c_p2, u64 w2c_p3, u64 w2c_p4, u64 w2c_p5, u32 w2c_p6, u64 w2c_p7, 
+static void w2c_f35(Z_tcrx_instance_t* instance, u64 w2c_p0, u64 w2c_p1, u64 w2c_p2, u64 w2c_p3, u64 w2c_p4, u64 w2c_p5, u32 w2c_p6, u64 w2c_p7, 
     u64 w2c_p8) {
   u32 w2c_l23 = 0, w2c_l24 = 0, w2c_l25 = 0, w2c_l26 = 0, w2c_l27 = 0, w2c_l28 = 0;
   u64 w2c_l9 = 0, w2c_l10 = 0, w2c_l11 = 0, w2c_l12 = 0, w2c_l13 = 0, w2c_l14 = 0, w2c_l15 = 0, w2c_l16 = 0, 
@@ -11862,7 +12018,7 @@ static void w2c_f36(Z_tcrx_instance_t* instance, u64 w2c_p0, u64 w2c_p1, u64 w2c
   w2c_j2 = w2c_l9;
   w2c_j3 = 24ull;
   w2c_j2 += w2c_j3;
-  w2c_f27(instance, w2c_j0, w2c_j1, w2c_j2);
+  w2c_f25(instance, w2c_j0, w2c_j1, w2c_j2);
   w2c_j0 = w2c_l9;
   w2c_i0 = (u32)(w2c_j0);
   w2c_i0 = i32_load8_u(&instance->w2c_memory, (u64)(w2c_i0) + 92u);
@@ -12568,7 +12724,7 @@ static void w2c_f36(Z_tcrx_instance_t* instance, u64 w2c_p0, u64 w2c_p1, u64 w2c
   FUNC_EPILOGUE;
 }
 
-static void w2c_f37(Z_tcrx_instance_t* instance, u64 w2c_p0, u32 w2c_p1, u64 w2c_p2, u64 w2c_p3) {
+static void w2c_f36(Z_tcrx_instance_t* instance, u64 w2c_p0, u32 w2c_p1, u64 w2c_p2, u64 w2c_p3) {
   u64 w2c_l4 = 0, w2c_l5 = 0, w2c_l6 = 0, w2c_l7 = 0, w2c_l8 = 0, w2c_l9 = 0, w2c_l10 = 0, w2c_l11 = 0;
   FUNC_PROLOGUE;
   u32 w2c_i0, w2c_i1, w2c_i3;
@@ -12808,7 +12964,7 @@ static void w2c_f37(Z_tcrx_instance_t* instance, u64 w2c_p0, u32 w2c_p1, u64 w2c
   FUNC_EPILOGUE;
 }
 
-static void w2c_f38(Z_tcrx_instance_t* instance, u64 w2c_p0, u64 w2c_p1, u64 w2c_p2, u64 w2c_p3, u64 w2c_p4, u64 w2c_p5) {
+static void w2c_f37(Z_tcrx_instance_t* instance, u64 w2c_p0, u64 w2c_p1, u64 w2c_p2, u64 w2c_p3, u64 w2c_p4, u64 w2c_p5) {
   u32 w2c_l14 = 0, w2c_l15 = 0;
   u64 w2c_l6 = 0, w2c_l7 = 0, w2c_l8 = 0, w2c_l9 = 0, w2c_l10 = 0, w2c_l11 = 0, w2c_l12 = 0, w2c_l13 = 0;
   FUNC_PROLOGUE;
@@ -13103,7 +13259,7 @@ static void w2c_f38(Z_tcrx_instance_t* instance, u64 w2c_p0, u64 w2c_p1, u64 w2c
   FUNC_EPILOGUE;
 }
 
-static void w2c_f39(Z_tcrx_instance_t* instance, u64 w2c_p0, u64 w2c_p1, u32 w2c_p2, u32 w2c_p3, u32 w2c_p4, u64 w2c_p5, u64 w2c_p6, u64 w2c_p7, 
+static void w2c_f38(Z_tcrx_instance_t* instance, u64 w2c_p0, u64 w2c_p1, u32 w2c_p2, u32 w2c_p3, u32 w2c_p4, u64 w2c_p5, u64 w2c_p6, u64 w2c_p7, 
     u64 w2c_p8) {
   u32 w2c_l17 = 0, w2c_l18 = 0;
   u64 w2c_l9 = 0, w2c_l10 = 0, w2c_l11 = 0, w2c_l12 = 0, w2c_l13 = 0, w2c_l14 = 0, w2c_l15 = 0, w2c_l16 = 0;
@@ -13479,7 +13635,7 @@ static void w2c_f39(Z_tcrx_instance_t* instance, u64 w2c_p0, u64 w2c_p1, u32 w2c
   FUNC_EPILOGUE;
 }
 
-static void w2c_f40(Z_tcrx_instance_t* instance, u64 w2c_p0, u64 w2c_p1, u32 w2c_p2) {
+static void w2c_f39(Z_tcrx_instance_t* instance, u64 w2c_p0, u64 w2c_p1, u32 w2c_p2) {
   u64 w2c_l3 = 0, w2c_l4 = 0, w2c_l5 = 0, w2c_l6 = 0;
   FUNC_PROLOGUE;
   u32 w2c_i0, w2c_i1;
@@ -13606,7 +13762,7 @@ static void w2c_f40(Z_tcrx_instance_t* instance, u64 w2c_p0, u64 w2c_p1, u32 w2c
   FUNC_EPILOGUE;
 }
 
-static void w2c_f41(Z_tcrx_instance_t* instance, u64 w2c_p0, u64 w2c_p1, u64 w2c_p2, u32 w2c_p3, u64 w2c_p4, u64 w2c_p5) {
+static void w2c_f40(Z_tcrx_instance_t* instance, u64 w2c_p0, u64 w2c_p1, u64 w2c_p2, u32 w2c_p3, u64 w2c_p4, u64 w2c_p5) {
   u32 w2c_l7 = 0, w2c_l8 = 0, w2c_l9 = 0, w2c_l10 = 0, w2c_l11 = 0, w2c_l12 = 0;
   u64 w2c_l6 = 0;
   FUNC_PROLOGUE;
@@ -13630,7 +13786,7 @@ static void w2c_f41(Z_tcrx_instance_t* instance, u64 w2c_p0, u64 w2c_p1, u64 w2c
   w2c_j0 += w2c_j1;
   w2c_j1 = w2c_p4;
   w2c_j2 = w2c_p5;
-  w2c_f32(instance, w2c_j0, w2c_j1, w2c_j2);
+  w2c_f30(instance, w2c_j0, w2c_j1, w2c_j2);
   w2c_j0 = w2c_l6;
   w2c_i0 = (u32)(w2c_j0);
   w2c_i0 = i32_load8_u(&instance->w2c_memory, (u64)(w2c_i0) + 14u);
@@ -13934,7 +14090,7 @@ static void w2c_f41(Z_tcrx_instance_t* instance, u64 w2c_p0, u64 w2c_p1, u64 w2c
   FUNC_EPILOGUE;
 }
 
-static void w2c_f42(Z_tcrx_instance_t* instance, u64 w2c_p0, u64 w2c_p1, u64 w2c_p2, u32 w2c_p3, u64 w2c_p4, u64 w2c_p5) {
+static void w2c_f41(Z_tcrx_instance_t* instance, u64 w2c_p0, u64 w2c_p1, u64 w2c_p2, u32 w2c_p3, u64 w2c_p4, u64 w2c_p5) {
   u32 w2c_l8 = 0, w2c_l9 = 0, w2c_l10 = 0, w2c_l11 = 0, w2c_l12 = 0, w2c_l13 = 0;
   u64 w2c_l6 = 0, w2c_l7 = 0;
   FUNC_PROLOGUE;
@@ -14156,7 +14312,7 @@ static void w2c_f42(Z_tcrx_instance_t* instance, u64 w2c_p0, u64 w2c_p1, u64 w2c
   FUNC_EPILOGUE;
 }
 
-static void w2c_f43(Z_tcrx_instance_t* instance, u64 w2c_p0, u64 w2c_p1, u64 w2c_p2, u32 w2c_p3) {
+static void w2c_f42(Z_tcrx_instance_t* instance, u64 w2c_p0, u64 w2c_p1, u64 w2c_p2, u32 w2c_p3) {
   u64 w2c_l4 = 0, w2c_l5 = 0;
   FUNC_PROLOGUE;
   u32 w2c_i0, w2c_i1, w2c_i3;
@@ -14228,7 +14384,7 @@ static void w2c_f43(Z_tcrx_instance_t* instance, u64 w2c_p0, u64 w2c_p1, u64 w2c
   FUNC_EPILOGUE;
 }
 
-static void w2c_f44(Z_tcrx_instance_t* instance, u64 w2c_p0, u64 w2c_p1, u64 w2c_p2, u64 w2c_p3, u64 w2c_p4, u64 w2c_p5) {
+static void w2c_f43(Z_tcrx_instance_t* instance, u64 w2c_p0, u64 w2c_p1, u64 w2c_p2, u64 w2c_p3, u64 w2c_p4, u64 w2c_p5) {
   u32 w2c_l13 = 0, w2c_l14 = 0;
   u64 w2c_l6 = 0, w2c_l7 = 0, w2c_l8 = 0, w2c_l9 = 0, w2c_l10 = 0, w2c_l11 = 0, w2c_l12 = 0;
   FUNC_PROLOGUE;
@@ -14506,7 +14662,7 @@ static void w2c_f44(Z_tcrx_instance_t* instance, u64 w2c_p0, u64 w2c_p1, u64 w2c
   FUNC_EPILOGUE;
 }
 
-static void w2c_f45(Z_tcrx_instance_t* instance, u64 w2c_p0, u32 w2c_p1, u32 w2c_p2, u32 w2c_p3, u32 w2c_p4, u64 w2c_p5, u64 w2c_p6) {
+static void w2c_f44(Z_tcrx_instance_t* instance, u64 w2c_p0, u32 w2c_p1, u32 w2c_p2, u32 w2c_p3, u32 w2c_p4, u64 w2c_p5, u64 w2c_p6) {
   u32 w2c_l8 = 0;
   u64 w2c_l7 = 0;
   FUNC_PROLOGUE;
@@ -14650,7 +14806,7 @@ static void w2c_f45(Z_tcrx_instance_t* instance, u64 w2c_p0, u32 w2c_p1, u32 w2c
   FUNC_EPILOGUE;
 }
 
-static void w2c_f46(Z_tcrx_instance_t* instance, u64 w2c_p0, u64 w2c_p1, u32 w2c_p2, u32 w2c_p3, u32 w2c_p4, u64 w2c_p5, u64 w2c_p6) {
+static void w2c_f45(Z_tcrx_instance_t* instance, u64 w2c_p0, u64 w2c_p1, u32 w2c_p2, u32 w2c_p3, u32 w2c_p4, u64 w2c_p5, u64 w2c_p6) {
   u32 w2c_l10 = 0, w2c_l11 = 0;
   u64 w2c_l7 = 0, w2c_l8 = 0, w2c_l9 = 0;
   FUNC_PROLOGUE;
@@ -15046,7 +15202,7 @@ static void w2c_f46(Z_tcrx_instance_t* instance, u64 w2c_p0, u64 w2c_p1, u32 w2c
   FUNC_EPILOGUE;
 }
 
-static void w2c_f47(Z_tcrx_instance_t* instance, u64 w2c_p0, u64 w2c_p1, u64 w2c_p2, u64 w2c_p3, u64 w2c_p4) {
+static void w2c_f46(Z_tcrx_instance_t* instance, u64 w2c_p0, u64 w2c_p1, u64 w2c_p2, u64 w2c_p3, u64 w2c_p4) {
   u64 w2c_l5 = 0, w2c_l6 = 0, w2c_l7 = 0, w2c_l8 = 0, w2c_l9 = 0, w2c_l10 = 0, w2c_l11 = 0, w2c_l12 = 0, 
       w2c_l13 = 0;
   FUNC_PROLOGUE;
@@ -15788,7 +15944,7 @@ static u32 w2c_module_channel_new(Z_tcrx_instance_t* instance, u64 w2c_p0, u32 w
   w2c_i5 = w2c_p3;
   w2c_j5 = (u64)(w2c_i5);
   w2c_l9 = w2c_j5;
-  w2c_f35(instance, w2c_j0, w2c_j1, w2c_j2, w2c_j3, w2c_j4, w2c_j5);
+  w2c_f34(instance, w2c_j0, w2c_j1, w2c_j2, w2c_j3, w2c_j4, w2c_j5);
   w2c_j0 = w2c_l4;
   w2c_i0 = (u32)(w2c_j0);
   w2c_i0 = i32_load(&instance->w2c_memory, (u64)(w2c_i0) + 24u);
@@ -16392,7 +16548,7 @@ static u32 w2c_module_channel_new(Z_tcrx_instance_t* instance, u64 w2c_p0, u32 w
   w2c_j0 += w2c_j1;
   w2c_j1 = 8ull;
   w2c_j0 += w2c_j1;
-  w2c_f26(instance, w2c_j0);
+  w2c_f24(instance, w2c_j0);
   w2c_j0 = w2c_l4;
   w2c_j1 = 144ull;
   w2c_j0 += w2c_j1;
@@ -16602,7 +16758,7 @@ static u32 w2c_module_channel_new_with_limits(Z_tcrx_instance_t* instance, u64 w
   w2c_i8 = w2c_p6;
   w2c_j8 = (u64)(w2c_i8);
   w2c_l13 = w2c_j8;
-  w2c_f36(instance, w2c_j0, w2c_j1, w2c_j2, w2c_j3, w2c_j4, w2c_j5, w2c_i6, w2c_j7, w2c_j8);
+  w2c_f35(instance, w2c_j0, w2c_j1, w2c_j2, w2c_j3, w2c_j4, w2c_j5, w2c_i6, w2c_j7, w2c_j8);
   w2c_j0 = w2c_l7;
   w2c_i0 = (u32)(w2c_j0);
   w2c_i0 = i32_load(&instance->w2c_memory, (u64)(w2c_i0));
@@ -16873,7 +17029,7 @@ static u32 w2c_module_channel_new_with_limits(Z_tcrx_instance_t* instance, u64 w
   w2c_j2 = w2c_l7;
   w2c_j3 = 360ull;
   w2c_j2 += w2c_j3;
-  w2c_f27(instance, w2c_j0, w2c_j1, w2c_j2);
+  w2c_f25(instance, w2c_j0, w2c_j1, w2c_j2);
   w2c_j0 = w2c_l7;
   w2c_i0 = (u32)(w2c_j0);
   w2c_i0 = i32_load8_u(&instance->w2c_memory, (u64)(w2c_i0) + 664u);
@@ -17293,7 +17449,7 @@ static u32 w2c_module_channel_new_with_limits(Z_tcrx_instance_t* instance, u64 w
   w2c_j2 = w2c_l7;
   w2c_j3 = 664ull;
   w2c_j2 += w2c_j3;
-  w2c_f27(instance, w2c_j0, w2c_j1, w2c_j2);
+  w2c_f25(instance, w2c_j0, w2c_j1, w2c_j2);
   w2c_j0 = w2c_l7;
   w2c_i0 = (u32)(w2c_j0);
   w2c_i0 = i32_load8_u(&instance->w2c_memory, (u64)(w2c_i0) + 728u);
@@ -17501,7 +17657,7 @@ static u32 w2c_module_channel_new_with_limits(Z_tcrx_instance_t* instance, u64 w
   w2c_j0 += w2c_j1;
   w2c_j1 = 8ull;
   w2c_j0 += w2c_j1;
-  w2c_f26(instance, w2c_j0);
+  w2c_f24(instance, w2c_j0);
   w2c_j0 = w2c_l7;
   w2c_j1 = 144ull;
   w2c_j0 += w2c_j1;
@@ -17660,7 +17816,7 @@ static u32 w2c_module_channel_queued(Z_tcrx_instance_t* instance, u32 w2c_p0) {
   w2c_i2 = w2c_p0;
   w2c_i3 = 65535u;
   w2c_i2 &= w2c_i3;
-  w2c_f28(instance, w2c_j0, w2c_j1, w2c_i2);
+  w2c_f26(instance, w2c_j0, w2c_j1, w2c_i2);
   w2c_j0 = 0ull;
   w2c_i0 = (u32)(w2c_j0);
   w2c_j1 = w2c_l1;
@@ -18912,7 +19068,7 @@ static u32 w2c_module_channel_take(Z_tcrx_instance_t* instance, u32 w2c_p0, u64 
   w2c_j3 = w2c_p1;
   w2c_i4 = w2c_p2;
   w2c_j4 = (u64)(w2c_i4);
-  w2c_f29(instance, w2c_j0, w2c_j1, w2c_i2, w2c_j3, w2c_j4);
+  w2c_f27(instance, w2c_j0, w2c_j1, w2c_i2, w2c_j3, w2c_j4);
   w2c_j0 = 0ull;
   w2c_i0 = (u32)(w2c_j0);
   w2c_j1 = w2c_l3;
@@ -18950,7 +19106,7 @@ static u32 w2c_module_channel_take_unit(Z_tcrx_instance_t* instance, u32 w2c_p0,
   w2c_j3 = w2c_p1;
   w2c_i4 = w2c_p2;
   w2c_j4 = (u64)(w2c_i4);
-  w2c_f30(instance, w2c_j0, w2c_j1, w2c_i2, w2c_j3, w2c_j4);
+  w2c_f28(instance, w2c_j0, w2c_j1, w2c_i2, w2c_j3, w2c_j4);
   w2c_j0 = 0ull;
   w2c_i0 = (u32)(w2c_j0);
   w2c_j1 = w2c_l3;
@@ -18985,7 +19141,7 @@ static u32 w2c_module_channel_units(Z_tcrx_instance_t* instance, u32 w2c_p0) {
   w2c_i2 = w2c_p0;
   w2c_i3 = 255u;
   w2c_i2 &= w2c_i3;
-  w2c_f40(instance, w2c_j0, w2c_j1, w2c_i2);
+  w2c_f39(instance, w2c_j0, w2c_j1, w2c_i2);
   w2c_j0 = 0ull;
   w2c_i0 = (u32)(w2c_j0);
   w2c_j1 = w2c_l1;
@@ -19022,7 +19178,7 @@ static u32 w2c_module_check_fecf(Z_tcrx_instance_t* instance, u64 w2c_p0, u32 w2
   w2c_j3 = w2c_p2;
   w2c_i4 = w2c_p3;
   w2c_j4 = (u64)(w2c_i4);
-  w2c_f31(instance, w2c_j0, w2c_j1, w2c_j2, w2c_j3, w2c_j4);
+  w2c_f29(instance, w2c_j0, w2c_j1, w2c_j2, w2c_j3, w2c_j4);
   w2c_j0 = 0ull;
   w2c_i0 = (u32)(w2c_j0);
   w2c_j1 = w2c_l4;
@@ -19267,14 +19423,15 @@ static u32 w2c_module_clcw(Z_tcrx_instance_t* instance, u32 w2c_p0, u32 w2c_p1, 
 }
 
 static u32 w2c_module_cltu_octets(Z_tcrx_instance_t* instance, u64 w2c_p0, u32 w2c_p1, u64 w2c_p2, u32 w2c_p3) {
-  u32 w2c_l18 = 0, w2c_l19 = 0, w2c_l20 = 0, w2c_l21 = 0, w2c_l22 = 0, w2c_l23 = 0, w2c_l24 = 0;
+  u32 w2c_l15 = 0, w2c_l16 = 0, w2c_l17 = 0, w2c_l18 = 0, w2c_l19 = 0, w2c_l20 = 0, w2c_l21 = 0, w2c_l22 = 0, 
+      w2c_l23 = 0, w2c_l24 = 0;
   u64 w2c_l4 = 0, w2c_l5 = 0, w2c_l6 = 0, w2c_l7 = 0, w2c_l8 = 0, w2c_l9 = 0, w2c_l10 = 0, w2c_l11 = 0, 
-      w2c_l12 = 0, w2c_l13 = 0, w2c_l14 = 0, w2c_l15 = 0, w2c_l16 = 0, w2c_l17 = 0;
+      w2c_l12 = 0, w2c_l13 = 0, w2c_l14 = 0;
   FUNC_PROLOGUE;
   u32 w2c_i0, w2c_i1, w2c_i2, w2c_i3, w2c_i4;
-  u64 w2c_j0, w2c_j1, w2c_j2, w2c_j3;
+  u64 w2c_j0, w2c_j1, w2c_j2, w2c_j3, w2c_j4, w2c_j5, w2c_j6;
   w2c_j0 = instance->w2c_g0;
-  w2c_j1 = 16ull;
+  w2c_j1 = 32ull;
   w2c_j0 -= w2c_j1;
   w2c_l4 = w2c_j0;
   instance->w2c_g0 = w2c_j0;
@@ -19283,62 +19440,104 @@ static u32 w2c_module_cltu_octets(Z_tcrx_instance_t* instance, u64 w2c_p0, u32 w
   w2c_j0 = 0ull;
   w2c_i0 = (u32)(w2c_j0);
   w2c_i0 = i32_load(&instance->w2c_memory, (u64)(w2c_i0) + 25104u);
-  w2c_l18 = w2c_i0;
+  w2c_l15 = w2c_i0;
   w2c_j0 = 0ull;
   w2c_i0 = (u32)(w2c_j0);
   w2c_i0 = i32_load(&instance->w2c_memory, (u64)(w2c_i0) + 25100u);
-  w2c_l19 = w2c_i0;
+  w2c_l16 = w2c_i0;
   w2c_j0 = 0ull;
   w2c_i0 = (u32)(w2c_j0);
   w2c_i0 = i32_load(&instance->w2c_memory, (u64)(w2c_i0) + 25096u);
-  w2c_l20 = w2c_i0;
+  w2c_l17 = w2c_i0;
   w2c_j0 = 0ull;
   w2c_i0 = (u32)(w2c_j0);
   w2c_i0 = i32_load(&instance->w2c_memory, (u64)(w2c_i0) + 25092u);
-  w2c_l21 = w2c_i0;
+  w2c_l18 = w2c_i0;
+  w2c_i0 = 0u;
+  w2c_l19 = w2c_i0;
   w2c_j0 = 22ull;
   w2c_l6 = w2c_j0;
-  w2c_i0 = 1u;
-  w2c_l22 = w2c_i0;
   w2c_j0 = 0ull;
   w2c_i0 = (u32)(w2c_j0);
   w2c_i0 = i32_load8_u(&instance->w2c_memory, (u64)(w2c_i0) + 25088u);
-  w2c_l23 = w2c_i0;
+  w2c_l20 = w2c_i0;
   switch (w2c_i0) {
-    case 0: goto w2c_B2;
-    case 1: goto w2c_B3;
-    default: goto w2c_B1;
+    case 0: goto w2c_B5;
+    case 1: goto w2c_B6;
+    default: goto w2c_B4;
   }
-  w2c_B3:;
-  w2c_i0 = 0u;
-  w2c_l22 = w2c_i0;
-  w2c_B2:;
-  w2c_i0 = w2c_l21;
+  w2c_B6:;
+  w2c_i0 = 1u;
+  w2c_l19 = w2c_i0;
+  w2c_B5:;
+  w2c_i0 = w2c_l18;
   w2c_i1 = 255u;
   w2c_i0 &= w2c_i1;
   w2c_i1 = 1u;
   w2c_i0 = w2c_i0 > w2c_i1;
-  if (w2c_i0) {goto w2c_B1;}
+  if (w2c_i0) {goto w2c_B4;}
   w2c_j0 = 56ull;
   w2c_l6 = w2c_j0;
-  w2c_i0 = w2c_l19;
+  w2c_i0 = w2c_l16;
   w2c_i1 = 255u;
   w2c_i0 &= w2c_i1;
   w2c_i1 = 7u;
   w2c_i0 = w2c_i0 > w2c_i1;
-  if (w2c_i0) {goto w2c_B1;}
-  w2c_i0 = w2c_l18;
+  if (w2c_i0) {goto w2c_B4;}
+  w2c_i0 = w2c_l15;
   w2c_i1 = 65535u;
   w2c_i0 &= w2c_i1;
   w2c_i1 = 1029u;
   w2c_i0 = w2c_i0 > w2c_i1;
-  if (w2c_i0) {goto w2c_B1;}
+  if (w2c_i0) {goto w2c_B4;}
   w2c_j0 = 29ull;
   w2c_l6 = w2c_j0;
   w2c_i0 = w2c_p3;
-  w2c_i1 = 1037u;
-  w2c_i0 = w2c_i0 < w2c_i1;
+  w2c_i1 = 1036u;
+  w2c_i0 = w2c_i0 > w2c_i1;
+  if (w2c_i0) {goto w2c_B3;}
+  w2c_B4:;
+  w2c_j0 = w2c_l6;
+  w2c_j1 = 2ull;
+  w2c_j0 <<= (w2c_j1 & 63);
+  w2c_i0 = (u32)(w2c_j0);
+  w2c_i0 = i32_load(&instance->w2c_memory, (u64)(w2c_i0) + 23628u);
+  w2c_l21 = w2c_i0;
+  w2c_i0 = 0u;
+  w2c_p3 = w2c_i0;
+  w2c_j0 = 0ull;
+  w2c_l7 = w2c_j0;
+  goto w2c_B2;
+  w2c_B3:;
+  w2c_j0 = 0ull;
+  w2c_l7 = w2c_j0;
+  w2c_j0 = w2c_l4;
+  w2c_i0 = (u32)(w2c_j0);
+  w2c_j1 = 0ull;
+  i64_store(&instance->w2c_memory, (u64)(w2c_i0) + 16, w2c_j1);
+  w2c_j0 = w2c_l4;
+  w2c_i0 = (u32)(w2c_j0);
+  w2c_j1 = 0ull;
+  i64_store(&instance->w2c_memory, (u64)(w2c_i0) + 8, w2c_j1);
+  w2c_j0 = w2c_l4;
+  w2c_i0 = (u32)(w2c_j0);
+  w2c_j1 = 0ull;
+  i64_store(&instance->w2c_memory, (u64)(w2c_i0), w2c_j1);
+  w2c_i0 = 0u;
+  w2c_l21 = w2c_i0;
+  w2c_i0 = w2c_p1;
   if (w2c_i0) {goto w2c_B1;}
+  w2c_i0 = 0u;
+  w2c_p3 = w2c_i0;
+  w2c_j0 = 0ull;
+  w2c_l5 = w2c_j0;
+  w2c_B2:;
+  w2c_j0 = 0ull;
+  w2c_l8 = w2c_j0;
+  w2c_j0 = 0ull;
+  w2c_p0 = w2c_j0;
+  goto w2c_B0;
+  w2c_B1:;
   w2c_j0 = w2c_p2;
   w2c_j1 = 4096ull;
   w2c_j2 = 0ull;
@@ -19346,7 +19545,7 @@ static u32 w2c_module_cltu_octets(Z_tcrx_instance_t* instance, u64 w2c_p0, u32 w
   w2c_i3 = !(w2c_j3);
   w2c_j1 = w2c_i3 ? w2c_j1 : w2c_j2;
   w2c_j0 += w2c_j1;
-  w2c_l7 = w2c_j0;
+  w2c_l9 = w2c_j0;
   w2c_j0 = w2c_p0;
   w2c_j1 = 4096ull;
   w2c_j2 = 0ull;
@@ -19354,678 +19553,602 @@ static u32 w2c_module_cltu_octets(Z_tcrx_instance_t* instance, u64 w2c_p0, u32 w
   w2c_i3 = !(w2c_j3);
   w2c_j1 = w2c_i3 ? w2c_j1 : w2c_j2;
   w2c_j0 += w2c_j1;
-  w2c_l8 = w2c_j0;
+  w2c_l10 = w2c_j0;
+  w2c_i0 = w2c_p3;
+  w2c_j0 = (u64)(w2c_i0);
+  w2c_l11 = w2c_j0;
   w2c_i0 = w2c_p1;
   w2c_j0 = (u64)(w2c_i0);
-  w2c_p0 = w2c_j0;
-  w2c_j0 = 0ull;
-  w2c_l9 = w2c_j0;
-  w2c_j0 = 0ull;
-  w2c_l10 = w2c_j0;
-  w2c_j0 = 0ull;
-  w2c_l11 = w2c_j0;
+  w2c_p2 = w2c_j0;
+  w2c_i0 = 29u;
+  w2c_i1 = w2c_l19;
+  w2c_i2 = w2c_p3;
+  w2c_i3 = 1037u;
+  w2c_i2 = w2c_i2 < w2c_i3;
+  w2c_i0 = w2c_i2 ? w2c_i0 : w2c_i1;
+  w2c_l22 = w2c_i0;
   w2c_j0 = 0ull;
   w2c_l5 = w2c_j0;
-  w2c_L5: 
+  w2c_j0 = 0ull;
+  w2c_p0 = w2c_j0;
+  w2c_j0 = 0ull;
+  w2c_l8 = w2c_j0;
+  w2c_j0 = 0ull;
+  w2c_l7 = w2c_j0;
+  w2c_L7: 
+    w2c_j0 = w2c_l10;
+    w2c_j1 = w2c_l5;
+    w2c_j0 += w2c_j1;
+    w2c_l6 = w2c_j0;
+    w2c_i0 = w2c_l18;
+    w2c_i1 = 255u;
+    w2c_i0 &= w2c_i1;
+    w2c_p3 = w2c_i0;
+    w2c_i1 = 1u;
+    w2c_i0 = w2c_i0 != w2c_i1;
+    if (w2c_i0) {goto w2c_B13;}
+    w2c_i0 = w2c_l16;
+    w2c_i1 = 255u;
+    w2c_i0 &= w2c_i1;
+    if (w2c_i0) {goto w2c_B13;}
+    w2c_j0 = w2c_p2;
+    w2c_j1 = w2c_l5;
+    w2c_j0 -= w2c_j1;
+    w2c_j1 = 7ull;
+    w2c_i0 = w2c_j0 > w2c_j1;
+    if (w2c_i0) {goto w2c_B14;}
+    w2c_j0 = w2c_l9;
+    w2c_i1 = w2c_l15;
+    w2c_j1 = (u64)(w2c_i1);
+    w2c_j2 = 65535ull;
+    w2c_j1 &= w2c_j2;
+    w2c_j0 += w2c_j1;
+    w2c_i0 = (u32)(w2c_j0);
+    w2c_j1 = w2c_l6;
+    w2c_i1 = (u32)(w2c_j1);
+    w2c_i1 = i32_load8_u(&instance->w2c_memory, (u64)(w2c_i1));
+    i32_store8(&instance->w2c_memory, (u64)(w2c_i0), w2c_i1);
+    goto w2c_B11;
+    w2c_B14:;
+    w2c_j0 = w2c_l6;
+    w2c_i0 = (u32)(w2c_j0);
+    w2c_i0 = i32_load8_u(&instance->w2c_memory, (u64)(w2c_i0));
+    w2c_l18 = w2c_i0;
+    w2c_j0 = (u64)(w2c_i0);
+    w2c_j1 = 255ull;
+    w2c_j0 &= w2c_j1;
+    w2c_i0 = (u32)(w2c_j0);
+    w2c_i0 = i32_load8_u(&instance->w2c_memory, (u64)(w2c_i0) + 21064u);
+    w2c_j1 = w2c_l6;
+    w2c_i1 = (u32)(w2c_j1);
+    w2c_i1 = i32_load8_u(&instance->w2c_memory, (u64)(w2c_i1) + 1u);
+    w2c_p3 = w2c_i1;
+    w2c_j1 = (u64)(w2c_i1);
+    w2c_j2 = 255ull;
+    w2c_j1 &= w2c_j2;
+    w2c_i1 = (u32)(w2c_j1);
+    w2c_i1 = i32_load8_u(&instance->w2c_memory, (u64)(w2c_i1) + 20808u);
+    w2c_i0 ^= w2c_i1;
+    w2c_j1 = w2c_l6;
+    w2c_i1 = (u32)(w2c_j1);
+    w2c_i1 = i32_load8_u(&instance->w2c_memory, (u64)(w2c_i1) + 2u);
+    w2c_p1 = w2c_i1;
+    w2c_j1 = (u64)(w2c_i1);
+    w2c_j2 = 255ull;
+    w2c_j1 &= w2c_j2;
+    w2c_i1 = (u32)(w2c_j1);
+    w2c_i1 = i32_load8_u(&instance->w2c_memory, (u64)(w2c_i1) + 20552u);
+    w2c_i0 ^= w2c_i1;
+    w2c_j1 = w2c_l6;
+    w2c_i1 = (u32)(w2c_j1);
+    w2c_i1 = i32_load8_u(&instance->w2c_memory, (u64)(w2c_i1) + 3u);
+    w2c_l23 = w2c_i1;
+    w2c_j1 = (u64)(w2c_i1);
+    w2c_j2 = 255ull;
+    w2c_j1 &= w2c_j2;
+    w2c_i1 = (u32)(w2c_j1);
+    w2c_i1 = i32_load8_u(&instance->w2c_memory, (u64)(w2c_i1) + 20296u);
+    w2c_i0 ^= w2c_i1;
+    w2c_j1 = w2c_l6;
+    w2c_i1 = (u32)(w2c_j1);
+    w2c_j1 = i64_load8_u(&instance->w2c_memory, (u64)(w2c_i1) + 4u);
+    w2c_i1 = (u32)(w2c_j1);
+    w2c_i1 = i32_load8_u(&instance->w2c_memory, (u64)(w2c_i1) + 20040u);
+    w2c_i0 ^= w2c_i1;
+    w2c_j1 = w2c_l6;
+    w2c_i1 = (u32)(w2c_j1);
+    w2c_j1 = i64_load8_u(&instance->w2c_memory, (u64)(w2c_i1) + 5u);
+    w2c_i1 = (u32)(w2c_j1);
+    w2c_i1 = i32_load8_u(&instance->w2c_memory, (u64)(w2c_i1) + 19784u);
+    w2c_i0 ^= w2c_i1;
+    w2c_j1 = w2c_l6;
+    w2c_i1 = (u32)(w2c_j1);
+    w2c_j1 = i64_load8_u(&instance->w2c_memory, (u64)(w2c_i1) + 6u);
+    w2c_i1 = (u32)(w2c_j1);
+    w2c_i1 = i32_load8_u(&instance->w2c_memory, (u64)(w2c_i1) + 19528u);
+    w2c_i0 ^= w2c_i1;
+    w2c_i1 = 127u;
+    w2c_i0 ^= w2c_i1;
+    w2c_l16 = w2c_i0;
+    w2c_i1 = 255u;
+    w2c_i0 &= w2c_i1;
+    w2c_j1 = w2c_l6;
+    w2c_i1 = (u32)(w2c_j1);
+    w2c_i1 = i32_load8_u(&instance->w2c_memory, (u64)(w2c_i1) + 7u);
+    w2c_i2 = 1u;
+    w2c_i1 >>= (w2c_i2 & 31);
+    w2c_l24 = w2c_i1;
+    w2c_i0 = w2c_i0 == w2c_i1;
+    if (w2c_i0) {goto w2c_B16;}
+    w2c_i0 = w2c_l19;
+    w2c_i0 = !(w2c_i0);
+    if (w2c_i0) {goto w2c_B17;}
+    w2c_i0 = w2c_l16;
+    w2c_i1 = w2c_l24;
+    w2c_i0 ^= w2c_i1;
+    w2c_j0 = (u64)(w2c_i0);
+    w2c_j1 = 255ull;
+    w2c_j0 &= w2c_j1;
+    w2c_j1 = 3ull;
+    w2c_j0 <<= (w2c_j1 & 63);
+    w2c_i0 = (u32)(w2c_j0);
+    w2c_j0 = i64_load(&instance->w2c_memory, (u64)(w2c_i0) + 18504u);
+    w2c_l12 = w2c_j0;
+    w2c_i0 = !(w2c_j0);
+    if (w2c_i0) {goto w2c_B17;}
+    w2c_j0 = w2c_l6;
+    w2c_i0 = (u32)(w2c_j0);
+    w2c_j0 = i64_load(&instance->w2c_memory, (u64)(w2c_i0));
+    w2c_j1 = w2c_l12;
+    w2c_j0 ^= w2c_j1;
+    w2c_l6 = w2c_j0;
+    w2c_i0 = 1u;
+    w2c_l16 = w2c_i0;
+    goto w2c_B15;
+    w2c_B17:;
+    w2c_i0 = 3u;
+    w2c_l16 = w2c_i0;
+    w2c_i0 = w2c_l18;
+    w2c_i1 = 255u;
+    w2c_i0 &= w2c_i1;
+    w2c_i1 = 197u;
+    w2c_i0 = w2c_i0 != w2c_i1;
+    if (w2c_i0) {goto w2c_B18;}
+    w2c_i0 = w2c_p3;
+    w2c_i1 = 255u;
+    w2c_i0 &= w2c_i1;
+    w2c_i1 = 197u;
+    w2c_i0 = w2c_i0 != w2c_i1;
+    if (w2c_i0) {goto w2c_B18;}
+    w2c_i0 = w2c_p1;
+    w2c_i1 = 255u;
+    w2c_i0 &= w2c_i1;
+    w2c_i1 = 197u;
+    w2c_i0 = w2c_i0 != w2c_i1;
+    if (w2c_i0) {goto w2c_B18;}
+    w2c_i0 = w2c_l23;
+    w2c_i1 = 255u;
+    w2c_i0 &= w2c_i1;
+    w2c_i1 = 197u;
+    w2c_i0 = w2c_i0 != w2c_i1;
+    if (w2c_i0) {goto w2c_B18;}
+    w2c_i0 = 2u;
+    w2c_i1 = 3u;
+    w2c_j2 = w2c_l6;
+    w2c_i2 = w2c_f31(instance, w2c_j2);
+    w2c_i0 = w2c_i2 ? w2c_i0 : w2c_i1;
+    w2c_l16 = w2c_i0;
+    w2c_B18:;
     w2c_i0 = 0u;
-    w2c_p1 = w2c_i0;
+    w2c_l17 = w2c_i0;
+    w2c_i0 = w2c_l15;
+    w2c_i1 = 65535u;
+    w2c_i0 &= w2c_i1;
+    w2c_i1 = 0u;
+    w2c_i0 = w2c_i0 != w2c_i1;
+    w2c_p3 = w2c_i0;
+    w2c_j0 = 8ull;
+    w2c_l6 = w2c_j0;
+    w2c_i0 = 0u;
+    w2c_l18 = w2c_i0;
+    goto w2c_B12;
+    w2c_B16:;
+    w2c_j0 = w2c_l6;
+    w2c_i0 = (u32)(w2c_j0);
+    w2c_j0 = i64_load(&instance->w2c_memory, (u64)(w2c_i0));
+    w2c_l6 = w2c_j0;
+    w2c_i0 = 0u;
+    w2c_l16 = w2c_i0;
+    w2c_B15:;
+    w2c_i0 = w2c_l15;
+    w2c_i1 = 65535u;
+    w2c_i0 &= w2c_i1;
+    w2c_i1 = 1023u;
+    w2c_i0 = w2c_i0 < w2c_i1;
+    if (w2c_i0) {goto w2c_B19;}
+    w2c_j0 = w2c_p0;
+    w2c_j1 = 1ull;
+    w2c_j0 += w2c_j1;
+    w2c_p0 = w2c_j0;
     w2c_j0 = w2c_l5;
-    w2c_j1 = w2c_p0;
-    w2c_i0 = w2c_j0 >= w2c_j1;
-    if (w2c_i0) {goto w2c_B4;}
-    w2c_L6: 
-      w2c_j0 = w2c_l8;
-      w2c_j1 = w2c_l5;
-      w2c_j0 += w2c_j1;
-      w2c_p2 = w2c_j0;
-      w2c_j0 = w2c_l7;
-      w2c_i1 = w2c_l18;
-      w2c_j1 = (u64)(w2c_i1);
-      w2c_j2 = 65535ull;
-      w2c_j1 &= w2c_j2;
-      w2c_j0 += w2c_j1;
-      w2c_l6 = w2c_j0;
-      w2c_i0 = w2c_l21;
-      w2c_i1 = 255u;
-      w2c_i0 &= w2c_i1;
-      w2c_l21 = w2c_i0;
-      w2c_i1 = 1u;
-      w2c_i0 = w2c_i0 != w2c_i1;
-      if (w2c_i0) {goto w2c_B18;}
-      w2c_i0 = w2c_l19;
-      w2c_i1 = 255u;
-      w2c_i0 &= w2c_i1;
-      w2c_i0 = !(w2c_i0);
-      if (w2c_i0) {goto w2c_B17;}
-      w2c_B18:;
-      w2c_j0 = w2c_p2;
-      w2c_i0 = (u32)(w2c_j0);
-      w2c_i0 = i32_load8_u(&instance->w2c_memory, (u64)(w2c_i0));
-      w2c_p3 = w2c_i0;
-      w2c_i0 = w2c_l21;
-      w2c_i0 = !(w2c_i0);
-      if (w2c_i0) {goto w2c_B15;}
-      w2c_j0 = w2c_l6;
-      w2c_i1 = w2c_l19;
-      w2c_j1 = (u64)(w2c_i1);
-      w2c_j2 = 255ull;
-      w2c_j1 &= w2c_j2;
-      w2c_j0 += w2c_j1;
-      w2c_i0 = (u32)(w2c_j0);
-      w2c_i1 = w2c_p3;
-      i32_store8(&instance->w2c_memory, (u64)(w2c_i0), w2c_i1);
-      w2c_i0 = w2c_l19;
-      w2c_i1 = 255u;
-      w2c_i0 &= w2c_i1;
-      w2c_i1 = 7u;
-      w2c_i0 = w2c_i0 != w2c_i1;
-      if (w2c_i0) {goto w2c_B11;}
-      w2c_i0 = 0u;
-      w2c_l19 = w2c_i0;
-      w2c_j0 = w2c_l6;
-      w2c_i0 = (u32)(w2c_j0);
-      w2c_j0 = i64_load(&instance->w2c_memory, (u64)(w2c_i0));
-      w2c_p2 = w2c_j0;
-      w2c_j1 = 255ull;
-      w2c_j0 &= w2c_j1;
-      w2c_i0 = (u32)(w2c_j0);
-      w2c_i0 = i32_load8_u(&instance->w2c_memory, (u64)(w2c_i0) + 21064u);
-      w2c_j1 = w2c_p2;
-      w2c_j2 = 8ull;
-      w2c_j1 >>= (w2c_j2 & 63);
-      w2c_l12 = w2c_j1;
-      w2c_j2 = 255ull;
-      w2c_j1 &= w2c_j2;
-      w2c_i1 = (u32)(w2c_j1);
-      w2c_i1 = i32_load8_u(&instance->w2c_memory, (u64)(w2c_i1) + 20808u);
-      w2c_i0 ^= w2c_i1;
-      w2c_j1 = w2c_p2;
-      w2c_j2 = 16ull;
-      w2c_j1 >>= (w2c_j2 & 63);
-      w2c_l13 = w2c_j1;
-      w2c_j2 = 255ull;
-      w2c_j1 &= w2c_j2;
-      w2c_i1 = (u32)(w2c_j1);
-      w2c_i1 = i32_load8_u(&instance->w2c_memory, (u64)(w2c_i1) + 20552u);
-      w2c_i0 ^= w2c_i1;
-      w2c_j1 = w2c_p2;
-      w2c_j2 = 24ull;
-      w2c_j1 >>= (w2c_j2 & 63);
-      w2c_l14 = w2c_j1;
-      w2c_j2 = 255ull;
-      w2c_j1 &= w2c_j2;
-      w2c_i1 = (u32)(w2c_j1);
-      w2c_i1 = i32_load8_u(&instance->w2c_memory, (u64)(w2c_i1) + 20296u);
-      w2c_i0 ^= w2c_i1;
-      w2c_j1 = w2c_p2;
-      w2c_j2 = 32ull;
-      w2c_j1 >>= (w2c_j2 & 63);
-      w2c_l15 = w2c_j1;
-      w2c_j2 = 255ull;
-      w2c_j1 &= w2c_j2;
-      w2c_i1 = (u32)(w2c_j1);
-      w2c_i1 = i32_load8_u(&instance->w2c_memory, (u64)(w2c_i1) + 20040u);
-      w2c_i0 ^= w2c_i1;
-      w2c_j1 = w2c_p2;
-      w2c_j2 = 40ull;
-      w2c_j1 >>= (w2c_j2 & 63);
-      w2c_l16 = w2c_j1;
-      w2c_j2 = 255ull;
-      w2c_j1 &= w2c_j2;
-      w2c_i1 = (u32)(w2c_j1);
-      w2c_i1 = i32_load8_u(&instance->w2c_memory, (u64)(w2c_i1) + 19784u);
-      w2c_i0 ^= w2c_i1;
-      w2c_j1 = w2c_p2;
-      w2c_j2 = 48ull;
-      w2c_j1 >>= (w2c_j2 & 63);
-      w2c_l17 = w2c_j1;
-      w2c_j2 = 255ull;
-      w2c_j1 &= w2c_j2;
-      w2c_i1 = (u32)(w2c_j1);
-      w2c_i1 = i32_load8_u(&instance->w2c_memory, (u64)(w2c_i1) + 19528u);
-      w2c_i0 ^= w2c_i1;
-      w2c_i1 = 127u;
-      w2c_i0 ^= w2c_i1;
-      w2c_l21 = w2c_i0;
-      w2c_i1 = 255u;
-      w2c_i0 &= w2c_i1;
-      w2c_j1 = w2c_p2;
-      w2c_j2 = 57ull;
-      w2c_j1 >>= (w2c_j2 & 63);
-      w2c_i1 = (u32)(w2c_j1);
-      w2c_p3 = w2c_i1;
-      w2c_i0 = w2c_i0 == w2c_i1;
-      if (w2c_i0) {goto w2c_B19;}
-      w2c_i0 = w2c_l22;
-      if (w2c_i0) {goto w2c_B14;}
-      w2c_i0 = w2c_l21;
-      w2c_i1 = w2c_p3;
-      w2c_i0 ^= w2c_i1;
-      w2c_j0 = (u64)(w2c_i0);
-      w2c_j1 = 255ull;
-      w2c_j0 &= w2c_j1;
-      w2c_j1 = 3ull;
-      w2c_j0 <<= (w2c_j1 & 63);
-      w2c_i0 = (u32)(w2c_j0);
-      w2c_j0 = i64_load(&instance->w2c_memory, (u64)(w2c_i0) + 18504u);
-      w2c_l12 = w2c_j0;
-      w2c_i0 = !(w2c_j0);
-      if (w2c_i0) {goto w2c_B14;}
-      w2c_j0 = w2c_l12;
-      w2c_j1 = w2c_p2;
-      w2c_j0 ^= w2c_j1;
-      w2c_p2 = w2c_j0;
-      w2c_j1 = 48ull;
-      w2c_j0 >>= (w2c_j1 & 63);
-      w2c_l17 = w2c_j0;
-      w2c_j0 = w2c_p2;
-      w2c_j1 = 40ull;
-      w2c_j0 >>= (w2c_j1 & 63);
-      w2c_l16 = w2c_j0;
-      w2c_j0 = w2c_p2;
-      w2c_j1 = 32ull;
-      w2c_j0 >>= (w2c_j1 & 63);
-      w2c_l15 = w2c_j0;
-      w2c_j0 = w2c_p2;
-      w2c_j1 = 24ull;
-      w2c_j0 >>= (w2c_j1 & 63);
-      w2c_l14 = w2c_j0;
-      w2c_j0 = w2c_p2;
-      w2c_j1 = 16ull;
-      w2c_j0 >>= (w2c_j1 & 63);
-      w2c_l13 = w2c_j0;
-      w2c_j0 = w2c_p2;
-      w2c_j1 = 8ull;
-      w2c_j0 >>= (w2c_j1 & 63);
-      w2c_l12 = w2c_j0;
-      w2c_i0 = 1u;
-      w2c_l19 = w2c_i0;
-      w2c_B19:;
-      w2c_i0 = w2c_l18;
-      w2c_i1 = 65535u;
-      w2c_i0 &= w2c_i1;
-      w2c_i1 = 1023u;
-      w2c_i0 = w2c_i0 < w2c_i1;
-      if (w2c_i0) {goto w2c_B12;}
-      w2c_j0 = w2c_l11;
-      w2c_j1 = 1ull;
-      w2c_j0 += w2c_j1;
-      w2c_l11 = w2c_j0;
-      w2c_j0 = w2c_l5;
-      w2c_j1 = 1ull;
-      w2c_j0 += w2c_j1;
-      w2c_l5 = w2c_j0;
-      w2c_j1 = w2c_p0;
-      w2c_i0 = w2c_j0 < w2c_j1;
-      if (w2c_i0) {goto w2c_B16;}
-      w2c_i0 = 0u;
-      w2c_p1 = w2c_i0;
-      w2c_i0 = 0u;
-      w2c_l21 = w2c_i0;
-      w2c_i0 = 0u;
-      w2c_l20 = w2c_i0;
-      w2c_i0 = 0u;
-      w2c_l19 = w2c_i0;
-      w2c_i0 = 0u;
-      w2c_p3 = w2c_i0;
-      goto w2c_B0;
-      w2c_B17:;
-      w2c_j0 = w2c_p0;
-      w2c_j1 = w2c_l5;
-      w2c_j0 -= w2c_j1;
-      w2c_j1 = 7ull;
-      w2c_i0 = w2c_j0 > w2c_j1;
-      if (w2c_i0) {goto w2c_B20;}
-      w2c_j0 = w2c_l6;
-      w2c_i0 = (u32)(w2c_j0);
-      w2c_j1 = w2c_p2;
-      w2c_i1 = (u32)(w2c_j1);
-      w2c_i1 = i32_load8_u(&instance->w2c_memory, (u64)(w2c_i1));
-      i32_store8(&instance->w2c_memory, (u64)(w2c_i0), w2c_i1);
-      w2c_i0 = 1u;
-      w2c_l21 = w2c_i0;
-      w2c_i0 = 1u;
-      w2c_l19 = w2c_i0;
-      goto w2c_B10;
-      w2c_B20:;
-      w2c_i0 = 0u;
-      w2c_l19 = w2c_i0;
-      w2c_j0 = w2c_p2;
-      w2c_i0 = (u32)(w2c_j0);
-      w2c_j0 = i64_load(&instance->w2c_memory, (u64)(w2c_i0));
-      w2c_p2 = w2c_j0;
-      w2c_j1 = 255ull;
-      w2c_j0 &= w2c_j1;
-      w2c_i0 = (u32)(w2c_j0);
-      w2c_i0 = i32_load8_u(&instance->w2c_memory, (u64)(w2c_i0) + 21064u);
-      w2c_j1 = w2c_p2;
-      w2c_j2 = 8ull;
-      w2c_j1 >>= (w2c_j2 & 63);
-      w2c_l12 = w2c_j1;
-      w2c_j2 = 255ull;
-      w2c_j1 &= w2c_j2;
-      w2c_i1 = (u32)(w2c_j1);
-      w2c_i1 = i32_load8_u(&instance->w2c_memory, (u64)(w2c_i1) + 20808u);
-      w2c_i0 ^= w2c_i1;
-      w2c_j1 = w2c_p2;
-      w2c_j2 = 16ull;
-      w2c_j1 >>= (w2c_j2 & 63);
-      w2c_l13 = w2c_j1;
-      w2c_j2 = 255ull;
-      w2c_j1 &= w2c_j2;
-      w2c_i1 = (u32)(w2c_j1);
-      w2c_i1 = i32_load8_u(&instance->w2c_memory, (u64)(w2c_i1) + 20552u);
-      w2c_i0 ^= w2c_i1;
-      w2c_j1 = w2c_p2;
-      w2c_j2 = 24ull;
-      w2c_j1 >>= (w2c_j2 & 63);
-      w2c_l14 = w2c_j1;
-      w2c_j2 = 255ull;
-      w2c_j1 &= w2c_j2;
-      w2c_i1 = (u32)(w2c_j1);
-      w2c_i1 = i32_load8_u(&instance->w2c_memory, (u64)(w2c_i1) + 20296u);
-      w2c_i0 ^= w2c_i1;
-      w2c_j1 = w2c_p2;
-      w2c_j2 = 32ull;
-      w2c_j1 >>= (w2c_j2 & 63);
-      w2c_l15 = w2c_j1;
-      w2c_j2 = 255ull;
-      w2c_j1 &= w2c_j2;
-      w2c_i1 = (u32)(w2c_j1);
-      w2c_i1 = i32_load8_u(&instance->w2c_memory, (u64)(w2c_i1) + 20040u);
-      w2c_i0 ^= w2c_i1;
-      w2c_j1 = w2c_p2;
-      w2c_j2 = 40ull;
-      w2c_j1 >>= (w2c_j2 & 63);
-      w2c_l16 = w2c_j1;
-      w2c_j2 = 255ull;
-      w2c_j1 &= w2c_j2;
-      w2c_i1 = (u32)(w2c_j1);
-      w2c_i1 = i32_load8_u(&instance->w2c_memory, (u64)(w2c_i1) + 19784u);
-      w2c_i0 ^= w2c_i1;
-      w2c_j1 = w2c_p2;
-      w2c_j2 = 48ull;
-      w2c_j1 >>= (w2c_j2 & 63);
-      w2c_l17 = w2c_j1;
-      w2c_j2 = 255ull;
-      w2c_j1 &= w2c_j2;
-      w2c_i1 = (u32)(w2c_j1);
-      w2c_i1 = i32_load8_u(&instance->w2c_memory, (u64)(w2c_i1) + 19528u);
-      w2c_i0 ^= w2c_i1;
-      w2c_i1 = 127u;
-      w2c_i0 ^= w2c_i1;
-      w2c_l21 = w2c_i0;
-      w2c_i1 = 255u;
-      w2c_i0 &= w2c_i1;
-      w2c_j1 = w2c_p2;
-      w2c_j2 = 57ull;
-      w2c_j1 >>= (w2c_j2 & 63);
-      w2c_i1 = (u32)(w2c_j1);
-      w2c_p3 = w2c_i1;
-      w2c_i0 = w2c_i0 == w2c_i1;
-      if (w2c_i0) {goto w2c_B21;}
-      w2c_i0 = w2c_l22;
-      if (w2c_i0) {goto w2c_B23;}
-      w2c_i0 = w2c_l21;
-      w2c_i1 = w2c_p3;
-      w2c_i0 ^= w2c_i1;
-      w2c_j0 = (u64)(w2c_i0);
-      w2c_j1 = 255ull;
-      w2c_j0 &= w2c_j1;
-      w2c_j1 = 3ull;
-      w2c_j0 <<= (w2c_j1 & 63);
-      w2c_i0 = (u32)(w2c_j0);
-      w2c_j0 = i64_load(&instance->w2c_memory, (u64)(w2c_i0) + 18504u);
-      w2c_l12 = w2c_j0;
-      w2c_j1 = 0ull;
-      w2c_i0 = w2c_j0 != w2c_j1;
-      if (w2c_i0) {goto w2c_B22;}
-      w2c_B23:;
-      w2c_j0 = w2c_l4;
-      w2c_i0 = (u32)(w2c_j0);
-      w2c_j1 = w2c_p2;
-      i64_store(&instance->w2c_memory, (u64)(w2c_i0) + 8, w2c_j1);
-      w2c_i0 = 3u;
-      w2c_l19 = w2c_i0;
-      w2c_j0 = w2c_p2;
-      w2c_i0 = (u32)(w2c_j0);
-      w2c_i1 = 3318072773u;
-      w2c_i0 = w2c_i0 != w2c_i1;
-      if (w2c_i0) {goto w2c_B24;}
-      w2c_i0 = 2u;
-      w2c_i1 = 3u;
-      w2c_j2 = w2c_l4;
-      w2c_j3 = 8ull;
-      w2c_j2 += w2c_j3;
-      w2c_i2 = w2c_f33(instance, w2c_j2);
-      w2c_i0 = w2c_i2 ? w2c_i0 : w2c_i1;
-      w2c_l19 = w2c_i0;
-      w2c_B24:;
-      w2c_i0 = 0u;
-      w2c_l21 = w2c_i0;
-      w2c_i0 = w2c_l18;
-      w2c_i1 = 65535u;
-      w2c_i0 &= w2c_i1;
-      w2c_i1 = 0u;
-      w2c_i0 = w2c_i0 != w2c_i1;
-      w2c_l24 = w2c_i0;
-      w2c_j0 = 8ull;
-      w2c_l6 = w2c_j0;
-      goto w2c_B13;
-      w2c_B22:;
-      w2c_j0 = w2c_l12;
-      w2c_j1 = w2c_p2;
-      w2c_j0 ^= w2c_j1;
-      w2c_p2 = w2c_j0;
-      w2c_j1 = 48ull;
-      w2c_j0 >>= (w2c_j1 & 63);
-      w2c_l17 = w2c_j0;
-      w2c_j0 = w2c_p2;
-      w2c_j1 = 40ull;
-      w2c_j0 >>= (w2c_j1 & 63);
-      w2c_l16 = w2c_j0;
-      w2c_j0 = w2c_p2;
-      w2c_j1 = 32ull;
-      w2c_j0 >>= (w2c_j1 & 63);
-      w2c_l15 = w2c_j0;
-      w2c_j0 = w2c_p2;
-      w2c_j1 = 24ull;
-      w2c_j0 >>= (w2c_j1 & 63);
-      w2c_l14 = w2c_j0;
-      w2c_j0 = w2c_p2;
-      w2c_j1 = 16ull;
-      w2c_j0 >>= (w2c_j1 & 63);
-      w2c_l13 = w2c_j0;
-      w2c_j0 = w2c_p2;
-      w2c_j1 = 8ull;
-      w2c_j0 >>= (w2c_j1 & 63);
-      w2c_l12 = w2c_j0;
-      w2c_i0 = 1u;
-      w2c_l19 = w2c_i0;
-      w2c_B21:;
-      w2c_i0 = w2c_l18;
-      w2c_i1 = 65535u;
-      w2c_i0 &= w2c_i1;
-      w2c_i1 = 1023u;
-      w2c_i0 = w2c_i0 < w2c_i1;
-      if (w2c_i0) {goto w2c_B25;}
-      w2c_j0 = w2c_l11;
-      w2c_j1 = 1ull;
-      w2c_j0 += w2c_j1;
-      w2c_l11 = w2c_j0;
-      w2c_j0 = w2c_l5;
-      w2c_j1 = 8ull;
-      w2c_j0 += w2c_j1;
-      w2c_l5 = w2c_j0;
-      w2c_i0 = 0u;
-      w2c_l21 = w2c_i0;
-      w2c_i0 = 0u;
-      w2c_l20 = w2c_i0;
-      w2c_i0 = 0u;
-      w2c_l19 = w2c_i0;
-      goto w2c_B7;
-      w2c_B25:;
-      w2c_j0 = w2c_l6;
-      w2c_i0 = (u32)(w2c_j0);
-      w2c_j1 = w2c_l17;
-      i64_store8(&instance->w2c_memory, (u64)(w2c_i0) + 6, w2c_j1);
-      w2c_j0 = w2c_l6;
-      w2c_i0 = (u32)(w2c_j0);
-      w2c_j1 = w2c_l16;
-      i64_store8(&instance->w2c_memory, (u64)(w2c_i0) + 5, w2c_j1);
-      w2c_j0 = w2c_l6;
-      w2c_i0 = (u32)(w2c_j0);
-      w2c_j1 = w2c_l15;
-      i64_store8(&instance->w2c_memory, (u64)(w2c_i0) + 4, w2c_j1);
-      w2c_j0 = w2c_l6;
-      w2c_i0 = (u32)(w2c_j0);
-      w2c_j1 = w2c_l14;
-      i64_store8(&instance->w2c_memory, (u64)(w2c_i0) + 3, w2c_j1);
-      w2c_j0 = w2c_l6;
-      w2c_i0 = (u32)(w2c_j0);
-      w2c_j1 = w2c_l13;
-      i64_store8(&instance->w2c_memory, (u64)(w2c_i0) + 2, w2c_j1);
-      w2c_j0 = w2c_l6;
-      w2c_i0 = (u32)(w2c_j0);
-      w2c_j1 = w2c_l12;
-      i64_store8(&instance->w2c_memory, (u64)(w2c_i0) + 1, w2c_j1);
-      w2c_j0 = w2c_l6;
-      w2c_i0 = (u32)(w2c_j0);
-      w2c_j1 = w2c_p2;
-      i64_store8(&instance->w2c_memory, (u64)(w2c_i0), w2c_j1);
-      w2c_i0 = w2c_l18;
-      w2c_i1 = 7u;
-      w2c_i0 += w2c_i1;
-      w2c_l18 = w2c_i0;
-      w2c_j0 = 8ull;
-      w2c_l6 = w2c_j0;
-      goto w2c_B9;
-      w2c_B16:;
-      w2c_j0 = w2c_l8;
-      w2c_j1 = w2c_l5;
-      w2c_j0 += w2c_j1;
-      w2c_i0 = (u32)(w2c_j0);
-      w2c_i0 = i32_load8_u(&instance->w2c_memory, (u64)(w2c_i0));
-      w2c_p3 = w2c_i0;
-      w2c_i0 = 0u;
-      w2c_l19 = w2c_i0;
-      w2c_i0 = 0u;
-      w2c_l20 = w2c_i0;
-      w2c_B15:;
-      w2c_i0 = 0u;
-      w2c_i1 = w2c_l18;
-      w2c_i2 = w2c_l20;
-      w2c_i3 = 235u;
-      w2c_i2 ^= w2c_i3;
-      w2c_i3 = 255u;
-      w2c_i2 &= w2c_i3;
-      w2c_i2 = I32_POPCNT(w2c_i2);
-      w2c_i3 = w2c_p3;
-      w2c_i4 = 144u;
-      w2c_i3 ^= w2c_i4;
-      w2c_i4 = 255u;
-      w2c_i3 &= w2c_i4;
-      w2c_i3 = I32_POPCNT(w2c_i3);
-      w2c_i2 += w2c_i3;
-      w2c_l21 = w2c_i2;
-      w2c_i2 = !(w2c_i2);
-      w2c_i3 = w2c_l21;
-      w2c_i4 = 2u;
-      w2c_i3 = w2c_i3 < w2c_i4;
-      w2c_i4 = w2c_l22;
-      w2c_i2 = w2c_i4 ? w2c_i2 : w2c_i3;
-      w2c_l21 = w2c_i2;
-      w2c_i0 = w2c_i2 ? w2c_i0 : w2c_i1;
-      w2c_l18 = w2c_i0;
-      w2c_i0 = 0u;
-      w2c_i1 = w2c_l19;
-      w2c_i2 = w2c_l21;
-      w2c_i0 = w2c_i2 ? w2c_i0 : w2c_i1;
-      w2c_l19 = w2c_i0;
-      w2c_i0 = w2c_l20;
-      w2c_i1 = w2c_p3;
-      w2c_i2 = w2c_l21;
-      w2c_i0 = w2c_i2 ? w2c_i0 : w2c_i1;
-      w2c_l20 = w2c_i0;
-      goto w2c_B10;
-      w2c_B14:;
-      w2c_j0 = w2c_l4;
-      w2c_i0 = (u32)(w2c_j0);
-      w2c_j1 = w2c_p2;
-      i64_store(&instance->w2c_memory, (u64)(w2c_i0) + 8, w2c_j1);
-      w2c_i0 = 3u;
-      w2c_l19 = w2c_i0;
-      w2c_j0 = w2c_p2;
-      w2c_i0 = (u32)(w2c_j0);
-      w2c_i1 = 3318072773u;
-      w2c_i0 = w2c_i0 != w2c_i1;
-      if (w2c_i0) {goto w2c_B26;}
-      w2c_i0 = 2u;
-      w2c_i1 = 3u;
-      w2c_j2 = w2c_l4;
-      w2c_j3 = 8ull;
-      w2c_j2 += w2c_j3;
-      w2c_i2 = w2c_f33(instance, w2c_j2);
-      w2c_i0 = w2c_i2 ? w2c_i0 : w2c_i1;
-      w2c_l19 = w2c_i0;
-      w2c_B26:;
-      w2c_i0 = 0u;
-      w2c_l21 = w2c_i0;
-      w2c_i0 = w2c_l18;
-      w2c_i1 = 65535u;
-      w2c_i0 &= w2c_i1;
-      w2c_i1 = 0u;
-      w2c_i0 = w2c_i0 != w2c_i1;
-      w2c_l24 = w2c_i0;
-      w2c_j0 = 1ull;
-      w2c_l6 = w2c_j0;
-      w2c_B13:;
-      w2c_i0 = 0u;
-      w2c_l20 = w2c_i0;
-      goto w2c_B8;
-      w2c_B12:;
-      w2c_j0 = w2c_l6;
-      w2c_i0 = (u32)(w2c_j0);
-      w2c_j1 = w2c_l17;
-      i64_store8(&instance->w2c_memory, (u64)(w2c_i0) + 6, w2c_j1);
-      w2c_j0 = w2c_l6;
-      w2c_i0 = (u32)(w2c_j0);
-      w2c_j1 = w2c_l16;
-      i64_store8(&instance->w2c_memory, (u64)(w2c_i0) + 5, w2c_j1);
-      w2c_j0 = w2c_l6;
-      w2c_i0 = (u32)(w2c_j0);
-      w2c_j1 = w2c_l15;
-      i64_store8(&instance->w2c_memory, (u64)(w2c_i0) + 4, w2c_j1);
-      w2c_j0 = w2c_l6;
-      w2c_i0 = (u32)(w2c_j0);
-      w2c_j1 = w2c_l14;
-      i64_store8(&instance->w2c_memory, (u64)(w2c_i0) + 3, w2c_j1);
-      w2c_j0 = w2c_l6;
-      w2c_i0 = (u32)(w2c_j0);
-      w2c_j1 = w2c_l13;
-      i64_store8(&instance->w2c_memory, (u64)(w2c_i0) + 2, w2c_j1);
-      w2c_j0 = w2c_l6;
-      w2c_i0 = (u32)(w2c_j0);
-      w2c_j1 = w2c_l12;
-      i64_store8(&instance->w2c_memory, (u64)(w2c_i0) + 1, w2c_j1);
-      w2c_j0 = w2c_l6;
-      w2c_i0 = (u32)(w2c_j0);
-      w2c_j1 = w2c_p2;
-      i64_store8(&instance->w2c_memory, (u64)(w2c_i0), w2c_j1);
-      w2c_i0 = w2c_l18;
-      w2c_i1 = 7u;
-      w2c_i0 += w2c_i1;
-      w2c_l18 = w2c_i0;
-      w2c_j0 = 1ull;
-      w2c_l6 = w2c_j0;
-      goto w2c_B9;
-      w2c_B11:;
-      w2c_i0 = 1u;
-      w2c_l21 = w2c_i0;
-      w2c_i0 = w2c_l19;
-      w2c_i1 = 1u;
-      w2c_i0 += w2c_i1;
-      w2c_l19 = w2c_i0;
-      w2c_B10:;
-      w2c_j0 = w2c_l5;
-      w2c_j1 = 1ull;
-      w2c_j0 += w2c_j1;
-      w2c_l5 = w2c_j0;
-      goto w2c_B7;
-      w2c_B9:;
-      w2c_i0 = 0u;
-      w2c_l24 = w2c_i0;
-      w2c_i0 = 1u;
-      w2c_l21 = w2c_i0;
-      w2c_B8:;
-      w2c_j0 = w2c_l6;
-      w2c_j1 = w2c_l5;
-      w2c_j0 += w2c_j1;
-      w2c_l5 = w2c_j0;
-      w2c_i0 = w2c_l19;
-      switch (w2c_i0) {
-        case 0: goto w2c_B28;
-        case 1: goto w2c_B30;
-        case 2: goto w2c_B28;
-        case 3: goto w2c_B29;
-        default: goto w2c_B28;
-      }
-      w2c_B30:;
-      w2c_j0 = w2c_l9;
-      w2c_j1 = 1ull;
-      w2c_j0 += w2c_j1;
-      w2c_l9 = w2c_j0;
-      w2c_i0 = 1u;
-      w2c_p3 = w2c_i0;
-      w2c_i0 = 0u;
-      w2c_l19 = w2c_i0;
-      w2c_i0 = 0u;
-      w2c_p1 = w2c_i0;
-      w2c_i0 = w2c_l24;
-      w2c_i0 = !(w2c_i0);
-      if (w2c_i0) {goto w2c_L5;}
-      goto w2c_B0;
-      w2c_B29:;
-      w2c_j0 = w2c_l10;
-      w2c_j1 = 1ull;
-      w2c_j0 += w2c_j1;
-      w2c_l10 = w2c_j0;
-      w2c_i0 = 1u;
-      w2c_p3 = w2c_i0;
-      w2c_i0 = 0u;
-      w2c_l19 = w2c_i0;
-      w2c_i0 = w2c_l24;
-      w2c_i0 = !(w2c_i0);
-      if (w2c_i0) {goto w2c_L5;}
-      goto w2c_B27;
-      w2c_B28:;
-      w2c_i0 = 0u;
-      w2c_l19 = w2c_i0;
-      w2c_i0 = w2c_l24;
-      w2c_i0 = !(w2c_i0);
-      if (w2c_i0) {goto w2c_B7;}
-      w2c_i0 = 1u;
-      w2c_p3 = w2c_i0;
-      w2c_B27:;
-      w2c_i0 = 0u;
-      w2c_p1 = w2c_i0;
-      goto w2c_B0;
-      w2c_B7:;
-      w2c_j0 = w2c_l5;
-      w2c_j1 = w2c_p0;
-      w2c_i0 = w2c_j0 < w2c_j1;
-      if (w2c_i0) {goto w2c_L6;}
-  w2c_B4:;
+    w2c_j1 = 8ull;
+    w2c_j0 += w2c_j1;
+    w2c_l5 = w2c_j0;
+    w2c_i0 = 0u;
+    w2c_l16 = w2c_i0;
+    w2c_i0 = 0u;
+    w2c_l17 = w2c_i0;
+    w2c_i0 = 0u;
+    w2c_l18 = w2c_i0;
+    goto w2c_B8;
+    w2c_B19:;
+    w2c_j0 = w2c_l11;
+    w2c_i1 = w2c_l15;
+    w2c_j1 = (u64)(w2c_i1);
+    w2c_j2 = 65535ull;
+    w2c_j1 &= w2c_j2;
+    w2c_l12 = w2c_j1;
+    w2c_j0 -= w2c_j1;
+    w2c_j1 = 8ull;
+    w2c_i0 = w2c_j0 < w2c_j1;
+    if (w2c_i0) {goto w2c_B20;}
+    w2c_j0 = w2c_l9;
+    w2c_j1 = w2c_l12;
+    w2c_j0 += w2c_j1;
+    w2c_i0 = (u32)(w2c_j0);
+    w2c_j1 = w2c_l6;
+    i64_store(&instance->w2c_memory, (u64)(w2c_i0), w2c_j1);
+    w2c_B20:;
+    w2c_i0 = w2c_l15;
+    w2c_i1 = 7u;
+    w2c_i0 += w2c_i1;
+    w2c_l15 = w2c_i0;
+    w2c_i0 = 1u;
+    w2c_l18 = w2c_i0;
+    w2c_i0 = 0u;
+    w2c_p3 = w2c_i0;
+    w2c_j0 = 8ull;
+    w2c_l6 = w2c_j0;
+    goto w2c_B12;
+    w2c_B13:;
+    w2c_j0 = w2c_l6;
+    w2c_i0 = (u32)(w2c_j0);
+    w2c_i0 = i32_load8_u(&instance->w2c_memory, (u64)(w2c_i0));
+    w2c_p1 = w2c_i0;
+    w2c_i0 = w2c_p3;
+    if (w2c_i0) {goto w2c_B21;}
+    w2c_i0 = 0u;
+    w2c_i1 = w2c_l15;
+    w2c_i2 = w2c_p1;
+    w2c_i3 = 144u;
+    w2c_i2 ^= w2c_i3;
+    w2c_i3 = 255u;
+    w2c_i2 &= w2c_i3;
+    w2c_i2 = I32_POPCNT(w2c_i2);
+    w2c_i3 = w2c_l17;
+    w2c_i4 = 235u;
+    w2c_i3 ^= w2c_i4;
+    w2c_i4 = 255u;
+    w2c_i3 &= w2c_i4;
+    w2c_i3 = I32_POPCNT(w2c_i3);
+    w2c_i2 += w2c_i3;
+    w2c_l18 = w2c_i2;
+    w2c_i3 = 2u;
+    w2c_i2 = w2c_i2 < w2c_i3;
+    w2c_i3 = w2c_l18;
+    w2c_i3 = !(w2c_i3);
+    w2c_i4 = w2c_l19;
+    w2c_i2 = w2c_i4 ? w2c_i2 : w2c_i3;
+    w2c_l18 = w2c_i2;
+    w2c_i0 = w2c_i2 ? w2c_i0 : w2c_i1;
+    w2c_l15 = w2c_i0;
+    w2c_i0 = 0u;
+    w2c_i1 = w2c_l16;
+    w2c_i2 = w2c_l18;
+    w2c_i0 = w2c_i2 ? w2c_i0 : w2c_i1;
+    w2c_l16 = w2c_i0;
+    w2c_i0 = w2c_l17;
+    w2c_i1 = w2c_p1;
+    w2c_i2 = w2c_l18;
+    w2c_i0 = w2c_i2 ? w2c_i0 : w2c_i1;
+    w2c_l17 = w2c_i0;
+    goto w2c_B10;
+    w2c_B21:;
+    w2c_j0 = w2c_l9;
+    w2c_i1 = w2c_l15;
+    w2c_j1 = (u64)(w2c_i1);
+    w2c_j2 = 65535ull;
+    w2c_j1 &= w2c_j2;
+    w2c_l13 = w2c_j1;
+    w2c_j0 += w2c_j1;
+    w2c_l12 = w2c_j0;
+    w2c_i1 = w2c_l16;
+    w2c_j1 = (u64)(w2c_i1);
+    w2c_j2 = 255ull;
+    w2c_j1 &= w2c_j2;
+    w2c_j0 += w2c_j1;
+    w2c_i0 = (u32)(w2c_j0);
+    w2c_i1 = w2c_p1;
+    i32_store8(&instance->w2c_memory, (u64)(w2c_i0), w2c_i1);
+    w2c_i0 = w2c_l16;
+    w2c_i1 = 255u;
+    w2c_i0 &= w2c_i1;
+    w2c_i1 = 7u;
+    w2c_i0 = w2c_i0 != w2c_i1;
+    if (w2c_i0) {goto w2c_B11;}
+    w2c_j0 = w2c_l4;
+    w2c_i0 = (u32)(w2c_j0);
+    w2c_j1 = w2c_l12;
+    w2c_i1 = (u32)(w2c_j1);
+    w2c_j1 = i64_load(&instance->w2c_memory, (u64)(w2c_i1));
+    w2c_l6 = w2c_j1;
+    i64_store(&instance->w2c_memory, (u64)(w2c_i0) + 24, w2c_j1);
+    w2c_j0 = 0ull;
+    w2c_l14 = w2c_j0;
+    w2c_j0 = w2c_l6;
+    w2c_j1 = 255ull;
+    w2c_j0 &= w2c_j1;
+    w2c_i0 = (u32)(w2c_j0);
+    w2c_i0 = i32_load8_u(&instance->w2c_memory, (u64)(w2c_i0) + 21064u);
+    w2c_j1 = w2c_l6;
+    w2c_j2 = 8ull;
+    w2c_j1 >>= (w2c_j2 & 63);
+    w2c_j2 = 255ull;
+    w2c_j1 &= w2c_j2;
+    w2c_i1 = (u32)(w2c_j1);
+    w2c_i1 = i32_load8_u(&instance->w2c_memory, (u64)(w2c_i1) + 20808u);
+    w2c_i0 ^= w2c_i1;
+    w2c_j1 = w2c_l6;
+    w2c_j2 = 16ull;
+    w2c_j1 >>= (w2c_j2 & 63);
+    w2c_j2 = 255ull;
+    w2c_j1 &= w2c_j2;
+    w2c_i1 = (u32)(w2c_j1);
+    w2c_i1 = i32_load8_u(&instance->w2c_memory, (u64)(w2c_i1) + 20552u);
+    w2c_i0 ^= w2c_i1;
+    w2c_j1 = w2c_l6;
+    w2c_j2 = 24ull;
+    w2c_j1 >>= (w2c_j2 & 63);
+    w2c_j2 = 255ull;
+    w2c_j1 &= w2c_j2;
+    w2c_i1 = (u32)(w2c_j1);
+    w2c_i1 = i32_load8_u(&instance->w2c_memory, (u64)(w2c_i1) + 20296u);
+    w2c_i0 ^= w2c_i1;
+    w2c_j1 = w2c_l6;
+    w2c_j2 = 32ull;
+    w2c_j1 >>= (w2c_j2 & 63);
+    w2c_j2 = 255ull;
+    w2c_j1 &= w2c_j2;
+    w2c_i1 = (u32)(w2c_j1);
+    w2c_i1 = i32_load8_u(&instance->w2c_memory, (u64)(w2c_i1) + 20040u);
+    w2c_i0 ^= w2c_i1;
+    w2c_j1 = w2c_l6;
+    w2c_j2 = 40ull;
+    w2c_j1 >>= (w2c_j2 & 63);
+    w2c_j2 = 255ull;
+    w2c_j1 &= w2c_j2;
+    w2c_i1 = (u32)(w2c_j1);
+    w2c_i1 = i32_load8_u(&instance->w2c_memory, (u64)(w2c_i1) + 19784u);
+    w2c_i0 ^= w2c_i1;
+    w2c_j1 = w2c_l6;
+    w2c_j2 = 48ull;
+    w2c_j1 >>= (w2c_j2 & 63);
+    w2c_j2 = 255ull;
+    w2c_j1 &= w2c_j2;
+    w2c_i1 = (u32)(w2c_j1);
+    w2c_i1 = i32_load8_u(&instance->w2c_memory, (u64)(w2c_i1) + 19528u);
+    w2c_i0 ^= w2c_i1;
+    w2c_i1 = 127u;
+    w2c_i0 ^= w2c_i1;
+    w2c_l16 = w2c_i0;
+    w2c_i1 = 255u;
+    w2c_i0 &= w2c_i1;
+    w2c_j1 = w2c_l6;
+    w2c_j2 = 57ull;
+    w2c_j1 >>= (w2c_j2 & 63);
+    w2c_i1 = (u32)(w2c_j1);
+    w2c_l18 = w2c_i1;
+    w2c_i0 = w2c_i0 == w2c_i1;
+    if (w2c_i0) {goto w2c_B25;}
+    w2c_i0 = w2c_l19;
+    w2c_i0 = !(w2c_i0);
+    if (w2c_i0) {goto w2c_B24;}
+    w2c_i0 = w2c_l16;
+    w2c_i1 = w2c_l18;
+    w2c_i0 ^= w2c_i1;
+    w2c_j0 = (u64)(w2c_i0);
+    w2c_j1 = 255ull;
+    w2c_j0 &= w2c_j1;
+    w2c_j1 = 3ull;
+    w2c_j0 <<= (w2c_j1 & 63);
+    w2c_i0 = (u32)(w2c_j0);
+    w2c_j0 = i64_load(&instance->w2c_memory, (u64)(w2c_i0) + 18504u);
+    w2c_l14 = w2c_j0;
+    w2c_i0 = !(w2c_j0);
+    if (w2c_i0) {goto w2c_B24;}
+    w2c_B25:;
+    w2c_i0 = 0u;
+    w2c_p3 = w2c_i0;
+    w2c_i0 = w2c_l15;
+    w2c_i1 = 65535u;
+    w2c_i0 &= w2c_i1;
+    w2c_i1 = 1022u;
+    w2c_i0 = w2c_i0 <= w2c_i1;
+    if (w2c_i0) {goto w2c_B23;}
+    w2c_i0 = 4u;
+    w2c_l16 = w2c_i0;
+    w2c_i0 = 0u;
+    w2c_l18 = w2c_i0;
+    w2c_i0 = 0u;
+    w2c_l17 = w2c_i0;
+    goto w2c_B22;
+    w2c_B24:;
+    w2c_i0 = 3u;
+    w2c_l16 = w2c_i0;
+    w2c_j0 = w2c_l6;
+    w2c_i0 = (u32)(w2c_j0);
+    w2c_i1 = 3318072773u;
+    w2c_i0 = w2c_i0 != w2c_i1;
+    if (w2c_i0) {goto w2c_B26;}
+    w2c_i0 = 2u;
+    w2c_i1 = 3u;
+    w2c_j2 = w2c_l4;
+    w2c_j3 = 24ull;
+    w2c_j2 += w2c_j3;
+    w2c_i2 = w2c_f31(instance, w2c_j2);
+    w2c_i0 = w2c_i2 ? w2c_i0 : w2c_i1;
+    w2c_l16 = w2c_i0;
+    w2c_B26:;
+    w2c_i0 = 0u;
+    w2c_l18 = w2c_i0;
+    w2c_i0 = w2c_l15;
+    w2c_i1 = 65535u;
+    w2c_i0 &= w2c_i1;
+    w2c_i1 = 0u;
+    w2c_i0 = w2c_i0 != w2c_i1;
+    w2c_p3 = w2c_i0;
+    w2c_i0 = 0u;
+    w2c_l17 = w2c_i0;
+    goto w2c_B22;
+    w2c_B23:;
+    w2c_j0 = w2c_l11;
+    w2c_j1 = w2c_l13;
+    w2c_j0 -= w2c_j1;
+    w2c_j1 = 8ull;
+    w2c_i0 = w2c_j0 < w2c_j1;
+    if (w2c_i0) {goto w2c_B27;}
+    w2c_j0 = w2c_l12;
+    w2c_i0 = (u32)(w2c_j0);
+    w2c_j1 = w2c_l14;
+    w2c_j2 = w2c_l6;
+    w2c_j1 ^= w2c_j2;
+    i64_store(&instance->w2c_memory, (u64)(w2c_i0), w2c_j1);
+    w2c_B27:;
+    w2c_j0 = w2c_l14;
+    w2c_j1 = 0ull;
+    w2c_i0 = w2c_j0 != w2c_j1;
+    w2c_l16 = w2c_i0;
+    w2c_i0 = w2c_l15;
+    w2c_i1 = 7u;
+    w2c_i0 += w2c_i1;
+    w2c_l15 = w2c_i0;
+    w2c_i0 = 1u;
+    w2c_l18 = w2c_i0;
+    w2c_B22:;
+    w2c_j0 = 1ull;
+    w2c_l6 = w2c_j0;
+    w2c_B12:;
+    w2c_j0 = w2c_l6;
+    w2c_j1 = w2c_l5;
+    w2c_j0 += w2c_j1;
+    w2c_l5 = w2c_j0;
+    w2c_i0 = w2c_l16;
+    switch (w2c_i0) {
+      case 0: goto w2c_B28;
+      case 1: goto w2c_B31;
+      case 2: goto w2c_B28;
+      case 3: goto w2c_B30;
+      case 4: goto w2c_B29;
+      default: goto w2c_B28;
+    }
+    w2c_B31:;
+    w2c_j0 = w2c_l7;
+    w2c_j1 = 1ull;
+    w2c_j0 += w2c_j1;
+    w2c_l7 = w2c_j0;
+    goto w2c_B28;
+    w2c_B30:;
+    w2c_j0 = w2c_l8;
+    w2c_j1 = 1ull;
+    w2c_j0 += w2c_j1;
+    w2c_l8 = w2c_j0;
+    goto w2c_B28;
+    w2c_B29:;
+    w2c_j0 = w2c_p0;
+    w2c_j1 = 1ull;
+    w2c_j0 += w2c_j1;
+    w2c_p0 = w2c_j0;
+    w2c_B28:;
+    w2c_i0 = 0u;
+    w2c_l16 = w2c_i0;
+    w2c_i0 = w2c_p3;
+    w2c_i0 = !(w2c_i0);
+    if (w2c_i0) {goto w2c_B9;}
+    w2c_i0 = 1u;
+    w2c_p3 = w2c_i0;
+    goto w2c_B0;
+    w2c_B11:;
+    w2c_i0 = w2c_l16;
+    w2c_i1 = 1u;
+    w2c_i0 += w2c_i1;
+    w2c_l16 = w2c_i0;
+    w2c_B10:;
+    w2c_j0 = w2c_l5;
+    w2c_j1 = 1ull;
+    w2c_j0 += w2c_j1;
+    w2c_l5 = w2c_j0;
+    w2c_B9:;
+    w2c_i0 = w2c_l18;
+    w2c_i1 = 255u;
+    w2c_i0 &= w2c_i1;
+    w2c_i1 = 1u;
+    w2c_i0 = w2c_i0 != w2c_i1;
+    if (w2c_i0) {goto w2c_B8;}
+    w2c_i0 = w2c_l16;
+    w2c_i1 = 255u;
+    w2c_i0 &= w2c_i1;
+    if (w2c_i0) {goto w2c_B8;}
+    w2c_j0 = w2c_l4;
+    w2c_i1 = w2c_l22;
+    w2c_i2 = w2c_l15;
+    w2c_j3 = w2c_l10;
+    w2c_j4 = w2c_l5;
+    w2c_j3 += w2c_j4;
+    w2c_j4 = w2c_p2;
+    w2c_j5 = w2c_l5;
+    w2c_j4 -= w2c_j5;
+    w2c_j5 = w2c_l9;
+    w2c_j6 = w2c_l11;
+    w2c_f32(instance, w2c_j0, w2c_i1, w2c_i2, w2c_j3, w2c_j4, w2c_j5, w2c_j6);
+    w2c_j0 = w2c_l4;
+    w2c_i0 = (u32)(w2c_j0);
+    w2c_j0 = i64_load(&instance->w2c_memory, (u64)(w2c_i0) + 16u);
+    w2c_j1 = w2c_l7;
+    w2c_j0 += w2c_j1;
+    w2c_l7 = w2c_j0;
+    w2c_j0 = w2c_l4;
+    w2c_i0 = (u32)(w2c_j0);
+    w2c_j0 = i64_load(&instance->w2c_memory, (u64)(w2c_i0) + 8u);
+    w2c_j1 = w2c_l5;
+    w2c_j0 += w2c_j1;
+    w2c_l5 = w2c_j0;
+    w2c_i0 = 1u;
+    w2c_l18 = w2c_i0;
+    w2c_i0 = 0u;
+    w2c_l16 = w2c_i0;
+    w2c_j0 = w2c_l4;
+    w2c_i0 = (u32)(w2c_j0);
+    w2c_i0 = i32_load16_u(&instance->w2c_memory, (u64)(w2c_i0));
+    w2c_l15 = w2c_i0;
+    w2c_B8:;
+    w2c_j0 = w2c_l5;
+    w2c_j1 = w2c_p2;
+    w2c_i0 = w2c_j0 < w2c_j1;
+    if (w2c_i0) {goto w2c_L7;}
   w2c_i0 = 0u;
   w2c_p3 = w2c_i0;
-  goto w2c_B0;
-  w2c_B1:;
-  w2c_j0 = w2c_l6;
-  w2c_j1 = 2ull;
-  w2c_j0 <<= (w2c_j1 & 63);
-  w2c_i0 = (u32)(w2c_j0);
-  w2c_i0 = i32_load(&instance->w2c_memory, (u64)(w2c_i0) + 23628u);
-  w2c_p1 = w2c_i0;
-  w2c_i0 = 0u;
-  w2c_p3 = w2c_i0;
-  w2c_j0 = 0ull;
-  w2c_l9 = w2c_j0;
-  w2c_j0 = 0ull;
-  w2c_l10 = w2c_j0;
-  w2c_j0 = 0ull;
-  w2c_l11 = w2c_j0;
   w2c_B0:;
   w2c_j0 = 0ull;
   w2c_i0 = (u32)(w2c_j0);
-  w2c_j1 = w2c_l11;
+  w2c_j1 = w2c_p0;
   i64_store(&instance->w2c_memory, (u64)(w2c_i0) + 25136, w2c_j1);
   w2c_j0 = 0ull;
   w2c_i0 = (u32)(w2c_j0);
-  w2c_j1 = w2c_l10;
+  w2c_j1 = w2c_l8;
   i64_store(&instance->w2c_memory, (u64)(w2c_i0) + 25128, w2c_j1);
   w2c_j0 = 0ull;
   w2c_i0 = (u32)(w2c_j0);
-  w2c_j1 = w2c_l9;
+  w2c_j1 = w2c_l7;
   i64_store(&instance->w2c_memory, (u64)(w2c_i0) + 25120, w2c_j1);
   w2c_j0 = 0ull;
   w2c_i0 = (u32)(w2c_j0);
@@ -20037,37 +20160,37 @@ static u32 w2c_module_cltu_octets(Z_tcrx_instance_t* instance, u64 w2c_p0, u32 w
   i32_store(&instance->w2c_memory, (u64)(w2c_i0) + 25108, w2c_i1);
   w2c_j0 = 0ull;
   w2c_i0 = (u32)(w2c_j0);
-  w2c_i1 = w2c_l23;
+  w2c_i1 = w2c_l20;
   i32_store(&instance->w2c_memory, (u64)(w2c_i0) + 25088, w2c_i1);
   w2c_j0 = 0ull;
   w2c_i0 = (u32)(w2c_j0);
-  w2c_i1 = w2c_l18;
+  w2c_i1 = w2c_l15;
   w2c_i2 = 65535u;
   w2c_i1 &= w2c_i2;
   i32_store(&instance->w2c_memory, (u64)(w2c_i0) + 25104, w2c_i1);
   w2c_j0 = 0ull;
   w2c_i0 = (u32)(w2c_j0);
-  w2c_i1 = w2c_l19;
+  w2c_i1 = w2c_l16;
   w2c_i2 = 255u;
   w2c_i1 &= w2c_i2;
   i32_store(&instance->w2c_memory, (u64)(w2c_i0) + 25100, w2c_i1);
   w2c_j0 = 0ull;
   w2c_i0 = (u32)(w2c_j0);
-  w2c_i1 = w2c_l20;
+  w2c_i1 = w2c_l17;
   w2c_i2 = 255u;
   w2c_i1 &= w2c_i2;
   i32_store(&instance->w2c_memory, (u64)(w2c_i0) + 25096, w2c_i1);
   w2c_j0 = 0ull;
   w2c_i0 = (u32)(w2c_j0);
-  w2c_i1 = w2c_l21;
+  w2c_i1 = w2c_l18;
   w2c_i2 = 255u;
   w2c_i1 &= w2c_i2;
   i32_store(&instance->w2c_memory, (u64)(w2c_i0) + 25092, w2c_i1);
   w2c_j0 = w2c_l4;
-  w2c_j1 = 16ull;
+  w2c_j1 = 32ull;
   w2c_j0 += w2c_j1;
   instance->w2c_g0 = w2c_j0;
-  w2c_i0 = w2c_p1;
+  w2c_i0 = w2c_l21;
   FUNC_EPILOGUE;
   return w2c_i0;
 }
@@ -21298,7 +21421,7 @@ static u32 w2c_module_rack_candidate(Z_tcrx_instance_t* instance, u32 w2c_p0, u3
   w2c_i3 = w2c_p0;
   w2c_j4 = w2c_p2;
   w2c_j5 = w2c_l6;
-  w2c_f41(instance, w2c_j0, w2c_j1, w2c_j2, w2c_i3, w2c_j4, w2c_j5);
+  w2c_f40(instance, w2c_j0, w2c_j1, w2c_j2, w2c_i3, w2c_j4, w2c_j5);
   goto w2c_B9;
   w2c_B10:;
   w2c_j0 = w2c_l4;
@@ -21307,7 +21430,7 @@ static u32 w2c_module_rack_candidate(Z_tcrx_instance_t* instance, u32 w2c_p0, u3
   w2c_i3 = w2c_p0;
   w2c_j4 = w2c_p2;
   w2c_j5 = w2c_l6;
-  w2c_f42(instance, w2c_j0, w2c_j1, w2c_j2, w2c_i3, w2c_j4, w2c_j5);
+  w2c_f41(instance, w2c_j0, w2c_j1, w2c_j2, w2c_i3, w2c_j4, w2c_j5);
   w2c_B9:;
   w2c_i0 = 1u;
   w2c_l14 = w2c_i0;
@@ -21467,7 +21590,7 @@ static u32 w2c_module_rack_find(Z_tcrx_instance_t* instance, u32 w2c_p0) {
   w2c_i3 = w2c_p0;
   w2c_i4 = 255u;
   w2c_i3 &= w2c_i4;
-  w2c_f43(instance, w2c_j0, w2c_j1, w2c_j2, w2c_i3);
+  w2c_f42(instance, w2c_j0, w2c_j1, w2c_j2, w2c_i3);
   w2c_j0 = 0ull;
   w2c_i0 = (u32)(w2c_j0);
   w2c_j1 = w2c_l1;
@@ -21534,7 +21657,7 @@ static u32 w2c_module_rack_frame(Z_tcrx_instance_t* instance, u32 w2c_p0, u32 w2
   w2c_i3 = w2c_p0;
   w2c_j4 = w2c_p2;
   w2c_j5 = w2c_l5;
-  w2c_f41(instance, w2c_j0, w2c_j1, w2c_j2, w2c_i3, w2c_j4, w2c_j5);
+  w2c_f40(instance, w2c_j0, w2c_j1, w2c_j2, w2c_i3, w2c_j4, w2c_j5);
   goto w2c_B0;
   w2c_B4:;
   w2c_i0 = w2c_p3;
@@ -21813,7 +21936,7 @@ static u32 w2c_module_randomise(Z_tcrx_instance_t* instance, u64 w2c_p0, u32 w2c
   w2c_j3 = w2c_p2;
   w2c_i4 = w2c_p3;
   w2c_j4 = (u64)(w2c_i4);
-  w2c_f34(instance, w2c_j0, w2c_j1, w2c_j2, w2c_j3, w2c_j4);
+  w2c_f33(instance, w2c_j0, w2c_j1, w2c_j2, w2c_j3, w2c_j4);
   w2c_j0 = 0ull;
   w2c_i0 = (u32)(w2c_j0);
   w2c_j1 = w2c_l4;
@@ -22719,7 +22842,7 @@ static u32 w2c_module_storage(Z_tcrx_instance_t* instance, u64 w2c_p0, u32 w2c_p
   w2c_j4 = w2c_p2;
   w2c_i5 = w2c_p3;
   w2c_j5 = (u64)(w2c_i5);
-  w2c_f35(instance, w2c_j0, w2c_j1, w2c_j2, w2c_j3, w2c_j4, w2c_j5);
+  w2c_f34(instance, w2c_j0, w2c_j1, w2c_j2, w2c_j3, w2c_j4, w2c_j5);
   w2c_j0 = 0ull;
   w2c_i0 = (u32)(w2c_j0);
   w2c_j1 = w2c_l4;
@@ -22792,7 +22915,7 @@ static u32 w2c_module_storage_with_limits(Z_tcrx_instance_t* instance, u64 w2c_p
   w2c_j7 = w2c_p5;
   w2c_i8 = w2c_p6;
   w2c_j8 = (u64)(w2c_i8);
-  w2c_f36(instance, w2c_j0, w2c_j1, w2c_j2, w2c_j3, w2c_j4, w2c_j5, w2c_i6, w2c_j7, w2c_j8);
+  w2c_f35(instance, w2c_j0, w2c_j1, w2c_j2, w2c_j3, w2c_j4, w2c_j5, w2c_i6, w2c_j7, w2c_j8);
   w2c_j0 = 0ull;
   w2c_i0 = (u32)(w2c_j0);
   w2c_j1 = w2c_l7;
@@ -22827,7 +22950,7 @@ static u32 w2c_module_text(Z_tcrx_instance_t* instance, u32 w2c_p0, u64 w2c_p1, 
   w2c_j2 = w2c_p1;
   w2c_i3 = w2c_p2;
   w2c_j3 = (u64)(w2c_i3);
-  w2c_f37(instance, w2c_j0, w2c_i1, w2c_j2, w2c_j3);
+  w2c_f36(instance, w2c_j0, w2c_i1, w2c_j2, w2c_j3);
   w2c_j0 = 0ull;
   w2c_i0 = (u32)(w2c_j0);
   w2c_j1 = w2c_l3;
@@ -22864,7 +22987,7 @@ static u32 w2c_module_write_cltu(Z_tcrx_instance_t* instance, u64 w2c_p0, u32 w2
   w2c_j3 = w2c_p2;
   w2c_i4 = w2c_p3;
   w2c_j4 = (u64)(w2c_i4);
-  w2c_f47(instance, w2c_j0, w2c_j1, w2c_j2, w2c_j3, w2c_j4);
+  w2c_f46(instance, w2c_j0, w2c_j1, w2c_j2, w2c_j3, w2c_j4);
   w2c_j0 = 0ull;
   w2c_i0 = (u32)(w2c_j0);
   w2c_j1 = w2c_l4;
@@ -22910,7 +23033,7 @@ static u32 w2c_module_write_command(Z_tcrx_instance_t* instance, u32 w2c_p0, u32
   w2c_j5 = w2c_p4;
   w2c_i6 = w2c_p5;
   w2c_j6 = (u64)(w2c_i6);
-  w2c_f45(instance, w2c_j0, w2c_i1, w2c_i2, w2c_i3, w2c_i4, w2c_j5, w2c_j6);
+  w2c_f44(instance, w2c_j0, w2c_i1, w2c_i2, w2c_i3, w2c_i4, w2c_j5, w2c_j6);
   w2c_j0 = 0ull;
   w2c_i0 = (u32)(w2c_j0);
   w2c_j1 = w2c_l6;
@@ -22977,7 +23100,7 @@ static u32 w2c_module_write_frame(Z_tcrx_instance_t* instance, u64 w2c_p0, u32 w
   w2c_j4 = w2c_p2;
   w2c_i5 = w2c_p3;
   w2c_j5 = (u64)(w2c_i5);
-  w2c_f44(instance, w2c_j0, w2c_j1, w2c_j2, w2c_j3, w2c_j4, w2c_j5);
+  w2c_f43(instance, w2c_j0, w2c_j1, w2c_j2, w2c_j3, w2c_j4, w2c_j5);
   w2c_j0 = 0ull;
   w2c_i0 = (u32)(w2c_j0);
   w2c_j1 = w2c_l4;
@@ -23042,7 +23165,7 @@ static u32 w2c_module_write_packet(Z_tcrx_instance_t* instance, u64 w2c_p0, u32 
   w2c_j4 = w2c_p2;
   w2c_i5 = w2c_p3;
   w2c_j5 = (u64)(w2c_i5);
-  w2c_f38(instance, w2c_j0, w2c_j1, w2c_j2, w2c_j3, w2c_j4, w2c_j5);
+  w2c_f37(instance, w2c_j0, w2c_j1, w2c_j2, w2c_j3, w2c_j4, w2c_j5);
   w2c_j0 = 0ull;
   w2c_i0 = (u32)(w2c_j0);
   w2c_j1 = w2c_l4;
@@ -23116,7 +23239,7 @@ static u32 w2c_module_write_segment(Z_tcrx_instance_t* instance, u32 w2c_p0, u32
   w2c_j7 = w2c_p5;
   w2c_i8 = w2c_p6;
   w2c_j8 = (u64)(w2c_i8);
-  w2c_f39(instance, w2c_j0, w2c_j1, w2c_i2, w2c_i3, w2c_i4, w2c_j5, w2c_j6, w2c_j7, w2c_j8);
+  w2c_f38(instance, w2c_j0, w2c_j1, w2c_i2, w2c_i3, w2c_i4, w2c_j5, w2c_j6, w2c_j7, w2c_j8);
   w2c_j0 = 0ull;
   w2c_i0 = (u32)(w2c_j0);
   w2c_j1 = w2c_l7;
@@ -23181,7 +23304,7 @@ static u32 w2c_module_write_tm(Z_tcrx_instance_t* instance, u32 w2c_p0, u32 w2c_
   w2c_j5 = w2c_p3;
   w2c_i6 = w2c_p4;
   w2c_j6 = (u64)(w2c_i6);
-  w2c_f46(instance, w2c_j0, w2c_j1, w2c_i2, w2c_i3, w2c_i4, w2c_j5, w2c_j6);
+  w2c_f45(instance, w2c_j0, w2c_j1, w2c_i2, w2c_i3, w2c_i4, w2c_j5, w2c_j6);
   w2c_j0 = 0ull;
   w2c_i0 = (u32)(w2c_j0);
   w2c_j1 = w2c_l5;
