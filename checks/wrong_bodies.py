@@ -24,14 +24,15 @@ CALL = re.compile(r"\b([a-z_]\w*)(?:::<[^>]*>)?\(|::([a-z_]\w*)\b")
 # What keeps a function from a body that calls what ensures the false: a const one can't, one of a cycle of calls has a measure of
 # its own in its proofs, and one whose type is known by its body has none without it.
 KEEPS_ITS_BODY = re.compile(r"\bconst fn\b|#\[(?:cycle|measure)\b|-> [^{]*\bimpl\b")
-# Where a crate has its edits: those that `rt ci` tries one by one are files in a folder, in the kit's form, and those that are tried many
-# at once are in one file. Each of these begins with its name and stands below the path of the file that it edits.
+# The places of a crate's edits. Those that `rt ci` tries one by one are files in a folder, in the kit's form. Those that are tried many at
+# once are in one file. There each edit begins with its name, below the path of the file that it edits.
 MUST_FAIL, WRONG = "must-fail", "wrong.edits"
 # In must-fail, the line that names the clause that an edit turns, and the line below a 'new:' line that has its exits and the right value.
 TURNS, ALIKE = "# turns: ", "# alike: "
 # The first line of an edit in wrong.edits: its name, and the clause that it turns.
 NAMED = re.compile(r"(\w+)(?: \((\w+)\))?")
-# What an edit names if it turns no clause: the invariant of a type or of a loop, or what a call requires. It is tried without any clause.
+# The names by which an edit says that it turns no clause, but the invariant of a type or of a loop, or a condition that a call requires. Such
+# an edit is tried without any clause.
 NO_CLAUSE = ("invariant", "requires")
 # What makes a path of its own through a body: a `?`, a branch, an arm of a match, a jump.
 EXIT = re.compile(r"\?(?=[;,.)\]}\s]|$)|\b(?:return|if|else|break|continue|matches)\b|=>|&&|\|\|")

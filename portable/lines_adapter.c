@@ -11,8 +11,8 @@ typedef uint32_t u32;
 /* The part of the heap that is used here (heap.c). */
 void *heap_cut(uint64_t count, uint64_t alignment);
 
-/* What is before the octets of a block: the power of two of its size with this header, and the next free block of that
- * size if the block is free. */
+/* The header of a block, in front of its octets. It has the size of the block, header included, as a power of two. If the
+ * block is free, it also has the next free block of that size. */
 typedef struct block {
     uint64_t power;
     struct block *next;

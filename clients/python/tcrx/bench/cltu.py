@@ -15,7 +15,7 @@ from .scheduler import work_on
 
 # Octets that are decoded at once, so that few frames are found beyond those of a turn.
 PIECE = 512
-# What is counted of CLTUs.
+# The counts that the state and the metrics have of CLTUs.
 CLTU_COUNTS = ("cltus", "corrected_blocks", "rejected_blocks", "overlong_cltus", "overfull_cltus")
 
 

@@ -36,7 +36,7 @@ from .web import Visitor, Web
 LOG_PAUSE, LAST_READ = 0.2, 1.0
 # Seconds between two tries to print a report that nobody reads, and how many octets of reports wait at most.
 PRINT_PAUSE, MOST_UNPRINTED = 0.005, 1 << 23
-# What is said of a frame whose frame error control field was data.
+# The note on a frame whose frame error control field was taken as data.
 TOOK_SUM = "a frame ends with its frame error control field, which is data here; --fecf takes it off"
 # The part of `--patience` in which the bench still answers at its end what has arrived. The rest is left for the report.
 LAST_ANSWERS = 0.8
@@ -196,7 +196,7 @@ class Bench:  # pylint: disable=too-many-instance-attributes  # it is made of th
             print(text, end="", flush=True)
             return True
         except OSError:
-            # What is left of it isn't tried again at the very end.
+            # The rest of the text isn't tried again when the program exits.
             os.dup2(os.open(os.devnull, os.O_WRONLY), sys.stdout.fileno())
             return False
 
