@@ -1,4 +1,4 @@
--- What a frame sent does to what a judge knows, and where a judge ends.
+-- A judge's knowledge after a frame was sent, and at the end of an account.
 use Rattle.std.specs.Prelude.{◌≡◌, ℕ, zero, suc, ◌<◌, ◌≤◌, ◌⊎◌, ◌↔◌, Bool, true, false, IsTrue, List, [], ◌∷◌, ◌++◌, drop, length, slice_index_or}
 use Rattle.std.proofs.Common.{subst, sym, refl, inl, inr, ap, ◌∙◌, arith, ◌+◌}
 use Rattle.std.proofs.Math.Seq.{get_or-append_seam}
@@ -78,7 +78,7 @@ sent-on rules r k way w at a items n we ae =
     (subst (λ ks. SomeAt (λ s. Explains rules s r items) ks (way ++ k ∷ []) ↔ SomeAt (λ s. Explains rules s r (Sent k ∷ items)) at way) (sym ae)
     (after-sent rules r k way at items n))
 
--- one item of an account further
+-- a judge that has come to one item of an account comes to the next one
 pub on : {E : Type 0} (old new : Knowledge) (account : List Item) (i : ℕ) (d item : Item) → i < length account → slice_index_or account i d ≡ item
     → ((items : List Item) → Allows new items ↔ Allows old (item ∷ items)) → (Allows old (drop i account) ↔ E) → Allows new (drop (i + 1) account) ↔ E
 on {E = E} old new account i d item h is step known = (λ a. known.0 (to (m.0 a)), λ e. m.1 (from (known.1 e))) where
@@ -105,7 +105,7 @@ drop-past [] (suc n) h = refl
 drop-past (x ∷ xs) zero h = absurd (omega (arith, h))
 drop-past (x ∷ xs) (suc n) h = drop-past xs n (omega (arith, h))
 
--- where all marks are set, any number of frames may be gone
+-- if all marks are set, any number of frames may be gone
 pub from-any : (rules : Rules) (from : Report) (way : List SentFrame) (marks : List Bool) (items : List Item) → length marks ≡ length way + 1
     → ((k : ℕ) → k < length marks → slice_index_or marks k false ≡ true)
     → SomeAt (λ s. Explains rules s from items) marks way ↔ ((n : ℕ) × Explains rules (drop n way) from items)

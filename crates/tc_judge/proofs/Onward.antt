@@ -1,4 +1,4 @@
--- One frame of those on their way.
+-- The next frame on its way, which is lost or comes.
 use Rattle.std.specs.Prelude.{◌≡◌, ◌⊎◌, Bool, List, [], ◌∷◌}
 use Rattle.std.proofs.Common.{subst, refl, inl, inr, ap, ◌∙◌, arith}
 use Rattle.tc_judge.specs.declared.account.Rules.{Rules}
@@ -50,7 +50,7 @@ free-twice r = by r.state r refl where
   by S2 r e = grind (arith, e)
   by S3 r e = grind (arith, e)
 
--- what comes of a layer is a layer
+-- if the layer after a frame has components, it also has those after a release
 pub next-held : (rules : Rules) (k : SentFrame) (layer next : List Bool) → IsNext rules k layer next → IsLayer next
 next-held rules k layer next goes y has = let m = (goes y).0 has in (goes (after E10 y)).1 (m.0, m.1, freed y m.0 m.2) where
   freed : (y r : Report) → IsMadeOf rules k r y → IsMadeOf rules k r (after E10 y)

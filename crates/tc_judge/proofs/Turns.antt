@@ -11,7 +11,7 @@ use Rattle.tc_judge.specs.declared.account.Item.TheVariants.{Heard}
 use Rattle.tc_judge.specs.Layer.{Has, IsEmpty, SomeOf, IsLayer, Goes, IsTurn}
 use Rattle.tc_judge.proofs.Onward.{step-on, end-on, step-back, next-held, free-twice}
 
--- the layer with what the unit is at now
+-- the layer with the components that the last CLCW showed
 abbrev pub IsJoined : Report → Bool → List Bool → List Bool → Type 0
 IsJoined now here layer joined = (y : Report) → Has joined y ↔ (Has layer y ⊎ (IsTrue here × ((y ≡ now) ⊎ (y ≡ after E10 now))))
 

@@ -1,4 +1,4 @@
--- What is added to a layer.
+-- The components that are added to a layer.
 use Rattle.std.specs.Prelude.{◌≡◌, ◌⊎◌, ◌↔◌, Bool, true, false, Option, Some, None}
 use Rattle.std.proofs.Common.{sym, refl, inl, inr, ap, ◌∙◌}
 use Rattle.tc_judge.specs.declared.account.Rules.{Rules}
@@ -33,7 +33,7 @@ alike {X = X} {Z = Z} {P = P} {Q = Q} f g = (λ z. there (f.0 z), back) where
   back (inl x) = f.1 (inl x)
   back (inr q) = f.1 (inr (g.1 q))
 
--- y is one of these, or that after a release
+-- `y` is one of these components, or one of them after a release
 abbrev pub Near : Report → Report → Type 0
 Near y new = (y ≡ new) ⊎ (y ≡ after E10 new)
 

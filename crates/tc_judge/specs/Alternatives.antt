@@ -31,7 +31,7 @@ abbrev pub other : ℕ → SentFrame → Report → Option Report
 other width (Known kind) r = other_at (frame_row width r.vr kind false) r.state r
 other width OtherCommand r = Some (counted r)
 
--- what a frame that comes may lead to
+-- a frame that comes may lead from components `r` to components `new`
 abbrev pub Leads : Rules → SentFrame → Bool → Report → Report → Type 0
 Leads rules frame room r new =
     (usual rules.window frame room r ≡ Some new) ⊎ ((rules.profile ≡ false) × (other rules.window frame r ≡ Some new))

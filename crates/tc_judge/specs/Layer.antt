@@ -11,7 +11,7 @@ use Rattle.tc_judge.specs.declared.account.SentFrame.{SentFrame}
 use Rattle.tc_judge.specs.declared.account.Item.{Item}
 use Rattle.tc_judge.specs.declared.account.Item.TheVariants.{Heard}
 
--- the place of components in a layer, which has a flag for each components that a CLCW can show
+-- the place of the flag that a layer has for these components
 abbrev pub place_in_layer : Report → ℕ
 place_in_layer r = ((4 * bit r.lockout + 2 * bit r.wait + bit r.retransmit) * 4 + r.farm_b) * 256 + r.vr
 
@@ -28,15 +28,15 @@ IsEmpty layer = (r : Report) → Has layer r → ⊥
 abbrev pub SomeOf : (Report → Type 0) → List Bool → Type 0
 SomeOf Holds layer = (r : Report) × Has layer r × Holds r
 
--- a layer has, with each components, those after a release
+-- if a layer has components, it also has those after a release
 abbrev pub IsLayer : List Bool → Type 0
 IsLayer layer = (r : Report) → Has layer r → Has layer (after E10 r)
 
--- what becomes of components when a frame is lost or comes
+-- the components `r` become `new` when a frame is lost or comes
 abbrev pub IsDealt : Rules → SentFrame → Report → Report → Type 0
 IsDealt rules frame r new = ((rules.lossy ≡ true) × (new ≡ r)) ⊎ ((room : Bool) × Leads rules frame room r new)
 
--- what becomes of components by a frame, and by a release after it
+-- the components `r` become `y` by a frame, or by a frame and a release after it
 abbrev pub IsMadeOf : Rules → SentFrame → Report → Report → Type 0
 IsMadeOf rules frame r y = (new : Report) × IsDealt rules frame r new × ((y ≡ new) ⊎ (y ≡ after E10 new))
 

@@ -1,4 +1,4 @@
--- The items that octets are.
+-- The item of an account that octets stand for.
 use Rattle.std.specs.Prelude.{◌≡◌, ◌<◌, ℕ, Bool, true, false, ◌==◌, ◌||◌, List, [], ◌∷◌, drop, if◌then◌else◌}
 use Rattle.tc_link.specs.Command.{kind_of}
 use Rattle.tc_link.specs.Frame.{header_of, BeginsWith}

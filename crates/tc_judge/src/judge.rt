@@ -147,7 +147,8 @@ impl Judge {
     pub fn go_on(&mut self, from: Report)
         requires { IsShown from }
         ensures allows { (items : List Item) → Allows self.new items ↔ ((n : ℕ) × Explains self.old.rules (drop n self.old.way) from items) }
-        ensures overrun { self.new.overrun ≡ self.old.overrun }
+        ensures kept { (self.new.rules ≡ self.old.rules) × (self.new.way ≡ self.old.way) × (self.new.most ≡ self.old.most)
+            × (self.new.overrun ≡ self.old.overrun) }
     {
         self.now = from;
         self.marks.fill(true);
@@ -222,8 +223,8 @@ fn trim(way: &mut Vec<SentFrame>, marks: &mut Vec<bool>)
     ensures shorter { length way.new.items ≤ length way.old.items }
     ensures room { (vec_capacity way.new ≡ vec_capacity way.old) × (vec_capacity marks.new ≡ vec_capacity marks.old) }
     ensures some { (rules : Rules) (r : Report) (items : List Item)
-        → SomeAt (λ s. Explains rules s r items) marks.new.items way.new.items ↔ SomeAt
-        (λ s. Explains rules s r items) marks.old.items way.old.items }
+        → SomeAt (λ s. Explains rules s r items) marks.new.items way.new.items
+        ↔ SomeAt (λ s. Explains rules s r items) marks.old.items way.old.items }
 {
     while way.len() > 0 {
         if marks[0] {

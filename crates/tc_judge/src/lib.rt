@@ -25,4 +25,4 @@ pub use laws::{
     items_are_read_so, milder_rules_explain_more,
     only_a_release_changes_a_unit_to_which_nothing_is_on_its_way,
 };
-pub use reading::{read_heard, read_sent};
+pub use reading::{is_shown, read_heard, read_sent};

@@ -40,8 +40,8 @@ pub fn hear(
     requires marks { length marks.now ≡ length way.now + 1 }
     requires room { length marks.now ≤ vec_capacity found.old }
     requires layers { (length layers.old.here.items ≡ 8192) × (length layers.old.next.items ≡ 8192) }
-    ensures heard { (items : List Item) → SomeAt (λ s. Explains rules.now s shown items) found.new.items way.now ↔ SomeAt
-        (λ s. Explains rules.now s now (Heard shown ∷ items)) marks.now way.now }
+    ensures heard { (items : List Item) → SomeAt (λ s. Explains rules.now s shown items) found.new.items way.now
+        ↔ SomeAt (λ s. Explains rules.now s now (Heard shown ∷ items)) marks.now way.now }
     ensures len { length found.new.items ≡ length marks.now }
     ensures room { vec_capacity found.new ≡ vec_capacity found.old }
     ensures layers { (length layers.new.here.items ≡ 8192) × (length layers.new.next.items ≡ 8192) }
