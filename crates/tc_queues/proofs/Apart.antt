@@ -2,7 +2,7 @@
 use Rattle.tc_queues.proofs.Names.{◌≡◌, ◌≢◌, ℕ, ◌+◌, ◌<◌, Bool, true, false, List, length, take, get_or, replicate, sym, ap, ◌∙◌, inl, inr, arith, Any, AllPairs, ◌↔◌, set, cases_eq, get_or_default, get_or-set_same, get_or-set_other, get_or-replicate, length-set, length-replicate, length-take}
 use Rattle.std.proofs.lemmas.List.{get_or-take}
 
--- an earlier item has this key
+-- one of the first `i` items has the key `n`
 abbrev Earlier : {A : Type 0} → (A → ℕ) → List A → ℕ → ℕ → Type 0
 Earlier key qs i n = Any (λ p. key p ≡ n) (take i qs)
 

@@ -9,7 +9,7 @@ pub none-staged : (qs : List Keyed) (ps : List (List ℕ)) → AreCommitted qs �
 none-staged [] ps all = tt
 none-staged (q ∷ qs) ps all = (inl all.0, none-staged qs ps all.1)
 
--- staging one of the packets in the queue that wants it keeps `AreStagedOf`
+-- if a queue wants one of the packets, any change of its items keeps `AreStagedOf`
 pub staged-at : (qs : List Keyed) (i k : ℕ) (q next : Keyed) (ps : List (List ℕ)) → i < length qs → q ≡ get_or qs i q → next.key ≡ q.key → k ≡ get_or (keys_of (rings_in qs)) i k → IsAmong k ps → AreStagedOf ps qs → AreStagedOf ps (set qs i next)
 staged-at [] i k q next ps inside is key k_is among all = tt
 staged-at (r ∷ qs) zero k q next ps inside is key k_is among all = (inr (subst (λ (x : ℕ). IsAmong x ps) (k_is ∙ sym (key ∙ ap (λ (x : Keyed). x.key) is)) among), all.1)
@@ -38,7 +38,7 @@ committed-one [] i q next is next_is = refl
 committed-one (r ∷ qs) zero q next is next_is = ap (λ (x : Keyed). x ∷ map committed qs) (ap committed next_is ∙ committed-twice q ∙ ap committed is)
 committed-one (r ∷ qs) (suc i) q next is next_is = ap (λ (x : List Keyed). committed r ∷ x) (committed-one qs i q next is next_is)
 
--- if a queue doesn't want this packet, items are staged in the queue only if it wants one of the remaining packets
+-- if a queue doesn't want the first packet, items are staged in the queue only if it wants one of the remaining packets
 passed-over : (q : Keyed) (p : List ℕ) (ps : List (List ℕ)) → is_for q.key p ≡ false → (q.slots.staged ≡ []) ⊎ IsAmong q.key (p ∷ ps) → (q.slots.staged ≡ []) ⊎ IsAmong q.key ps
 passed-over q p ps other (inl none) = inl none
 passed-over q p ps other (inr (inl for_it)) = absurd cc

@@ -43,7 +43,7 @@ put-at : (done : List StoredQueue) (w : StoredQueue) (ws : List StoredQueue) (p 
 put-at [] w ws p = refl
 put-at (d ∷ done) w ws p = ap (λ (x : List StoredQueue). d ∷ x) (put-at done w ws p)
 
--- a queue with room forgets no item when one more is put into it
+-- a queue with room loses no item when one more is put into it
 pub longer-fits : (w : StoredQueue) (p : List ℕ) → length w.ring.items < w.ring.capacity → longer w p ≡ with_items w (p ∷ [])
 longer-fits w p fits =
     let l = length-append w.ring.items (p ∷ []) in
@@ -60,7 +60,7 @@ put-share done w ws (p ∷ ps) others fits =
     ap (λ (x : List StoredQueue). put_all x (map (copied_to (length done)) ps ++ others)) longer_is
     ∙ rest ∙ ap (λ (x : List (List ℕ)). put_all (done ++ record w { ring = ring_of x w.ring.capacity } ∷ ws) others) (append_assoc w.ring.items (p ∷ []) ps)
 
--- no queue holds more items than it has room for
+-- no queue holds more items than its capacity
 abbrev pub Fit : List StoredQueue → Type 0
 Fit ws = AllByRecursion (λ (w : StoredQueue). length w.ring.items ≤ w.ring.capacity) ws
 

@@ -1,4 +1,4 @@
--- Queues with distinct keys take no item twice, if each item is wanted by one key alone.
+-- Queues with distinct keys take no item twice, if each item is wanted by at most one key.
 use Rattle.tc_queues.proofs.Names.{◌≡◌, ◌≢◌, ℕ, ◌+◌, ◌-◌, ◌≤◌, Bool, true, false, cond, eqb, ◌&&◌, List, [], ◌∷◌, length, map, filter, refl, inl, inr, arith, AllByRecursion, sum_by, length-take, sum_by-cons, eqb_tells, apid_of, is_telecommand, is_for, StoredQueue, share, keys_of, AreDistinct}
 
 abbrev meant : (ℕ → List ℕ → Bool) → List (List ℕ) → ℕ → ℕ
@@ -24,7 +24,7 @@ sums-cons wanted p ps (a ∷ keys) =
 abbrev pub IsForOneKey : (ℕ → List ℕ → Bool) → Type 0
 IsForOneKey wanted = (a b : ℕ) (p : List ℕ) → wanted a p ≡ true → a ≢ b → wanted b p ≡ false
 
--- a packet has one APID, so it is wanted by one key alone
+-- a packet has one APID, so at most one key wants it
 pub for-one : IsForOneKey is_for
 for-one a b p h apart = elim (eqb_tells (apid_of p) a) [
   | inl one ↦ elim (eqb_tells (apid_of p) b) [
@@ -73,6 +73,6 @@ shares-meant wanted ps (w ∷ ws) =
     let ih = shares-meant wanted ps ws in
     omega (arith, sum_by-cons length (share wanted ps w) (map (share wanted ps) ws), sum_by-cons (meant wanted ps) w.key (keys_of ws), length-take (w.ring.capacity - length w.ring.items) (filter (wanted w.key) ps))
 
--- no more items are queued than there are
+-- queues with distinct keys take together no more items than there are
 pub queued-within : (wanted : ℕ → List ℕ → Bool) → IsForOneKey wanted → (ps : List (List ℕ)) (ws : List StoredQueue) → AreDistinct (keys_of ws) → sum_by length (map (share wanted ps) ws) ≤ length ps
 queued-within wanted alone ps ws apart = let a = shares-meant wanted ps ws in let b = all-meant wanted alone ps (keys_of ws) apart in omega arith

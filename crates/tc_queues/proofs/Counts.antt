@@ -90,7 +90,7 @@ steps-by-octets unit n queues units within = let few = few-packets unit in more-
 pub steps-of-largest : (unit : List ℕ) (queues units : ℕ) → length unit ≤ 65542 → delivery_steps (Some unit) queues units ≤ packet_steps 9363 queues units
 steps-of-largest unit queues units within = steps-by-octets unit 9363 queues units (omega arith)
 
--- the steps are within their bound, whether a queue is looked for once or twice
+-- The steps of a take are within their bound if its queue is looked for once (`found-once`) or twice (`found-twice`).
 pub found-once : (key parts count before after : ℕ) → parts ≡ count → after ≤ before + looks_for key parts → after ≤ before + take_steps key count
 found-once key parts count before after same cost = let x : after ≤ before + looks_for key count = rw same at cost in sum (looks_for key count) x where
   sum : (x : ℕ) → after ≤ before + x → after ≤ before + 2 * x

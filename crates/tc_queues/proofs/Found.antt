@@ -7,7 +7,7 @@ use Rattle.tc_queues.specs.StoredQueues.{items_for}
 use Rattle.tc_queues.specs.declared.reply.NotCopied.{NotCopied}
 use Rattle.tc_queues.specs.declared.reply.NotCopied.TheVariants.{NoQueue}
 
--- no queue so far has the key
+-- none of these queues has the key
 abbrev pub NoneHas : ℕ → List Keyed → Type 0
 NoneHas key qs = AllByRecursion (λ (other : ℕ). key ≢ other) (keys_of (rings_in qs))
 
@@ -68,7 +68,7 @@ popped-empty key (suc i) (v ∷ ws) w first is none = rw (ne_eqb v.key key (λ e
 pub empty-in : (key i : ℕ) (qs : List Keyed) (q : Keyed) → i < length qs → q ≡ get_or qs i q → length q.slots.ring.items ≡ 0 → IsFirst key i (keys_of (rings_in qs)) → rings_in qs ≡ popped key (rings_in qs)
 empty-in key i qs q inside is none first = sym (popped-empty key i (rings_in qs) (ring_in q) first (ring-at qs i q inside is) none)
 
--- the oldest item of a queue, if there is a queue
+-- the oldest item of a queue, if there is a queue and an item waits
 abbrev oldest-of : Option StoredQueue → Option (List ℕ)
 oldest-of q = option_and_then (λ (items : List (List ℕ)). slice_get items 0) (option_map (λ (x : StoredQueue). x.ring.items) q)
 

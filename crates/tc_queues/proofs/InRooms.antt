@@ -7,7 +7,7 @@ use Rattle.tc_queues.specs.Keyed.{IsPutBehind}
 use Rattle.tc_queues.specs.Delivering.{IsPutAt}
 use Rattle.tc_queues.proofs.Copies.{put-set, longer-fits}
 
--- replacing a queue by one with equal waiting items leaves the waiting items of all queues as they were
+-- if a queue is replaced by one with an equal key and equal waiting items, the keys and waiting items of all queues stay as they were
 pub same-rings : (qs : List Keyed) (i : ℕ) (q next : Keyed) → q ≡ get_or qs i q → next.key ≡ q.key → next.slots.ring ≡ q.slots.ring → rings_in (set qs i next) ≡ rings_in qs
 same-rings qs i q next is key ring =
     let same : ring_in next ≡ ring_in (get_or qs i q) = rw (key, ring) (ap ring_in is) in
@@ -21,7 +21,7 @@ fit-at octets [] i q fits inside is = absurd (omega arith)
 fit-at octets (r ∷ qs) zero q fits inside is = subst (λ (x : Keyed). length octets ≤ x.slots.size) (sym is) fits.0
 fit-at octets (r ∷ qs) (suc i) q fits inside is = fit-at octets qs i q fits.1 (omega arith) is
 
--- if nothing is staged, the items that wait are all items
+-- if nothing is staged in a queue, counting the staged items with those that wait makes no difference
 staged-one : (q : Keyed) → q.slots.staged ≡ [] → staged_in q ≡ ring_in q
 staged-one q none = ap (λ (xs : List (List ℕ)). record { key = q.key; ring = buffer xs q.slots.ring.capacity }) (rw none (append-nil q.slots.ring.items))
 
@@ -37,8 +37,8 @@ key-in qs i k q inside is k_is =
     k_is ∙ sym (get_or-map (λ (x : StoredQueue). x.key) (rings_in qs) i (ring_in q) k (omega (arith, length-map qs ring_in))
     ∙ ap (λ (x : StoredQueue). x.key) (get_or-map ring_in qs i q (ring_in q) inside ∙ ap ring_in (sym is)))
 
--- If a queue is replaced by one with one more item, the list of queues has the item at that place. Staged items may be
--- counted or not.
+-- If a queue is replaced by one that has one more item or, if it is full, no more, the item was put at that place of the
+-- list (`IsPutAt`). `f` is `ring_in` or `staged_in`, so the staged items may be counted or not.
 pub put-in : (f : Keyed → StoredQueue) (qs : List Keyed) (i : ℕ) (q next : Keyed) (p : List ℕ) (place : Bool) → i < length qs → q ≡ get_or qs i q → IsPutBehind p (f q) (f next) place → IsPutAt i p (map f qs) (map f (set qs i next)) place
 put-in f qs i q next p place inside is behind =
     let here : f q ≡ get_or (map f qs) i (f q) = ap f is ∙ sym (get_or-map f qs i q (f q) inside) in
@@ -54,7 +54,7 @@ put-in f qs i q next p place inside is behind =
           (map-set_same f qs i next q (n.0 ∙ ap f is), omega arith);
     }
 
--- Nothing is staged in any queue. Writing a queue without staged items leaves nothing staged.
+-- if nothing is staged in any queue, and one is replaced by a queue without staged items, nothing is staged
 pub committed-at : (qs : List Keyed) (i : ℕ) (next : Keyed) → AreCommitted qs → next.slots.staged ≡ [] → AreCommitted (set qs i next)
 committed-at [] i next all one = tt
 committed-at (r ∷ qs) zero next all one = (one, all.1)
@@ -65,7 +65,7 @@ staged-of-none-at [] i q all inside is = absurd (omega arith)
 staged-of-none-at (r ∷ qs) zero q all inside is = ap (λ (x : Keyed). x.slots.staged) is ∙ all.0
 staged-of-none-at (r ∷ qs) (suc i) q all inside is = staged-of-none-at qs i q all.1 (omega arith) is
 
--- Nothing is staged in any queue. Replacing a queue by one with equal staged items leaves nothing staged.
+-- if nothing is staged in any queue, and one is replaced by a queue with equal staged items, nothing is staged
 pub committed-set : (qs : List Keyed) (i : ℕ) (q next : Keyed) → AreCommitted qs → i < length qs → q ≡ get_or qs i q → next.slots.staged ≡ q.slots.staged → AreCommitted (set qs i next)
 committed-set qs i q next all inside is same = committed-at qs i next all (same ∙ staged-of-none-at qs i q all inside is)
 
@@ -76,12 +76,12 @@ full-at qs i q inside is full =
     get_or-map room_in (all_staged_in qs) i (staged_in q) 0 (omega (arith, length-map qs staged_in)) ∙ ap room_in (sym here) in
     room ∙ omega (arith, length-append q.slots.ring.items q.slots.staged)
 
--- octets that are no more than the smallest room fit each room
+-- if no size is below `least`, octets that are no longer than `least` fit each size
 pub fit-enough : (octets : List ℕ) (least : ℕ) (sizes : List ℕ) → AllByRecursion (λ (n : ℕ). least ≤ n) sizes → length octets ≤ least → Fit octets sizes
 fit-enough octets least [] all le = tt
 fit-enough octets least (m ∷ sizes) all le = (let e = all.0 in omega arith, fit-enough octets least sizes all.1 le)
 
--- if a list has the queues of the first `i` settings, and the queue of the next one is appended, it has those of `i + 1`
+-- if the queue of the next setting is appended to the queues of the first `i` settings, the result is the queues of the first `i + 1`
 pub rings-more : {A : Type 0} (made : A → Queue) (settings : List A) (i : ℕ) (setting : A) (qs : List Keyed) (q : Keyed)
     → i < length settings → ring_in q ≡ stored (made (get_or settings i setting)) → rings_in qs ≡ map stored (map made (take i settings)) → rings_in (qs ++ q ∷ []) ≡ map stored (map made (take (i + 1) settings))
 rings-more made settings i setting qs q inside is so =

@@ -23,7 +23,8 @@ keys-put _ _ p = refl
 abbrev pub NoneFor : List ℕ → List ℕ → Type 0
 NoneFor p apids = AllByRecursion (λ (a : ℕ). is_for a p ≡ false) apids
 
--- after the first packet, the queues share the remaining packets as they shared all of them before
+-- The packet `p` turned the queues `before` into `after`, and `n` items were queued. If `after` take their shares of
+-- `ps`, the result is as if `before` had taken their shares of `p` and `ps`.
 record Goes (p : List ℕ) (ps : List (List ℕ)) (before after : List StoredQueue) (n : ℕ) : Type 0 where
   put : shared is_for (p ∷ ps) before ≡ shared is_for ps after
   count : shares_in is_for (p ∷ ps) before ≡ n + shares_in is_for ps after
@@ -64,7 +65,7 @@ goes-full p ps (w ∷ ws) zero a n distinct lt is for_it room none =
 goes-full p ps (w ∷ ws) (suc i) a n distinct lt is for_it room none =
     goes-cons p ps w ws ws 0 (rw (not-head w ws i a p distinct (omega arith) is for_it) refl) (goes-full p ps ws i a n distinct.1 (omega arith) is for_it room none)
 
--- the packet goes into its queue, which has room
+-- the packet `p` goes into the queue `w`, which then is `later` and shares the packets `ps`
 record GoesIn (p : List ℕ) (ps : List (List ℕ)) (w later : StoredQueue) : Type 0 where
   put : with_items w (share is_for (p ∷ ps) w) ≡ with_items later (share is_for ps later)
   count : length (share is_for (p ∷ ps) w) ≡ suc (length (share is_for ps later))
@@ -104,7 +105,7 @@ rooms-put p (w ∷ ws) zero a n lt is for_it room some =
     ap (λ (x : ℕ). x ∷ map room_in ws) (ap (λ (x : ℕ). x - 1) room ∙ sym it.room)
 rooms-put p (w ∷ ws) (suc i) a n lt is for_it room some = ap (λ (x : List ℕ). room_in w ∷ x) (rooms-put p ws i a n (omega arith) is for_it room some)
 
--- if a packet goes nowhere, the pass goes on with the remaining packets
+-- if no queue takes the packet, the pass goes on with the remaining packets
 pass-on : (qs : List StoredQueue) (p : List ℕ) (ps all : List (List ℕ)) (cs : List Placed) (rooms : List ℕ) → Goes p ps (put_all qs cs) (put_all qs cs) 0 → IsUnderWay qs (p ∷ ps) all cs rooms → IsUnderWay qs ps all cs rooms
 pass-on qs p ps all cs rooms g k =
     let count = g.count in
@@ -143,7 +144,7 @@ copy-on qs p ps all cs rooms i a n distinct lt is for_it room some k =
       count = omega arith;
     }
 
--- a pass is under way before the first packet, and gives each queue its share after the last one
+-- before the first packet, a pass is under way, and all packets remain
 pub under-way : (qs : List StoredQueue) (all : List (List ℕ)) (cs : List Placed) (rooms : List ℕ) → cs ≡ [] → rooms ≡ map room_in qs → IsUnderWay qs all all cs rooms
 under-way qs all cs rooms none is = rw none (record { places = tt; keys = refl; rooms = is; put = refl; count = omega arith })
 
@@ -157,6 +158,7 @@ none-shared (w ∷ ws) =
     let count = ih.1 in
     (ap (λ (x : StoredQueue). x ∷ shared is_for [] ws) same ∙ ap (λ (x : List StoredQueue). w ∷ x) ih.0, omega (arith, sum_by-cons length (share is_for [] w) (map (share is_for []) ws)))
 
+-- after the last packet of a pass, each queue has its share of all packets
 pub all-shared : (qs : List StoredQueue) (left all : List (List ℕ)) (cs : List Placed) (rooms : List ℕ) → left ≡ [] → IsUnderWay qs left all cs rooms → AreShares is_for all qs cs
 all-shared qs left all cs rooms none k =
     let k' : IsUnderWay qs [] all cs rooms = rw none at k in

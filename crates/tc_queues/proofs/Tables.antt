@@ -77,7 +77,7 @@ pub skip-place : (qs : List Keyed) (i none : ℕ) (q : Keyed) (table : List ℕ)
     → AreFirst (keys_of (rings_in (take i qs))) none table → AreFirst (keys_of (rings_in (take (i + 1) qs))) none table
 skip-place qs i none q table lt is far t = rw (keys-more qs i q lt is) (table-skip (keys_of (rings_in (take i qs))) none q.key table t far)
 
--- the place that the table shows for a key is the first one with this key
+-- if the table shows the place of a queue for a key, it is the first place with this key
 pub reported-first : (keys table : List ℕ) (none key : ℕ) → AreFirst keys none table → none ≡ length keys → key < length table → get_or table key 0 < length keys → IsFirst key (get_or table key 0) keys
 reported-first keys table none key t is lt at = by (t.shows key (let s = t.size in omega arith)) where
   by : ShowsFirst keys none key (get_or table key 0) → IsFirst key (get_or table key 0) keys

@@ -18,7 +18,7 @@ others-take-none : (m place : ℕ) (u : List ℕ) (ws : List StoredQueue) → Al
 others-take-none m place u [] h = refl
 others-take-none m place u (w ∷ ws) h = rw (share-other m u w (λ e. h.0 (sym e)), others-take-none m (place + 1) u ws h.1) refl
 
--- if queue `i` is the queue of the MAP, only this queue has a copy of the unit
+-- if queue `i` is the queue of the MAP, it alone takes copies of the unit, among the queues from place `i` on
 one-takes : (m place i : ℕ) (u : List ℕ) (ws : List StoredQueue) (q : StoredQueue) → AreDistinct (keys_of ws) → i < length ws → q ≡ get_or ws i q → q.key ≡ m
     → copies_from (is_of_map m) place (u ∷ []) (drop i ws) ≡ map (copied_to place) (share (is_of_map m) (u ∷ []) q)
 one-takes m place i u [] q apart lt is same = absurd (omega arith)
@@ -32,7 +32,7 @@ one-takes m place (suc i) u (w ∷ ws) q apart lt is same = one-takes m place i 
 pub at-start : (base now : List StoredQueue) (all : List (List ℕ)) → now ≡ base → IsOnItsWay base all all 0 now
 at-start base now all is = record { made = []; free = map room_in base; way = under-way base all [] (map room_in base) refl refl; now_is = is; count = refl }
 
--- if no queue takes the packet, the packets after it remain
+-- if no queue wants the packet, the packets after it remain
 pub way-none : (base now : List StoredQueue) (p : List ℕ) (left all : List (List ℕ)) (n : ℕ) → NoneFor p (keys_of now) → IsOnItsWay base (p ∷ left) all n now → IsOnItsWay base left all (n + 0) now
 way-none base now p left all n none k =
     let keys : keys_of now ≡ keys_of base = ap keys_of k.now_is ∙ k.way.keys in

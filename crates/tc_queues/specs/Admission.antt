@@ -14,8 +14,8 @@ map_of field = (segment.header_of field).map
 abbrev pub is_chosen : ChannelState → List ℕ → Bool
 is_chosen state field = is_some (queue_of (map_of field) state.units)
 
--- The packets that a unit offers to the queues. They are the packets that the unit is cut into, unless its MAP is
--- chosen or no unit was ended.
+-- The packets that a unit offers to the queues. There are none if no unit was ended or its MAP is chosen. Otherwise they
+-- are the packets that the unit is cut into.
 abbrev pub packets_offered : Option (List ℕ) → Bool → List (List ℕ)
 packets_offered None chosen = []
 packets_offered (Some unit) true = []
@@ -31,7 +31,7 @@ units_offered (Some unit) false = []
 abbrev pub is_for : ℕ → List ℕ → Bool
 is_for apid packet = is_telecommand packet && apid_of packet == apid
 
--- whether the unit queue with this MAP as its key wants a unit of the MAP `map_id`
+-- whether the unit queue with the key `key` wants a unit of the MAP `map_id`
 abbrev pub is_of_map : ℕ → ℕ → List ℕ → Bool
 is_of_map map_id key unit = key == map_id
 
@@ -51,7 +51,7 @@ with_share wanted items q = record q { admitted = q.admitted ++ share_of wanted 
 abbrev pub with_shares : (ℕ → List ℕ → Bool) → List (List ℕ) → List Queue → List Queue
 with_shares wanted items queues = map (with_share wanted items) queues
 
--- the number of items that are queued
+-- the number of items that the queues take together
 abbrev pub queued_of : (ℕ → List ℕ → Bool) → List (List ℕ) → List Queue → ℕ
 queued_of wanted items queues = sum_by (λ q. length (share_of wanted items q)) queues
 

@@ -1,4 +1,4 @@
--- The state of a channel: FARM-1's components, lists from which nothing is ever removed, and counts.
+-- The state of a channel: FARM-1's components, two settings, lists from which nothing is ever removed, and counts.
 use Rattle.std.specs.Prelude.{ℕ, Bool, List, [], ◌∷◌, length, map, drop, nat_lt, ◌==◌, Option, Some, None, if◌then◌else◌}
 use Rattle.tc_link.specs.declared.Report.{Report}
 use Rattle.tc_link.specs.Farm.{first_report}
@@ -44,7 +44,7 @@ empty_queue q = queue_with q.apid q.capacity
 abbrev pub empty_unit_queue : MapSetting → Queue
 empty_unit_queue m = queue_with m.map m.capacity
 
--- the limits of a channel without limits by MAP: no unit is longer than the largest
+-- the limit of each MAP on a channel without limits by MAP, which is the size of the largest unit
 unfoldable pub no_limits : ℕ → ℕ
 no_limits map_id = largest_unit
 
@@ -72,7 +72,7 @@ has_room s state = nat_lt (length (buffer state)) s.buffer
 abbrev pub waiting : Queue → List (List ℕ)
 waiting q = drop q.taken q.admitted
 
--- the queue with a key
+-- the first queue with a key, if any
 abbrev pub queue_of : ℕ → List Queue → Option Queue
 queue_of key [] = None
 queue_of key (q ∷ qs) = if q.key == key then Some q else queue_of key qs

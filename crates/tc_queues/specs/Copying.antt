@@ -13,7 +13,8 @@ abbrev pub copied_in : ℕ → Option (List ℕ) → Result ℕ NotCopied
 copied_in room None = Err Empty
 copied_in room (Some item) = if nat_lt room (length item) then Err (NoRoom (length item)) else Ok (length item)
 
--- the length of the oldest item that waits, which is copied, or the reason why none can be copied
+-- the length of the oldest of a queue's items, if it can be copied into `room` octets, or the reason why it can't be
+-- copied; `None` stands for no queue
 abbrev pub copied_out : ℕ → Option (List (List ℕ)) → Result ℕ NotCopied
 copied_out room None = Err NoQueue
 copied_out room (Some items) = copied_in room (slice_get items 0)

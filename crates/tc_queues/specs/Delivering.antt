@@ -18,8 +18,8 @@ delivered None chosen queued = nothing
 delivered (Some unit) true queued = record { queued = queued; dropped = 1 - queued; rest = false }
 delivered (Some unit) false queued = record { queued = queued; dropped = length (packets_of unit) - queued; rest = nat_lt 0 (length (rest_of unit)) }
 
--- Some of a unit's packets went into their queues. `now` are the queues with these items, and `queued` is the number of
--- the items.
+-- A pass over the packets `all` is under way, and the packets `left` remain. `now` are the queues `base` with the items
+-- that were put into them so far, and `queued` is the number of these items.
 pub record IsOnItsWay (base : List StoredQueue) (left all : List (List ℕ)) (queued : ℕ) (now : List StoredQueue) : Type 0 where
   pub made : List Placed
   pub free : List ℕ
@@ -27,14 +27,14 @@ pub record IsOnItsWay (base : List StoredQueue) (left all : List (List ℕ)) (qu
   pub now_is : now ≡ put_all base made
   pub count : queued ≡ length made
 
--- the packets of a unit are in their queues
+-- each packet of a unit was put into the queue that wants it, or was dropped because there is no room or no queue for it
 pub record ArePut (unit : List ℕ) (old new : List StoredQueue) (delivery : Delivery) : Type 0 where
   pub made : List Placed
   pub shares : AreShares is_for (packets_of unit) old made
   pub new_is : new ≡ put_all old made
   pub delivery_is : delivery ≡ delivered (Some unit) false (length made)
 
--- a unit of this MAP is in its queue, or was dropped whole
+-- a unit of this MAP was put whole into its queue, or was dropped because there is no room or no queue for it
 pub record IsPutWhole (map_id : ℕ) (unit : List ℕ) (old new : List StoredQueue) (delivery : Delivery) : Type 0 where
   pub made : Option Placed
   pub whole : placed made ≡ copies_from (is_of_map map_id) 0 (unit ∷ []) old
@@ -55,16 +55,16 @@ pub record IsDelivered (map_id : ℕ) (unit : Option (List ℕ)) (queues later u
 abbrev pub room_at : ℕ → List StoredQueue → ℕ
 room_at place rings = get_or (map room_in rings) place 0
 
--- an item was put at the end of the ring at this place, or that ring is full
+-- an item was put at the end of the ring at this place if `room` is true, and otherwise that ring is full
 pub record IsPutAt (place : ℕ) (item : List ℕ) (old new : List StoredQueue) (room : Bool) : Type 0 where
   pub done : room ≡ true → (new ≡ put old place item) × (0 < room_at place old)
   pub full : room ≡ false → (new ≡ old) × (room_at place old ≡ 0)
 
--- the packet queue with this key wants one of the packets
+-- the packet queue with this key wants at least one of the packets
 abbrev pub IsAmong : ℕ → List (List ℕ) → Type 0
 IsAmong key [] = ⊥
 IsAmong key (packet ∷ packets) = (is_for key packet ≡ true) ⊎ IsAmong key packets
 
--- items are staged only in queues that want one of these packets
+-- items are staged only in queues that want at least one of these packets
 abbrev pub AreStagedOf : List (List ℕ) → List Keyed → Type 0
 AreStagedOf packets queues = AllByRecursion (λ (q : Keyed). (q.slots.staged ≡ []) ⊎ IsAmong q.key packets) queues

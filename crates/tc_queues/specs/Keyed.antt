@@ -10,7 +10,7 @@ pub record Keyed : Type 0 where
   pub key : ℕ
   pub slots : Slotted
 
--- a queue without its rooms
+-- a queue without its rooms and its staged items
 abbrev pub ring_in : Keyed → StoredQueue
 ring_in q = record { key = q.key; ring = q.slots.ring }
 
@@ -28,19 +28,19 @@ all_staged_in queues = map staged_in queues
 abbrev pub room_sizes : List Keyed → List ℕ
 room_sizes queues = map (λ (q : Keyed). q.slots.size) queues
 
--- the octets fit each of the rooms
+-- the octets are no longer than any of the sizes
 abbrev pub Fit : List ℕ → List ℕ → Type 0
 Fit octets sizes = AllByRecursion (λ (n : ℕ). length octets ≤ n) sizes
 
--- a unit, if any, fits each of the rooms
+-- a unit, if any, is no longer than any of the sizes
 abbrev pub FitsIn : List ℕ → Option (List ℕ) → Type 0
 FitsIn sizes unit = IfSome unit (λ octets. Fit octets sizes)
 
--- nothing is staged
+-- nothing is staged in any of the queues
 abbrev pub AreCommitted : List Keyed → Type 0
 AreCommitted queues = AllByRecursion (λ (q : Keyed). q.slots.staged ≡ []) queues
 
--- an item was put at the end of a ring, or that ring is full
+-- an item was put at the end of a ring if `place` is true, and otherwise that ring is full
 pub record IsPutBehind (item : List ℕ) (old new : StoredQueue) (place : Bool) : Type 0 where
   pub done : place ≡ true → (new ≡ with_items old (item ∷ [])) × (length old.ring.items < old.ring.capacity)
   pub full : place ≡ false → (new ≡ old) × (old.ring.capacity ≤ length old.ring.items)

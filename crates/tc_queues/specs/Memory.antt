@@ -1,5 +1,6 @@
--- The largest number of bytes that a channel requests from an allocator, besides its journal, in a program for a
--- machine of 64 bits.
+-- A bound on the bytes that a channel holds, besides its journal: those that it has requested from its allocator and
+-- not freed. The sizes are those of a machine with 64-bit addresses. `memory_bound` is the bound, and `memory_waiting`
+-- is the part that is in use at a moment.
 use Rattle.std.specs.Prelude.{ℕ, ◌+◌, ◌*◌, ◌^◌, Bool, List, length, nat_lt, sum_by, if◌then◌else◌}
 use Rattle.tc_packet.specs.Reassembly.{largest_unit, stream_count}
 use Rattle.tc_queues.specs.declared.settings.QueueSetting.{QueueSetting}
@@ -31,7 +32,8 @@ largest_field = 1019
 abbrev pub run_room : ℕ
 run_room = 2 ^ 17
 
--- the largest unit, which is also the largest packet (on a plain channel each unit is a data field)
+-- the number of octets in the largest packet: those of the largest unit, and on a plain channel, where each unit is a
+-- data field, those of the largest data field
 abbrev pub largest_item : Bool → ℕ
 largest_item segmented = if segmented then largest_unit else largest_field
 
@@ -43,7 +45,7 @@ packets_stored s = sum_by (λ (q : QueueSetting). q.capacity) s.queues
 abbrev pub units_stored : Settings → ℕ
 units_stored s = sum_by (λ (m : MapSetting). m.capacity) s.maps
 
--- the bytes of a room for each data field of the buffer
+-- the bytes of the buffer's rooms, if each holds the largest data field
 abbrev pub buffer_memory : Settings → ℕ
 buffer_memory s = s.buffer * (room_words + largest_field)
 
@@ -63,11 +65,12 @@ table_memory queues = if nat_lt queues 8 then 0 else 2048 * 2
 abbrev pub tables_memory : Settings → ℕ
 tables_memory s = table_memory (length s.queues) + table_memory (length s.maps)
 
--- The bytes of a first segment. It lies beside the block of its run, because that block is too small for it.
+-- The bytes of the new block of a run, for a first segment that is too long for the run's old block. The new block is
+-- allocated before the old one is freed.
 abbrev pub segment_memory : Settings → ℕ
 segment_memory s = if s.segmented then largest_field else 0
 
--- the largest number of bytes that a channel of these settings holds at any moment
+-- a bound on the bytes that a channel of these settings holds at any moment, besides its journal
 unfoldable pub memory_bound : Settings → ℕ
 memory_bound s = buffer_memory s + runs_memory s + queues_memory s + tables_memory s + segment_memory s
 
@@ -83,7 +86,8 @@ octets_in items = sum_by (λ (i : List ℕ). length i) items
 abbrev pub octets_waiting : List Queue → ℕ
 octets_waiting queues = sum_by (λ (q : Queue). octets_in (waiting q)) queues
 
--- the memory that waiting items and data fields take: their octets, and the words of each item and of each queue
+-- the bytes that the queues and all that waits take: the words of each queue, the octets of each waiting item and the
+-- words of its room, and the octets of each data field in the buffer
 abbrev pub memory_waiting : Settings → ChannelState → ℕ
 memory_waiting s state =
     (length s.queues + length s.maps) * queue_words + (waiting_in_all state.queues * room_words + octets_waiting state.queues)

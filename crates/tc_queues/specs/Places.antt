@@ -1,4 +1,4 @@
--- The place of a key among those of the queues, and a table of such places.
+-- The place of a key among the keys of the queues, and a table of such places.
 use Rattle.std.specs.Prelude.{◌≡◌, ◌≢◌, ◌<◌, ◌≤◌, ℕ, zero, suc, List, [], ◌∷◌, length, get_or, ◌⊎◌}
 use Rattle.std.specs.List.{AllByRecursion}
 use Rattle.tc_queues.specs.StoredQueues.{apid_count}
@@ -13,12 +13,12 @@ IsFirst key (suc place) (a ∷ rest) = (key ≢ a) × IsFirst key place rest
 abbrev pub ShowsFirst : List ℕ → ℕ → ℕ → ℕ → Type 0
 ShowsFirst keys none key n = IsFirst key n keys ⊎ ((n ≡ none) × AllByRecursion (λ other. key ≢ other) keys)
 
--- the table shows the place of each key that an APID can be
+-- for each key that an APID can be, the table shows the first place of the key, or `none` if no queue has it
 pub record AreFirst (keys : List ℕ) (none : ℕ) (table : List ℕ) : Type 0 where
   pub size : length table ≡ apid_count
   pub shows : (key : ℕ) → key < apid_count → ShowsFirst keys none key (get_or table key 0)
 
--- the table shows the places of the keys, unless it is empty
+-- the table shows the places of the keys, or it is empty
 abbrev pub IsTableOf : List ℕ → List ℕ → Type 0
 IsTableOf keys table = length table ≢ 0 → AreFirst keys (length keys) table
 

@@ -24,7 +24,7 @@ pub record IsFull (capacity : ℕ) (rooms : List Contents) : Type 0 where
   pub full : length rooms ≡ capacity
   pub small : capacity < 2 ^ 63
 
--- the first rooms are taken by items that wait, and the next ones by items that are staged behind them
+-- there are `places` rooms of one size, enough for `waiting` items that wait and `count` items that are staged
 pub record AreSlots (places waiting count size : ℕ) (rooms : List Contents) : Type 0 where
   pub full : length rooms ≡ places
   pub small : places < 2 ^ 63
@@ -34,12 +34,13 @@ pub record AreSlots (places waiting count size : ℕ) (rooms : List Contents) : 
 abbrev pub seen : ℕ → ℕ → ℕ → ℕ → List Contents → Slotted
 seen places waiting count size rooms = slotted (map octets_of (take waiting rooms)) places (map octets_of (take count (drop waiting rooms))) size
 
--- an item was staged behind the others, or there was no place for it
+-- an item was staged behind the others if `place` is true, and otherwise there was no place for it
 pub record IsStagedBehind (octets : List ℕ) (old new : Slotted) (place : Bool) : Type 0 where
   pub done : place ≡ true → (new ≡ slotted old.ring.items old.ring.capacity (old.staged ++ octets ∷ []) old.size) × (length old.ring.items + length old.staged < old.ring.capacity)
   pub full : place ≡ false → (new ≡ old) × (old.ring.capacity ≤ length old.ring.items + length old.staged)
 
--- an item was put behind those that wait while nothing was staged, or there was no place for it
+-- If `place` is true, an item was put behind those that wait, and nothing is staged. Otherwise there was no place for
+-- the item.
 pub record IsPut (octets : List ℕ) (old new : Slotted) (place : Bool) : Type 0 where
   pub done : place ≡ true → (new ≡ slotted (old.ring.items ++ octets ∷ []) old.ring.capacity [] old.size) × (length old.ring.items < old.ring.capacity)
   pub full : place ≡ false → (new ≡ old) × (old.ring.capacity ≤ length old.ring.items)

@@ -15,7 +15,7 @@ IsVcid vcid = vcid ≤ 63
 abbrev pub IsBufferSize : ℕ → Type 0
 IsBufferSize size = (1 ≤ size) × (size ≤ 64)
 
--- no queue is for idle packets
+-- each APID is at most 2,046, so no queue is for idle packets
 abbrev pub HaveApids : List QueueSetting → Type 0
 HaveApids queues = All (λ q. q.apid ≤ 2046) queues
 
@@ -37,7 +37,7 @@ AreMapsApart maps = AllPairs (λ (m n : MapSetting). m.map ≢ n.map) maps
 abbrev pub HaveUnitCapacities : List MapSetting → Type 0
 HaveUnitCapacities maps = All (λ m. (1 ≤ m.capacity) × (m.capacity ≤ 256)) maps
 
--- a channel without segment headers, a plain one, has no MAPs
+-- a channel without segment headers, a plain one, has no chosen MAPs
 abbrev pub HasMapsByHeaders : Settings → Type 0
 HasMapsByHeaders s = s.segmented ≡ false → s.maps ≡ []
 

@@ -9,8 +9,8 @@ abbrev pub looks : List Keyed → List ℕ → ℕ
 looks queues [] = length queues
 looks queues (n ∷ table) = 1
 
--- The largest number of queues that are looked at to find one among `count` queues. From 8 to 65,535 queues have a
--- table.
+-- The largest number of queues that are looked at to find one among `count` queues. There is a table if there are 8 to
+-- 65,535 queues.
 abbrev pub most_looks : ℕ → ℕ
 most_looks count = if nat_lt count 8 then count else if nat_lt 65535 count then count else 1
 
@@ -23,8 +23,8 @@ looks_for key count = if nat_lt key apid_count then most_looks count else count
 abbrev pub pass_steps : ℕ → ℕ → ℕ
 pass_steps packets looks_for_one = packets * (looks_for_one + 1)
 
--- The steps of a unit. The queue of its MAP is looked for. Then the packets are staged in their queues. At last either
--- the queue of each packet is committed, or each queue is.
+-- The largest number of steps for a unit. The queue of its MAP is looked for. Then the packets are staged in their
+-- queues. At last either the queue of each packet is committed, or each queue is.
 abbrev pub unit_steps : ℕ → ℕ → ℕ → ℕ
 unit_steps packets looks_for_one looks_for_map = looks_for_map + (pass_steps packets looks_for_one + (pass_steps packets looks_for_one + looks_for_one))
 
@@ -42,6 +42,6 @@ delivery_steps (Some unit) queues units = packet_steps (length (packets_of unit)
 abbrev pub most_packets : ℕ
 most_packets = 9363
 
--- The largest number of steps for a take from one of `count` queues. The queue is searched for twice.
+-- The largest number of steps for a take from one of `count` queues. The queue is searched for at most twice.
 abbrev pub take_steps : ℕ → ℕ → ℕ
 take_steps key count = 2 * looks_for key count

@@ -24,7 +24,7 @@ stored q = record { key = q.key; ring = ring_of (waiting q) q.capacity }
 abbrev pub keys_of : List StoredQueue → List ℕ
 keys_of queues = map (λ (q : StoredQueue). q.key) queues
 
--- no two numbers are the same
+-- no two of these numbers are equal
 abbrev pub AreDistinct : List ℕ → Type 0
 AreDistinct [] = Unit {0}
 AreDistinct (a ∷ rest) = AllByRecursion (λ b. a ≢ b) rest × AreDistinct rest
@@ -45,7 +45,7 @@ with_items q items = record q { ring = ring_of (q.ring.items ++ items) q.ring.ca
 abbrev pub shared : (ℕ → List ℕ → Bool) → List (List ℕ) → List StoredQueue → List StoredQueue
 shared wanted items queues = map (λ (q : StoredQueue). with_items q (share wanted items q)) queues
 
--- the number of items that are queued
+-- the number of items that the queues take together
 abbrev pub shares_in : (ℕ → List ℕ → Bool) → List (List ℕ) → List StoredQueue → ℕ
 shares_in wanted items queues = sum_by length (map (share wanted items) queues)
 
@@ -62,7 +62,7 @@ copies_from wanted place items (q ∷ qs) = map (copied_to place) (share wanted 
 abbrev pub longer : StoredQueue → List ℕ → StoredQueue
 longer q item = record q { ring = ring_of (keep_last q.ring.capacity (q.ring.items ++ item ∷ [])) q.ring.capacity }
 
--- the queues with one more item in the one at this place
+-- the queues, with one more item in the queue at this place if there is one
 abbrev pub put : List StoredQueue → ℕ → List ℕ → List StoredQueue
 put [] place item = []
 put (q ∷ qs) zero item = longer q item ∷ qs
@@ -77,16 +77,16 @@ put_all qs (one ∷ others) = put_all (put qs one.place one.item) others
 abbrev pub HavePlaces : ℕ → List Placed → Type 0
 HavePlaces count copies = AllByRecursion (λ (one : Placed). one.place < count) copies
 
--- the queue with a key
+-- the first queue with a key, if any
 abbrev pub queue_for : ℕ → List StoredQueue → Option StoredQueue
 queue_for key [] = None
 queue_for key (q ∷ qs) = if q.key == key then Some q else queue_for key qs
 
--- the items that wait in the queue with a key, the oldest first
+-- the items that wait in the first queue with a key, the oldest first, or `None` if no queue has the key
 abbrev pub items_for : ℕ → List StoredQueue → Option (List (List ℕ))
 items_for key queues = option_map (λ (q : StoredQueue). q.ring.items) (queue_for key queues)
 
--- the oldest item of the queue with a key
+-- the oldest item of the first queue with a key, if there is such a queue and an item waits
 abbrev pub oldest_for : ℕ → List StoredQueue → Option (List ℕ)
 oldest_for key queues = option_and_then (λ items. slice_get items 0) (items_for key queues)
 
@@ -94,7 +94,7 @@ oldest_for key queues = option_and_then (λ items. slice_get items 0) (items_for
 abbrev pub shorter : StoredQueue → StoredQueue
 shorter q = record q { ring = ring_of (drop 1 q.ring.items) q.ring.capacity }
 
--- the queues, with the oldest item dropped from the one that has this key
+-- the queues, with the oldest item dropped from the first queue that has this key
 abbrev pub popped : ℕ → List StoredQueue → List StoredQueue
 popped key [] = []
 popped key (q ∷ qs) = if q.key == key then shorter q ∷ qs else q ∷ popped key qs
@@ -114,8 +114,9 @@ pub record AreShares (wanted : ℕ → List ℕ → Bool) (items : List (List �
   pub put : put_all queues made ≡ shared wanted items queues
   pub count : length made ≡ shares_in wanted items queues
 
--- The state after some of a unit's packets. It consists of the copies so far and the room that they leave in each
--- queue. The remaining packets share that room in the way in which all packets share the room at the start.
+-- A pass over the packets `all` is under way, and the packets `left` remain. `made` are the copies so far, and `free` is
+-- the room that they leave in each queue. If the queues now take their shares of `left`, the result is as if they had
+-- taken their shares of `all` at the start.
 pub record IsUnderWay (queues : List StoredQueue) (left all : List (List ℕ)) (made : List Placed) (free : List ℕ) : Type 0 where
   pub places : HavePlaces (length queues) made
   pub keys : keys_of (put_all queues made) ≡ keys_of queues

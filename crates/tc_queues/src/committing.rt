@@ -27,7 +27,7 @@ fn commit_all<R: Room, C: Tick>(queues: &mut BoxedSlice<Queue<R>>, steps: &mut C
     }
 }
 
-// Commits the staged items in the queue of this packet.
+// Commits the staged items in the queue of this packet, if it is a telecommand packet and a queue has its APID.
 #[inline(always)]
 #[tactic(auto, using(crate::proofs::Closing::passing))]
 fn commit_packet<R: Room, C: Tick>(
@@ -56,7 +56,7 @@ fn commit_packet<R: Room, C: Tick>(
 
 /// Commits the staged packets of this unit, whose number is `staged`. If rooms never grow, there is nothing left to
 /// commit, since each packet was committed when it was staged. If there is a table of places, and there are at least
-/// `staged` queues, only the queues of the unit's packets are looked at.
+/// `staged` queues, only the queues of the unit's packets are looked at. Otherwise every queue is committed.
 pub(crate) fn commit_packets<R: Room, C: Tick>(
     queues: &mut BoxedSlice<Queue<R>>,
     table: &[u16],

@@ -4,9 +4,10 @@
 //! Settings and replies are plain data, and [`Tick`] counts the steps that a call takes.
 //!
 //! The items of a queue lie in rooms that are created at the start or in rooms that grow. One implementation serves
-//! both. [`Slots`] are the items that wait, each in a [`Room`](tc_packet::Room) of its own. A call first stages its
-//! items behind the items that wait. Once all of them are staged, they are committed and count ([`Slots::commit`]). If
-//! memory runs out before, they are rolled back ([`Slots::roll_back`]), and everything is as it was before the call.
+//! both. [`Slots`] are the items of a queue, each in a [`Room`](tc_packet::Room) of its own. In rooms that grow, the
+//! packets of a unit are first staged behind the items that wait. Once all of them are staged, they are committed and
+//! count ([`Slots::commit`]). If memory runs out before that, they are rolled back ([`Slots::roll_back`]), and
+//! everything is as it was before the call. All other items count at once.
 //!
 //! The rooms of a queue are a ring made of the kit's `circular_buffer`. The type around this ring has no call that
 //! grows the ring, and `ring.rt` is the only file whose code could make it grow. If rooms are created at the start,

@@ -36,11 +36,11 @@ const RUN_ROOM: u128 = 131_072;
 const STREAMS: u128 = 128;
 
 impl Settings {
-    /// Returns the largest number of bytes that a `tc_channel::CountingChannel` of these settings holds at any moment
-    /// from the start of `new` on, on a machine of 64 bits. These are the bytes that the channel has requested from its
-    /// allocator and not freed. The result is 2^64 - 1 if the number is larger. The bytes that an allocator adds to a
-    /// block aren't counted. The lists of these settings aren't counted either, since the caller has chosen their size.
-    /// The call takes a step for each queue and each MAP, and no memory.
+    /// Returns a bound on the bytes that a `tc_channel::CountingChannel` of these settings holds at any moment from the
+    /// start of `new` on, on a machine with 64-bit addresses. The channel holds the bytes that it has requested from
+    /// its allocator and not freed. The result is 2^64 - 1 if the bound is larger. Bytes that the allocator adds to a
+    /// block, or holds twice while it moves a block, aren't counted. The lists of these settings aren't counted either,
+    /// since the caller has chosen their size. The call takes a step for each queue and each MAP, and no memory.
     pub fn memory_bound(&self) -> u64
         ensures { result ≡ min (memory_bound self.now) (2 ^ 64 - 1) }
     {
@@ -81,8 +81,8 @@ impl LentSettings<'_> {
         stored_units(self.maps)
     }
 
-    /// Returns the number of octets in the largest packet: those of a data field on a plain channel, otherwise those of
-    /// the largest unit.
+    /// Returns the number of octets in the largest packet: those of the largest data field on a plain channel, and
+    /// otherwise those of the largest unit.
     pub fn largest_item(self) -> u128
         ensures value { result ≡ largest_item self.entry.segmented }
         ensures within { result < 2 ^ 20 }
@@ -94,7 +94,7 @@ impl LentSettings<'_> {
         }
     }
 
-    /// Returns the number of bytes in the rooms of the buffer.
+    /// Returns the number of bytes in the rooms of the buffer, if each holds the largest data field.
     pub fn buffer_octets(self) -> u128
         ensures value { result ≡ buffer_memory (settings_of self.entry) }
         ensures within { result < 2 ^ 100 }
@@ -102,8 +102,8 @@ impl LentSettings<'_> {
         u128::from(self.buffer) * (ROOM_WORDS + LARGEST_FIELD as u128)
     }
 
-    /// Returns the number of bytes in the tables by which queues are found. The packet queues and the unit queues have
-    /// a table each, if there are 8 or more of them.
+    /// Returns the number of bytes in the tables by which queues are found. There is a table for the packet queues if
+    /// there are 8 or more packet queues, and a table for the unit queues if there are 8 or more unit queues.
     pub fn table_octets(self) -> u128
         ensures value { result ≡ tables_memory (settings_of self.entry) }
         ensures within { result < 2 ^ 20 }
@@ -136,7 +136,7 @@ fn stored_units(maps: &[MapSetting]) -> u128
     stored
 }
 
-// Returns the number of bytes in the open runs, if each is of the largest unit.
+// Returns the number of bytes in the open runs, if each stream has one of the largest unit. A plain channel has none.
 fn run_octets(settings: LentSettings<'_>) -> u128
     ensures value { result ≡ runs_memory (settings_of settings.entry) }
     ensures within { result < 2 ^ 100 }
@@ -159,7 +159,7 @@ fn queue_octets(settings: LentSettings<'_>) -> u128
         + settings.units_stored() * (ROOM_WORDS + LARGEST_UNIT as u128)
 }
 
-// Returns the number of bytes in the table of places for this number of queues.
+// Returns the number of bytes in the table of places for this number of queues. There is none for fewer than 8 queues.
 fn table_of(queues: usize) -> u128
     ensures { result ≡ table_memory queues }
 {
@@ -170,7 +170,8 @@ fn table_of(queues: usize) -> u128
     }
 }
 
-// Returns the number of bytes in a first segment for which the block of its run is too small.
+// Returns the number of bytes in the new block of a run, for a first segment that is too long for the run's old block.
+// The new block is allocated before the old one is freed. On a plain channel the result is 0.
 fn segment_octets(settings: LentSettings<'_>) -> u128
     ensures value { result ≡ segment_memory (settings_of settings.entry) }
     ensures within { result < 2 ^ 20 }

@@ -21,11 +21,11 @@ pub(crate) const KEYS: usize = 2_048;
 // The smallest number of queues for which a table is worthwhile.
 pub(crate) const QUEUES_FOR_A_TABLE: usize = 8;
 
-// The largest number of queues for which there is a table. Each number in the table is the place of a queue, or means
-// that there is none.
+// The largest number of queues for which there is a table. Each entry of the table is a `u16`: the place of a queue, or
+// the number of queues if no queue has the key.
 const QUEUES_IN_A_TABLE: usize = 65_535;
 
-// Returns the place of the queue with this key, found by a search.
+// Returns the place of the first queue with this key, found by a search, or `None` if no queue has the key.
 #[tactic(auto, using(crate::proofs::Closing::searched))]
 fn search_place<R: Room, C: Tick>(queues: &[Queue<R>], key: u16, steps: &mut C) -> Option<usize>
     ensures first { IfSome result (λ place. IsFirst key place (keys_of (rings_in queues.now))) }
@@ -41,8 +41,9 @@ fn search_place<R: Room, C: Tick>(queues: &[Queue<R>], key: u16, steps: &mut C) 
     None
 }
 
-/// Returns the place of the queue with this key, from the table if there is one that has the key. A step is counted for
-/// each queue that is looked at.
+/// Returns the place of the first queue with this key, or `None` if no queue has the key. If the table has an entry for
+/// the key, the place is read from there, and one step is counted. Otherwise the queues are searched, and a step is
+/// counted for each queue that is looked at.
 #[inline(always)]
 #[tactic(auto, using(crate::proofs::Closing::reported))]
 pub(crate) fn place_of<R: Room, C: Tick>(
@@ -69,8 +70,8 @@ pub(crate) fn place_of<R: Room, C: Tick>(
     None
 }
 
-/// Returns a table of the places of these queues. The table is empty if there are too few queues for a table, or too
-/// many.
+/// Returns a table of the places of these queues. The table is empty if there are fewer than 8 queues, or more than
+/// 65,535.
 pub(crate) fn see_places<R: Room, C: Tick>(
     alloc: Global,
     queues: &[Queue<R>],
@@ -92,7 +93,7 @@ pub(crate) fn see_places<R: Room, C: Tick>(
     Ok(table.into_boxed_slice())
 }
 
-/// Returns the queue with this key.
+/// Returns the first queue with this key, or `None` if no queue has the key.
 #[tactic(auto, using(crate::proofs::Closing::by_key))]
 pub(crate) fn find_in<'a, R: Room, C: Tick>(
     queues: &'a [Queue<R>],

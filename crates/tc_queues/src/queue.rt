@@ -10,8 +10,8 @@ use std::alloc::{AllocError, Global};
 use std::marker::Model;
 use tc_packet::{GrowingRoom, Room};
 
-/// The items that wait in one queue. The key of a packet queue is the APID of its application, and the key of a unit
-/// queue is its MAP.
+/// A queue: its key, and the slots of its items. The key of a packet queue is the APID of its application, and the key
+/// of a unit queue is its MAP.
 #[derive(Drop)]
 pub struct Queue<R: Room> {
     key: u16,
@@ -58,7 +58,7 @@ impl<R: Room> Queue<R> {
         self.slots.len()
     }
 
-    /// Returns whether the queue is full.
+    /// Returns whether as many items wait as the queue may hold. Staged items aren't counted.
     #[inline(always)]
     pub(crate) fn is_full(&self) -> bool
         ensures full { result ≡ true → self.now.slots.ring.capacity ≤ length self.now.slots.ring.items }
@@ -67,7 +67,7 @@ impl<R: Room> Queue<R> {
         self.len() >= self.slots.capacity()
     }
 
-    /// Lends the oldest item.
+    /// Lends the oldest item, if one waits.
     pub(crate) fn front(&self) -> Option<&[u8]>
         ensures { option_map (λ octets. octets.now) result ≡ slice_get self.now.slots.ring.items 0 }
     {

@@ -27,7 +27,7 @@ use tc_packet::{Ended, GrowingRoom, LARGEST_UNIT, Room, Runs};
 pub struct Queues<R: Room> {
     queues: BoxedSlice<Queue<R>>,
     // The table has an entry for each possible APID: the place of the queue with that key, or the number of queues if
-    // there is none. The table is empty if there are fewer than 8 queues, or too many for a table.
+    // there is none. The table is empty if there are fewer than 8 queues, or more than 65,535.
     table: BoxedSlice<u16>,
 }
 
@@ -46,8 +46,8 @@ impl<R: Room> Model for Queues<R> {
 }
 
 impl<R: Room> Queues<R> {
-    /// Creates the collection of these queues, whose keys never change. If there are 8 queues or more, the call also
-    /// creates a table that shows the place of the queue with each key.
+    /// Creates the collection of these queues, whose keys never change. If there are 8 to 65,535 queues, the call also
+    /// creates a table that shows, for each APID, the place of the queue with that key.
     pub fn new<C: Tick>(
         alloc: Global,
         queues: Vec<Queue<R>>,
@@ -62,7 +62,7 @@ impl<R: Room> Queues<R> {
         })
     }
 
-    /// Returns the queue with this key.
+    /// Returns the first queue with this key, or `None` if no queue has the key.
     pub fn find<C: Tick>(&self, key: u16, steps: &mut C) -> Option<&Queue<R>>
         ensures queue { option_map ring_in (option_copied result) ≡ queue_for key (rings_in self.now) }
         ensures cost { C.taken steps.new ≤ C.taken steps.old + looks_for key (length self.now) }
@@ -70,7 +70,8 @@ impl<R: Room> Queues<R> {
         find_in(&self.queues, &self.table, key, steps)
     }
 
-    /// Lends the octets of the oldest item of the queue with this key.
+    /// Lends the octets of the oldest item of the queue with this key. Returns `None` if no queue has the key or no
+    /// item waits.
     pub fn oldest<C: Tick>(&self, key: u16, steps: &mut C) -> Option<&[u8]>
         ensures item { option_map (λ octets. octets.now) result ≡ oldest_for key (rings_in self.now) }
         ensures cost { C.taken steps.new ≤ C.taken steps.old + looks_for key (length self.now) }
@@ -90,8 +91,9 @@ impl<R: Room> Queues<R> {
         pop_from(&mut self.queues, &self.table, key, steps)
     }
 
-    /// Copies the oldest item of the queue with this key to the front of `into`, drops it, and returns the number of
-    /// its octets.
+    /// Copies the oldest item of the queue with this key to the front of `into`, drops it from the queue, and returns
+    /// the number of its octets. Fails if no queue has the key, if no item waits, or if the item is longer than `into`.
+    /// A call that fails changes neither the queues nor `into`.
     #[inline(always)]
     pub fn copy_out<C: Tick>(
         &mut self,
@@ -167,7 +169,7 @@ fn deliver_unit<R: Room, C: Tick>(
     )
 }
 
-// Lends the unit that a data field ended, at the place in memory at which it lies.
+// Lends the unit that a data field ended, if it ended one. The unit isn't copied.
 #[inline(always)]
 fn unit_of<'a, R: Room>(runs: &'a Runs<R>, field: &'a [u8], ended: Ended) -> Option<&'a [u8]>
     requires { IsThere ended runs.now field.now }
@@ -180,7 +182,7 @@ fn unit_of<'a, R: Room>(runs: &'a Runs<R>, field: &'a [u8], ended: Ended) -> Opt
     }
 }
 
-/// Delivers the unit that a data field ended, if it ended one, without moving it first. If memory runs out, all queues
+/// Delivers the unit that a data field ended, if it ended one, from where it lies. If memory runs out, all queues
 /// are as they were before the call. A step is counted for each packet that is cut from the unit. A step is also counted
 /// for each queue that is looked at in a search for a queue, or that is committed or rolled back. So the number of steps
 /// grows as the number of the unit's packets times the number of queues that one search looks at. A search looks at one

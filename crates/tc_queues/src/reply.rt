@@ -31,7 +31,7 @@ pub struct FrameReply {
     pub delivery: Delivery,
 }
 
-/// A refused request for memory.
+/// A request for memory that failed.
 #[derive(Clone, Copy, Debug, PartialEq, Eq, Error)]
 #[error("no memory")]
 pub struct NoMemory;
@@ -70,11 +70,12 @@ pub enum TakeUnitFault {
 /// A reason why no item was copied out of a queue.
 #[derive(Clone, Copy, Debug, PartialEq, Eq)]
 pub enum NotCopied {
-    /// The lack of a queue with that key.
+    /// No queue has that key.
     NoQueue,
-    /// A queue in which no item waits.
+    /// No item waits in the queue.
     Empty,
-    /// An item that is too long for the room that there is. The number is its length in octets. The item still waits.
+    /// The oldest item is longer than the slice into which it is to be copied. The number is the item's length in
+    /// octets. The item still waits.
     NoRoom(usize),
 }
 

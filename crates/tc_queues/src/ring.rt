@@ -1,4 +1,5 @@
-//! Rooms of one size in a ring that is always full. When the item in the first room goes, the room moves to the back.
+//! Rooms of one size in a ring that is always full. Once the item in the first room is gone, the room can be moved to
+//! the back.
 
 ghost use Rattle.std.specs.Prelude.{◌≡◌, ◌≤◌, ◌<◌, ◌^◌, ◌++◌, ◌∷◌, [], length, map, drop, set, false, Some, IfOk, IsOk, OnOk, OnErr, slice_get};
 ghost use Rattle.circular_buffer.specs.Buffer.{buffer};
@@ -109,7 +110,7 @@ impl<R: Room> Ring<R> {
         }
     }
 
-    /// Copies octets into the room at this place.
+    /// Replaces the octets in the room at this place with a copy of `octets`.
     #[inline(always)]
     pub(crate) fn fill(
         &mut self,

@@ -61,7 +61,8 @@ pub struct LentSettings<'a> {
     pub maps: &'a [MapSetting],
 }
 
-/// The first fault, in this order, of settings from which no channel can be created.
+/// A reason why no channel was created: the first fault of its settings, in the order of these variants, or that memory
+/// ran out.
 #[derive(Clone, Copy, Debug, PartialEq, Eq, Error)]
 pub enum SettingsFault {
     #[error("bad virtual channel identifier")]
@@ -106,7 +107,8 @@ impl Settings {
         }
     }
 
-    /// Checks whether a channel can be created from these settings. `NoMemory` is never returned.
+    /// Checks whether a channel can be created from these settings, and returns their first fault if it can't.
+    /// `NoMemory` is never returned.
     pub fn check(&self) -> Result<(), SettingsFault>
         ensures { MatchResult result (λ _. IsAllowed self.now) (IsFault self.now) }
     {
@@ -134,8 +136,8 @@ impl LentSettings<'_> {
         })
     }
 
-    /// Checks whether a channel can be created from these settings. `NoMemory` is never returned, and no memory is
-    /// requested.
+    /// Checks whether a channel can be created from these settings, and returns their first fault if it can't.
+    /// `NoMemory` is never returned, and no memory is requested.
     #[tactic(auto, unfolding(crate::specs::Settings::IsFault))]
     pub fn check(self) -> Result<(), SettingsFault>
         ensures { MatchResult result (λ _. IsAllowed (settings_of self.entry)) (IsFault (settings_of self.entry)) }

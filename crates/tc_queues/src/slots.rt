@@ -65,21 +65,21 @@ impl<R: Room> Slots<R> {
         self.waiting == 0
     }
 
-    /// Returns the number of items that may wait.
+    /// Returns the largest number of items that may wait.
     pub fn capacity(&self) -> usize
         ensures capacity { result ≡ self.now.ring.capacity }
     {
         self.ring.len()
     }
 
-    /// Returns the number of octets that an item may have.
+    /// Returns the largest number of octets that an item may have.
     pub fn size(&self) -> usize
         ensures { result ≡ self.now.size }
     {
         self.size
     }
 
-    /// Lends the oldest item.
+    /// Lends the oldest item, if one waits.
     pub fn front(&self) -> Option<&[u8]>
         ensures item { option_map (λ octets. octets.now) result ≡ slice_get self.now.ring.items 0 }
         ensures within { IfSome result (λ octets. length octets.now ≤ self.now.size) }
@@ -110,7 +110,8 @@ impl<R: Room> Slots<R> {
         Ok(true)
     }
 
-    /// Stages an item behind the others if a place is free, and returns whether one was.
+    /// Stages an item behind the others if a place is free, and returns whether one was. The item counts from the next
+    /// `commit` on.
     #[inline(always)]
     pub fn stage(&mut self, octets: &[u8]) -> Result<bool, AllocError>
         requires { length octets.now ≤ self.old.size }
@@ -129,7 +130,7 @@ impl<R: Room> Slots<R> {
         Ok(true)
     }
 
-    /// Makes the staged items count.
+    /// Makes the staged items wait behind the others, so that they count.
     #[inline(always)]
     pub fn commit(&mut self)
         ensures { self.new ≡ slotted (self.old.ring.items ++ self.old.staged) self.old.ring.capacity [] self.old.size }
@@ -138,7 +139,7 @@ impl<R: Room> Slots<R> {
         self.staged = 0;
     }
 
-    /// Rolls back the staged items.
+    /// Drops the staged items and clears their rooms.
     pub fn roll_back(&mut self)
         ensures { self.new ≡ slotted self.old.ring.items self.old.ring.capacity [] self.old.size }
     {

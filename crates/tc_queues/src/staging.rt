@@ -60,7 +60,8 @@ fn is_full_at<R: Room>(queues: &BoxedSlice<Queue<R>>, place: usize) -> bool
     queues[place].is_full()
 }
 
-// Stages a packet into its queue, if there is one with room, and returns the number of packets staged, 0 or 1.
+// Stages a packet into its queue, if the packet is a telecommand packet and has a queue with room. Returns the number
+// of packets staged, 0 or 1.
 #[inline(always)]
 fn stage_packet<R: Room, C: Tick>(
     queues: &mut BoxedSlice<Queue<R>>,
@@ -103,7 +104,8 @@ fn stage_packet<R: Room, C: Tick>(
     Ok(0)
 }
 
-/// Stages the packets of a unit into their queues.
+/// Stages the packets of a unit into their queues, and returns what was queued and dropped. If memory runs out, the
+/// packets that were staged before stay staged.
 #[inline(always)]
 pub(crate) fn stage_packets<R: Room, C: Tick>(
     queues: &mut BoxedSlice<Queue<R>>,

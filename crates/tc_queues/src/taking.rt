@@ -35,7 +35,7 @@ fn pop_at<R: Room>(queues: &mut BoxedSlice<Queue<R>>, place: usize) -> bool
     true
 }
 
-// Takes the oldest item out of the queue at this place, and returns the block in which it lies.
+// Takes the oldest item out of the queue at this place, if one waits, and returns the block in which it lies.
 #[tactic(auto, using(crate::proofs::Closing::at_place))]
 fn take_at(queues: &mut BoxedSlice<Queue<GrowingRoom>>, place: usize) -> Option<Vec<u8>>
     requires { place < length (boxed_slice_items queues.old) }
@@ -74,7 +74,8 @@ pub(crate) fn pop_from<R: Room, C: Tick>(
     }
 }
 
-/// Takes the oldest item out of the queue with this key, and returns the block in which it lies.
+/// Takes the oldest item out of the queue with this key, and returns the block in which it lies. Returns `None` if no
+/// queue has the key or no item waits.
 pub(crate) fn take_from<C: Tick>(
     queues: &mut BoxedSlice<Queue<GrowingRoom>>,
     table: &[u16],
@@ -97,7 +98,8 @@ pub(crate) fn take_from<C: Tick>(
     }
 }
 
-// Copies an item, if there is one, to the front of `into`, and returns the number of its octets.
+// Copies an item to the front of `into`, and returns the number of its octets. Fails, without a change to `into`, if
+// there is no item or the item is longer than `into`.
 #[inline(always)]
 fn copy_to_front(item: Option<&[u8]>, into: &mut [u8]) -> Result<usize, NotCopied>
     ensures count { result ≡ copied_in (length into.old) (option_map (λ octets. octets.now) item.entry) }
@@ -114,8 +116,9 @@ fn copy_to_front(item: Option<&[u8]>, into: &mut [u8]) -> Result<usize, NotCopie
     Ok(octets.len())
 }
 
-/// Copies the oldest item of the queue with this key to the front of `into`, drops it, and returns the number of its
-/// octets.
+/// Copies the oldest item of the queue with this key to the front of `into`, drops it from the queue, and returns the
+/// number of its octets. Fails, and changes nothing, if no queue has the key, if no item waits, or if the item is
+/// longer than `into`.
 #[inline(always)]
 #[tactic(auto, using(crate::proofs::Closing::at_place))]
 pub(crate) fn copy_from<R: Room, C: Tick>(

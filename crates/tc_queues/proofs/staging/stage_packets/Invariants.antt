@@ -1,7 +1,7 @@
 use Rattle.tc_queues.proofs.Names.{◌≡◌, ◌+◌, ◌≤◌, ℕ, true, false, length, boxed_slice_items, packets_of, rest_of, keys_of, IsOnItsWay, IsAmong, AreStagedOf, rings_in, all_staged_in, room_sizes, AreCommitted, looks, pass_steps}
 use Rattle.tc_queues.proofs.staging.stage_packets.Given as goal
 
--- the packets so far and the remaining ones are together all packets
+-- the packets that were cut so far went into their queues or were dropped, and the packets of `rest` remain
 abbrev pub invariant-loop-packet : goal.invariant-loop-packet
 invariant-loop-packet g l = record {
   way : IsOnItsWay (rings_in (boxed_slice_items l.fn.queues)) (packets_of l.rest) (packets_of l.unit) l.queued (all_staged_in (boxed_slice_items l.queues));
