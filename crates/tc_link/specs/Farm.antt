@@ -64,7 +64,8 @@ row_of width vr Release = E10
 abbrev pub counted : Report → Report
 counted r = record r { farm_b = (r.farm_b + 1) % 4 }
 
--- The entry of a row in a state. It leads from the six components before an arrival to those after it.
+-- The entry of a row in a state: the six components after an arrival, by those before it. It is `None` if the table has
+-- no entry, which is so only for row E1 in S2.
 abbrev pub entry_at : Row → State → Report → Option Report
 entry_at E1 S1 r = Some (record r { vr = (r.vr + 1) % 256; retransmit = false })
 entry_at E1 S2 r = None

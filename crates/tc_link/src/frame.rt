@@ -91,7 +91,8 @@ fn header_at(octets: &[u8]) -> Header
     }
 }
 
-/// Reads the frame at the front of the octets. Any octets that follow it are fill.
+/// Reads the frame at the front of the octets. Any octets that follow it are fill. If the octets don't begin with a
+/// frame, the call returns the first fault.
 pub fn read_frame(octets: &[u8]) -> Result<Frame<'_>, FrameFault>
     ensures frame { IfOk result (λ frame. BeginsWith octets.now frame) }
     ensures fault { MatchResult result (λ _. fault_of octets.now ≡ None) (λ fault. fault_of octets.now ≡ Some fault) }
@@ -120,7 +121,7 @@ pub fn read_frame(octets: &[u8]) -> Result<Frame<'_>, FrameFault>
     })
 }
 
-/// Returns the kind of a frame, which follows from its two flags and its data field.
+/// Returns the kind of a frame, which follows from its two flags, its N(S) and its data field.
 pub fn kind(frame: &Frame) -> Kind
     ensures { result ≡ kind_of (header_of frame.now) (drop 5 frame.now) }
 {

@@ -23,8 +23,8 @@ pub enum WriteFault {
 /// Returns the primary header of the frame that has this header and this data field (CCSDS 232.0-B, 4.1.2). The frame
 /// consists of these five octets and the data field.
 ///
-/// The bypass flag and the control command flag may have any values. Nothing is allocated, and `NoMemory` is never
-/// returned.
+/// The bypass flag and the control command flag may have any values. If no frame has this header and this data field,
+/// the call returns the first fault. Nothing is allocated, and `NoMemory` is never returned.
 pub fn written_header(header: &Header, field: &[u8]) -> Result<[u8; 5], WriteFault>
     ensures frame { IfOk result (λ front. IsFrame (front ++ field.now) header.now field.now) }
     ensures five { IfOk result (λ front. length front ≡ 5) }
@@ -44,7 +44,8 @@ pub fn written_header(header: &Header, field: &[u8]) -> Result<[u8; 5], WriteFau
 
 /// Writes the frame that has this header and this data field.
 ///
-/// The bypass flag and the control command flag may have any values. Only the frame itself is allocated.
+/// The bypass flag and the control command flag may have any values. If there is no such frame, the call returns the
+/// first fault. Only the frame itself is allocated.
 pub fn write_frame(alloc: Global, header: &Header, field: &[u8]) -> Result<Vec<u8>, WriteFault>
     ensures frame { IfOk result (λ octets. IsFrame octets.items header.now field.now) }
     ensures written { OnOk result (write_fault_of header.now field.now ≡ None) }

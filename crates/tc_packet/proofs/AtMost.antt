@@ -18,7 +18,7 @@ at_most-within n (Some octets) = by (leb (length octets) n) refl where
   by true h = rw h (leb-true (length octets) n h)
   by false h = rw h tt
 
--- a limit within the largest unit makes the bound of the largest unit redundant
+-- if a limit is at most the largest unit, limiting octets to the largest unit first makes no difference
 pub at_most-bounded : (n : ℕ) (octets : List ℕ) → n ≤ 65542 → at_most n (bounded octets) ≡ at_most n (Some octets)
 at_most-bounded n octets small = by (leb (length octets) 65542) refl where
   by : (t : Bool) → leb (length octets) 65542 ≡ t → at_most n (bounded octets) ≡ at_most n (Some octets)

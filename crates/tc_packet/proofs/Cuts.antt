@@ -4,7 +4,7 @@ use Rattle.tc_packet.proofs.Names.{common_steps, nat_tests}
 use Rattle.std.proofs.lemmas.List.{get_or-take, take-append-drop, take_at, drop_at, length-append, length-take, length-drop, drop-drop, take_min}
 use Rattle.tc_packet.specs.SpacePacket.{IsPacket, IsCut, joined, version_of, named_length, begins, packets_within, packets_of, rest_of}
 
--- a front of at least 7 octets has the primary header of the whole list
+-- a front of at least 7 octets has the version and the named length of the whole list
 version-front : (n : ℕ) (u : List ℕ) → 7 ≤ n → version_of (take n u) ≡ version_of u
 version-front n u h = rw (get_or-take n u 0 0 (omega arith), get_or-take n u 1 0 (omega arith)) refl
 

@@ -19,7 +19,7 @@ option_or-snoc f g gs t (Some p) = refl
 option_or-snoc f g gs true None = refl
 option_or-snoc f g gs false None = refl
 
--- a field that isn't a first segment is added after the last first segment
+-- a field that isn't a first segment joins the fields after the last first segment, if there is one
 later : (fs : List (List ℕ)) (f : List ℕ) → is_first (header_of f).part ≡ false → from_last_first (fs ++ f ∷ []) ≡ option_map (snoc f) (from_last_first fs)
 later [] f h = rw h refl
 later (g ∷ gs) f h = rw (later gs f h) (option_or-snoc f g gs (is_first (header_of g).part) (from_last_first gs))

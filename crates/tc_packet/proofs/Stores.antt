@@ -47,7 +47,7 @@ same-sizes runs i run next inside is same =
 abbrev pub MovesOn : Type 0
 MovesOn = (fields : List (List ℕ)) (field : List ℕ) → open_run (fields ++ field ∷ []) ≡ next_run (header_of field).part (open_run fields) (body_of field)
 
--- if the fields leave a run within the limit, the fields and one more leave the next run within the limit
+-- if `run` is the run that the fields leave within the limit, `next` is the run that the fields and one more leave within the limit
 pub run-pushed : MovesOn → (n : ℕ) (next run : Option (List ℕ)) (fields : List (List ℕ)) (field body : List ℕ) (part : Part) → n ≤ 65542
     → part ≡ (header_of field).part → body ≡ body_of field → next ≡ at_most n (next_run part run body)
     → at_most n (open_run fields) ≡ run → at_most n (open_run (fields ++ field ∷ [])) ≡ next
@@ -118,7 +118,7 @@ pub committed-segmented : (store : Store) (e : Ended) (i : ℕ) → (committed e
 committed-segmented store ends.Nothing i = refl
 committed-segmented store _ i = refl
 
--- the segment's run is at place `i`, and the segment has this part and this body
+-- data fields have segment headers, the segment's run is at place `i`, and the segment has this part and this body
 pub record IsPassed (store : Store) (i place : ℕ) (part : Part) (field body : List ℕ) : Type 0 where
   pub on : store.segmented ≡ true
   pub at : i ≡ place

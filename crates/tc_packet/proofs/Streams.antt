@@ -44,7 +44,7 @@ some-bounded octets whole h = by (leb (length octets) 65542) refl h where
   by true e h = let same : whole ≡ octets = cc in (same, subst (λ (x : List ℕ). length x ≤ 65542) (sym same) (leb-true (length octets) 65542 e))
   by false e h = cc
 
--- `f` is the last first segment of the fields, and `fs` are the fields after it
+-- `f` is a first segment among the fields, and `fs` are the fields after it
 record Found (fields : List (List ℕ)) (f : List ℕ) (fs : List (List ℕ)) : Type 0 where
   before : List (List ℕ)
   parts : fields ≡ before ++ f ∷ fs
@@ -63,7 +63,7 @@ found (g ∷ gs) f fs h = by (from_last_first gs) refl (found gs f fs) h where
   by (Some p) e later h = let r = later (e ∙ h) in record { before = g ∷ r.before; parts = ap (λ (x : List (List ℕ)). g ∷ x) r.parts; opens = r.opens }
   by None e later h = here (is_first (header_of g).part) refl h
 
--- continuing segments contain no first one
+-- there is no first segment among continuing segments
 none-first : (fs : List (List ℕ)) → AllByRecursion (IsPart Continuing) fs → from_last_first fs ≡ None
 none-first [] h = refl
 none-first (f ∷ fs) h = rw (none-first fs h.1, h.0) refl

@@ -96,14 +96,14 @@ unlimited-begun store none limits = record {
     | inr past ↦ beyond (open_runs store) place past
   ]
 
--- one more field of the stream with this place moved its run on
+-- one more field of the stream with this place moved its run on, and left all limits and the runs of other streams as they were
 pub record HasMovedOn (old new : Store) (place : ℕ) (field : List ℕ) : Type 0 where
   pub segmented : new.segmented ≡ old.segmented
   pub limits : (at : ℕ) → limit_at new at ≡ limit_at old at
   pub others : (other : ℕ) → other ≢ place → run_at (open_runs new).runs other ≡ run_at (open_runs old).runs other
   pub run : (fields : List (List ℕ)) → LeaveWithin fields old place → LeaveWithin (fields ++ field ∷ []) new place
 
--- each open run is left by some fields
+-- the run of each stream, open or not, is left by some fields
 some-fields : (store : Store) (place : ℕ) → place < 128 → IsUnlimited store → (fields : List (List ℕ)) × LeaveWithin fields store place
 some-fields store place inside is = by store.segmented refl where
   by : (segmented : Bool) → store.segmented ≡ segmented → (fields : List (List ℕ)) × LeaveWithin fields store place

@@ -35,7 +35,8 @@ IsPart part field = (header_of field).part ≡ part
 abbrev pub joined_bodies : List (List ℕ) → List ℕ
 joined_bodies fields = flat_map body_of fields
 
--- The fields end with a first segment and any number of continuing segments. The joined bodies of these are `octets`.
+-- The fields end with a first segment and any number of continuing segments. The joined bodies of these segments are
+-- `octets`, and are within the limit.
 pub record IsOpenRun (fields : List (List ℕ)) (octets : List ℕ) : Type 0 where
   pub before : List (List ℕ)
   pub first : List ℕ
@@ -46,7 +47,7 @@ pub record IsOpenRun (fields : List (List ℕ)) (octets : List ℕ) : Type 0 whe
   pub joins : octets ≡ joined_bodies (first ∷ after)
   pub limit : length octets ≤ largest_unit
 
--- The field is a last segment after an open run. The unit that it completes is `octets`.
+-- The field is a last segment after an open run. The unit that it completes is `octets`, and is within the limit.
 pub record IsClosedBy (fields : List (List ℕ)) (field octets : List ℕ) : Type 0 where
   pub run : List ℕ
   pub opened : IsOpenRun fields run
@@ -54,7 +55,7 @@ pub record IsClosedBy (fields : List (List ℕ)) (field octets : List ℕ) : Typ
   pub joins : octets ≡ run ++ body_of field
   pub limit : length octets ≤ largest_unit
 
--- the field is a whole unit in one segment, and its body is `octets`
+-- the field is a whole unit in one segment, and its body is `octets`, which is within the limit
 pub record IsUnsegmented (field octets : List ℕ) : Type 0 where
   pub whole : IsPart Unsegmented field
   pub joins : octets ≡ body_of field
@@ -82,15 +83,16 @@ from_last_first (f ∷ fs) = option_or (from_last_first fs) (if is_first (header
 abbrev pub all_continue : List (List ℕ) → Bool
 all_continue fs = list_all (λ g. is_continuing (header_of g).part) fs
 
--- the joined bodies of a first segment and the fields after it, if all fields after it are continuing segments
+-- The joined bodies of a first segment and the fields after it, if all fields after it are continuing segments and the
+-- bodies are within the limit.
 abbrev pub run_of : List ℕ × List (List ℕ) → Option (List ℕ)
 run_of p = if all_continue p.1 then bounded (joined_bodies (p.0 ∷ p.1)) else None
 
--- the open run of a stream
+-- the open run of a stream, if it has one
 abbrev pub open_run : List (List ℕ) → Option (List ℕ)
 open_run fields = option_and_then run_of (from_last_first fields)
 
--- a run with one more body at its end
+-- a run with one more body at its end, if there is a run and the result is within the limit
 abbrev pub extended : Option (List ℕ) → List ℕ → Option (List ℕ)
 extended run body = option_and_then (λ octets. bounded (octets ++ body)) run
 
@@ -166,7 +168,7 @@ pub record AreOpenRuns (open_runs : OpenRuns) : Type 0 where
 abbrev pub Leave : List (List ℕ) → OpenRuns → ℕ → Type 0
 Leave fields open_runs place = run_left open_runs.segmented fields ≡ run_at open_runs.runs place
 
--- some fields of this MAP leave this run open
+-- some fields of this MAP leave this run open, or no run if `run` is `None`
 pub record IsLeftByFields (map : ℕ) (run : Option (List ℕ)) : Type 0 where
   pub fields : List (List ℕ)
   pub stream : AllByRecursion (λ field. (0 < length field) × ((header_of field).map ≡ map)) fields

@@ -19,7 +19,7 @@ named_length octets = word_at octets 4 + 7
 abbrev pub apid_of : List ℕ → ℕ
 apid_of octets = bits (word_at octets 0) 0 11
 
--- the packet type (4.1.3.3)
+-- whether the packet type is telecommand (4.1.3.3)
 abbrev pub is_telecommand : List ℕ → Bool
 is_telecommand octets = bits (word_at octets 0) 12 1 == 1
 

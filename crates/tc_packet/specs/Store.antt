@@ -36,23 +36,25 @@ of_streams opened = record { segmented = opened.segmented; runs = first_runs str
 abbrev pub limit_at : Store → ℕ → ℕ
 limit_at store place = if store.segmented then get_or (sizes_of store.runs) place 0 else store.plain_limit
 
--- There is a room for each stream if data fields have segment headers, and otherwise there is no room. Each limit is at
--- most the largest unit.
+-- There is a room for each stream if data fields have segment headers, and otherwise there is no room. The limit of
+-- fields without segment headers is at most the largest unit.
 pub record IsStore (store : Store) : Type 0 where
   pub streams : store.segmented ≡ true → length store.runs ≡ stream_count
   pub plain : store.segmented ≡ false → length store.runs ≡ 0
   pub plain_limit : store.plain_limit ≤ largest_unit
 
--- the store is that of a `Reassembler`: each limit is the largest unit
+-- The store of a `Reassembler`: the limit of each stream is the largest unit, and the streams have open runs as
+-- `AreOpenRuns` states.
 pub record IsUnlimited (store : Store) : Type 0 where
   pub limits : (place : ℕ) → place < stream_count → limit_at store place ≡ largest_unit
   pub runs : AreOpenRuns (of_streams (open_runs store))
 
--- The run at this place is the one that the fields leave. If that run is over the limit, there is none at this place.
+-- The run at this place is the run that the fields leave, if they leave one within the limit. Otherwise no run is open
+-- at this place.
 abbrev pub LeaveWithin : List (List ℕ) → Store → ℕ → Type 0
 LeaveWithin fields store place = at_most (limit_at store place) (run_left store.segmented fields) ≡ run_at (open_runs store).runs place
 
--- the unit that a segment with this body completed
+-- the unit that a segment with this body completed, if any
 abbrev pub ended_kind : EndedKind → OpenRun → List ℕ → Option (List ℕ)
 ended_kind ended_kinds.Nothing run body = None
 ended_kind ended_kinds.Body run body = Some body
@@ -71,7 +73,7 @@ ended_by_stream ended_kinds.Nothing place = Nothing
 ended_by_stream ended_kinds.Body place = Lying 1
 ended_by_stream ended_kinds.Whole place = Joined place
 
--- the unit that a field completed
+-- the unit that a field completed, if any
 abbrev pub unit_in : Ended → Store → List ℕ → Option (List ℕ)
 unit_in Nothing store field = None
 unit_in (Lying from) store field = Some (drop from field)
@@ -98,7 +100,7 @@ committed Nothing place store = store
 committed (Lying from) place store = over place store
 committed (Joined at) place store = over place store
 
--- the run at this place was written, and its room is as large as before
+-- the run at this place was written, and no other, and all rooms are as large as before
 pub record IsWritten (place : ℕ) (old new : List OpenRun) : Type 0 where
   pub next : OpenRun
   pub is : new ≡ set old place next
@@ -116,6 +118,6 @@ pub record IsFollowed (place : ℕ) (part : Part) (body : List ℕ) (old new : L
   pub next_is : open_in (behind t next) ≡ at_most run.room.size (next_run part (open_in run) body)
   pub contents : (t ≡ ended_kinds.Nothing → ⊥) → open_in next ≡ open_in run
 
--- no unit is over the limit
+-- the unit, if any, is within the limit
 abbrev pub IsAtMost : ℕ → Option (List ℕ) → Type 0
 IsAtMost limit unit = IfSome unit (λ octets. length octets ≤ limit)

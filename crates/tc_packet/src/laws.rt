@@ -60,7 +60,8 @@ pub fn each_run_within_the_limit_is_left_by_fields()
 {}
 
 /// The run after one more field depends only on the run before that field, and on the field's part and body. A first
-/// segment begins a run, and a continuing segment extends the open run. After any other segment no run is open.
+/// segment begins a run, and a continuing segment extends the open run. If the run would then be over the limit, no run
+/// is open. After any other segment no run is open either.
 pub fn one_more_field_moves_its_run_on()
     ensures { (fields : List (List ℕ)) (field : List ℕ)
         → open_run (fields ++ field ∷ []) ≡ next_run (header_of field).part (open_run fields) (body_of field) }

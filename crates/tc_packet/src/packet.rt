@@ -28,7 +28,9 @@ pub struct Cut<'a> {
     pub rest: &'a [u8],
 }
 
-/// Reads the packet at the front of the octets. The secondary header, the sequence flags and the count aren't checked.
+/// Reads the packet at the front of the octets. Returns `None` if there are fewer than 7 octets, if the version number
+/// isn't 0, or if the packet is longer than the octets. The secondary header, the sequence flags and the count aren't
+/// checked.
 pub fn read_packet(octets: &[u8]) -> Option<Packet<'_>>
     ensures packet { IfSome result (λ p. IsPacket p.octets.now) }
     ensures front { IfSome result (λ p. p.octets.now ≡ take (length p.octets.now) octets.now) }

@@ -150,8 +150,8 @@ impl<R: Room> Run<R> {
         Ok(())
     }
 
-    // Applies a segment with this body to the run. If the segment completes a unit, returns the unit's place and leaves
-    // the run unchanged until `close` is called.
+    // Applies a segment with this body to the run. Returns the place of the unit that the segment completes, if any. In
+    // that case the run stays unchanged until `close` is called.
     fn follow(&mut self, part: Part, body: &[u8]) -> Result<EndedKind, AllocError>
         ensures unit { IfOk result (λ t. ended_kind t self.new body.now ≡ at_most self.old.room.size (ended_by part (open_in self.old) body.now)) }
         ensures run { IfOk result (λ t. open_in (behind t self.new) ≡ at_most self.old.room.size (next_run part (open_in self.old) body.now)) }
@@ -226,7 +226,7 @@ impl Run<GrowingRoom> {
     }
 }
 
-// Returns the place of the unit that a segment of the stream at this place completed.
+// Returns the place of the unit that a segment completed, if any. `place` is the place of the segment's stream.
 fn ended_at(ended_kind: EndedKind, place: usize) -> Ended
     ensures { result ≡ ended_by_stream ended_kind place }
 {
@@ -265,8 +265,8 @@ fn close_at<R: Room>(runs: &mut BoxedSlice<Run<R>>, at: usize)
     }
 }
 
-// Returns the place of the unit in a field without a segment header. The unit is the whole field, if that is within the
-// limit.
+// Returns the place of the unit in a field without a segment header. The unit is the whole field. If the field is over
+// the limit, there is no unit.
 fn whole_field(field: &[u8], limit: usize) -> Ended
     requires { limit ≤ LARGEST_UNIT }
     ensures unit { (store : Store) → unit_in result store field.now ≡ at_most limit (bounded field.now) }
@@ -300,6 +300,7 @@ fn empty_runs<R: Room>(
 }
 
 // Creates runs that are all closed. With segment headers, each stream has a room as large as the limit of its MAP.
+// Without them there are no rooms, and `plain_limit` is the limit.
 fn with_rooms<R: Room>(
     alloc: Global,
     segmented: bool,

@@ -3,7 +3,7 @@
 ghost use Rattle.std.specs.Prelude.{◌≡◌, ◌<◌};
 ghost use Rattle.tc_packet.specs.Reassembly.{place_of};
 
-/// The service by which a data field came.
+/// The service by which a data field came: in a Type-AD frame or in a Type-BD frame.
 #[derive(Clone, Copy, Debug, PartialEq, Eq)]
 pub enum Service {
     Ad,
