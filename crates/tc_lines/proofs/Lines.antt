@@ -46,7 +46,7 @@ module _ {S : Type 0} (limit : ℕ) (Answers : S → List ℕ → S → List ℕ
     ap (λ l. l ++ more) joined ∙ append_assoc front rest more,
   )
 
-  -- the first lines of known octets were answered, and their answers were written
+  -- the first lines of known octets were answered, their answers were written, and the octets of the other lines are left
   abbrev pub IsSoFar : S → Option (List ℕ) → S → Option (List ℕ) → Option (List ℕ) → Option (List ℕ) → Type 0
   IsSoFar old known now left before after = IfSome known (λ octets. (lines : List (List ℕ)) × (rest : List ℕ) × (left ≡ Some rest)
       × (lines_of octets ≡ lines ++ lines_of rest) × Writes before after (AreAnswered limit Answers old lines now))
@@ -55,7 +55,7 @@ module _ {S : Type 0} (limit : ℕ) (Answers : S → List ℕ → S → List ℕ
   none-answered old None before = tt
   none-answered old (Some octets) before = ([], octets, refl, refl, ([], (refl, refl), Appends-nil before))
 
-  -- if a line was read, the text is its answer
+  -- if a line was read, the text is its answer, and otherwise the text is empty and nothing changed
   line-answered : (now new : S) (read : LineRead) (line kept text : List ℕ) → kept ≡ take limit line → read.too_long ≡ nat_lt limit (length line)
       → IsReadAnswered Answers now read kept new text
       → (((read.ended ≡ true) ⊎ (line ≢ [])) × IsAnswered limit Answers now line new text)

@@ -13,7 +13,7 @@ use Rattle.tc_lines.specs.declared.reading.Part.{Part}
 nothing-one : IsOneLine []
 nothing-one k d lt = absurd (omega (arith, lt))
 
--- if nothing was read, the part of the line that was read is empty
+-- if nothing was taken from the reader, the part of the line that was read is empty
 none-read : (limit : ℕ) (a b : Option (List ℕ)) (before : List ℕ) → length before ≤ limit → Keeps a b → IsPartRead limit a b before before nothing_yet
 none-read limit a b before within kept = record {
   octets = [];
@@ -30,7 +30,7 @@ pub read-again : {E : Type 0} (r : Result Part E) (limit : ℕ) (a b : Option (L
 read-again (Err e) limit a b before none within kept = tt
 read-again (Ok part) limit a b before none within kept = subst (IsPartRead limit a b before before) (sym none) (none-read limit a b before within kept)
 
--- The octets of a line so far were taken, and at most `limit` of them are kept. `over` tells whether there were more.
+-- The octets of a line so far were taken from the reader, and the first `limit` of them are kept. `over` is true if there were more.
 pub record IsLineSoFar (limit : ℕ) (old new : Option (List ℕ)) (kept : List ℕ) (over : Bool) : Type 0 where
   pub line : List ℕ
   pub one : IsOneLine line

@@ -37,7 +37,7 @@ AreAnswered {S} limit Answers old (line ∷ lines) new text =
     × AreAnswered limit Answers between lines new rest × (text ≡ first ++ rest)
 
 -- A line that was read is answered as `Answers` states for its kept octets, or with `too_long_text` if it was too long.
--- There is no line if the input ended after a line feed.
+-- If no line feed was read and no octets were kept, there was no line, and nothing is answered.
 abbrev pub IsReadAnswered : {S : Type 0} → (S → List ℕ → S → List ℕ → Type 0) → S → LineRead → List ℕ → S → List ℕ → Type 0
 IsReadAnswered Answers old read kept new text =
     ((read.too_long ≡ true) × (new ≡ old) × (text ≡ too_long_text))

@@ -14,7 +14,7 @@ abbrev pub feed_of : Bool → List ℕ
 feed_of true = 10 ∷ []
 feed_of false = []
 
--- A line and its line feed were taken from a reader, or all octets of the reader if there was no line feed. At most
+-- A line and its line feed were taken from a reader, or all octets of the reader if there was no line feed. The first
 -- `limit` octets of the line are kept.
 pub record IsLineRead (limit : ℕ) (old new : Option (List ℕ)) (kept : List ℕ) (read : LineRead) : Type 0 where
   pub line : List ℕ

@@ -40,9 +40,9 @@ pub trait LineAnswerer {
 
 /// Answers lines until there are no more, and flushes after each answer.
 ///
-/// A line of more than `limit` octets is answered `bad too long`, and isn't kept. Octets after the last line feed are a
-/// line. If the reader's contract states its octets, all lines in them are answered. If the reader fails, only the
-/// first lines are answered. After 2^64 - 1 lines the reader counts as failed.
+/// A line of more than `limit` octets is answered `bad too long`, and isn't passed to the answerer. Octets after the
+/// last line feed are a line. If the reader's contract states its octets, all lines in them are answered. If the reader
+/// fails, only the lines before are answered. After 2^64 - 1 lines the reader counts as failed.
 pub fn answer_lines<A: LineAnswerer, R: BufRead, W: Write>(
     alloc: Global,
     limit: usize,

@@ -9,8 +9,8 @@ use std::fmt;
 // The number of octets that are turned into digits at a time.
 const AT_ONCE: usize = 64;
 
-/// Octets that are written as two hexadecimal digits each. The digits of a packet or a unit of up to 65,542 octets are
-/// written a few at a time, so that no memory is allocated for them.
+/// Octets that are written as two hexadecimal digits each. The digits are written for 64 octets at a time, so that no
+/// memory is allocated for them, even if there are as many octets as in the largest unit.
 #[derive(Clone, Copy, Debug)]
 pub struct Digits<'a>(pub &'a [u8]);
 

@@ -40,7 +40,7 @@ pub fn large_number(word: &[u8]) -> Result<u16, BadNumber>
     }
 }
 
-// Returns the number that 1 to 5 decimal digits spell.
+// Returns the number that a word spells, or `None` if the word isn't 1 to 5 decimal digits.
 fn decimal(word: &[u8]) -> Option<u32>
     ensures { result ≡ decimal_of word.now }
 {

@@ -10,7 +10,8 @@ use memchr::memchr3;
 // starting a search.
 const LONG: usize = 64;
 
-/// Returns the first word and the octets after it.
+/// Returns the first word and the octets after it, or `None` if there is no word. Words are separated by spaces, tabs
+/// and carriage returns.
 #[inline]
 pub fn next_word(octets: &[u8]) -> Option<(&[u8], &[u8])>
     ensures cases { MatchOption result (words octets.now ≡ []) (λ parts. words octets.now ≡ parts.0.now ∷ words parts.1.now) }
@@ -33,7 +34,7 @@ fn gap_length(octets: &[u8]) -> usize
         .count()
 }
 
-// Returns the number of octets before the first separator.
+// Returns the number of octets before the first separator, or of all octets if there is no separator.
 fn word_length(octets: &[u8]) -> usize
     ensures { result ≡ length (take_while (λ octet. not (is_separator_octet octet)) octets.now) }
 {
@@ -46,8 +47,8 @@ fn word_length(octets: &[u8]) -> usize
     long_word_length(octets)
 }
 
-// Searches for the first separator, and returns the number of octets before it. The search isn't inlined, so that its
-// code stays apart from the code for short words.
+// Returns the result of `word_length` by a search for the first separator. The search isn't inlined, so that its code
+// stays apart from the code for short words.
 #[inline(never)]
 fn long_word_length(octets: &[u8]) -> usize
     ensures { result ≡ length (take_while (λ octet. not (is_separator_octet octet)) octets.now) }

@@ -139,8 +139,8 @@ fn expected(r: &mut Report) -> Act
     }
 }
 
-// Most Type-AD frames are expected and find room. Other Type-AD frames are rare, so their transitions are compiled apart
-// from the path of an accepted frame.
+// Most Type-AD frames are expected and find room. Other Type-AD frames are rare, so their transitions are compiled
+// apart from the path of an accepted frame.
 #[cold]
 #[inline(never)]
 fn full(r: &mut Report)

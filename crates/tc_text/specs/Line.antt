@@ -92,7 +92,7 @@ clcw_command [] = Err WordCount
 clcw_command (v ∷ []) = with_number 255 v (λ vcid. Ok (Clcw vcid))
 clcw_command (v ∷ more ∷ rest) = Err WordCount
 
--- the meaning of the words of a line, or the first of the reasons why the line is bad
+-- the meaning of the words of a line, or the first reason why the words are bad
 unfoldable pub line_of : List (List ℕ) → Result Line Reason
 line_of [] = Ok Blank
 line_of (command ∷ arguments) =

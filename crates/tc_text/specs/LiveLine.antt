@@ -15,7 +15,7 @@ use Rattle.tc_text.specs.declared.live.LiveLine.TheVariants.{Script, Link as Lin
 abbrev pub small_of : List ℕ → Result ℕ Reason
 small_of word = elim (word_number 255 word) [ None ↦ Err BadNumber | Some number ↦ Ok number ]
 
--- the flag that a number stands for
+-- the flag that a number stands for: 0 is clear, 1 is set, and any other number is bad
 abbrev pub flag_for : ℕ → Result Bool Reason
 flag_for number = if number == 0 then Ok false else if number == 1 then Ok true else Err BadNumber
 
@@ -55,8 +55,8 @@ candidate_command (digits ∷ more ∷ rest) = Err WordCount
 abbrev pub scripted : Result Line Reason → Result LiveLine Reason
 scripted said = after_ok said (λ line. Ok (Script line))
 
--- The meaning of the words of a line. Only a live receiver takes the commands `link`, `report`, `deliver`, `collect`
--- and `candidate`.
+-- The meaning of the words of a line, or the first reason why the words are bad. Only a live receiver takes the commands
+-- `link`, `report`, `deliver`, `collect` and `candidate`.
 unfoldable pub live_line_of : List (List ℕ) → Result LiveLine Reason
 live_line_of [] = Ok (Script Blank)
 live_line_of (command ∷ arguments) =

@@ -15,8 +15,8 @@ pub record IsFirstLine (octets line after : List ℕ) : Type 0 where
 abbrev pub script_limit : ℕ
 script_limit = 1048576
 
--- This fault stops the reading of a script. If the octets of the reader are known, `TooLong` means that the reader has
--- more octets than a script may have.
+-- This fault can stop the reading of a script. If the octets of the reader are known, `TooLong` means that the reader
+-- has more octets than a script may have. `Line` stands for running out of memory, with the number 0.
 abbrev pub IsReadFault : Option (List ℕ) → ScriptFault → Type 0
 IsReadFault known Read = Unit {0}
 IsReadFault known TooLong = IfSome known (λ octets. script_limit < length octets)

@@ -31,7 +31,7 @@ pub enum Reason {
     UnknownChannel,
     /// The virtual channel id is over 63.
     BadVcid,
-    /// The window's width is odd, 0 or 255.
+    /// The window's width is odd or 0.
     BadWindow,
     /// The buffer doesn't hold 1 to 64 data fields.
     BadBuffer,

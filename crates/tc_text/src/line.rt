@@ -49,7 +49,8 @@ pub enum Line {
     Clcw(u8),
 }
 
-/// Parses a line, which is given without its line feed. Memory is allocated only for the octets of a frame.
+/// Parses a line, which is given without its line feed, or returns the first reason why its words are bad. Memory is
+/// allocated only for the octets of a frame.
 #[tactic(auto, unfolding(crate::specs::Line::line_of))]
 pub fn parse_line(alloc: Global, octets: &[u8]) -> Result<Line, Reason>
     ensures line { IfOk result (λ line. line_of (words octets.now) ≡ Ok line) }
@@ -106,7 +107,8 @@ fn channel(arguments: &[u8]) -> Result<Line, Reason>
     })
 }
 
-// Returns whether the option of a channel line says that data fields begin with a segment header.
+// Returns whether data fields of a channel begin with a segment header. They do if the line has no option, and they
+// don't if the option is `plain`. The call fails for any other option.
 fn is_segmented(option: Option<&[u8]>) -> Result<bool, Reason>
     ensures { MatchResult result
         (λ segmented. segmented_of (option_map (λ word. word.now) option.entry) ≡ Ok segmented)

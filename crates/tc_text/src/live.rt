@@ -1,4 +1,4 @@
-//! Lines for a live receiver: the lines of a script, and five more.
+//! Lines for a live receiver: the lines of a script, and the lines of five more commands.
 
 ghost use Rattle.std.specs.Prelude.{◌≡◌, ◌⊎◌, IfOk, IfErr, MatchResult};
 ghost use Rattle.tc_lines.specs.Word.{words};
@@ -31,8 +31,8 @@ pub enum LiveLine {
     Candidate(Octets),
 }
 
-/// Parses a line, which is given without its line feed. Memory is allocated only for the octets of a frame or a
-/// candidate.
+/// Parses a line, which is given without its line feed, or returns the first reason why its words are bad. Memory is
+/// allocated only for the octets of a frame or a candidate.
 #[tactic(auto, unfolding(crate::specs::LiveLine::live_line_of))]
 pub fn parse_live_line(alloc: Global, octets: &[u8]) -> Result<LiveLine, Reason>
     ensures line { IfOk result (λ line. live_line_of (words octets.now) ≡ Ok line) }
@@ -110,7 +110,7 @@ fn candidate(alloc: Global, arguments: &[u8]) -> Result<LiveLine, Reason>
     }
 }
 
-// Parses a word that is a flag: 0 or 1.
+// Parses a word that is a flag: 0 or 1. The call fails for any other word.
 fn flag(word: &[u8]) -> Result<bool, Reason>
     ensures { MatchResult result (λ flag. flag_word word.now ≡ Ok flag) (λ reason. flag_word word.now ≡ Err reason) }
 {

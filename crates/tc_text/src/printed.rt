@@ -38,8 +38,8 @@ impl fmt::Display for WordDigits {
     }
 }
 
-/// The text of a delivery: the numbers of packets that were queued and dropped, and a flag that is set if octets were
-/// left over.
+/// The text of a delivery: the numbers of packets or units that were queued and dropped, and a flag that is set if
+/// octets were left over.
 #[derive(Clone, Copy, Debug)]
 pub struct Delivered(pub Delivery);
 

@@ -14,7 +14,8 @@ pub const MAX_OCTETS: usize = 1_048_576;
 const CHUNK: usize = 8192;
 
 /// Reads the whole script, until a read returns no octets. Each earlier read returns at least one octet, so there are
-/// at most `MAX_OCTETS + 1` reads.
+/// at most `MAX_OCTETS + 1` reads. The call fails if a read fails, if there are more than `MAX_OCTETS` octets, or if
+/// memory runs out.
 pub fn read_whole<R: Read>(alloc: Global, reader: &mut R) -> Result<Vec<u8>, ScriptFault>
     ensures within { IfOk result (λ script. vec_len script ≤ MAX_OCTETS) }
     ensures whole { IfOk result (λ script. IfSome (R.remaining reader.old) (λ octets. script.items ≡ octets)) }
