@@ -64,8 +64,8 @@ back (b ∷ bs) (c ∷ cs) lengths bits_b bits_c r s r_fits s_fits alike e =
     (same r s (omega arith), cc)
 back _ _ lengths bits_b bits_c r s r_fits s_fits alike e = absurd (omega arith)
 
--- Let only the first `n` bits differ, and let the registers become equal. Then the registers differ at most in their
--- `n` high bits. If the registers are equal, so are the bits.
+-- Let no bits differ except perhaps the first `n`, and let the registers become equal. Then the registers differed at
+-- most in their `n` high bits before. If the registers were equal before, the bits are equal, too.
 window : (n p : ℕ) → n + p ≡ 16 → (bs cs : List ℕ) → length bs ≡ length cs → AreBits bs → AreBits cs → (r s : ℕ) → r < 2 ^ 16 → s < 2 ^ 16
     → ((k : ℕ) → n ≤ k → Alike bs cs k) → remainder r bs ≡ remainder s cs
     → ((q : ℕ) × (bit_xor r s ≡ q * 2 ^ p)) × (r ≡ s → bs ≡ cs)
@@ -147,8 +147,8 @@ shut d zero fits is h = let f : open_sum d ≡ open_sum 0 = ap open_sum is in cc
 shut d (suc zero) fits is h = let f : open_sum d ≡ open_sum 32768 = ap open_sum is in cc
 shut d (suc (suc e)) fits is h = omega arith
 
--- Let only the bits at place `n` differ. The registers can't become equal if `open_sum` is true of their difference d,
--- and of d times x, x ^ 2, .., x ^ n modulo G.
+-- Let no bits differ except perhaps those at place `n`. The registers can't become equal if `open_sum` is true of their
+-- difference d, and of d times x, x ^ 2, .., x ^ n modulo G.
 later : (n : ℕ) (bs cs : List ℕ) → length bs ≡ length cs → AreBits bs → AreBits cs → (r s : ℕ) → r < 2 ^ 16 → s < 2 ^ 16
     → ((k : ℕ) → k ≢ n → Alike bs cs k) → stays (suc n) (bit_xor r s) ≡ true → remainder r bs ≡ remainder s cs → ⊥
 unfolding AreBits Alike stays

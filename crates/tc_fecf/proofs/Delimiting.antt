@@ -8,7 +8,7 @@ use Rattle.std.proofs.lemmas.Bool.Decides.{nat_tests}
 use Rattle.tc_link.specs.Frame.{IsWhole, named_length, fault_of}
 use Rattle.tc_fecf.specs.Candidate.{AreDelimited}
 
--- octets that begin with a whole frame have the length field of that frame
+-- octets that begin with a whole frame name the length of that frame
 named-front : (frame rest : List ℕ) → IsWhole frame → named_length (frame ++ rest) ≡ length frame
 named-front (a ∷ b ∷ c ∷ d ∷ e ∷ more) rest w = w.named
 named-front _ rest w = let l = w.least in absurd (omega arith)

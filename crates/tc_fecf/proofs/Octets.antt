@@ -57,7 +57,7 @@ octet_more r o r_fits o_fits =
     ∙ xor_assoc (r % 256 * 256) (table (r / 256)) (table o)
     ∙ ap (bit_xor (r % 256 * 256)) (sym (table-linear (r / 256) o))
 
--- the shifts compute the value that the table holds
+-- eight bits take a few shifts instead of a look-up
 pub by_shifts : (r o : ℕ) → r < 2 ^ 16 → o < 256
     → remainder r (octet_bits o) ≡ bit_xor (bit_xor (bit_xor (r * 2 ^ 8 % 2 ^ 16) (folded (bit_xor (r / 2 ^ 8) o) * 2 ^ 12 % 2 ^ 16)) (folded (bit_xor (r / 2 ^ 8) o) * 2 ^ 5 % 2 ^ 16)) (folded (bit_xor (r / 2 ^ 8) o))
 unfolding formula
@@ -159,7 +159,7 @@ four-taken r sum os front back less is_front is_back is =
     ∙ ap (λ (b : List ℕ). remainder (remainder r (bits_of (first_four (take 4 os)))) (bits_of b)) is_back
     ∙ four-off r os less
 
--- the loop over single octets takes the next octet
+-- if the loop over single octets takes one more octet, the remainder of all octets stays the same
 pub taken : (r i : ℕ) (os : List ℕ) → i < length os → remainder (remainder r (octet_bits (get_or os i 0))) (bits_of (drop (i + 1) os)) ≡ remainder r (bits_of (drop i os))
 taken r i os less =
     sym (onward (octet_bits (get_or os i 0)) (bits_of (drop (i + 1) os)) r)

@@ -94,7 +94,6 @@ plain-whole _ p w least is = absurd (omega arith)
 pub rest-of : (f : List ℕ) → take (length f - 4) (drop 4 f) ≡ drop 4 f
 rest-of f = grind (arith, common_steps)
 
--- two frames are equal if they are equal with their fields
 ends-alike : (xs ys us vs : List ℕ) → length xs ≡ length ys → xs ++ us ≡ ys ++ vs → xs ≡ ys
 ends-alike xs ys us vs lengths e = sym (take_at xs us (length xs) refl) ∙ ap (take (length xs)) e ∙ take_at ys vs (length xs) (sym lengths)
 
@@ -112,6 +111,7 @@ octets_before_field-alike (a ∷ b ∷ c ∷ d ∷ rest) (a' ∷ b' ∷ c' ∷ d
     cc
 octets_before_field-alike _ _ w v e = let l = w.least in let m = v.least in absurd (omega arith)
 
+-- two frames are equal if they are equal with their fields
 pub frame_with_field-alike : (f g : List ℕ) → IsWhole f → IsWhole g → frame_with_field f ≡ frame_with_field g → f ≡ g
 unfolding frame_with_field
 frame_with_field-alike f g w v e =
@@ -128,7 +128,7 @@ octets-spelled n fits zero = omega arith
 octets-spelled n fits (suc zero) = omega arith
 octets-spelled n fits (suc (suc i)) = omega arith
 
--- a frame with its field is a frame with the same header
+-- a frame of at most 1,022 octets is, with its field, a frame with the same header fields
 pub frame_with_field-frame : (f : List ℕ) → IsWhole f → length f ≤ 1022
     → IsFrame (frame_with_field f) (header_of f) (drop 5 f ++ spelled (checksum_of (octets_before_field f)))
 unfolding frame_with_field octets_before_field

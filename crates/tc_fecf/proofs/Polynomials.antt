@@ -107,7 +107,7 @@ from-more m r b n p =
     ∙ xor_assoc (p * 2 ^ suc m) bit (r * 2 ^ suc n)
     ∙ ap (bit_xor (p * 2 ^ suc m)) (ap (bit_xor bit) two ∙ xor_comm bit high ∙ sym both)
 
--- the quotient: the term of one step of the division, and those of the steps after it
+-- the quotient: the term that the first step of the division yields, plus the quotient of the steps after it
 pub quotient : ℕ → ℕ → ℕ → List ℕ → ℕ
 quotient m g r [] = 0
 quotient m g r (b ∷ bs) = bit_xor (bit_xor r (b * 2 ^ m) / 2 ^ m % 2 * 2 ^ length bs) (quotient m g (times m g (bit_xor r (b * 2 ^ m))) bs)

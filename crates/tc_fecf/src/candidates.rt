@@ -11,7 +11,7 @@ use tc_link::{FrameFault, read_frame};
 pub struct Delimited<'a> {
     /// The frame, which has the 6 to 1,024 octets that its length field names.
     pub frame: &'a [u8],
-    /// Fill, or the next frame and everything after it.
+    /// The octets after the frame. They are fill, or begin with the next frame, or belong to no frame.
     pub rest: &'a [u8],
 }
 
@@ -29,8 +29,8 @@ pub fn delimit(octets: &[u8]) -> Result<Delimited<'_>, FrameFault>
     Ok(Delimited { frame, rest })
 }
 
-/// Returns whether the octets after a frame can be the fill of the last code block, which is at most six octets. If
-/// they can't, the CLTU carried more: another frame, or octets that don't begin with a frame.
+/// Returns whether the octets after a frame can be the fill of the last code block: at most six octets, which don't
+/// begin with a frame. If they can't, the CLTU carried more: another frame, or more than six other octets.
 ///
 /// Nothing is allocated.
 pub fn is_fill(rest: &[u8]) -> bool

@@ -18,10 +18,10 @@ pub enum FieldFault {
     /// Octets follow the frame. The frame error control field has to be the last two octets, so no fill may follow it.
     #[error("octets after the frame")]
     Fill,
-    /// A frame with a field has at most 1,024 octets.
+    /// The frame has more than 1,022 octets. With a field it would have more than 1,024.
     #[error("more than 1,022 octets")]
     TooLong,
-    /// A frame with a field has at least one octet between the primary header and the field.
+    /// The frame has fewer than 8 octets. It has no octet between the primary header and a field.
     #[error("fewer than 8 octets")]
     TooShort,
     #[error("the frame error control field is wrong")]

@@ -6,8 +6,8 @@ ghost use Rattle.tc_fecf.specs.Changes.{Passes};
 
 use crate::table::{SUMS, SUMS_ON, SUMS_THREE_ON, SUMS_TWO_ON};
 
-/// Returns the frame error control field over octets, which must be all octets before the field in its frame (CCSDS
-/// 232.0-B, 4.1.4.2).
+/// Returns the frame error control field over these octets. The field of a frame is computed over all octets before it
+/// (CCSDS 232.0-B, 4.1.4.2).
 ///
 /// Nothing is allocated.
 pub fn checksum(octets: &[u8]) -> u16

@@ -1,4 +1,5 @@
--- A queue or a chosen MAP is added to allowed settings. The resulting settings are allowed, or have one fault.
+-- A queue or a chosen MAP is added to allowed settings. Each lemma states that the resulting settings are allowed, or
+-- which fault is their first.
 use Rattle.tc_setup.proofs.Names.{◌≡◌, ◌≢◌, ℕ, ◌≤◌, true, false, List, [], ◌∷◌, ◌++◌, length, get_or, inl, inr, refl, sym, ◌∙◌, ap, subst, arith, get_or_default, All-push, all_pairs_push, All, AllPairs, Any, QueueSetting, Settings, with_addition}
 use Rattle.std.proofs.lemmas.Grind.{common_steps}
 use Rattle.tc_queues.specs.declared.settings.MapSetting.{MapSetting}

@@ -45,7 +45,7 @@ pub not-there : (list : List Settings) (vcid : ℕ) (place : Option ℕ) → is_
 not-there list vcid None e h = h
 not-there list vcid (Some place) e h = absurd cc
 
--- a configuration with one more channel, whose id no other channel has, is still a configuration
+-- a configuration with one more channel, whose settings are allowed and whose id no other channel has, is still a configuration
 pub one-more : (list : List Settings) (s : Settings) → IsConfiguration list → ¬ HasSettings list s.vcid → IsAllowed s → IsConfiguration (list ++ s ∷ [])
 one-more list s c new allowed = record {
   distinct = all_pairs_push (λ (p q : Settings). p.vcid ≢ q.vcid) list s c.distinct
@@ -57,7 +57,7 @@ one-more list s c new allowed = record {
 pub within : (list : List Settings) (vcid place : ℕ) → (s : Settings) × IsAt list vcid place s → place < length list
 within list vcid place (s, (at, v)) = slice_get_within list place s at
 
--- if settings are replaced by others with the same id, a configuration is still a configuration
+-- if settings are replaced by allowed settings with the same id, a configuration is still a configuration
 pub other-settings : (list : List Settings) (place : ℕ) (old new : Settings) → IsConfiguration list → place < length list → old ≡ get_or list place old → new.vcid ≡ old.vcid → IsAllowed new
     → IsConfiguration (set list place new)
 other-settings list place old new c lt is same allowed = record {

@@ -29,11 +29,11 @@ abbrev pub with_addition : Settings → Addition → Settings
 with_addition s (Queue queue) = record s { queues = s.queues ++ queue ∷ [] }
 with_addition s (Map chosen) = record s { maps = s.maps ++ chosen ∷ [] }
 
--- one more channel is set up, with an id that no other channel has
+-- one more channel is set up, with allowed settings and an id that no other channel has
 abbrev pub AddsChannel : List Settings → Settings → List Settings → Type 0
 AddsChannel list s new = ¬ HasSettings list s.vcid × IsAllowed s × (new ≡ list ++ s ∷ [])
 
--- the channel with this id gets one more queue or chosen MAP, and the other channels stay the same
+-- the channel with this id gets one more queue or chosen MAP, its settings are still allowed, and the other channels stay the same
 abbrev pub AddsToChannel : List Settings → ℕ → Addition → List Settings → Type 0
 AddsToChannel list vcid addition new =
     (place : ℕ) × (s : Settings) × IsAt list vcid place s × IsAllowed (with_addition s addition) × (new ≡ slice_set list place (with_addition s addition))

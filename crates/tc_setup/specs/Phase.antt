@@ -34,7 +34,7 @@ Does phase (Take vcid apid) new = Operates phase new
 Does phase (TakeUnit vcid map_id) new = Operates phase new
 Does phase (Clcw vcid) new = Operates phase new
 
--- this is the reason why no channel can have the settings
+-- this is the reason why no channel can have the settings, which is their first fault
 abbrev pub IsSettingsReason : Settings → Reason → Type 0
 IsSettingsReason s reason = (fault : SettingsFault) × (reason ≡ reason_of fault) × IsFault s fault
 

@@ -48,7 +48,8 @@ impl Configuration {
         }
     }
 
-    /// Adds the channel of a channel line.
+    /// Adds the channel of a channel line. The call fails, and changes nothing, if there is a channel with this id, if
+    /// no channel can have the settings, or if memory runs out.
     pub fn add_channel(&mut self, settings: Settings) -> Result<(), Reason>
         ensures done { OnOk result (AddsChannel self.old settings self.new) }
         ensures reason { IfErr result (λ reason. (reason ≡ Reason.NoMemory) ⊎ IsChannelRefused self.old settings reason) }
@@ -71,7 +72,8 @@ impl Configuration {
         }
     }
 
-    /// Adds the queue of a queue line or the chosen MAP of a map line to a channel.
+    /// Adds the queue of a queue line or the chosen MAP of a map line to a channel. The call fails, and changes
+    /// nothing, if there is no channel with this id, if the channel can't have the addition, or if memory runs out.
     pub fn add_to_channel(
         &mut self,
         alloc: Global,
@@ -89,7 +91,7 @@ impl Configuration {
         add_checked(alloc, settings, &mut self.apids[place], addition)
     }
 
-    /// Returns the ids of the channels, in their order.
+    /// Returns the ids of the channels, in their order. The call fails if memory runs out.
     pub fn vcids(&self, alloc: Global) -> Result<Vec<u8>, Reason>
         ensures vcids { IfOk result (λ vcids. vcids.items ≡ vcids_of self.now) }
         ensures reason { IfErr result (λ reason. reason ≡ Reason.NoMemory) }
@@ -103,7 +105,7 @@ impl Configuration {
         Ok(vcids)
     }
 
-    /// Returns a copy of the configuration.
+    /// Returns a copy of the configuration. The call fails if memory runs out.
     pub fn copy(&self, alloc: Global) -> Result<Configuration, Reason>
         ensures copy { IfOk result (λ copy. copy ≡ self.now) }
         ensures reason { IfErr result (λ reason. reason ≡ Reason.NoMemory) }
@@ -115,7 +117,7 @@ impl Configuration {
         Ok(Configuration { channels, apids })
     }
 
-    /// Lends the settings of the channels. There are at most 64, since an id has six bits.
+    /// Lends the settings of the channels. There are at most 64, since each has another id, and an id has six bits.
     pub fn channels(&self) -> &[Settings]
         ensures channels { result.now ≡ self.now }
         ensures few { length self.now ≤ 64 }

@@ -6,7 +6,7 @@ use std::alloc::Global;
 use tc_queues::{Items, Settings};
 use tc_text::Reason;
 
-/// Copies the settings, in their order. The copies take as much memory as the originals.
+/// Copies the settings, in their order. The copies take at most as much memory as the originals.
 pub(crate) fn copy_each(alloc: Global, list: &[Settings]) -> Result<Vec<Settings>, Reason>
     ensures copies { IfOk result (λ copies. copies.items ≡ list.now) }
     ensures reason { IfErr result (λ reason. reason ≡ Reason.NoMemory) }
