@@ -47,8 +47,8 @@ pub struct ClcwFields {
     pub vr: u8,
 }
 
-/// Reads a word that is a CLCW of COP-1: its type and version are 0, its COP is 1, and both spares are 0. Any other word
-/// is read as `None`.
+/// Reads a word that is a CLCW of COP-1: its type and version are 0, its COP is 1, and both spares are 0. The call
+/// returns `None` for any other word.
 pub fn read_clcw(word: u32) -> Option<ClcwFields>
     ensures variant { IsSome result ↔ IsClcw word }
     ensures fields { IfSome result (λ fields. fields ≡ fields_of word) }

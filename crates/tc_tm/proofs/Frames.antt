@@ -28,7 +28,7 @@ written-length Present header control n four least =
     let all = length-append before (spelled (checksum_of before)) in
     omega arith
 
--- The fields that have these values. They are equal if the values are equal.
+-- the fields that have these values
 abbrev pub fields-made : ℕ → ℕ → ℕ → ℕ → ℕ → List ℕ → TmFields
 fields-made s v m c p k = record { header = record { scid = s; vcid = v; master_count = m; channel_count = c }; pointer = p; control = k }
 

@@ -12,8 +12,9 @@ abbrev pub control : List ℕ
 control = 0x01 ∷ 0x04 ∷ 0x00 ∷ 0x01 ∷ []
 
 -- The first 16 bits are 00 0000101010 001 1: the version, the spacecraft, the virtual channel, and a 1, since there is
--- an operational control field. The two counts follow. The next 16 bits are 0 0 0 11 11111111110: no secondary header,
--- packets in order, and the pointer for only idle data. An octet of idle data and the CLCW follow.
+-- an operational control field. The two counts follow. The next 16 bits are 0 0 0 11 11111111110: the flags for a
+-- secondary header, synchronization and packet order, the segment length identifier, and the pointer for only idle data.
+-- An octet of idle data and the CLCW follow.
 abbrev pub frame : List ℕ
 frame = 0x02 ∷ 0xa3 ∷ 0xff ∷ 0x07 ∷ 0x1f ∷ 0xfe ∷ 0x55 ∷ 0x01 ∷ 0x04 ∷ 0x00 ∷ 0x01 ∷ []
 

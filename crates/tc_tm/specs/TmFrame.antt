@@ -35,7 +35,7 @@ idle_status = joined ((1, 0) ∷ (1, 0) ∷ (1, 0) ∷ (2, 3) ∷ (11, only_idle
 abbrev pub primary_header : TmHeader → List ℕ
 primary_header header = spelled (identifiers header) ++ header.master_count ∷ header.channel_count ∷ spelled idle_status
 
--- the first `n` octets, up to the error control field: the header, idle data, and the operational control field (4.1.5)
+-- the `n` octets before the error control field: the header, idle data, and the operational control field (4.1.5)
 abbrev pub before_sum : TmHeader → List ℕ → ℕ → List ℕ
 before_sum header control n = primary_header header ++ replicate (n - 10) 0x55 ++ control
 

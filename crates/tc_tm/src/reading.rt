@@ -21,7 +21,7 @@ pub struct TmFields {
 /// The first reason, in this order, why octets aren't read as a telemetry frame.
 #[derive(Clone, Copy, Debug, PartialEq, Eq, Error)]
 pub enum TmReadFault {
-    /// The frames of this crate have at least 11 octets, or 13 with a frame error control field.
+    /// There are fewer than 11 octets, or fewer than 13 if frames have a frame error control field.
     #[error("too few octets")]
     Short,
     #[error("the version isn't 0")]
@@ -32,8 +32,8 @@ pub enum TmReadFault {
     WrongSum,
 }
 
-/// Reads octets as one telemetry frame. All octets belong to the frame, whose length the physical channel fixes. A
-/// secondary header and packets aren't interpreted.
+/// Reads octets as one telemetry frame, or returns the first fault. All octets belong to the frame, whose length the
+/// physical channel fixes. A secondary header and packets aren't interpreted.
 ///
 /// Nothing is allocated.
 pub fn read_tm(error: ErrorControl, octets: &[u8]) -> Result<TmFields, TmReadFault>

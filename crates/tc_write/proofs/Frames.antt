@@ -1,4 +1,4 @@
--- A frame whose data field is a segment, and one whose data field is a command.
+-- A frame whose data field is a segment.
 use Rattle.std.proofs.Common.{◌≡◌, ℕ, List, ◌∷◌, Some, sym, ap, subst, ◌∙◌}
 use Rattle.tc_link.specs.declared.frame.Header.{Header}
 use Rattle.tc_link.specs.Frame.{IsFrame}

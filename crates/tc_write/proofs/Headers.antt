@@ -1,5 +1,5 @@
--- Six octets and a packet data field are a packet, if the six octets are the primary header of a packet with that data
--- field.
+-- Six octets and a packet data field are a packet with a given header, if the six octets spell the header, the version 0
+-- and the length of the whole packet.
 use Rattle.std.proofs.Common.{◌≡◌, ℕ, ◌+◌, ◌≤◌, List, [], ◌∷◌, ◌++◌, length, refl, arith}
 use Rattle.tc_packet.specs.SpacePacket.{version_of, named_length}
 use Rattle.tc_write.specs.declared.packets.PacketHeader.{PacketHeader}

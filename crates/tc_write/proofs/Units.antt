@@ -69,13 +69,14 @@ closed count place (f ∷ g ∷ rest) some more whole parts =
       closes = c.closes;
     }
 
--- at least one segment is needed, and the segments have room for the unit
+-- a unit that isn't empty needs at least one segment
 count-least : (size n : ℕ) → 1 ≤ size → 1 ≤ n → 1 ≤ segments_needed size n
 count-least size n some more =
     let room = lt-div-mul-add {a = n + size - 1} {b = size} (omega arith) in
     let one : (n + size - 1) / size ≢ 0 = λ none. (let e : (n + size - 1) / size * size ≡ 0 = ap (λ (x : ℕ). x * size) none ∙ (let z : 0 * size ≡ 0 = omega arith in z) in omega arith) in
     grind (arith, one)
 
+-- the segments that a unit needs have room for all its octets
 count-room : (size n : ℕ) → 1 ≤ size → n ≤ segments_needed size n * size
 count-room size n some = let room = lt-div-mul-add {a = n + size - 1} {b = size} (omega arith) in omega arith
 

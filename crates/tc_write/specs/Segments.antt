@@ -10,7 +10,7 @@ pub record AreSegments (map size : ℕ) (unit : List ℕ) (fields : List (List �
   pub each : (k : ℕ) → k < length fields
       → Carries (Some (record { part = part_at k (segments_needed size (length unit)); map = map })) (slice_index_or fields k []) (piece_at size unit k)
 
--- the last of the data fields completes this unit, after those before it
+-- the last of the data fields completes this unit, after the data fields before it
 pub record MakeUnit (fields : List (List ℕ)) (unit : List ℕ) : Type 0 where
   pub before : List (List ℕ)
   pub last : List ℕ

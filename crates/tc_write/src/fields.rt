@@ -21,8 +21,8 @@ fn whole_frame(octets: &[u8]) -> Result<(), FieldFault>
     Ok(())
 }
 
-/// Checks whether a field can be added to octets. The octets must be one frame of at most 1,022 octets, with nothing
-/// after it.
+/// Checks whether a field can be added to octets, which must be one frame of at most 1,022 octets, with nothing after
+/// it. If it can't, the call returns the first fault.
 pub fn check_adding(octets: &[u8]) -> Result<(), FieldFault>
     ensures whole { OnOk result (IsWhole octets.now) }
     ensures most { OnOk result (length octets.now ≤ 1022) }
@@ -52,8 +52,8 @@ pub fn write_with_field(octets: &[u8], made: &mut [u8])
     field.copy_from_slice(&checksum(before).to_be_bytes());
 }
 
-/// Checks whether octets end with a right field. The octets must be one frame of at least 8 octets, with nothing after
-/// it.
+/// Checks whether octets are one frame of at least 8 octets, with nothing after it, that ends with a right field. If
+/// they aren't, the call returns the first fault.
 pub fn check_taking(octets: &[u8]) -> Result<(), FieldFault>
     ensures whole { OnOk result (IsWhole octets.now) }
     ensures least { OnOk result (8 ≤ length octets.now) }
