@@ -3,7 +3,7 @@ use Rattle.std.proofs.Common.{◌≡◌, ℕ, ◌%◌, Bool, true, false, get_or
 use Rattle.std.specs.Prelude.{IfOk, OnOk, OnErr}
 use Rattle.std.proofs.lemmas.List.{get_or-replicate}
 
--- a fact that a result ensures can be replaced by one that follows from it
+-- a fact that a result ensures can be replaced by a fact that follows from it
 pub on-ok : {A E P Q : Type 0} (r : Result A E) → (P → Q) → OnOk r P → OnOk r Q
 on-ok (Ok x) follows h = follows h
 on-ok (Err e) follows h = tt

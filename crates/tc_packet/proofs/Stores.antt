@@ -47,7 +47,8 @@ same-sizes runs i run next inside is same =
 abbrev pub MovesOn : Type 0
 MovesOn = (fields : List (List ℕ)) (field : List ℕ) → open_run (fields ++ field ∷ []) ≡ next_run (header_of field).part (open_run fields) (body_of field)
 
--- if `run` is the run that the fields leave within the limit, `next` is the run that the fields and one more leave within the limit
+-- Let the fields leave `run`, and let one more field move `run` on to `next`, both within the limit. Then the fields and
+-- the one more field leave `next` within the limit.
 pub run-pushed : MovesOn → (n : ℕ) (next run : Option (List ℕ)) (fields : List (List ℕ)) (field body : List ℕ) (part : Part) → n ≤ 65542
     → part ≡ (header_of field).part → body ≡ body_of field → next ≡ at_most n (next_run part run body)
     → at_most n (open_run fields) ≡ run → at_most n (open_run (fields ++ field ∷ [])) ≡ next

@@ -75,7 +75,7 @@ abbrev pub is_continuing : Part → Bool
 is_continuing Continuing = true
 is_continuing _ = false
 
--- the last field that is a first segment, and the fields after it
+-- the last field that is a first segment, if there is one, and the fields after it
 abbrev pub from_last_first : List (List ℕ) → Option (List ℕ × List (List ℕ))
 from_last_first [] = None
 from_last_first (f ∷ fs) = option_or (from_last_first fs) (if is_first (header_of f).part then Some (f, fs) else None)

@@ -60,8 +60,8 @@ ended_kind ended_kinds.Nothing run body = None
 ended_kind ended_kinds.Body run body = Some body
 ended_kind ended_kinds.Whole run body = Some run.room.octets
 
--- The run after a segment for which this kind was returned. If the segment completed a unit, the run is over once the
--- unit is delivered.
+-- The run after a segment for which this kind was returned, once the unit that the segment completed is delivered. If
+-- the segment completed a unit, the run is over.
 abbrev pub behind : EndedKind → OpenRun → OpenRun
 behind ended_kinds.Nothing run = run
 behind ended_kinds.Body run = closed run

@@ -44,8 +44,8 @@ impl Reassembler {
         Ok(Reassembler { alloc, runs })
     }
 
-    /// Returns the unit that this field would complete, in a list of its own. At most one block is allocated, with room
-    /// for the stream's open run and this field.
+    /// Returns the unit that this field would complete, if any, in a list of its own. At most one block is allocated,
+    /// with room for the stream's open run and this field.
     pub fn unit_after(&self, service: Service, field: &[u8]) -> Result<Option<Vec<u8>>, NoMemory>
         requires { 0 < length field.now }
         ensures unit { (fields : List (List ℕ)) → Leave fields self.now (stream_place service field.now)

@@ -30,14 +30,14 @@ pub trait Room: Drop {
     fn size(&self) -> usize
         ensures size { result ≡ (contents self.now).size };
 
-    /// Replaces the octets in use with a copy of `octets`.
+    /// Replaces the octets in use with a copy of `octets`. If memory runs out, the octets in use stay as they are.
     fn fill(&mut self, octets: &[u8]) -> Result<(), AllocError>
         requires { length octets.now ≤ (contents self.old).size }
         ensures filled { OnOk result (contents self.new ≡ contents_of octets.now (contents self.old).size) }
         ensures refused { OnErr result (contents self.new ≡ contents self.old) }
         ensures answered { grows ≡ false → IsOk result };
 
-    /// Copies `octets` behind those in use.
+    /// Copies `octets` behind those in use. If memory runs out, the octets in use stay as they are.
     fn append(&mut self, octets: &[u8]) -> Result<(), AllocError>
         requires { length (contents self.old).octets + length octets.now ≤ (contents self.old).size }
         ensures appended { OnOk result (contents self.new ≡ contents_of ((contents self.old).octets ++ octets.now) (contents self.old).size) }

@@ -187,7 +187,6 @@ impl<R: Room> Run<R> {
         }
     }
 
-    // Ends the run.
     fn close(&mut self)
         ensures { self.new ≡ record self.old { is_open = false } }
     {
@@ -204,8 +203,8 @@ impl<R: Room> Run<R> {
 }
 
 impl Run<GrowingRoom> {
-    // Returns the unit that a segment with this body would complete. The segment is applied to a copy of the run. The
-    // copy's block has room for the whole unit and is the only allocation.
+    // Returns the unit that a segment with this body would complete, if any. The segment is applied to a copy of the
+    // run. The copy's block has room for the whole unit and is the only allocation.
     fn unit_after(&self, part: Part, body: &[u8]) -> Result<Option<Vec<u8>>, AllocError>
         ensures unit { IfOk result (λ unit. octets_in unit ≡ at_most self.now.room.size (ended_by part (open_in self.now) body.now)) }
         ensures small { self.now.room.size ≤ largest_unit }
@@ -429,7 +428,8 @@ impl Runs<GrowingRoom> {
         }
     }
 
-    // Returns the unit that this field would complete, in a block of its own, which is the only allocation.
+    // Returns the unit that this field would complete, if any, in a block of its own. No more than one block is
+    // allocated.
     pub(crate) fn unit_after(
         &self,
         alloc: Global,

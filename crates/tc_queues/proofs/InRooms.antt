@@ -37,8 +37,8 @@ key-in qs i k q inside is k_is =
     k_is ∙ sym (get_or-map (λ (x : StoredQueue). x.key) (rings_in qs) i (ring_in q) k (omega (arith, length-map qs ring_in))
     ∙ ap (λ (x : StoredQueue). x.key) (get_or-map ring_in qs i q (ring_in q) inside ∙ ap ring_in (sym is)))
 
--- If a queue is replaced by one that has one more item or, if it is full, no more, the item was put at that place of the
--- list (`IsPutAt`). `f` is `ring_in` or `staged_in`, so the staged items may be counted or not.
+-- If a queue is replaced as `IsPutBehind` states, the list of queues changes as `IsPutAt` states for its place. `f` can be
+-- `ring_in` or `staged_in`, so the staged items may be counted or not.
 pub put-in : (f : Keyed → StoredQueue) (qs : List Keyed) (i : ℕ) (q next : Keyed) (p : List ℕ) (place : Bool) → i < length qs → q ≡ get_or qs i q → IsPutBehind p (f q) (f next) place → IsPutAt i p (map f qs) (map f (set qs i next)) place
 put-in f qs i q next p place inside is behind =
     let here : f q ≡ get_or (map f qs) i (f q) = ap f is ∙ sym (get_or-map f qs i q (f q) inside) in

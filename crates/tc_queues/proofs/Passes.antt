@@ -23,8 +23,8 @@ keys-put _ _ p = refl
 abbrev pub NoneFor : List ℕ → List ℕ → Type 0
 NoneFor p apids = AllByRecursion (λ (a : ℕ). is_for a p ≡ false) apids
 
--- The packet `p` turned the queues `before` into `after`, and `n` items were queued. If `after` take their shares of
--- `ps`, the result is as if `before` had taken their shares of `p` and `ps`.
+-- The packet `p` turned the queues `before` into the queues `after`, and `n` items were queued. Sharing the packets `ps`
+-- among `after` yields the same queues as sharing `p` and `ps` among `before`.
 record Goes (p : List ℕ) (ps : List (List ℕ)) (before after : List StoredQueue) (n : ℕ) : Type 0 where
   put : shared is_for (p ∷ ps) before ≡ shared is_for ps after
   count : shares_in is_for (p ∷ ps) before ≡ n + shares_in is_for ps after
@@ -65,7 +65,8 @@ goes-full p ps (w ∷ ws) zero a n distinct lt is for_it room none =
 goes-full p ps (w ∷ ws) (suc i) a n distinct lt is for_it room none =
     goes-cons p ps w ws ws 0 (rw (not-head w ws i a p distinct (omega arith) is for_it) refl) (goes-full p ps ws i a n distinct.1 (omega arith) is for_it room none)
 
--- the packet `p` goes into the queue `w`, which then is `later` and shares the packets `ps`
+-- The packet `p` goes into the queue `w`, which becomes `later`. Then `later` with its share of `ps` is equal to `w` with
+-- its share of `p` and `ps`.
 record GoesIn (p : List ℕ) (ps : List (List ℕ)) (w later : StoredQueue) : Type 0 where
   put : with_items w (share is_for (p ∷ ps) w) ≡ with_items later (share is_for ps later)
   count : length (share is_for (p ∷ ps) w) ≡ suc (length (share is_for ps later))

@@ -22,7 +22,7 @@ first-last : (b : ℕ) (xs : List ℕ) → AllByRecursion (λ x. b ≢ x) xs →
 first-last b [] none = refl
 first-last b (x ∷ xs) none = (none.0, first-last b xs none.1)
 
--- an entry still shows its place when there is one more queue, with another key
+-- an entry still shows the first place of its key, or that there is none, when there is one more queue with another key
 shows-more : (keys : List ℕ) (none a b n : ℕ) → a ≢ b → ShowsFirst keys none a n → ShowsFirst (keys ++ b ∷ []) none a n
 shows-more keys none a b n other (inl at) = inl (first-push a b n keys at)
 shows-more keys none a b n other (inr away) = inr (away.0, all-append (λ x. a ≢ x) keys (b ∷ []) away.1 (other, tt))

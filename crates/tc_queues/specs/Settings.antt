@@ -94,6 +94,6 @@ IsFirstFault s (next ∷ later) fault = ((fault ≡ next) × ¬ IsFreeOf s next)
 unfoldable pub IsFault : Settings → SettingsFault → Type 0
 IsFault s fault = IsFirstFault s faults_in_order fault
 
--- the reason why no channel was created: the fault of the settings, or running out of memory if they have none
+-- the reason why no channel was created: the first fault of the settings, or running out of memory if they have none
 abbrev pub IsRefusal : Settings → SettingsFault → Type 0
 IsRefusal s fault = IsFault s fault ⊎ ((fault ≡ NoMemory) × IsAllowed s)

@@ -14,8 +14,8 @@ looks queues (n ∷ table) = 1
 abbrev pub most_looks : ℕ → ℕ
 most_looks count = if nat_lt count 8 then count else if nat_lt 65535 count then count else 1
 
--- The largest number of queues that are looked at to find the one with a key. A table has only the keys that an APID
--- can be.
+-- The largest number of queues that are looked at to find the queue with a key, among `count` queues. A table has only
+-- the keys that an APID can be.
 abbrev pub looks_for : ℕ → ℕ → ℕ
 looks_for key count = if nat_lt key apid_count then most_looks count else count
 

@@ -33,7 +33,7 @@ AreDistinct (a ∷ rest) = AllByRecursion (λ b. a ≢ b) rest × AreDistinct re
 abbrev pub room_in : StoredQueue → ℕ
 room_in q = q.ring.capacity - length q.ring.items
 
--- the wanted items that a queue has room for
+-- the items that a queue wants by its key, up to the number that it has room for
 abbrev pub share : (ℕ → List ℕ → Bool) → List (List ℕ) → StoredQueue → List (List ℕ)
 share wanted items q = take (room_in q) (filter (wanted q.key) items)
 

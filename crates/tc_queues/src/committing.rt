@@ -16,7 +16,7 @@ use crate::steps::Tick;
 use std::boxed::BoxedSlice;
 use tc_packet::{Packet, Room, each_unit_has_one_cut, next_packet};
 
-// Commits all staged items.
+// Commits the staged items of every queue.
 fn commit_all<R: Room, C: Tick>(queues: &mut BoxedSlice<Queue<R>>, steps: &mut C)
     ensures committed { boxed_slice_items queues.new ≡ map committed (boxed_slice_items queues.old) }
     ensures cost { C.taken steps.new ≤ C.taken steps.old + length (boxed_slice_items queues.old) }

@@ -26,7 +26,7 @@ pub const RUN_WORDS: u128 = 40;
 /// waiting and of staged items, and the size of a room.
 pub const QUEUE_WORDS: u128 = 64;
 
-// The number of bytes of a place in a table.
+// The number of bytes in each entry of a table of places.
 const PLACE_WORDS: u128 = 2;
 
 // The number of bytes in the room of a run, once the room was doubled until it can hold the largest unit.

@@ -109,7 +109,6 @@ impl<R: Room> Queue<R> {
         self.slots.put(octets)
     }
 
-    // Commits the staged items.
     #[inline(always)]
     pub(crate) fn commit(&mut self)
         ensures { self.new ≡ committed self.old }
@@ -117,7 +116,6 @@ impl<R: Room> Queue<R> {
         self.slots.commit();
     }
 
-    // Rolls back the staged items.
     pub(crate) fn roll_back(&mut self)
         ensures { self.new ≡ rolled_back_of self.old }
     {
