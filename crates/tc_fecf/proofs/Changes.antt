@@ -40,7 +40,8 @@ apart r s b c =
 fits-with : (d e : ℕ) → d < 2 ^ 16 → e < 2 → bit_xor d (e * 2 ^ 15) < 2 ^ 16
 fits-with d e d_fits e_fits = xor_lt 16 d (e * 2 ^ 15) d_fits (omega arith)
 
--- if one step makes two registers equal, they differed at most in the highest bit, by the sum of the step's two bits
+-- If one more bit for each of two registers makes the registers equal, they differed before in nothing but the highest
+-- bit, and in that bit only if the two bits differ.
 back-one : (r s b c : ℕ) → r < 2 ^ 16 → s < 2 ^ 16 → b < 2 → c < 2 → with_bit r b ≡ with_bit s c → bit_xor r s ≡ bit_xor b c * 2 ^ 15
 back-one r s b c r_fits s_fits b_fits c_fits e =
     same (bit_xor r s) (bit_xor b c * 2 ^ 15)

@@ -16,7 +16,7 @@ unfoldable pub shifted : List ℕ → ℕ → ℕ
 shifted [] r = r
 shifted (b ∷ bs) r = shifted bs (times_x r)
 
--- the remainder is the sum of a part from the register and a part from the bits
+-- if the register is the sum of `r` and `s`, the remainder is the sum of a part from `r` alone and the remainder from `s`
 pub parts : (bs : List ℕ) (r s : ℕ) → remainder (bit_xor r s) bs ≡ bit_xor (shifted bs r) (remainder s bs)
 unfolding shifted
 parts [] r s = refl

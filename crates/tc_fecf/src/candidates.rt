@@ -17,7 +17,7 @@ pub struct Delimited<'a> {
 
 /// Takes the frame off the front of the octets that a CLTU carried, by its length field alone (frame delimiting and
 /// fill removal, CCSDS 232.0-B). A frame is delimited before its frame error control field is checked, since that field
-/// is at the end of the frame.
+/// is at the end of the frame. If the octets don't begin with a frame, the call returns the first fault.
 ///
 /// Nothing is allocated.
 pub fn delimit(octets: &[u8]) -> Result<Delimited<'_>, FrameFault>

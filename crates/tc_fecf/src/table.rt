@@ -1,6 +1,7 @@
 //! Tables. A proof compares each of them with the rule by which it is computed.
 
-// For each octet, the register after eight bits that are 0, if it held the octet and a low octet of 0 before.
+// For each octet, the register after eight 0 bits. Before them the octet is the register's high octet, and its low octet
+// is 0.
 #[rattlefmt::skip]
 pub(crate) const SUMS: [u16; 256] = [
     0x0000, 0x1021, 0x2042, 0x3063, 0x4084, 0x50a5, 0x60c6, 0x70e7, 0x8108, 0x9129, 0xa14a, 0xb16b,
@@ -27,7 +28,7 @@ pub(crate) const SUMS: [u16; 256] = [
     0x2e93, 0x3eb2, 0x0ed1, 0x1ef0,
 ];
 
-// The registers of `SUMS` after eight more bits that are 0.
+// The registers of `SUMS` after eight more 0 bits.
 #[rattlefmt::skip]
 pub(crate) const SUMS_ON: [u16; 256] = [
     0x0000, 0x3331, 0x6662, 0x5553, 0xccc4, 0xfff5, 0xaaa6, 0x9997, 0x89a9, 0xba98, 0xefcb, 0xdcfa,
@@ -54,7 +55,7 @@ pub(crate) const SUMS_ON: [u16; 256] = [
     0x56ac, 0x659d, 0x30ce, 0x03ff,
 ];
 
-// The registers of `SUMS` after 16 more bits that are 0.
+// The registers of `SUMS` after 16 more 0 bits.
 #[rattlefmt::skip]
 pub(crate) const SUMS_TWO_ON: [u16; 256] = [
     0x0000, 0x3730, 0x6e60, 0x5950, 0xdcc0, 0xebf0, 0xb2a0, 0x8590, 0xa9a1, 0x9e91, 0xc7c1, 0xf0f1,
@@ -81,7 +82,7 @@ pub(crate) const SUMS_TWO_ON: [u16; 256] = [
     0x9633, 0xa103, 0xf853, 0xcf63,
 ];
 
-// The registers of `SUMS` after 24 more bits that are 0.
+// The registers of `SUMS` after 24 more 0 bits.
 #[rattlefmt::skip]
 pub(crate) const SUMS_THREE_ON: [u16; 256] = [
     0x0000, 0x76b4, 0xed68, 0x9bdc, 0xcaf1, 0xbc45, 0x2799, 0x512d, 0x85c3, 0xf377, 0x68ab, 0x1e1f,

@@ -24,7 +24,8 @@ pub record IsLineRead (limit : ℕ) (old new : Option (List ℕ)) (kept : List �
   pub kept_is : kept ≡ take limit line
   pub too_long_is : read.too_long ≡ nat_lt limit (length line)
 
--- A part of a line was taken from a reader. It follows the octets of the line that were kept before.
+-- A part of a line was taken from a reader, and its octets were added to those that were kept `before`. At most `limit`
+-- octets are kept in all.
 pub record IsPartRead (limit : ℕ) (old new : Option (List ℕ)) (before after : List ℕ) (part : Part) : Type 0 where
   pub octets : List ℕ
   pub one : IsOneLine octets
@@ -34,7 +35,7 @@ pub record IsPartRead (limit : ℕ) (old new : Option (List ℕ)) (before after 
   pub after_is : after ≡ take limit (before ++ octets)
   pub over_is : part.over ≡ nat_lt limit (length before + length octets)
 
--- the result when nothing has been read so far
+-- the result of a read that took no octets, after which more of the line may follow
 abbrev pub nothing_yet : Part
 nothing_yet = record { over = false; goes_on = true; ended = false }
 

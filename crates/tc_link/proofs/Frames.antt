@@ -6,8 +6,8 @@ use Rattle.tc_link.specs.declared.frame.Header.{Header}
 use Rattle.tc_link.specs.Bits.{bit}
 use Rattle.tc_link.specs.Frame.{IsOctets, IsFrame, IsHeader, IsField, header_of, version_of, spare_of, named_length}
 
--- five octets and a data field of 1 to 1,019 octets are a frame with this header, if the five octets spell the header, version 0, spare
--- bits 0 and the length of the whole
+-- five octets and a data field of 1 to 1,019 octets are a frame with this header, if the five octets spell the header,
+-- the version 0, spare bits 0 and the length of the whole frame
 pub framed : (five field : List ℕ) (header : Header) → length five ≡ 5 → header_of five ≡ header → version_of five ≡ 0 → spare_of five ≡ 0
     → named_length five ≡ length field + 5 → 1 ≤ length field → length field ≤ 1019 → IsOctets (five ++ field) → IsFrame (five ++ field) header field
 framed (a ∷ b ∷ c ∷ d ∷ e ∷ []) field header five says version spare named least most each = record {

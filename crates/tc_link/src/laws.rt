@@ -31,8 +31,8 @@ pub fn each_header_and_field_have_one_frame()
     ensures no_other { (frame fill other : List ℕ) → IsWhole frame → BeginsWith (frame ++ fill) other → other ≡ frame }
 {}
 
-/// States examples of transfer frames, worked out by hand: the fields of headers, the first fault of octets that don't
-/// begin with a frame, and the fault of a header and a data field that make no frame.
+/// States examples of transfer frames, worked out by hand: the fields and the lengths that headers spell, octets with
+/// and without a fault, and headers and data fields with and without a write fault.
 pub fn frames_are_so()
     ensures header { header_of (0x00 ∷ 0x2a ∷ 0x04 ∷ 0x0c ∷ 0x05 ∷ []) ≡ record { bypass = false; control = false; scid = 42; vcid = 1; ns = 5 } }
     ensures largest { header_of (0x33 ∷ 0xff ∷ 0xff ∷ 0xff ∷ 0xff ∷ []) ≡ record { bypass = true; control = true; scid = 1023; vcid = 63; ns = 255 } }
@@ -89,8 +89,8 @@ pub fn a_written_clcw_reads_back()
         → fields_of (word_of r vcid link) ≡ reported r vcid link }
 {}
 
-/// States examples of CLCWs, worked out by hand: words in which single fields are set, the fields of two words, and
-/// words that aren't a CLCW.
+/// States examples of CLCWs, worked out by hand: the words that report some components, the fields of two words, a word
+/// that is a CLCW, and words that aren't.
 pub fn clcws_are_so()
     ensures plain { word_of (record { state = S1; vr = 1; lockout = false; wait = false; retransmit = false; farm_b = 0 }) 1
         (record { no_rf = false; no_bit_lock = false }) ≡ 0x01040001 }

@@ -117,7 +117,7 @@ impl Configuration {
         Ok(Configuration { channels, apids })
     }
 
-    /// Lends the settings of the channels. There are at most 64, since each has another id, and an id has six bits.
+    /// Lends the settings of the channels. There are at most 64, since no two have the same id, and an id has six bits.
     pub fn channels(&self) -> &[Settings]
         ensures channels { result.now ≡ self.now }
         ensures few { length self.now ≤ 64 }

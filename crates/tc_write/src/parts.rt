@@ -35,7 +35,8 @@ pub fn segment_header(map: u8, place: usize, count: usize) -> Segment
     Segment { part, map }
 }
 
-/// Returns the octets that the segment at this place carries.
+/// Returns the octets of the unit that the segment at this place, counted from 0, carries. There are `size` of them, or
+/// fewer in the last segment.
 pub fn piece(unit: &[u8], size: usize, place: usize) -> &[u8]
     requires some { 1 ≤ size }
     requires most { length unit.now ≤ 65542 }
