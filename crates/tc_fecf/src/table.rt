@@ -1,7 +1,7 @@
 //! Tables. A proof compares each of them with the rule by which it is computed.
 
-// For each octet, the register after eight 0 bits. Before them the octet is the register's high octet, and its low octet
-// is 0.
+// For each octet, the register after eight 0 bits. Before them, the octet is the register's high octet, and the low
+// octet is 0.
 #[rattlefmt::skip]
 pub(crate) const SUMS: [u16; 256] = [
     0x0000, 0x1021, 0x2042, 0x3063, 0x4084, 0x50a5, 0x60c6, 0x70e7, 0x8108, 0x9129, 0xa14a, 0xb16b,

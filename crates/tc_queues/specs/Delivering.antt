@@ -1,4 +1,4 @@
--- The delivery of a unit to the queues, packet by packet.
+-- The delivery of a unit to the queues, whole or packet by packet.
 use Rattle.std.specs.Prelude.{◌≡◌, ℕ, ◌+◌, is_some, List, ◌∷◌, [], length, map, get_or, ◌<◌, Bool, true, false, ◌⊎◌, Option, Some, ◌-◌, nat_lt, None}
 use Rattle.std.specs.List.{AllByRecursion}
 use Rattle.tc_packet.specs.SpacePacket.{packets_of, rest_of}

@@ -1,6 +1,6 @@
--- A bound on the bytes that a channel holds, besides its journal: those that it has requested from its allocator and
--- not freed. The sizes are those of a machine with 64-bit addresses. `memory_bound` is the bound, and `memory_waiting`
--- is the part that is in use at a moment.
+-- A bound on the memory of a channel, without its journal: on the bytes that the channel has requested from its allocator
+-- and not freed, on a machine with 64-bit addresses. `memory_bound` is the bound. `memory_waiting` is the memory that the
+-- queues and all that waits take.
 use Rattle.std.specs.Prelude.{ℕ, ◌+◌, ◌*◌, ◌^◌, Bool, List, length, nat_lt, sum_by, if◌then◌else◌}
 use Rattle.tc_packet.specs.Reassembly.{largest_unit, stream_count}
 use Rattle.tc_queues.specs.declared.settings.QueueSetting.{QueueSetting}
@@ -28,7 +28,7 @@ queue_words = 64
 abbrev pub largest_field : ℕ
 largest_field = 1019
 
--- the bytes in the room of a run, once the room was doubled until it can hold the largest unit
+-- the largest number of bytes in the block of a run, which doubles until it can hold the largest unit
 abbrev pub run_room : ℕ
 run_room = 2 ^ 17
 
@@ -70,7 +70,7 @@ tables_memory s = table_memory (length s.queues) + table_memory (length s.maps)
 abbrev pub segment_memory : Settings → ℕ
 segment_memory s = if s.segmented then largest_field else 0
 
--- a bound on the bytes that a channel of these settings holds at any moment, besides its journal
+-- a bound on the bytes that a channel of these settings holds at any moment, without its journal
 unfoldable pub memory_bound : Settings → ℕ
 memory_bound s = buffer_memory s + runs_memory s + queues_memory s + tables_memory s + segment_memory s
 

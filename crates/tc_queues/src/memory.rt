@@ -29,7 +29,7 @@ pub const QUEUE_WORDS: u128 = 64;
 // The number of bytes in each entry of a table of places.
 const PLACE_WORDS: u128 = 2;
 
-// The number of bytes in the room of a run, once the room was doubled until it can hold the largest unit.
+// The largest number of bytes in the block of a run, which doubles until it can hold the largest unit.
 const RUN_ROOM: u128 = 131_072;
 
 // The number of streams: two services of 64 MAPs.

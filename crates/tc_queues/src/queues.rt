@@ -182,11 +182,11 @@ fn unit_of<'a, R: Room>(runs: &'a Runs<R>, field: &'a [u8], ended: Ended) -> Opt
     }
 }
 
-/// Delivers the unit that a data field ended, if it ended one, from where it lies. If memory runs out, all queues
-/// are as they were before the call. A step is counted for each packet that is cut from the unit. A step is also counted
-/// for each queue that is looked at in a search for a queue, or that is committed or rolled back. So the number of steps
-/// grows as the number of the unit's packets times the number of queues that one search looks at. A search looks at one
-/// queue if there is a table, and otherwise at most at all of them.
+/// Delivers the unit that a data field ended, if it ended one, from the place at which it lies. If memory runs out, all
+/// queues are as they were before the call. A step is counted for each packet that is cut from the unit. A step is also
+/// counted for each queue that is looked at in a search for a queue, or that is committed or rolled back. So the number
+/// of steps grows as the number of the unit's packets times the number of queues that one search looks at. A search
+/// looks at one queue if there is a table, and otherwise at most at all of them.
 #[inline(always)]
 pub fn deliver_ended<R: Room, C: Tick>(
     runs: &Runs<R>,

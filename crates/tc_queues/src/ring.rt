@@ -11,8 +11,8 @@ use std::alloc::{AllocError, Global};
 use std::marker::Model;
 use tc_packet::{GrowingRoom, Room};
 
-/// Rooms, the front one first. A `HeapCircularBuffer` has calls that make it grow. No function in this file uses them on
-/// a buffer that has been created, and none hands out the buffer, so no other code can use them either.
+/// Rooms, the front one first. A `HeapCircularBuffer` has calls that make it grow. No function in this file uses them
+/// on a buffer that has been created, and none hands out the buffer, so no other code can use them either.
 #[derive(Drop)]
 pub struct Ring<R: Room> {
     rooms: HeapCircularBuffer<R>,

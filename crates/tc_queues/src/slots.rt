@@ -10,9 +10,9 @@ use tc_packet::{GrowingRoom, Room};
 
 /// Waiting items, the oldest first, each in a room of its own, and items that a caller has staged behind them. The
 /// rooms are a ring that is always full: first the rooms of the waiting items, then those of the staged items, then the
-/// empty ones. When an item goes, its room is cleared and moves to the back. [`pop_front`](Slots::pop_front) leaves the
-/// room in place if no other item is there. Staged items count from [`commit`](Slots::commit) on, unless they are
-/// rolled back ([`roll_back`](Slots::roll_back)). If the rooms don't grow, only `with_capacity` allocates.
+/// empty ones. When the oldest item goes, its room is cleared and moves to the back. [`pop_front`](Slots::pop_front)
+/// leaves the room in place if no other item is there. Staged items count from [`commit`](Slots::commit) on, unless
+/// they are rolled back ([`roll_back`](Slots::roll_back)). If the rooms don't grow, only `with_capacity` allocates.
 #[derive(Drop)]
 pub struct Slots<R: Room> {
     ring: Ring<R>,
@@ -110,8 +110,8 @@ impl<R: Room> Slots<R> {
         Ok(true)
     }
 
-    /// Stages an item behind the others if a place is free, and returns whether one was. The item counts from the next
-    /// `commit` on.
+    /// Stages an item behind the others if a place is free, and returns whether one was. The item doesn't count until
+    /// it is committed.
     #[inline(always)]
     pub fn stage(&mut self, octets: &[u8]) -> Result<bool, AllocError>
         requires { length octets.now ≤ self.old.size }

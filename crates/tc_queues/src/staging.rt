@@ -104,7 +104,7 @@ fn stage_packet<R: Room, C: Tick>(
     Ok(0)
 }
 
-/// Stages the packets of a unit into their queues, and returns what was queued and dropped. If memory runs out, the
+/// Stages the packets of a unit into their queues, and returns the outcome for the unit. If memory runs out, the
 /// packets that were staged before stay staged.
 #[inline(always)]
 pub(crate) fn stage_packets<R: Room, C: Tick>(

@@ -50,7 +50,7 @@ pub enum Line {
 }
 
 /// Parses a line, which is given without its line feed, or returns the first reason why its words are bad. Memory is
-/// allocated only for the octets of a frame.
+/// allocated only for the octets of a frame. If it runs out, the reason is `NoMemory`.
 #[tactic(auto, unfolding(crate::specs::Line::line_of))]
 pub fn parse_line(alloc: Global, octets: &[u8]) -> Result<Line, Reason>
     ensures line { IfOk result (λ line. line_of (words octets.now) ≡ Ok line) }

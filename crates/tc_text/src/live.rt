@@ -32,7 +32,7 @@ pub enum LiveLine {
 }
 
 /// Parses a line, which is given without its line feed, or returns the first reason why its words are bad. Memory is
-/// allocated only for the octets of a frame or a candidate.
+/// allocated only for the octets of a frame or a candidate. If it runs out, the reason is `NoMemory`.
 #[tactic(auto, unfolding(crate::specs::LiveLine::live_line_of))]
 pub fn parse_live_line(alloc: Global, octets: &[u8]) -> Result<LiveLine, Reason>
     ensures line { IfOk result (λ line. live_line_of (words octets.now) ≡ Ok line) }
