@@ -25,7 +25,7 @@ at_most-bounded n octets small = by (leb (length octets) 65542) refl where
   by true h = rw h refl
   by false h = let long = leb-false (length octets) 65542 h in rw h (sym (at_most-none n octets (omega arith)))
 
--- octets over a limit stay over it when a body is added
+-- limiting a run before a body is added doesn't change the limited result, since octets over a limit stay over it
 at_most-extended : (n : ℕ) (run : Option (List ℕ)) (body : List ℕ) → n ≤ 65542 → at_most n (extended (at_most n run) body) ≡ at_most n (extended run body)
 at_most-extended n None body small = refl
 at_most-extended n (Some octets) body small = by (leb (length octets) n) refl where

@@ -35,7 +35,7 @@ all-snoc (g ∷ gs) f = grind (arith, common_steps, all-snoc gs f)
 both : (a b x y : Bool) → a ≡ x → b ≡ y → (a && b) ≡ (x && y)
 both a b x y p q = ap (λ (t : Bool). t && b) p ∙ ap (λ (t : Bool). x && t) q
 
--- octets that are too long stay too long when a body is added
+-- limiting octets before a body is added doesn't change the limited result, since octets that are too long stay too long
 bounded-extended : (octets body : List ℕ) → bounded (octets ++ body) ≡ extended (bounded octets) body
 bounded-extended octets body = by (leb (length octets) 65542) refl where
   by : (t : Bool) → leb (length octets) 65542 ≡ t → bounded (octets ++ body) ≡ extended (bounded octets) body

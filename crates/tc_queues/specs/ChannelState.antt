@@ -12,7 +12,7 @@ pub record Accepted : Type 0 where
   pub ns : ℕ
   pub field : List ℕ
 
--- a queue, known by its key: all items that were ever admitted, and the number of those that were taken
+-- a queue: its key, its capacity, all items that were ever admitted, and the number of items that were taken
 pub record Queue : Type 0 where
   pub key : ℕ
   pub capacity : ℕ

@@ -49,7 +49,7 @@ units_stored s = sum_by (λ (m : MapSetting). m.capacity) s.maps
 abbrev pub buffer_memory : Settings → ℕ
 buffer_memory s = s.buffer * (room_words + largest_field)
 
--- the bytes of an open run of the largest unit on each MAP of each service, or 0 on a plain channel
+-- the bytes of a run with the largest block for each MAP of each service, or 0 on a plain channel
 abbrev pub runs_memory : Settings → ℕ
 runs_memory s = if s.segmented then stream_count * (run_words + run_room) else 0
 
@@ -65,8 +65,8 @@ table_memory queues = if nat_lt queues 8 then 0 else 2048 * 2
 abbrev pub tables_memory : Settings → ℕ
 tables_memory s = table_memory (length s.queues) + table_memory (length s.maps)
 
--- The bytes of the new block of a run, for a first segment that is too long for the run's old block. The new block is
--- allocated before the old one is freed.
+-- The largest number of bytes in the new block of a run whose old block is still held. A first segment that is too long
+-- for the old block is copied into a new block, and then the old block is freed.
 abbrev pub segment_memory : Settings → ℕ
 segment_memory s = if s.segmented then largest_field else 0
 

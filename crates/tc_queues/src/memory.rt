@@ -136,7 +136,7 @@ fn stored_units(maps: &[MapSetting]) -> u128
     stored
 }
 
-// Returns the number of bytes in the open runs, if each stream has one of the largest unit. A plain channel has none.
+// Returns the number of bytes in the runs, if the run of each stream has the largest block. A plain channel has no runs.
 fn run_octets(settings: LentSettings<'_>) -> u128
     ensures value { result ≡ runs_memory (settings_of settings.entry) }
     ensures within { result < 2 ^ 100 }
@@ -170,8 +170,9 @@ fn table_of(queues: usize) -> u128
     }
 }
 
-// Returns the number of bytes in the new block of a run, for a first segment that is too long for the run's old block.
-// The new block is allocated before the old one is freed. On a plain channel the result is 0.
+// Returns the largest number of bytes in the new block of a run whose old block is still held. A first segment that is
+// too long for the old block is copied into a new block, and then the old block is freed. A plain channel has no runs,
+// so the result is 0.
 fn segment_octets(settings: LentSettings<'_>) -> u128
     ensures value { result ≡ segment_memory (settings_of settings.entry) }
     ensures within { result < 2 ^ 20 }

@@ -38,11 +38,11 @@ abbrev pub AddsToChannel : List Settings → ℕ → Addition → List Settings 
 AddsToChannel list vcid addition new =
     (place : ℕ) × (s : Settings) × IsAt list vcid place s × IsAllowed (with_addition s addition) × (new ≡ slice_set list place (with_addition s addition))
 
--- the list has a flag for each APID, which is set if and only if a queue has the APID
+-- the list has a flag for each APID that a queue can have, which is set if and only if a queue has the APID
 pub record AreApidsOf (queues : List QueueSetting) (apids : List Bool) : Type 0 where
   pub size : length apids ≡ 2047
   pub reported : (apid : ℕ) → apid ≤ 2046 → get_or apids apid false ≡ list_any (λ (q : QueueSetting). q.apid == apid) queues
 
--- each list has a flag for each APID, which is set if and only if a queue of the list's channel has the APID
+-- the lists of flags belong to the channels in their order, and each shows the APIDs of its channel's queues
 abbrev pub AreApidsOfEach : List Settings → List (List Bool) → Type 0
 AreApidsOfEach = AllZip (λ (s : Settings) (apids : List Bool). AreApidsOf s.queues apids)

@@ -8,7 +8,7 @@ use tc_queues::QueueSetting;
 /// The number of APIDs that a queue can have: all but that of idle packets.
 const APIDS: usize = 2047;
 
-/// A table with a flag for each APID. The flag is set if a queue has the APID.
+/// A table with a flag for each APID that a queue can have. The flag is set if and only if a queue has the APID.
 pub(crate) type Apids = [bool; APIDS];
 
 /// Returns the table of the APIDs of these queues.
