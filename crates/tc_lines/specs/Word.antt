@@ -1,4 +1,4 @@
--- The words of a line, and the values that are read from them.
+-- The words of a line, tests of a word, and results that are computed one after the other.
 use Rattle.std.specs.Prelude.{ℕ, Bool, true, false, ◌==◌, ◌||◌, List, [], ◌∷◌, filter, slice_index, nat_eq, Result, Ok, Err}
 use Rattle.std.specs.Cmp.Lexicographic.{pointwise}
 use Rattle.std.specs.List.{slice_split}

@@ -6,8 +6,8 @@ ghost use Rattle.tc_lines.specs.Word.{is_separator as is_separator_octet, words}
 
 use memchr::memchr3;
 
-// The shortest input that is searched. Shorter input is examined octet by octet, since that takes no longer than
-// starting a search.
+// The smallest number of octets in which a separator is searched for by `memchr3`. Fewer octets are examined one by
+// one, since that takes no longer than starting such a search.
 const LONG: usize = 64;
 
 /// Returns the first word and the octets after it, or `None` if there is no word. Words are separated by spaces, tabs

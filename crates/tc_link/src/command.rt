@@ -12,8 +12,8 @@ pub enum Command {
 
 /// The kind of a frame, as the receiver sees it (CCSDS 232.0-B, 4.1.2.3).
 ///
-/// A Type-AD frame comes with its N(S). Type-AC frames, which are reserved, and Type-BC frames
-/// with no control command are invalid.
+/// A Type-AD frame comes with its N(S). Type-AC frames, which are reserved, and Type-BC frames whose data field isn't a
+/// control command are invalid.
 #[derive(Clone, Copy, Debug, PartialEq, Eq)]
 pub enum Kind {
     Ad(u8),

@@ -102,7 +102,7 @@ ended_by Last run body = extended run body
 ended_by First run body = None
 ended_by Continuing run body = None
 
--- the unit that a field completes after these fields of its stream
+-- the unit that a field completes after these fields of its stream, if any
 abbrev pub unit_at : List (List ℕ) → List ℕ → Option (List ℕ)
 unit_at fields field = ended_by (header_of field).part (open_run fields) (body_of field)
 
@@ -143,12 +143,12 @@ stream_count = 128
 -- The run and the unit, with or without segment headers. A field without a segment header is a unit by itself and
 -- leaves no run.
 
--- the run that the fields of a stream leave open
+-- the run that the fields of a stream leave open, if any
 abbrev pub run_left : Bool → List (List ℕ) → Option (List ℕ)
 run_left true fields = open_run fields
 run_left false fields = None
 
--- the unit that a field completes after these fields of its stream
+-- the unit that a field completes after these fields of its stream, if any
 abbrev pub unit_ended : Bool → List (List ℕ) → List ℕ → Option (List ℕ)
 unit_ended true fields field = unit_at fields field
 unit_ended false fields field = bounded field

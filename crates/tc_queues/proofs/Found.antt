@@ -21,7 +21,7 @@ first-here key [] i q inside is here none = absurd (omega arith)
 first-here key (r ∷ qs) zero q inside is here none = here ∙ ap (λ (x : Keyed). x.key) is
 first-here key (r ∷ qs) (suc i) q inside is here none = (none.0, first-here key qs i q (omega arith) is here none.1)
 
--- the queue at the first place of a key is the one that is found for the key
+-- the queue at the first place of a key is the queue that is found for the key
 pub found : (key i : ℕ) (ws : List StoredQueue) (w : StoredQueue) → IsFirst key i (keys_of ws) → w ≡ get_or ws i w → queue_for key ws ≡ Some w
 found key i [] w first is = absurd first
 found key zero (v ∷ ws) w first is = rw (eq-eqb v.key key (sym first)) (ap (λ (x : StoredQueue). Some x) (sym is))
@@ -43,7 +43,7 @@ popped-none key (w ∷ ws) none = rw (ne_eqb w.key key (λ e. none.0 (sym e))) (
 ring-at : (qs : List Keyed) (i : ℕ) (q : Keyed) → i < length qs → q ≡ get_or qs i q → ring_in q ≡ get_or (rings_in qs) i (ring_in q)
 ring-at qs i q inside is = ap ring_in is ∙ sym (get_or-map ring_in qs i q (ring_in q) inside)
 
--- the queue in rooms at the first place of a key is the one that is found for the key
+-- the queue at the first place of a key, without its rooms, is the queue that is found for the key
 pub found-in : (key i : ℕ) (qs : List Keyed) (q : Keyed) → i < length qs → q ≡ get_or qs i q → IsFirst key i (keys_of (rings_in qs)) → queue_for key (rings_in qs) ≡ Some (ring_in q)
 found-in key i qs q inside is first = found key i (rings_in qs) (ring_in q) first (ring-at qs i q inside is)
 

@@ -136,7 +136,8 @@ fn stored_units(maps: &[MapSetting]) -> u128
     stored
 }
 
-// Returns the number of bytes in the runs, if the run of each stream has the largest block. A plain channel has no runs.
+// Returns the number of bytes in the runs, if the run of each stream has the largest block. A plain channel has no
+// runs.
 fn run_octets(settings: LentSettings<'_>) -> u128
     ensures value { result ≡ runs_memory (settings_of settings.entry) }
     ensures within { result < 2 ^ 100 }

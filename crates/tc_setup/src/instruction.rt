@@ -25,7 +25,7 @@ pub enum Instruction {
     Channel(Settings),
     /// The addition of a queue or a chosen MAP to a channel.
     Add(u8, Addition),
-    /// The octets of a frame, which are brought to the channel that the frame names.
+    /// Octets that arrive at the receiver. If they are a frame, it is for the channel that the frame names.
     Frame(Octets),
     /// A release of the oldest data field from the buffer of a channel.
     Release(u8),
