@@ -6,11 +6,11 @@ use Rattle.std.specs.Option.{option_and_then}
 abbrev pub is_digit : ℕ → Bool
 is_digit octet = nat_le 48 octet && nat_le octet 57
 
--- the number with one more digit after it
+-- the number with one more digit after it, where `digit` is the octet of the digit
 abbrev pub with_digit : ℕ → ℕ → ℕ
 with_digit number digit = number * 10 + (digit - 48)
 
--- the number that the digits spell, the first of which is the most significant
+-- the number that digits spell, the most significant digit first
 abbrev pub spelled_number : List ℕ → ℕ
 spelled_number digits = fold with_digit 0 digits
 

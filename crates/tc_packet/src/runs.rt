@@ -95,8 +95,8 @@ impl<R: Room> Run<R> {
         })
     }
 
-    // Stages a body behind the open run. Returns false, without staging it, if no run is open or the body doesn't fit
-    // the room.
+    // Stages a body behind the open run, and returns true. Returns false, without staging the body, if no run is open
+    // or the room has too few octets left behind the run.
     fn extend(&mut self, body: &[u8]) -> Result<bool, AllocError>
         ensures contents_of { IfOk result (λ done. done ≡ true
             → (self.old.is_open ≡ true) × (at_most self.old.room.size (extended (open_in self.old) body.now)
