@@ -44,8 +44,8 @@ pub fn written_header(header: &Header, field: &[u8]) -> Result<[u8; 5], WriteFau
 
 /// Writes the frame that has this header and this data field.
 ///
-/// The bypass flag and the control command flag may have any values. If there is no such frame, the call returns the
-/// first fault. Only the frame itself is allocated.
+/// The bypass flag and the control command flag may have any values. If no frame has this header and this data field,
+/// the call returns the first fault. Only the frame itself is allocated.
 pub fn write_frame(alloc: Global, header: &Header, field: &[u8]) -> Result<Vec<u8>, WriteFault>
     ensures frame { IfOk result (λ octets. IsFrame octets.items header.now field.now) }
     ensures written { OnOk result (write_fault_of header.now field.now ≡ None) }

@@ -32,8 +32,8 @@ largest_field = 1019
 abbrev pub run_room : ℕ
 run_room = 2 ^ 17
 
--- the number of octets in the largest packet: those of the largest unit, and on a plain channel, where each unit is a
--- data field, those of the largest data field
+-- The number of octets in the largest packet. With segment headers the largest packet is as long as the largest unit. On a
+-- plain channel it is as long as the largest data field, because each unit is a data field.
 abbrev pub largest_item : Bool → ℕ
 largest_item segmented = if segmented then largest_unit else largest_field
 

@@ -81,8 +81,8 @@ impl LentSettings<'_> {
         stored_units(self.maps)
     }
 
-    /// Returns the number of octets in the largest packet: those of the largest data field on a plain channel, and
-    /// otherwise those of the largest unit.
+    /// Returns the number of octets in the largest packet. On a plain channel it is as long as the largest data field,
+    /// and otherwise as long as the largest unit.
     pub fn largest_item(self) -> u128
         ensures value { result ≡ largest_item self.entry.segmented }
         ensures within { result < 2 ^ 20 }

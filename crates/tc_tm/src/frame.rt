@@ -44,8 +44,8 @@ pub enum TmFault {
 }
 
 /// Writes the telemetry frame of `length` octets with this header. Its operational control field is `control`, the four
-/// octets of a CLCW. All other data are idle octets, 0x55 (CCSDS 132.0-B, 4.1). If there is no such frame, the call
-/// returns the first fault.
+/// octets of a CLCW. All other data are idle octets, 0x55 (CCSDS 132.0-B, 4.1). If no frame has this header and this
+/// length, the call returns the first fault.
 ///
 /// The only allocation is the frame.
 pub fn write_tm(
