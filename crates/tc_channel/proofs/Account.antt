@@ -14,7 +14,7 @@ use Rattle.tc_channel.specs.Account.Share.{Ended, Open, OverLimit, Broken, Witho
 use Rattle.tc_queues.proofs.Lists.{all-append}
 use Rattle.tc_channel.proofs.Streams.{same_map, stream-same, stream-other}
 
--- the fields of the run that is open so far, if one is
+-- the fields of the run that is open so far, if there is one
 abbrev Run : Type 0
 Run = Option (List (List ℕ))
 
@@ -35,7 +35,7 @@ abbrev units_over : ℕ → List (List ℕ) → List (List ℕ) → List (List �
 units_over limit before [] = []
 units_over limit before (f ∷ fs) = as_list (at_most limit (unit_at before f)) ++ units_over limit (before ++ f ∷ []) fs
 
--- the run so far and the remaining fields of a stream have their shares
+-- the shares of the run that is open so far and of the remaining fields of a stream
 record Parted (limit : ℕ) (before left : List (List ℕ)) (so_far : Run) : Type 0 where
   shares : List Share
   are : AreShares limit shares
@@ -56,7 +56,8 @@ fits limit octets = by (leb (length octets) 65542) refl (leb (length octets) lim
   by true h false k = inr (λ both. (let le = both.0 in grind (arith, nat_tests)), rw (h, k) refl)
   by false h within k = inr (λ both. (let le = both.1 in grind (arith, nat_tests)), rw h refl)
 
--- a run that is too long stays too long
+-- a run that is too long stays too long, so it makes no difference whether the bound is applied before one more body or
+-- only after it
 longer : (octets body : List ℕ) → extended (bounded octets) body ≡ bounded (octets ++ body)
 longer octets body = by (leb (length octets) 65542) refl where
   by : (t : Bool) → leb (length octets) 65542 ≡ t → extended (bounded octets) body ≡ bounded (octets ++ body)
@@ -76,7 +77,7 @@ run-push : (fs : List (List ℕ)) (f : List ℕ) → IsRun fs → IsPart Continu
 run-push [] f run part = absurd run
 run-push (first ∷ after) f run part = (run.0, all-append (IsPart Continuing) after (f ∷ []) run.1 (part, tt))
 
--- a stream with no fields left has its shares
+-- if no fields remain, the run so far has its share
 at-end : (limit : ℕ) (before : List (List ℕ)) (so_far : Run) → open_run before ≡ octets_so_far so_far → IsSoFar so_far → Parted limit before [] so_far
 at-end limit before None is run = record { shares = []; are = tt; fields = refl; units = refl; open_is = rw (append-nil before, is) refl }
 at-end limit before (Some fields) is run = by (fits limit (joined_bodies fields)) where
@@ -98,7 +99,8 @@ with-all limit before fs f fields so_far all unit are next = by (fits limit (joi
   by (inl w) = record { shares = Ended fields ∷ next.shares; are = (all, (w.0, w.1), next.are); fields = order; units = rw (unit, w.2, next.units) refl; open_is = still }
   by (inr w) = record { shares = OverLimit fields ∷ next.shares; are = (inl all, w.0, next.are); fields = order; units = rw (unit, w.1, next.units) refl; open_is = still }
 
--- Let the fields after `f` have their shares. If `f` ends no unit, `f` and the run before it have a share, too.
+-- Let the fields after `f`, and the run that `f` leaves, have their shares. If `f` ends no unit and only extends the
+-- run so far, these are also the shares from that run on.
 with-none : (limit : ℕ) (before fs : List (List ℕ)) (f : List ℕ) (so_far later : Run) → unit_at before f ≡ None → fields_so_far later ≡ fields_so_far so_far ++ f ∷ []
     → Parted limit (before ++ f ∷ []) fs later → Parted limit before (f ∷ fs) so_far
 with-none limit before fs f so_far later unit are next = record {
@@ -119,7 +121,7 @@ with-lone limit before fs f part unit next = record {
   open_is = next.open_is ∙ ap (λ (x : List (List ℕ)). at_most limit (open_run x)) (append_assoc before (f ∷ []) fs);
 }
 
--- a field that begins a unit breaks the run so far
+-- a field that begins a unit breaks the run so far, if there is one
 broken : (limit : ℕ) (before fs : List (List ℕ)) (f : List ℕ) (so_far : Run) → IsSoFar so_far → IsPart First f ⊎ IsPart Unsegmented f → Parted limit before (f ∷ fs) None → Parted limit before (f ∷ fs) so_far
 broken limit before fs f None run part next = next
 broken limit before fs f (Some fields) run part next = record {

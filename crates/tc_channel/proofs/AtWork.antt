@@ -1,4 +1,4 @@
--- The core of a channel, with the facts that its rooms add.
+-- Lemmas about the core of a channel with its rooms.
 use Rattle.tc_channel.proofs.Names.{◌≡◌, ℕ, ◌<◌, Bool, true, false, cond, eqb, nat_lt, List, [], ◌∷◌, ◌++◌, length, drop, Option, Some, None, refl, sym, ap, subst, ◌∙◌, arith, slice_get, IsSome, option_map, HoldsWithin, at_most, run_left, run_at, Settings, Event, Take, TakeUnit, AreRuns, first_of, Service, Bd, Store, open_runs, limit_at, StoredQueue, queue_for, oldest_for, popped, shorter, Keyed, rings_in, room_sizes, AreCommitted, Ad, no_limits, stored, ring_in, run_within, length-map, QueueSetting, MapSetting}
 use Rattle.tc_channel.specs.ChannelCore.{HaveLimits, inside_of, CanPassOn, GoOn, KeepRooms, Parts, HoldsInRooms, AreChannelCore}
 use Rattle.tc_queues.specs.Copying.{copied_out}
@@ -19,7 +19,7 @@ nothing-left false = refl
 pub none-open : (limits : ℕ → ℕ) (store : Store) (segmented : Bool) → store.segmented ≡ segmented → ((place : ℕ) → run_at (open_runs store).runs place ≡ None) → AreRuns limits (open_runs store) segmented []
 none-open limits store segmented is none = record { segmented = is; runs = λ service map_id small. ap (at_most (limits map_id)) (nothing-left store.segmented) ∙ sym (none (place_of service map_id)) }
 
--- without limits by MAP, each stream has the limit of the largest unit
+-- if the limit of each stream is the size of the largest unit, these are the limits of a channel without limits by MAP
 pub without-limits : (store : Store) → ((place : ℕ) → place < 128 → limit_at store place ≡ 65542) → HaveLimits no_limits store
 unfolding no_limits
 without-limits store are = λ service map_id inside. are (place_of service map_id) (below service map_id inside) where
@@ -27,7 +27,7 @@ without-limits store are = λ service map_id inside. are (place_of service map_i
   below Ad map_id inside = omega arith
   below Bd map_id inside = omega arith
 
--- if there is an oldest field, it is the first one
+-- an item at place 0 of a list is the first of the list, which isn't empty
 pub first-is : (xs : List (List ℕ)) (x : List ℕ) → Some x ≡ slice_get xs 0 → (x ≡ first_of xs) × (0 < length xs)
 first-is [] x is = absurd cc
 first-is (y ∷ ys) x is = (let e : x ≡ y = cc in e, omega arith)
@@ -44,7 +44,7 @@ pub on-err : {T E : Type 0} (r : Result T E) (P : Type 0) → P → OnErr r P
 on-err (Ok x) P p = tt
 on-err (Err e) P p = p
 
--- the reply to a take is the oldest item that waits in the queues
+-- the reply to a take is the oldest packet in the stored queue with this APID, if there is one
 pub packet-is : {limits : ℕ → ℕ} {s : Settings} {journal : List Event} {parts : Parts} (apid : ℕ) → HoldsInRooms limits s journal parts → take_reply_within limits s journal apid ≡ oldest_for apid (rings_in parts.queues)
 packet-is apid k = ap oldest (packets-wait apid k.holds)
 
@@ -76,8 +76,8 @@ can-pass k = record {
 pub none-touched : (store : Store) (queues units : List Keyed) → CanPassOn store queues units → KeepRooms store queues units store queues units
 none-touched store queues units k = record { limits_are = λ _. refl; segmented = refl; sizes = refl; unit_sizes = refl; committed = k.committed; units_committed = k.units_committed }
 
--- Let the parts after a step belong to the longer journal. If rooms and limits are as before, and nothing is left
--- staged, the core with its rooms belongs to the longer journal, too.
+-- Let the parts `later`, without their rooms, belong to the journal `next`. If the limits and the sizes of the rooms
+-- are as before, and nothing is left staged, these parts with their rooms belong to `next`, too.
 pub holds-on : {limits : ℕ → ℕ} {s : Settings} {journal : List Event} {parts : Parts} (next : List Event) (later : Parts) → HoldsInRooms limits s journal parts → HoldsWithin limits s next (inside_of later)
     → later.fields.size ≡ parts.fields.size → later.fields.staged ≡ [] → KeepRooms parts.store parts.queues parts.units later.store later.queues later.units → HoldsInRooms limits s next later
 holds-on next later k holds size fields rooms = record {
@@ -92,13 +92,14 @@ holds-on next later k holds size fields rooms = record {
   unit_sizes = λ place inside. rw (rooms.unit_sizes, rooms.limits_are place, rooms.segmented) (k.unit_sizes place inside);
 }
 
--- if only the queues changed, and their rooms are as large as before, the core also belongs to the longer journal
+-- `holds-on` for parts in which only the packet queues and the unit queues have changed
 with-queues : {limits : ℕ → ℕ} {s : Settings} {journal : List Event} {parts : Parts} (next : List Event) (queues units : List Keyed) → HoldsInRooms limits s journal parts → HoldsWithin limits s next (inside_of (record parts { queues = queues; units = units }))
     → room_sizes queues ≡ room_sizes parts.queues → room_sizes units ≡ room_sizes parts.units → AreCommitted queues → AreCommitted units → HoldsInRooms limits s next (record parts { queues = queues; units = units })
 with-queues {parts = parts} next queues units k holds sizes unit_sizes committed units_committed = holds-on next (record parts { queues = queues; units = units }) k holds refl k.fields_committed
     (record { limits_are = λ _. refl; segmented = refl; sizes = sizes; unit_sizes = unit_sizes; committed = committed; units_committed = units_committed })
 
--- if the oldest packet was taken, and its room is free, the core belongs to the journal with this take
+-- Let the oldest packet have left its queue. If the rooms are as large as before, and nothing is left staged, the core
+-- belongs to the journal with this take.
 pub packet-taken : {limits : ℕ → ℕ} {s : Settings} {journal : List Event} {parts : Parts} (later : List Keyed) (apid : ℕ)
     → HoldsInRooms limits s journal parts → IsSome (oldest_for apid (rings_in parts.queues)) → rings_in later ≡ popped apid (rings_in parts.queues)
     → room_sizes later ≡ room_sizes parts.queues → (AreCommitted parts.queues → AreCommitted later) → HoldsInRooms limits s (journal ++ Take apid ∷ []) (record parts { queues = later })
@@ -106,7 +107,8 @@ packet-taken {journal = journal} {parts = parts} later apid k has is same still 
     let item = some-item (oldest_for apid (rings_in parts.queues)) has in
     with-queues (journal ++ Take apid ∷ []) later parts.units k (take-keeps (rings_in later) apid item.0 k.holds item.1 is) same refl (still k.committed) k.units_committed
 
--- if the oldest unit was taken, and its room is free, the core belongs to the journal with this take
+-- Let the oldest unit have left its queue. If the rooms are as large as before, and nothing is left staged, the core
+-- belongs to the journal with this take.
 pub unit-taken : {limits : ℕ → ℕ} {s : Settings} {journal : List Event} {parts : Parts} (later : List Keyed) (map_id : ℕ)
     → HoldsInRooms limits s journal parts → IsSome (oldest_for map_id (rings_in parts.units)) → rings_in later ≡ popped map_id (rings_in parts.units)
     → room_sizes later ≡ room_sizes parts.units → (AreCommitted parts.units → AreCommitted later) → HoldsInRooms limits s (journal ++ TakeUnit map_id ∷ []) (record parts { units = later })
@@ -114,7 +116,7 @@ unit-taken {journal = journal} {parts = parts} later map_id k has is same still 
     let item = some-item (oldest_for map_id (rings_in parts.units)) has in
     with-queues (journal ++ TakeUnit map_id ∷ []) parts.queues later k (take-unit-keeps (rings_in later) map_id item.0 k.holds item.1 is) refl same k.committed (still k.units_committed)
 
--- if no item waits, none is dropped
+-- if no item waits in a queue, the queue without its oldest item is the queue itself
 nothing-shorter : (w : StoredQueue) → slice_get w.ring.items 0 ≡ None → shorter w ≡ w
 nothing-shorter w none = by w.ring.items refl none where
   by : (items : List (List ℕ)) → w.ring.items ≡ items → slice_get items 0 ≡ None → shorter w ≡ w
@@ -144,7 +146,8 @@ units-work parts later map_id w is same still = by (oldest_for map_id (rings_in 
   by None none = (w.0, w.1, w.2, with-queues w.2 parts.queues later w.3 (rw (is ∙ popped-none map_id (rings_in parts.units) none) w.3.holds) refl same w.3.committed (still w.3.units_committed))
   by (Some item) some = (w.0, w.1, w.2 ++ TakeUnit map_id ∷ [], unit-taken later map_id w.3 (rw some refl) is same still)
 
--- a call that was refused leaves the core as it was, apart from items that aren't committed
+-- If the open runs, the queued items, the limits and the sizes of the rooms are unchanged, and nothing is left staged,
+-- the core still belongs to its journal. This is so after a call that was refused.
 pub still-holds : {limits : ℕ → ℕ} {s : Settings} {journal : List Event} {parts : Parts} (store : Store) (queues units : List Keyed)
     → HoldsInRooms limits s journal parts → open_runs store ≡ open_runs parts.store → rings_in queues ≡ rings_in parts.queues → rings_in units ≡ rings_in parts.units
     → KeepRooms parts.store parts.queues parts.units store queues units → HoldsInRooms limits s journal (record parts { store = store; queues = queues; units = units })
@@ -162,7 +165,7 @@ copied-waits room key ws = by (items_for key ws) where
   by (Some []) = tt
   by (Some (item ∷ items)) = over item (nat_lt room (length item))
 
--- the oldest packet was copied out, or nothing was done
+-- if the oldest packet was copied out, the core belongs to the journal with this take
 pub packet-copied : (parts : Parts) (later : List Keyed) (room apid : ℕ) (answer : Result ℕ NotCopied) → answer ≡ copied_out room (items_for apid (rings_in parts.queues)) → OnOk answer (rings_in later ≡ popped apid (rings_in parts.queues))
     → room_sizes later ≡ room_sizes parts.queues → (AreCommitted parts.queues → AreCommitted later) → OnOk answer (GoOn (Take apid) parts (record parts { queues = later }))
 packet-copied parts later room apid (Err fault) reply is same still = tt

@@ -43,7 +43,7 @@ by-settings key _ _ e = absurd cc
 pub chosen-by-settings : (limits : ℕ → ℕ) (c : Settings) (journal : List Event) (field : List ℕ) → IsTrue (is_chosen (run_within limits c journal) field) ↔ IsOfChosenMap c field
 chosen-by-settings limits c journal field = by-settings (map_of field) (run_within limits c journal).units c.maps (unit-keys-stay limits c journal)
 
--- a unit is kept exactly when its queue has room
+-- the queue of a unit's MAP admits the unit exactly when it has room
 pub one-kept : (q : Queue) (unit : List ℕ) → with_share (is_of_map q.key) (unit ∷ []) q ≡ cond (has_room_for_one q) (record q { admitted = q.admitted ++ unit ∷ [] }) q
 one-kept q unit = rw (eq-eqb q.key q.key refl) (by (has_room_for_one q) refl) where
   by : (t : Bool) → has_room_for_one q ≡ t → record q { admitted = q.admitted ++ take (room_of q) (unit ∷ []) } ≡ cond t (record q { admitted = q.admitted ++ unit ∷ [] }) q

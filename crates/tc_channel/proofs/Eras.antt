@@ -1,4 +1,4 @@
--- Frames that are accepted after V(R) was set have consecutive numbers.
+-- Frames that are accepted in an era have consecutive numbers.
 use Rattle.tc_channel.proofs.Names.{◌≡◌, ◌≢◌, ℕ, zero, suc, ◌+◌, ◌-◌, ◌%◌, Bool, true, false, cond, List, [], ◌∷◌, ◌++◌, length, take, drop, Option, Some, None, refl, sym, ap, subst, ◌∙◌, inl, inr, arith, append_assoc, slice_get, unwrap_or, append-nil, length-append, length-drop, eqb_tells, Report, State, S1, S2, S3, Unlock, SetVr, Ahead, Behind, Outside, command_of, control_kind, kind_by, Row, E1, E6, E8, E10, row_at, frame_row, entry_at, accepts, Settings, Event, Frame, Release, Take, TakeUnit, ChannelState, Accepted, has_room, step, row_of, kept, after_frame, run_from, IsLawfulWithin, IsAllowed, Command, header_of, passed_on, run_within}
 use Rattle.tc_channel.specs.Era.{IsEraWithin, ComesFromWithin, set_at, set_by, StartsWithin, NoneSetsWithin, accepted_since_within, CountsUpWithin, CountsUpInItsEraWithin, IsOfSender}
 use Rattle.std.proofs.Math.Seq.{drop-append_seam}
@@ -9,7 +9,7 @@ use Rattle.tc_channel.proofs.Small.{vr-below}
 use Rattle.tc_channel.proofs.Runs.{run-append, run-push, from-first}
 use Rattle.tc_queues.proofs.Lists.{all-drop}
 
--- P holds for each frame and its number, which is counted from n on
+-- P holds for each frame and its place in the list, which is counted from n on
 abbrev AreSo : (ℕ → Accepted → Type 0) → ℕ → List Accepted → Type 0
 AreSo P n [] = Unit {0}
 AreSo P n (a ∷ accepted) = P n a × AreSo P (n + 1) accepted
@@ -18,12 +18,12 @@ AreSo-append : (P : ℕ → Accepted → Type 0) (n : ℕ) (xs ys : List Accepte
 AreSo-append P n [] ys h k = subst (λ m. AreSo P m ys) (omega arith) k
 AreSo-append P n (a ∷ xs) ys h k = (h.0, AreSo-append P (n + 1) xs ys h.1 (subst (λ m. AreSo P m ys) (omega arith) k))
 
--- if this event is a frame of Type-AD with the number x + n modulo 256, P holds for n and the frame
+-- if this event is a frame of Type-AD with N(S) x + n modulo 256, P holds for n and the frame
 abbrev IsTakenSo : (ℕ → Accepted → Type 0) → ℕ → ℕ → Event → Type 0
 IsTakenSo P x n (Frame octets) = (header_of octets).bypass ≡ false → (header_of octets).control ≡ false → (header_of octets).ns % 256 ≡ (x + n) % 256 → P n (record { ns = (header_of octets).ns; field = drop 5 octets })
 IsTakenSo P x n _ = Unit {0}
 
--- a frame that is accepted in E1 has the number V(R)
+-- a frame that isn't expected is never in row E1
 unexpected : (ahead behind room : Bool) → row_at (cond ahead Ahead (cond behind Behind Outside)) room ≢ E1
 unexpected true behind room e = cc
 unexpected false true room e = cc
@@ -69,7 +69,7 @@ only_S1 row S1 h e t = h e refl
 only_S1 row S2 h e t = let q : accepts_at E1 S2 ≡ true = rw e at t in cc
 only_S1 row S3 h e t = let q : accepts_at E1 S3 ≡ true = rw e at t in cc
 
--- no event of a run sets V(R)
+-- no event of a run is a Set V(R) that is obeyed
 abbrev NoneSetsFrom : Settings → ChannelState → List Event → Type 0
 NoneSetsFrom c b es = (i : ℕ) (e : Event) → slice_get es i ≡ Some e → set_by c (run_from c b (take i es)) e ≡ None
 
@@ -88,7 +88,7 @@ starts-at limits c before x (inr set) = rw (set.2, run-push limits c set.0 set.1
   by (Take apid) h = absurd cc
   by (TakeUnit map_id) h = absurd cc
 
--- frame `n` has the number `x + n` modulo 256
+-- frame `n` has N(S) `x + n` modulo 256
 abbrev Counts : ℕ → ℕ → Accepted → Type 0
 Counts x n a = a.ns % 256 ≡ (x + n) % 256
 
@@ -96,14 +96,15 @@ all-count : (x n : ℕ) (e : Event) → IsTakenSo (Counts x) x n e
 all-count x n (Frame octets) = λ _ _ is. is
 all-count x n _ = tt
 
--- frames with numbers below 256 have the numbers that count up from `x`
+-- If the frames of a list count up from `x + n` modulo 256, and their numbers are below 256, frame `i` of the list has
+-- N(S) `x + (n + i)` modulo 256.
 numbers-are : (x n : ℕ) (xs : List Accepted) → AreSo (Counts x) n xs → AreFilled xs → (i : ℕ) (a : Accepted) → slice_get xs i ≡ Some a → a.ns ≡ (x + (n + i)) % 256
 numbers-are x n [] h filled i a e = absurd cc
 numbers-are x n (b ∷ xs) h filled zero a e = let q : b ≡ a = cc in rw (← q) (let m = h.0 in let f = filled.0.1 in omega arith)
 numbers-are x n (b ∷ xs) h filled (suc i) a e = numbers-are x (n + 1) xs h.1 filled.1 i a e ∙ ap (λ m. (x + m) % 256) (omega arith)
 
--- The state `later` has the accepted frames of `b`, and more of them. Each additional frame has the property P, with
--- its number counted from `n` on.
+-- The state `later` has the accepted frames of `b`, and possibly more. P holds for each additional frame and its place,
+-- which is counted from `n` on. Modulo 256, V(R) is `x` plus the place after the last one.
 record GoesOn (P : ℕ → Accepted → Type 0) (x n : ℕ) (b later : ChannelState) : Type 0 where
   more : List Accepted
   grown : later.accepted ≡ b.accepted ++ more
@@ -219,7 +220,7 @@ sent-at sent n [] h i a e = absurd cc
 sent-at sent n (b ∷ xs) h zero a e = let q : b ≡ a = cc in rw (← q) (h.0 ∙ ap sent (omega arith))
 sent-at sent n (b ∷ xs) h (suc i) a e = sent-at sent (n + 1) xs h.1 i a e ∙ ap sent (omega arith)
 
--- accepted frame number `n` has the data field of the sender's frame number `n`
+-- if a frame of the sender comes after `n` accepted ones, and has N(S) `x + n` modulo 256, its data field is `sent n`
 sender-so : (sent : ℕ → List ℕ) (x n : ℕ) (e : Event) → IsOfSender x sent n e → IsTakenSo (λ m a. a.field ≡ sent m) x n e
 sender-so sent x n (Frame octets) from = λ bypass control v.
     let is = from bypass control in is.field ∙ ap sent (let a = is.ns in let o = is.not_old in let w = is.not_new in omega arith)

@@ -16,7 +16,8 @@ use Rattle.tc_channel.proofs.StateQueues.{keys, taken-key, taken-same, queues-ap
 use Rattle.tc_channel.proofs.Given.{found-key, set-up, found-changed, packets-in-order, units-in-order}
 use Rattle.tc_channel.proofs.Through.{made-push, run-is-of, unit-is}
 
--- If as many items are queued as there are, each queue has all that it wants. More room would queue no more items.
+-- If as many items are queued as were offered, each queue has admitted all that it wants, because with more room no
+-- more items could be queued.
 
 queued-few : (wanted : ℕ → List ℕ → Bool) → IsForOneKey wanted → (items : List (List ℕ)) (qs : List Queue) → AreDistinct (keys qs) → queued_of wanted items qs ≤ length items
 queued-few wanted alone items qs apart =
@@ -26,7 +27,7 @@ queued-few wanted alone items qs apart =
 filter-few : (p : List ℕ → Bool) (xs : List (List ℕ)) → length (filter p xs) ≤ length xs
 filter-few p xs = let both = length-filter_both p (λ (x : List ℕ). not (p x)) (λ x. refl) xs in omega arith
 
--- the queue with room for n more items
+-- the queue with room for at least n more items
 abbrev wide : ℕ → Queue → Queue
 wide n q = record q { capacity = length q.admitted + n }
 

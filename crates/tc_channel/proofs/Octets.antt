@@ -153,8 +153,8 @@ fields-fit limits s journal lawful =
 
 -- ---- the items that wait in a channel are within the bound of its memory
 --
--- The lemma is about plain numbers: the numbers of queues and MAPs, the numbers of packets, units and data fields that
--- they may hold, and the numbers of those that wait, with their octets.
+-- The lemma is about plain numbers, for a channel with segment headers: the numbers of queues and MAPs, the numbers of
+-- packets, units and data fields that they may hold, and the numbers of those that wait, with their octets.
 fits : (segmented : Bool) (queues maps stored stored_units fields packets octets units unit_octets field_octets runs tables segment : ℕ) → segmented ≡ true
     → packets ≤ stored → octets ≤ stored * largest_unit → units ≤ stored_units → unit_octets ≤ stored_units * largest_unit → field_octets ≤ fields * largest_field
     → (queues + maps) * queue_words + (packets * room_words + octets) + (units * room_words + unit_octets) + field_octets

@@ -37,7 +37,8 @@ from-copies wanted ps ws copies fit is = rw is (record {
   count = length-copies wanted 0 ps ws;
 })
 
--- once the copies are put into the queues, these are the queues of the state
+-- once each stored queue has its share of the items, the stored queues are those of the state in which each queue has
+-- its share
 pub queues-follow : (wanted : ℕ → List ℕ → Bool) (old new : List StoredQueue) (copies : List Placed) (ps : List (List ℕ)) (qs : List Queue) → AreKept qs → old ≡ map stored qs
     → AreShares wanted ps old copies → new ≡ put_all old copies → new ≡ map stored (with_shares wanted ps qs)
 queues-follow wanted old new copies ps qs kept are shares new_is = new_is ∙ shares.put ∙ ap (shared wanted ps) are ∙ stored-shares wanted ps qs kept
@@ -71,7 +72,7 @@ same-chosen map_id unit_rings qs are = rw (are, stored-queue map_id qs) (by (que
   by None = refl
   by (Some q) = refl
 
--- once a unit is delivered, the queues are those of the state to which the unit was offered
+-- once a unit is delivered, the stored queues are those of the state after the unit was offered
 pub delivered-stored : (field : List ℕ) (unit : Option (List ℕ)) (rings later unit_rings later_units : List StoredQueue) (d : Delivery) (b : ChannelState) → AreKept b.queues → AreKept b.units → AreStored rings unit_rings b
     → IsDelivered (map_of field) unit rings later unit_rings later_units d → AreStored later later_units (offered field unit b)
 delivered-stored field unit rings later unit_rings later_units d b kept kept_units are is =
@@ -111,7 +112,7 @@ pub release-queues : (limits : ℕ → ℕ) (c : Settings) (b : ChannelState) (o
 unfolding passed_on
 release-queues limits c b open_runs unit new new_units limit are ends is = subst (λ (x : Option (List ℕ)). AreStored new new_units (offered (first_of (buffer b)) x b)) (ends-unit limits Ad (first_of (buffer b)) b open_runs unit limit are ends) is
 
--- the number of copies is the number of items that are queued
+-- the shares of the stored queues together have as many items as are queued in the state
 pub queued-is : (wanted : ℕ → List ℕ → Bool) (ps : List (List ℕ)) (qs : List Queue) → sum_by length (map (share wanted ps) (map stored qs)) ≡ queued_of wanted ps qs
 queued-is wanted ps [] = refl
 queued-is wanted ps (q ∷ qs) =

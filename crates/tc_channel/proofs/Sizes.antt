@@ -1,4 +1,4 @@
--- Octets that fit rooms.
+-- Lemmas about octets that fit rooms.
 use Rattle.tc_channel.proofs.Names.{◌≡◌, ℕ, zero, suc, ◌≤◌, ◌<◌, Bool, true, false, Option, Some, None, List, length, replicate, refl, sym, subst, arith, AllByRecursion, Service, Bd, stream_place, IsAtMost, Store, limit_at, Ad}
 use Rattle.tc_queues.specs.Memory.{largest_item}
 use Rattle.std.specs.Prelude.{min}
@@ -15,7 +15,7 @@ place-below Ad field = omega arith
 place-below Bd field = omega arith
 
 -- A unit within the limit of its stream fits rooms that are large enough. On a plain channel it must also be no longer
--- than its field.
+-- than its field, which has at most 1,019 octets.
 pub fits-unit : (store : Store) (place : ℕ) (field : List ℕ) (o : Option (List ℕ)) (sizes : List ℕ) → place < 128 → AreSmall store → AreEnough store sizes → length field ≤ 1019
     → IsAtMost (limit_at store place) o → (store.segmented ≡ false → IsAtMost (length field) o) → FitsIn sizes o
 fits-unit store place field None sizes inside small enough short within shorter = tt
@@ -30,6 +30,6 @@ pub within-all : (store : Store) (place : ℕ) (o : Option (List ℕ)) → place
 within-all store place None inside small within = tt
 within-all store place (Some octets) inside small within = let s = small place inside in omega (arith, within)
 
--- rooms of one size are large enough if no limit is larger than this size
+-- rooms of one size are large enough if no stream can have a unit larger than this size
 pub enough-at-start : (store : Store) (size count : ℕ) (sizes : List ℕ) → sizes ≡ replicate count size → ((place : ℕ) → place < 128 → min (limit_at store place) (largest_item store.segmented) ≤ size) → AreEnough store sizes
 enough-at-start store size count sizes are fits = λ place inside. subst (λ (x : List ℕ). AllByRecursion (λ (n : ℕ). min (limit_at store place) (largest_item store.segmented) ≤ n) x) (sym are) (all-least (min (limit_at store place) (largest_item store.segmented)) size count (fits place inside))

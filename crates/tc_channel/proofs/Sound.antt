@@ -1,4 +1,5 @@
--- In S2 the Wait flag is set, and then there is no room.
+-- FARM-1's flags agree with its state and with the buffer: in S2 the Wait flag is set, and while it is set there is no
+-- room.
 use Rattle.tc_channel.proofs.Names.{◌≡◌, ◌≢◌, ℕ, Bool, true, false, List, drop, refl, IsSome, unwrap_or, Report, State, S1, S2, S3, Kind, Unlock, Expected, Ahead, Behind, Outside, kind_of, Row, E1, E8, E10, row_at, frame_row, entry_at, entry, after, Settings, Event, Frame, Release, ChannelState, has_room, step, row_of, after_frame, Place, place_of, header_of, passed_on, run_within}
 use Rattle.tc_link.specs.declared.Kind.TheVariants.{Bc, Ad}
 use Rattle.tc_link.specs.Farm.{E2, E5, E7}
@@ -84,8 +85,8 @@ state-sound limits c journal =
     let h = in-S2 (has_room c (run_within limits c journal)) (run_within limits c journal).report.state (run_within limits c journal).report (run-sound limits c journal) in
     record { waits = h.0; full = h.1; never_open = h.2; locked = h.3; lockout = h.4 }
 
--- The law of tc_link on arrivals: the table has an entry for each frame, except for one that is expected in S2 and
--- finds room.
+-- The law of tc_link on arrivals: the table has an entry for each frame, except for a Type-AD frame that comes in S2
+-- and finds room.
 abbrev pub HaveEntries : Type 0
 HaveEntries = (width : ℕ) (r : Report) (kind : Kind) (room : Bool) → ((ns : ℕ) → kind ≡ Ad ns → r.state ≡ S2 → room ≡ false)
     → IsSome (entry (frame_row width r.vr kind room) r)

@@ -42,7 +42,7 @@ run-both limits P Q p q c journal h u = always (λ b. P b.queues × Q b.units) l
 abbrev pub keys : List Queue → List ℕ
 keys qs = map (λ (q : Queue). q.key) qs
 
--- a take changes only the number of items that were taken
+-- a function that doesn't depend on the number of taken items has the same value after a take
 pub taken-same : {A : Type 0} (f : Queue → A) → ((q : Queue) (n : ℕ) → f (record q { taken = n }) ≡ f q) → (key : ℕ) (q : Queue) → f (taken_from key q) ≡ f q
 taken-same f same key q = by (eqb q.key key && nat_lt q.taken (length q.admitted)) where
   by : (t : Bool) → f (cond t (record q { taken = q.taken + 1 }) q) ≡ f q

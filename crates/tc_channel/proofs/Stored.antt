@@ -32,7 +32,7 @@ oldest-filled {limits} {c} {j} {i} k some =
     let len : length i.ring.items ≡ length (buffer b) = ap length k.fields in
     rw k.fields (first-filled (drop b.released b.accepted) (all-drop IsFilled b.released b.accepted (state-filled limits c j k.lawful)) (omega (arith, length-map (drop b.released b.accepted) (λ (a : Accepted). a.field))))
 
--- the buffer after a row
+-- the buffered data fields after a frame with this event number: the field of an accepted AD frame is added
 abbrev entered : ℕ → Bool → List (List ℕ) → List ℕ → List (List ℕ)
 entered event accepted fields field = with_field fields (buffered_of (record { event = event; accepted = accepted }) field)
 
@@ -44,7 +44,7 @@ buffer-kept E1 true octets b h =
 buffer-kept E6 true octets b h = refl
 buffer-kept _ _ octets b h = refl
 
--- the row that FARM-1 takes is the row of the state
+-- for each frame, the stored parts give the same row of FARM-1's table as the state after the journal
 pub row-is : {limits : ℕ → ℕ} {c : Settings} {j : List Event} {i : Inside} (octets : List ℕ) (kind : Kind) (len capacity : ℕ)
     → HoldsWithin limits c j i → kind ≡ kind_of (header_of octets) (drop 5 octets) → len ≡ length i.ring.items → capacity ≡ i.ring.capacity
     → frame_row i.farm.width i.farm.report.vr kind (nat_lt len capacity) ≡ row_of c (run_within limits c j) octets

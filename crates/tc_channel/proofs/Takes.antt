@@ -66,7 +66,8 @@ has-oldest : (o : Option Queue) (item : List ℕ) → oldest (option_map (λ (w 
 has-oldest None item e = absurd cc
 has-oldest (Some q) item e = (q, refl, omega (arith, nonempty (waiting q) item e, length-drop q.taken q.admitted))
 
--- if an oldest item was taken, the queues had an item, and the stored queues are those of the state after the take
+-- if the oldest item with a key was taken, an item waited in a queue with this key, and the stored queues are those of
+-- the state after the take
 pub oldest-taken : (key : ℕ) (qs : List Queue) (old new : List StoredQueue) (item : List ℕ) → AreDistinct (keys qs) → old ≡ map stored qs → oldest (items_for key old) ≡ Some item → new ≡ popped key old
     → HasItem key qs × (new ≡ map stored (map (taken_from key) qs))
 oldest-taken key qs old new item apart are has is =

@@ -166,7 +166,7 @@ sent-fields sent k (suc n) (x ∷ xs) each le =
     let later = sent-fields sent (suc k) n xs (λ i a is. each (suc i) a is ∙ ap sent (omega arith)) (omega arith) in
     rw (here, later) refl
 
--- the released items without the first `n` are the first `r - n` of the items after those `n`
+-- the first `r` items without the first `n` are the first `r - n` of the items after those `n`
 rest-released : (n r : ℕ) (xs : List Accepted) → drop n (map (λ (a : Accepted). a.field) (take r xs)) ≡ map (λ (a : Accepted). a.field) (take (r - n) (drop n xs))
 rest-released zero r xs =
     let all : r - 0 ≡ r = omega arith in

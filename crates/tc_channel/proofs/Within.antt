@@ -24,7 +24,8 @@ pub ends-at-once-is : (limits : ℕ → ℕ) (store : Store) (kind : Kind) (fiel
     → EndsAtOnceWithin (limit_at store (stream_place Bd field)) kind (open_runs store) field unit → EndsAtOnceWithin (limits (map_of field)) kind (open_runs store) field unit
 ends-at-once-is limits store kind field unit have ends = subst (λ (n : ℕ). EndsAtOnceWithin n kind (open_runs store) field unit) (limit-is limits store Bd field have) ends
 
--- once the unit of a staged field was delivered, the open run of the field's stream is the next one
+-- once a staged field is committed, the open run of its stream is the one that this field leaves, and the other runs
+-- are unchanged
 pub committed-follows : (old mid new : Store) (ended : Ended) (service : Service) (field : List ℕ) (at : ℕ) → at ≡ stream_place service field → new ≡ committed ended at mid
     → mid.segmented ≡ old.segmented → ((place : ℕ) → limit_at mid place ≡ limit_at old place)
     → ((fields : List (List ℕ)) → LeaveWithin fields old (stream_place service field) → LeaveWithin (fields ++ field ∷ []) (committed ended (stream_place service field) mid) (stream_place service field))

@@ -41,7 +41,7 @@ unit_of_share (WithoutRun field) = []
 abbrev pub units_in : List Share → List (List ℕ)
 units_in shares = flat_map unit_of_share shares
 
--- the octets of the open run
+-- the octets of the open run, or `None` if no share is open
 abbrev pub open_in : List Share → Option (List ℕ)
 open_in [] = None
 open_in (Open fields ∷ shares) = Some (joined_bodies fields)

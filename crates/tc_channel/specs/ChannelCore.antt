@@ -21,15 +21,17 @@ HaveLimits limits store = (service : Service) (map_id : ℕ) → map_id < 64 →
 abbrev pub AreSmall : Store → Type 0
 AreSmall store = (place : ℕ) → place < stream_count → limit_at store place ≤ largest_unit
 
--- the rooms are large enough for the unit of each stream, which on a plain channel is a data field
+-- Rooms of these sizes are large enough for the largest unit of each stream. A unit is no longer than the limit of its
+-- stream, and on a plain channel no longer than a data field.
 abbrev pub AreEnough : Store → List ℕ → Type 0
 AreEnough store sizes = (place : ℕ) → place < stream_count → AllByRecursion (λ (n : ℕ). min (limit_at store place) (largest_item store.segmented) ≤ n) sizes
 
--- this number of octets is enough for the unit of each stream
+-- a room of this many octets is large enough for the largest unit of each stream
 abbrev pub IsEnough : Store → ℕ → Type 0
 IsEnough store size = (place : ℕ) → place < stream_count → min (limit_at store place) (largest_item store.segmented) ≤ size
 
--- a data field can be passed on: limits are within the largest unit, queues are distinct, and rooms are large enough
+-- A data field can be passed on. No limit is over the largest unit, no two queues have the same key, the rooms are
+-- large enough, and nothing is staged in the queues.
 pub record CanPassOn (store : Store) (queues units : List Keyed) : Type 0 where
   pub small : AreSmall store
   pub distinct : AreDistinct (keys_of (rings_in queues))
@@ -39,7 +41,7 @@ pub record CanPassOn (store : Store) (queues units : List Keyed) : Type 0 where
   pub committed : AreCommitted queues
   pub units_committed : AreCommitted units
 
--- limits and rooms are as they were, and nothing is left staged
+-- the limits are unchanged, the rooms are as large as before, and nothing is left staged in the queues
 pub record KeepRooms (store : Store) (queues units : List Keyed) (store_new : Store) (queues_new units_new : List Keyed) : Type 0 where
   pub limits_are : (place : ℕ) → limit_at store_new place ≡ limit_at store place
   pub segmented : store_new.segmented ≡ store.segmented
@@ -48,7 +50,8 @@ pub record KeepRooms (store : Store) (queues units : List Keyed) (store_new : St
   pub committed : AreCommitted queues_new
   pub units_committed : AreCommitted units_new
 
--- FARM-1, the buffer of data fields, the open runs, the packet queues and the unit queues
+-- the parts of a channel with their rooms: FARM-1, the buffer of data fields, the open runs, the packet queues and the
+-- unit queues
 pub record Parts : Type 0 where
   pub farm : Machine
   pub fields : Slotted

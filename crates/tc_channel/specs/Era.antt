@@ -16,7 +16,7 @@ set_at (E8 x) S1 = Some x
 set_at (E8 x) S2 = Some x
 set_at _ _ = None
 
--- the number that an event sets V(R) to
+-- the number to which an event sets V(R), or `None` if the event isn't a Set V(R) that is obeyed
 abbrev pub set_by : Settings → ChannelState → Event → Option ℕ
 set_by s state (Frame octets) = set_at (row_of s state octets) state.report.state
 set_by s state Release = None
@@ -30,11 +30,11 @@ StartsWithin limits s before x =
     ((before ≡ []) × (x ≡ s.first))
     ⊎ ((past : List Event) × (e : Event) × (before ≡ past ++ e ∷ []) × (set_by s (run_within limits s past) e ≡ Some x))
 
--- none of the later events set V(R)
+-- none of the later events is a Set V(R) that is obeyed
 abbrev pub NoneSetsWithin : (ℕ → ℕ) → Settings → List Event → List Event → Type 0
 NoneSetsWithin limits s before later = (i : ℕ) (e : Event) → slice_get later i ≡ Some e → set_by s (run_within limits s (before ++ take i later)) e ≡ None
 
--- `later` is the era of the journal, `before` are the events before the era, and `x` is its first number
+-- `later` is the era of the journal, `before` are the events before the era, and `x` is V(R) at the start of the era
 pub record IsEraWithin (limits : ℕ → ℕ) (s : Settings) (journal before later : List Event) (x : ℕ) : Type 0 where
   pub parts : journal ≡ before ++ later
   pub starts : StartsWithin limits s before x
@@ -55,7 +55,7 @@ CountsUpInItsEraWithin limits s journal = (before later : List Event) (x : ℕ) 
 
 -- The frame is one of a sender whose frame i, counted from 0, has N(S) = x + i modulo 256 and the data field `sent i`.
 -- Here i is the field `number`. The frame comes when i and the number of accepted frames differ by less than 256, so no
--- frame can be mistaken for another.
+-- other frame has the N(S) of the frame that is expected next.
 pub record IsSent (x : ℕ) (sent : ℕ → List ℕ) (accepted : ℕ) (octets : List ℕ) : Type 0 where
   pub number : ℕ
   pub ns : (header_of octets).ns ≡ (x + number) % 256

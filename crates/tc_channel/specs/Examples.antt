@@ -21,14 +21,16 @@ plain = record { vcid = 1; width = 10; buffer = 1; first = 0; segmented = false;
 abbrev pub map_3_chosen : Settings
 map_3_chosen = record { vcid = 1; width = 10; buffer = 1; first = 0; segmented = true; queues = record { apid = 5; capacity = 1 } ∷ []; maps = record { map = 3; capacity = 1 } ∷ [] }
 
--- a limit of `octets` octets for the units of MAP `own`, and that of the largest unit for the other MAPs
+-- a limit of `octets` octets for the units of MAP `own`, and of 65,542 octets, the size of the largest unit, for those
+-- of other MAPs
 abbrev pub limited : ℕ → ℕ → ℕ → ℕ
 limited own octets map_id = if map_id == own then octets else 65542
 
 abbrev pub link_up : Link
 link_up = record { no_rf = false; no_bit_lock = false }
 
--- frames of Type-AD for spacecraft 42 and channel 1, with N(S) 0 and MAP 0 unless another one is named
+-- frames for spacecraft 42 and channel 1, which are of Type-AD with N(S) 0 and MAP 0 unless their comment says
+-- otherwise
 
 -- a frame with this N(S), whose data is an unsegmented packet of application 5 with the one octet aa
 abbrev pub packet_octets : ℕ → List ℕ
@@ -101,16 +103,16 @@ bypass_map_3_octets = 0x20 ∷ 0x2a ∷ 0x04 ∷ 0x07 ∷ 0x00 ∷ 0xc3 ∷ 0xaa
 abbrev pub bypass_map_3_empty : Event
 bypass_map_3_empty = Frame (0x20 ∷ 0x2a ∷ 0x04 ∷ 0x05 ∷ 0x00 ∷ 0xc3 ∷ [])
 
--- settings for memory: a buffer of 4 and two queues of 4 packets, with segment headers or without
+-- settings with a buffer for 4 data fields and two queues for 4 packets each, with segment headers or without
 abbrev pub two_queues : Bool → Settings
 two_queues segmented = record { vcid = 1; width = 10; buffer = 4; first = 0; segmented = segmented; queues = record { apid = 5; capacity = 4 } ∷ record { apid = 6; capacity = 4 } ∷ []; maps = [] }
 
--- a buffer of 1, 70 queues of 256 packets, and a chosen MAP of 3 units
+-- a buffer for one data field, 70 queues for 256 packets each, and a chosen MAP with a queue for 3 units
 abbrev pub many_queues : Settings
 many_queues = record { vcid = 1; width = 10; buffer = 1; first = 0; segmented = true; queues = replicate 70 (record { apid = 5; capacity = 256 }); maps = record { map = 3; capacity = 3 } ∷ [] }
 
--- Two data fields that came by these services. They are segments of MAP 3 and make the packet of application 5 with the
--- octets aa and bb.
+-- Two data fields that came by these services. They are a first and a last segment on MAP 3. If both came by the same
+-- service, their unit is the packet of application 5 with the octets aa and bb.
 abbrev pub in_two_segments : Service → Service → List Passed
 in_two_segments one other =
     record { service = one; field = 0x43 ∷ 0x10 ∷ 0x05 ∷ 0xc0 ∷ [] } ∷ record { service = other; field = 0x83 ∷ 0x01 ∷ 0x00 ∷ 0x01 ∷ 0xaa ∷ 0xbb ∷ [] } ∷ []
@@ -118,8 +120,8 @@ in_two_segments one other =
 abbrev pub joined_packet : List ℕ
 joined_packet = 0x10 ∷ 0x05 ∷ 0xc0 ∷ 0x01 ∷ 0x00 ∷ 0x01 ∷ 0xaa ∷ 0xbb ∷ []
 
--- settings by their bounds: whether there are segment headers, the virtual channel identifier, the width of the window,
--- the size of the buffer, the queues and the chosen MAPs
+-- settings of a channel that starts with V(R) 0, by whether there are segment headers, the virtual channel identifier,
+-- the width of the window, the size of the buffer, the queues and the chosen MAPs
 abbrev pub channel_of : Bool → ℕ → ℕ → ℕ → List QueueSetting → List MapSetting → Settings
 channel_of segmented vcid width buffer queues maps = record { vcid = vcid; width = width; buffer = buffer; first = 0; segmented = segmented; queues = queues; maps = maps }
 

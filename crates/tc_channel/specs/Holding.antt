@@ -12,11 +12,11 @@ use Rattle.tc_channel.specs.declared.holding.MapHolding.{MapHolding}
 use Rattle.tc_channel.specs.Run.{run}
 use Rattle.tc_channel.specs.Reply.{buffered_fields, waiting_packets, waiting_units}
 
--- the number of packets that wait in a queue, if there is one for its APID
+-- the APID of a queue and the number of packets that wait in it, or `None` if the channel has no queue for that APID
 abbrev pub queue_holding : Settings → List Event → QueueSetting → Option QueueHolding
 queue_holding s journal queue = option_map (λ packets. record { apid = queue.apid; packets = length packets }) (waiting_packets s journal queue.apid)
 
--- the number of units that wait in the queue of a chosen MAP, if there is one
+-- a MAP and the number of units that wait in its queue, or `None` if the channel has no queue for that MAP
 abbrev pub map_holding : Settings → List Event → MapSetting → Option MapHolding
 map_holding s journal chosen = option_map (λ units. record { map = chosen.map; units = length units }) (waiting_units s journal chosen.map)
 

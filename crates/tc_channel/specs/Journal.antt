@@ -10,11 +10,11 @@ pub record History : Type 0 where
   pub settings : Settings
   pub journal : List Event
 
--- the channel one event later
+-- the channel after one more event
 abbrev pub with_event : History → Event → History
 with_event history event = record history { journal = history.journal ++ event ∷ [] }
 
--- the event whose octets are lent
+-- the event as a journal has it, with the octets themselves in place of a borrow
 abbrev pub event_of : LentEvent → Event
 event_of (Frame octets) = events.Frame octets.now
 event_of Release = events.Release

@@ -15,7 +15,7 @@ pub record IsSound (s : Settings) (state : ChannelState) : Type 0 where
   pub locked : state.report.lockout ≡ true → state.report.state ≡ S3
   pub lockout : state.report.state ≡ S3 → state.report.lockout ≡ true
 
--- a queue holds no more items than its capacity, and gave out no more than it admitted
+-- a queue holds no more items than its capacity, and no more items were taken from it than it admitted
 pub record KeepsToItsCapacity (q : Queue) : Type 0 where
   pub taken : q.taken ≤ length q.admitted
   pub capacity : length q.admitted ≤ q.capacity + q.taken
@@ -24,11 +24,13 @@ pub record KeepsToItsCapacity (q : Queue) : Type 0 where
 abbrev pub has_room_for_one : Queue → Bool
 has_room_for_one q = nat_lt (length q.admitted - q.taken) q.capacity
 
--- a queue that was offered one more unit: the unit stands at its end if there was room, and was dropped otherwise
+-- The queue after one more unit was offered to it. If it had room, the unit is its last item. Otherwise the queue is
+-- unchanged.
 abbrev pub with_unit : Queue → List ℕ → Queue
 with_unit q unit = if has_room_for_one q then record q { admitted = q.admitted ++ unit ∷ [] } else q
 
--- `new` is a later state of a queue: it has admitted all items that `old` has, and at least as many were taken
+-- `new` can be a later state of the queue `old`. It has the key and the capacity of `old`, it has admitted the items of
+-- `old` and possibly more after them, and at least as many items were taken.
 pub record QueueGrows (old new : Queue) : Type 0 where
   pub key : new.key ≡ old.key
   pub capacity : new.capacity ≡ old.capacity
@@ -41,7 +43,8 @@ QueuesGrow (old ∷ olds) (new ∷ news) = QueueGrows old new × QueuesGrow olds
 QueuesGrow [] (new ∷ news) = ⊥
 QueuesGrow (old ∷ olds) [] = ⊥
 
--- `new` is a later state of a channel: each list begins with the items that `old` has, and no count is smaller
+-- `new` can be a later state of the channel `old`: each of its lists begins with the items of that list in `old`, and
+-- no count is smaller.
 pub record Grows (old new : ChannelState) : Type 0 where
   pub accepted : (more : List Accepted) × (new.accepted ≡ old.accepted ++ more)
   pub released : old.released ≤ new.released

@@ -18,7 +18,8 @@ use Rattle.tc_queues.specs.Admission.{is_chosen, count_queued}
 use Rattle.tc_channel.specs.Run.{field_of, row_of, unit_of, first_of, run_within}
 use Rattle.tc_queues.specs.Delivering.{nothing, delivered}
 
--- The frame is of Type-BD. If the journal isn't recorded, only such a frame can make a channel run out of memory.
+-- The frame is of Type-BD. If the journal isn't recorded, no frame of another type can make a channel run out of
+-- memory.
 abbrev pub IsBypassData : List ℕ → Type 0
 IsBypassData octets = kind_of (header_of octets) (field_of octets) ≡ kinds.Bd
 
@@ -57,7 +58,7 @@ release_reply_within limits s journal = release_reply_at (run_within limits s jo
 unfoldable pub waiting_packets_within : (ℕ → ℕ) → Settings → List Event → ℕ → Option (List (List ℕ))
 waiting_packets_within limits s journal apid = option_map waiting (queue_of apid (run_within limits s journal).queues)
 
--- the reply to a take: the oldest packet that waits
+-- the reply to a take: the oldest packet that waits, or `None` if there is none
 abbrev pub take_reply_within : (ℕ → ℕ) → Settings → List Event → ℕ → Option (List ℕ)
 take_reply_within limits s journal apid = option_and_then (λ packets. slice_get packets 0) (waiting_packets_within limits s journal apid)
 
@@ -65,7 +66,7 @@ take_reply_within limits s journal apid = option_and_then (λ packets. slice_get
 unfoldable pub waiting_units_within : (ℕ → ℕ) → Settings → List Event → ℕ → Option (List (List ℕ))
 waiting_units_within limits s journal map_id = option_map waiting (queue_of map_id (run_within limits s journal).units)
 
--- the reply to the take of a unit: the oldest unit that waits
+-- the reply to the take of a unit: the oldest unit that waits, or `None` if there is none
 abbrev pub unit_reply_within : (ℕ → ℕ) → Settings → List Event → ℕ → Option (List ℕ)
 unit_reply_within limits s journal map_id = option_and_then (λ units. slice_get units 0) (waiting_units_within limits s journal map_id)
 

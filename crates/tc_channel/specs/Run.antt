@@ -16,21 +16,22 @@ use Rattle.tc_queues.specs.Admission.{map_of, offered}
 abbrev pub field_of : List ℕ → List ℕ
 field_of octets = drop 5 octets
 
--- FARM-1's row for a frame that comes in a state
+-- the row of FARM-1's table for a frame that arrives when the channel is in this state
 abbrev pub row_of : Settings → ChannelState → List ℕ → Row
 row_of s state octets = frame_row s.width state.report.vr (kind_of (header_of octets) (field_of octets)) (has_room s state)
 
--- the unit that a data field ends in reassembly, or none if the unit is over the limit of its MAP
+-- The unit that a data field ends in reassembly. It is `None` if the field ends no unit, or if the unit is longer than
+-- the limit of its MAP.
 abbrev pub unit_of : ChannelState → Service → List ℕ → Option (List ℕ)
 unit_of state service field = at_most (state.limit (map_of field)) (unit_ended state.segmented (stream service (map_of field) state.passed) field)
 
--- The state after a data field was passed to reassembly. If the field ends a unit, the queues have admitted as much of
--- the unit as they have room for.
+-- The state after a data field was passed to reassembly. If the field ends a unit (`unit_of`), the unit was offered to
+-- the queues, and each queue has admitted the items that it wants, as far as it has room for them.
 unfoldable pub passed_on : Service → List ℕ → ChannelState → ChannelState
 passed_on service field state = record (offered field (unit_of state service field) state) { passed = state.passed ++ record { service = service; field = field } ∷ [] }
 
--- the state after a frame, apart from FARM-1's components: an accepted AD frame is buffered, and an accepted BD frame
--- is passed on
+-- The state after a frame, apart from FARM-1's components. The data field of an accepted AD frame is buffered, and the
+-- data field of an accepted BD frame is passed on.
 abbrev pub kept : Row → Bool → List ℕ → ChannelState → ChannelState
 kept E1 true octets state = record state { accepted = state.accepted ++ record { ns = (header_of octets).ns; field = field_of octets } ∷ [] }
 kept E6 true octets state = passed_on Bd (field_of octets) state
@@ -47,7 +48,8 @@ first_of (x ∷ xs) = x
 abbrev pub after_release : ChannelState → ChannelState
 after_release state = record (passed_on Ad (first_of (buffer state)) state) { released = state.released + 1; report = after E10 state.report }
 
--- the queue after one more item was taken, if it has this key and an item waits
+-- The queue after a take with this key. If the queue has the key and an item waits in it, one more item is counted as
+-- taken. Otherwise the queue is unchanged.
 abbrev pub taken_from : ℕ → Queue → Queue
 taken_from key q = if q.key == key && nat_lt q.taken (length q.admitted) then record q { taken = q.taken + 1 } else q
 
@@ -59,7 +61,7 @@ after_take apid state = record state { queues = map (taken_from apid) state.queu
 abbrev pub after_take_unit : ℕ → ChannelState → ChannelState
 after_take_unit map_id state = record state { units = map (taken_from map_id) state.units }
 
--- a queue with this key has an item
+-- an item waits in a queue with this key
 abbrev pub HasItem : ℕ → List Queue → Type 0
 HasItem key queues = Any (λ (q : Queue). (q.key ≡ key) × (q.taken < length q.admitted)) queues
 

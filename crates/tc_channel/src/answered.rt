@@ -125,7 +125,7 @@ pub fn memory_is_counted_so()
     ensures many { memory_bound example.many_queues ≡ 1192075848 }
 {}
 
-/// Gives the state of the channel after one journal, worked out by hand. A packet of application 5 and a unit of MAP 3
+/// States the state of the channel after one journal, worked out by hand. A packet of application 5 and a unit of MAP 3
 /// came by Type-BD and wait, and the first Type-AD frame fills the buffer.
 pub fn a_journal_comes_to_this()
     ensures { holding_of example.map_3_chosen (Frame example.bypass_packet ∷ Frame example.bypass_map_3_octets ∷ example.one_packet 0 ∷ [])
@@ -137,9 +137,10 @@ pub fn a_journal_comes_to_this()
         } }
 {}
 
-/// States the first fault of settings, worked out by hand. The settings of the first clause have every fault. Each
-/// later clause repairs the fault of the clause before it, with the greatest value that is allowed. The last clauses
-/// have the least values that are allowed, and values below them.
+/// States the first fault of settings, worked out by hand. The settings of the first clause have every fault that
+/// settings can have. Each later clause, up to the one with allowed settings, repairs the fault of the clause before
+/// it. A number that is too large becomes the greatest one that is allowed. The settings of `least` have the least
+/// numbers that are allowed. Each clause after it changes one of them to a number that isn't allowed.
 pub fn settings_are_refused_so()
     ensures vcid { IsFault (example.channel_of false 64 255 65 (example.two_apids 2047 2047 257) (example.two_maps 64 64 257)) faults.BadVcid }
     ensures window { IsFault (example.channel_of false 63 255 65 (example.two_apids 2047 2047 257) (example.two_maps 64 64 257)) faults.BadWindow }

@@ -51,14 +51,14 @@ pub struct ChannelWith<J: Journal> {
     journal: J,
 }
 
-/// A channel that keeps its journal in memory and gives it out.
+/// A channel that keeps its journal in memory and can lend it.
 pub type Channel = ChannelWith<Recorded>;
 
 /// A channel whose journal takes no memory and exists only for contracts. It is meant for flight software and long
 /// simulations. It behaves like [`Channel`], by the same proof, but it can't return its journal.
 pub type CountingChannel = ChannelWith<Unrecorded>;
 
-/// The name that [`CountingChannel`] had before version 0.3.0. The next version no longer has this name.
+/// A deprecated name of [`CountingChannel`]. The next version won't have it.
 pub type FlightChannel = CountingChannel;
 
 impl<J: Journal> Model for ChannelWith<J> {
@@ -76,7 +76,8 @@ impl<J: Journal> Model for ChannelWith<J> {
 
 impl<J: Journal> ChannelWith<J> {
     /// Creates a channel in S1, with nothing in it and an empty journal. The buffer is created with room for all data
-    /// fields that it may hold, and each queue with a place for each packet or unit that it may hold.
+    /// fields that it may hold, and each queue with a place for each packet or unit that it may hold. If the settings
+    /// aren't allowed, the call returns their first fault. If memory runs out, it returns [`SettingsFault::NoMemory`].
     pub fn new(alloc: Global, settings: Settings) -> Result<ChannelWith<J>, SettingsFault>
         ensures settings { IfOk result (λ channel. channel.settings ≡ settings) }
         ensures journal { IfOk result (λ channel. channel.journal ≡ []) }

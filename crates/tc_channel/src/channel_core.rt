@@ -122,7 +122,8 @@ impl<R: Room> ChannelCore<R> {
         Ok(FrameReply { act, delivery })
     }
 
-    /// Releases the oldest data field from the buffer and queues the unit that the field ends. Steps are counted as in
+    /// Releases the oldest data field from the buffer, in which one must wait, and queues the unit that the field ends,
+    /// if it ends one. The call may be refused only if rooms grow. Steps are counted as in
     /// [`frame`](ChannelCore::frame).
     #[inline(always)]
     pub fn release<C: Tick>(&mut self, steps: &mut C) -> Result<Delivery, AllocError>
@@ -174,7 +175,8 @@ impl<R: Room> ChannelCore<R> {
     }
 
     /// Copies the oldest packet of the queue with this APID to the front of `into`, drops it, and returns the number of
-    /// its octets.
+    /// its octets. The call fails and changes nothing if there is no such queue, if it is empty, or if `into` is
+    /// shorter than the packet.
     #[inline(always)]
     pub fn copy_packet<C: Tick>(
         &mut self,
@@ -195,7 +197,8 @@ impl<R: Room> ChannelCore<R> {
     }
 
     /// Copies the oldest unit of the queue of this chosen MAP to the front of `into`, drops it, and returns the number
-    /// of its octets.
+    /// of its octets. The call fails and changes nothing if the MAP isn't chosen, if its queue is empty, or if `into`
+    /// is shorter than the unit.
     #[inline(always)]
     pub fn copy_unit<C: Tick>(
         &mut self,
@@ -214,7 +217,7 @@ impl<R: Room> ChannelCore<R> {
         self.units.copy_out(map as u16, into, steps)
     }
 
-    /// Lends the oldest packet of the queue with this APID.
+    /// Lends the oldest packet of the queue with this APID. Returns `None` if there is no such queue or it is empty.
     #[tactic(auto, using(crate::proofs::Closing::at_work))]
     pub fn oldest<C: Tick>(&self, apid: u16, steps: &mut C) -> Option<&[u8]>
         ensures packet { WhereverItHolds self.now
@@ -224,7 +227,8 @@ impl<R: Room> ChannelCore<R> {
         self.queues.oldest(apid, steps)
     }
 
-    /// Lends the oldest unit of the queue of this chosen MAP.
+    /// Lends the oldest unit of the queue of this chosen MAP. Returns `None` if the MAP isn't chosen or its queue is
+    /// empty.
     #[tactic(auto, using(crate::proofs::Closing::at_work))]
     pub fn oldest_unit<C: Tick>(&self, map: u8, steps: &mut C) -> Option<&[u8]>
         ensures unit { WhereverItHolds self.now (λ limits s journal. option_map (λ octets. octets.now) result
@@ -323,7 +327,8 @@ fn unit_queues<R: Room, C: Tick>(
     Queues::new(alloc, empty_unit_queues(alloc, maps, size)?, steps)
 }
 
-// Copies the data field of an accepted AD frame to the end of the buffer, which has room for it.
+// Copies the data field to the end of the buffer if it is that of an accepted AD frame. In that case the buffer has
+// room for it.
 fn put_field(fields: &mut Slots<FixedRoom>, act: &Act, field: &[u8])
     requires field { length field.now ≤ fields.old.size }
     requires room { IsSome (buffered_of act.now field.now) → length fields.old.ring.items < fields.old.ring.capacity }
@@ -338,8 +343,8 @@ fn put_field(fields: &mut Slots<FixedRoom>, act: &Act, field: &[u8])
     }
 }
 
-// Passes a data field to reassembly, and delivers the unit that the field ends. If memory runs out, the open runs and
-// the queues are as they were before the call.
+// Passes a data field to reassembly, and delivers the unit that the field ends, if it ends one. If memory runs out, the
+// open runs and the queued items are as they were before the call.
 #[inline(always)]
 #[tactic(auto, using(crate::proofs::Closing::at_work))]
 fn pass<R: Room, C: Tick>(

@@ -60,8 +60,8 @@ pub fn what_was_passed_on_is_admitted_in_order()
 /// frame comes from one sender. The sender's frames have the data fields `sent`, and are numbered from the V(R) with
 /// which the era starts. Frames may be lost, come several times and come out of order, but none comes 256 numbers or
 /// more early or late. After any lawful journal, the AD fields of the era that were passed to reassembly are the first
-/// fields that were sent. Their number is the number of released fields. If no Set V(R) was obeyed, the era is the
-/// whole journal.
+/// fields that were sent. There are as many of them as fields of the era were released. If no Set V(R) was obeyed, the
+/// era is the whole journal.
 ///
 /// The packets ever taken for an application are, in order, packets made from the passed fields, for frames of any
 /// sender. Some may be left out. This also holds for the units of a chosen MAP.
@@ -77,9 +77,10 @@ pub fn what_was_sent_is_given_in_order()
         → IsPartOf (units_given s map_id (first_state_within limits s) journal) (units_made limits s map_id (run_within limits s journal).passed) }
 {}
 
-/// Nothing is lost unless a reply reports it. If no reply of a journal reports a drop, each packet queue admitted all
-/// packets for its application that the passed data fields make. If nothing waits in the queue any more, exactly these
-/// packets were taken: each once, in order. This also holds for the units of a chosen MAP.
+/// No packet that the data fields make is lost unless a reply reports a drop. If settings are allowed and no reply of a
+/// journal reports a drop, each packet queue admitted all packets for its application that the passed data fields make.
+/// If nothing waits in the queue any more, exactly these packets were taken: each once, in order. This also holds for
+/// the units of a chosen MAP.
 pub fn nothing_is_lost_that_no_reply_reports()
     ensures packets_admitted { (limits : ℕ → ℕ) (s : Settings) (journal : List Event) (apid : ℕ) (q : Queue) → IsAllowed s
         → DropsNone s (first_state_within limits s) journal
@@ -98,12 +99,13 @@ pub fn nothing_is_lost_that_no_reply_reports()
         → units_given s map_id (first_state_within limits s) journal ≡ units_made limits s map_id (run_within limits s journal).passed }
 {}
 
-/// Each data field that was passed to reassembly is accounted for. The fields of a service and a MAP are split into
-/// shares, each field once and in order. A share is all segments of a unit that was made, or the open run, or fields
-/// that are lost. Fields are lost if they are over the limit of their MAP or over 65,542 octets, if another unit began
-/// before theirs ended, or if no run was open for them. The units in the shares are all units that these fields made,
-/// and the run in the shares is the run that they left open. On a plain channel each field is a unit, or is over its
-/// limit ([`a_plain_channel_takes_each_field_as_a_unit`](crate::a_plain_channel_takes_each_field_as_a_unit)).
+/// On a channel with segment headers, each data field that was passed to reassembly is accounted for. The fields of a
+/// service and a MAP are split into shares, each field once and in order. A share is all segments of a unit that was
+/// made, or the open run, or fields that are lost. Fields are lost if together they are over the limit of their MAP or
+/// over 65,542 octets, if another unit began before theirs ended, or if no run was open for them. The units in the
+/// shares are all units that these fields made, and the run in the shares is the run that they left open. On a plain
+/// channel each field is a unit, or is over its limit
+/// ([`a_plain_channel_takes_each_field_as_a_unit`](crate::a_plain_channel_takes_each_field_as_a_unit)).
 pub fn each_passed_field_is_accounted_for()
     ensures { (limits : ℕ → ℕ) (s : Settings) (journal : List Event) (service : Service) (map_id : ℕ) → s.segmented ≡ true
         → (shares : List Share) × AccountFor limits s service map_id (run_within limits s journal).passed shares }
@@ -126,8 +128,9 @@ pub fn passed_fields_make_so()
         (record { service = Service.Bd; field = example.joined_packet } ∷ []) ≡ example.joined_packet ∷ [] }
 {}
 
-/// The report value of a CLCW tells the sender how many frames were accepted. It is the number with which the era
-/// began, plus one for each Type-AD frame that was accepted since, modulo 256.
+/// The report value of a CLCW shows the sender how many Type-AD frames were accepted. In a lawful journal of allowed
+/// settings it is the V(R) with which the era began, plus one for each Type-AD frame that was accepted since, modulo
+/// 256.
 pub fn a_clcw_reports_how_many_were_accepted()
     ensures { (limits : ℕ → ℕ) (s : Settings) (journal before later : List Event) (x : ℕ) (link : Link) → IsAllowed s
         → IsLawfulWithin limits s journal → IsEraWithin limits s journal before later x

@@ -39,7 +39,7 @@ pub struct MapHolding {
     pub units: usize,
 }
 
-/// Returns the state of a channel. Only the two lists are allocated.
+/// Returns the state of a channel. Only the two lists are allocated, and the call fails if there is no memory for them.
 pub fn holding_in<J: Journal>(alloc: Global, channel: &ChannelWith<J>) -> Result<Holding, NoMemory>
     ensures holding { IfOk result (λ holding. holding ≡ holding_of channel.now.settings channel.now.journal) }
     ensures allowed { IsAllowed channel.now.settings }

@@ -65,13 +65,14 @@ pub fn accepted_frames_count_up()
         → CountsUpInItsEraWithin limits s journal }
 {}
 
-/// No queue ever holds more items than its capacity, or gives out more items than it admitted.
+/// No queue ever holds more items than its capacity, and no more items are ever taken from it than it admitted.
 pub fn queues_keep_to_their_capacity()
     ensures queues { (limits : ℕ → ℕ) (s : Settings) (journal : List Event) → AllByRecursion KeepsToItsCapacity (run_within limits s journal).queues }
     ensures units { (limits : ℕ → ℕ) (s : Settings) (journal : List Event) → AllByRecursion KeepsToItsCapacity (run_within limits s journal).units }
 {}
 
-/// The run of a longer journal continues the run of its beginning, and loses nothing from it.
+/// The run of a longer journal continues the run of its beginning, and loses nothing from it. If the longer journal is
+/// lawful, its beginning is lawful, and each later event can happen when it comes.
 pub fn a_longer_run_goes_on()
     ensures run { (limits : ℕ → ℕ) (s : Settings) (past future : List Event)
         → run_within limits s (past ++ future) ≡ run_from s (run_within limits s past) future }
@@ -161,9 +162,9 @@ pub fn queues_are_those_of_the_settings()
         ≡ map {B = ℕ × ℕ} (λ (m : MapSetting). (m.map, m.capacity)) s.maps }
 {}
 
-/// No event changes the limits. A unit that reassembly makes is passed to the queues if and only if it is no longer
-/// than the limit of its MAP. Without limits by MAP, each unit is passed to the queues, because none is longer than the
-/// largest unit.
+/// No event changes the limits. A unit that reassembly makes is offered to the queues if and only if it is no longer
+/// than the limit of its MAP. Without limits by MAP, each unit is offered to the queues, because none is longer than
+/// the largest unit.
 pub fn a_unit_beyond_the_limit_of_its_map_is_none()
     ensures stays { (limits : ℕ → ℕ) (s : Settings) (journal : List Event) → (run_within limits s journal).limit ≡ limits }
     ensures within { (limits : ℕ → ℕ) (s : Settings) (journal : List Event) (service : Service) (field octets : List ℕ)
@@ -184,7 +185,8 @@ pub fn a_sender_s_frames_may_come_so()
     ensures too_early { IsSent 0 (example.sent_as 256 (field_of (example.packet_octets 0))) 0 (example.packet_octets 0) → ⊥ }
 {}
 
-/// After any journal, an Unlock and then a Set V(R) to `x` lead a channel to S1, with V(R) at `x` and no flag set.
+/// After any journal, an Unlock and then a Set V(R) to `x` lead a channel to S1, with V(R) at `x` and no flag set. The
+/// FARM-B counter counts both commands.
 pub fn unlock_and_set_v_r_open_a_channel()
     ensures { (limits : ℕ → ℕ) (s : Settings) (journal : List Event) (unlock set_v_r : List ℕ) (x : ℕ)
         → kind_of (header_of unlock) (field_of unlock) ≡ Kind.Bc Command.Unlock

@@ -7,14 +7,17 @@
 //! [`each_frame_has_a_step`], [`each_journal_has_an_era`], [`accepted_frames_count_up`],
 //! [`a_clcw_reports_how_many_were_accepted`], [`unlock_and_set_v_r_open_a_channel`],
 //! [`a_unit_takes_steps_by_its_octets`], [`a_sender_s_frames_may_come_so`],
-//! [`what_was_sent_is_accepted_once_and_in_order`], [`queues_are_those_of_the_settings`],
-//! [`queues_keep_to_their_capacity`], [`short_journals_are_answered_so`], [`further_journals_are_answered_so`],
-//! [`memory_is_counted_so`], [`settings_are_refused_so`], [`each_passed_field_is_accounted_for`], [`chosen_maps_stay`],
-//! [`a_unit_is_delivered_whole_or_by_packets`], [`a_unit_is_kept_where_its_queue_has_room`],
+//! [`what_was_sent_is_accepted_once_and_in_order`], [`what_was_sent_is_given_in_order`],
+//! [`queues_are_those_of_the_settings`], [`queues_keep_to_their_capacity`], [`short_journals_are_answered_so`],
+//! [`further_journals_are_answered_so`], [`journals_within_limits_are_answered_so`], [`a_journal_comes_to_this`],
+//! [`passed_fields_make_so`], [`memory_is_counted_so`], [`settings_are_refused_so`],
+//! [`each_passed_field_is_accounted_for`], [`chosen_maps_stay`], [`a_unit_is_delivered_whole_or_by_packets`],
+//! [`a_unit_is_kept_where_its_queue_has_room`], [`a_unit_beyond_the_limit_of_its_map_is_none`],
 //! [`buffer_keeps_to_its_size`], [`each_packet_is_queued_or_dropped`], [`no_more_items_wait_than_memory_counts`],
 //! [`what_waits_is_within_the_bound_of_memory`], [`each_clcw_fits_its_word`], [`a_longer_run_goes_on`],
-//! [`what_was_accepted_is_passed_on_in_order`], [`what_was_admitted_is_given_in_order`],
-//! [`nothing_is_lost_that_no_reply_reports`] and [`a_plain_channel_takes_each_field_as_a_unit`].
+//! [`what_was_accepted_is_passed_on_in_order`], [`what_was_passed_on_is_admitted_in_order`],
+//! [`what_was_admitted_is_given_in_order`], [`nothing_is_lost_that_no_reply_reports`] and
+//! [`a_plain_channel_takes_each_field_as_a_unit`].
 #![tactic(auto)]
 
 mod answered;
