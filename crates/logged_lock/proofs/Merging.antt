@@ -10,7 +10,7 @@ use Rattle.logged_lock.specs.Log.{owned, made_by, total_made, IsMergeOf}
 use Rattle.logged_lock.specs.Rule.{seat_tag, reported_tag, AreReported, NoSeatOwns}
 use Rattle.logged_lock.proofs.Owned.{owned-own, owned-other}
 
--- the sum of the first n numbers of a row
+-- the sum of the first n values of f
 sum_to : (ℕ → ℕ) → ℕ → ℕ
 sum_to f zero = 0
 sum_to f (suc n) = sum_to f n + f n

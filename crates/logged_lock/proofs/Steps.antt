@@ -52,7 +52,7 @@ at_end [] a b (suc j) e = absurd (some-ne-none b (sym e))
 at_end (x ∷ xs) a b zero e = inl e
 at_end (x ∷ xs) a b (suc j) e = ⊎_elim (λ h. inl h) (λ h. inr (ap suc h.0, h.1)) (at_end xs a b j e)
 
--- the number of makers that a seat counts for
+-- 1 for a maker, and 0 for any other seat
 abbrev bit : Bool → ℕ
 bit b = cond b 1 0
 
@@ -364,7 +364,7 @@ module _ {S D E : Type 0} (log : S → Log D E) (fits : S → Type 0) (top : D) 
         lock = inl record { kept = turn.kept; mark = free; small = is_free; word = refl; home = refl; fitting = turn.fitting; same = turn.same ∙ ap (λ h. with_entry h e) had.1; nobody = refl };
       } (λ _. refl)
 
-  -- a seat is created
+  -- if the rule holds, it still holds with one more seat, which doesn't have the lock and has made nothing
   sits-at : (s : State S (View D E)) (b : Recorded s) (views : List (View D E)) (first w : View D E) → length views ≡ length s.views
       → ((j : ℕ) (u : View D E) → get_elem? views j ≡ some u → IsSeat b.now b.owners b.holder j u) → get_elem? views 0 ≡ some first → AreReported b.now b.owners first.reported → AreCounted (views ++ w ∷ []) first
       → w.locks ≡ false → w.own.made ≡ [] → IsBeginning w.own.seen b.now → IsLock log fits top s.words s.homes (views ++ w ∷ [])

@@ -10,7 +10,7 @@ use Rattle.logged_lock.specs.declared.views.Account.{Account}
 abbrev pub start_of : {D E : Type 0} → D → Log D E
 start_of d = record { head = d; entries = [] }
 
--- a log one entry longer
+-- a log with one more entry at its end
 abbrev pub with_entry : {D E : Type 0} → Log D E → E → Log D E
 with_entry l e = record { head = l.head; entries = l.entries ++ e ∷ [] }
 
@@ -18,7 +18,7 @@ with_entry l e = record { head = l.head; entries = l.entries ++ e ∷ [] }
 abbrev pub IsBeginning : {D E : Type 0} → Log D E → Log D E → Type 0
 IsBeginning old new = (new.head ≡ old.head) × IsPrefix old.entries new.entries
 
--- The places that belong to an owner, each with its entry. The first place has the number `at`.
+-- The places that belong to an owner, each with its entry. The places of the log are numbered from `at` on.
 abbrev pub owned : {E : Type 0} → ℕ → ℕ → List ℕ → List E → List (ℕ × E)
 owned owner at [] es = []
 owned owner at (o ∷ os) [] = []
@@ -36,7 +36,8 @@ total_made [] = 0
 total_made (a ∷ more) = length a.made + total_made more
 
 -- Each place of the log has one owner, and the k-th account has made exactly the entries at its places, in their order.
--- The log is therefore a merge of the entries of the accounts. An owner that is none of the accounts has made nothing.
+-- The log is therefore a merge of the entries of the accounts. No place belongs to an owner that is none of the
+-- accounts.
 pub record IsMergeOf {D E : Type 0} (entries : List E) (makers : List (Account D E)) : Type 0 where
   pub owners : List ℕ
   pub long : length owners ≡ length entries

@@ -65,8 +65,8 @@ unlocked_with e v = record {
   reported = v.reported;
 }
 
--- The seat owns exactly the entries of the log that it has made. The log begins with the log that the seat has seen. A
--- seat that has the lock has seen all of the log. Only makers have made anything.
+-- The seat owns exactly the entries of the log that it has made. If the seat is live, the log begins with the log that
+-- the seat has seen. A seat that has the lock has seen all of the log. Only makers have made anything.
 pub record IsSeat {D E : Type 0} (now : Log D E) (owners : List ℕ) (holder : Option ℕ) (id : ℕ) (v : View D E) : Type 0 where
   pub mine : owned (seat_tag id) 0 owners now.entries ≡ v.own.made
   pub behind : v.live ≡ true → IsBeginning v.own.seen now
@@ -82,7 +82,8 @@ abbrev pub makers_in : {D E : Type 0} → List (View D E) → ℕ
 makers_in [] = 0
 makers_in (v ∷ vs) = (if v.maker then 1 else 0) + makers_in vs
 
--- the makers are the first seat, and the seats that it issued and that haven't reported
+-- The first seat is a maker. There are as many other makers as seats that the first one issued and that haven't
+-- reported to it.
 pub record AreCounted {D E : Type 0} (views : List (View D E)) (first : View D E) : Type 0 where
   pub lead : first.maker ≡ true
   pub many : makers_in views + length first.reported ≡ suc first.own.issued
@@ -119,7 +120,7 @@ pub record IsLock {S D E : Type 0} (log : S → Log D E) (fits : S → Type 0) (
   pub counted : AreCounted views first
   pub lock : IsFree log fits words homes now holder ⊎ IsTakenOut words homes
 
--- the seat doesn't have the lock
+-- the seat is live, and has neither the lock nor the protected data
 pub record IsIdle {S D E : Type 0} (me : Me S (View D E)) : Type 0 where
   pub live : me.0.live ≡ true
   pub locks : me.0.locks ≡ false

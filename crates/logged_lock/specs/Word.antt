@@ -6,7 +6,7 @@
 -- 4: It is taken, and a thread has requested that it be left to threads that have slept.
 use Rattle.std.specs.Prelude.{ℕ, zero, suc, Bool, true, false, ◌==◌, if◌then◌else◌}
 
--- whether a thread that has slept `sleeps` times may take the lock
+-- true if a thread that has slept `sleeps` times may take a lock with this word
 abbrev pub is_open : ℕ → ℕ → Bool
 is_open zero sleeps = true
 is_open (suc zero) zero = false

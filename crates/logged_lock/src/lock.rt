@@ -1,4 +1,4 @@
-//! The lock.
+//! The lock, with the calls that take it, release it and account for its log.
 
 ghost use Rattle.std.specs.Prelude.{◌≡◌, ◌<◌, ◌≤◌, [], ◌∷◌, length, IfOk, MatchBool, true};
 ghost use Rattle.logged_lock.specs.Log.{start_of, with_entry, total_made, IsMergeOf, AreBehind};
@@ -90,7 +90,8 @@ impl<S: Logged<D, E>, D, E> Model for LoggedLock<S, D, E> {
 }
 
 impl<S: Logged<D, E>, D: Head, E> LoggedLock<S, D, E> {
-    /// Creates a lock that is free, and its first seat. The log of the protected data must have no entry.
+    /// Creates a lock that is free, and its first seat. The log of `kept`, the protected data, must have the head
+    /// `head` and no entry. The call fails if memory runs out.
     pub fn new(
         alloc: Global,
         kept: S,
@@ -165,8 +166,9 @@ impl<S: Logged<D, E>, D: Head, E> LoggedLock<S, D, E> {
         TAKEN
     }
 
-    // Marks the word to show that a thread may sleep, sleeps while the word stays the same, and returns the last word
-    // that the thread saw. If the word changes before it is marked, the thread doesn't sleep.
+    // Raises the word of a taken lock to the mark of this thread ([`asking`]), sleeps while the word stays the same,
+    // and returns the last word that the thread saw. The word isn't raised if the lock is free, or if the word is
+    // already that high. If the word changes before it is raised, the thread doesn't sleep.
     fn sleep<R: Wait>(&self, rt: &R, seat: &mut LockSeat<S, D, E>, word: u64, sleeps: u64) -> u64
         requires small { word ≤ 4 }
         requires own { seat.old.table_id ≡ self.now.id }
@@ -244,7 +246,7 @@ impl<S: Logged<D, E>, D: Head, E> LoggedLock<S, D, E> {
         }
     }
 
-    /// Releases the lock without an entry.
+    /// Releases the lock without an entry. The log must be as it was when the lock was taken.
     pub fn unlock(&self, seat: &mut LockSeat<S, D, E>)
         requires own { seat.old.table_id ≡ self.now.id }
         requires unchanged { HasLock S.log S.fits seat.old.me seat.old.me.0.own.seen }
@@ -256,7 +258,8 @@ impl<S: Logged<D, E>, D: Head, E> LoggedLock<S, D, E> {
         self.wake(word);
     }
 
-    /// Releases the lock with an entry, which belongs to the seat from then on.
+    /// Releases the lock with an entry, which belongs to the seat from then on. The log must have this entry at its
+    /// end, after the entries that it had when the lock was taken.
     pub fn unlock_with<P: NextEntry<E>>(&self, seat: &mut LockSeat<S, D, E>)
         requires own { seat.old.table_id ≡ self.now.id }
         requires maker { seat.old.me.0.maker ≡ true }

@@ -35,9 +35,9 @@ pub struct Account<D, E> {
 pub struct View<D, E> {
     /// False for a seat that was joined to the first one, and true for any other.
     pub live: bool,
-    /// Whether the seat has the lock.
+    /// True if the seat has the lock.
     pub locks: bool,
-    /// Whether entries may be made from the seat. A guest makes none.
+    /// True if entries may be made from the seat. A guest makes none.
     pub maker: bool,
     pub own: Account<D, E>,
     /// The accounts of the seats that were joined to this one, in their order.

@@ -21,7 +21,7 @@ abbrev pub LeaveAtMost : ℕ → List (List ℕ) → OpenRuns → ℕ → Type 0
 LeaveAtMost limit fields open_runs place = at_most limit (run_left open_runs.segmented fields) ≡ run_at open_runs.runs place
 
 -- The open run of each stream is the one that the data fields passed so far leave. If that run is longer than the limit
--- of its MAP, the stream has no open run. `headed` is whether data fields have segment headers.
+-- of its MAP, the stream has no open run. `headed` is true if data fields have segment headers.
 pub record AreRuns (limits : ℕ → ℕ) (open_runs : OpenRuns) (headed : Bool) (passed : List Passed) : Type 0 where
   pub segmented : open_runs.segmented ≡ headed
   pub runs : (service : Service) (map_id : ℕ) → map_id < 64 → LeaveAtMost (limits map_id) (stream service map_id passed) open_runs (place_of service map_id)

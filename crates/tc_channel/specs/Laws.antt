@@ -20,7 +20,7 @@ pub record KeepsToItsCapacity (q : Queue) : Type 0 where
   pub taken : q.taken ≤ length q.admitted
   pub capacity : length q.admitted ≤ q.capacity + q.taken
 
--- whether a queue has room for one more item
+-- true if the queue has room for one more item
 abbrev pub has_room_for_one : Queue → Bool
 has_room_for_one q = nat_lt (length q.admitted - q.taken) q.capacity
 

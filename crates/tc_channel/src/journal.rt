@@ -23,7 +23,7 @@ pub trait Journal: Drop {
     // this entry is the entry of this event, and there is room for it
     ghost is_ready: { Self → Self.Entry → Event → Type 0 };
 
-    // whether entries take memory (if they take none, no entry is refused)
+    // true if entries take memory (if they take none, no entry is refused)
     ghost grows: { Bool };
 
     /// Creates an empty journal. The call allocates nothing.

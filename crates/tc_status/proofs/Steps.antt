@@ -90,7 +90,7 @@ splits id v s b at =
           (at_snoc (set s.views id v) v u j e);
     }
 
--- after a load the seat has the view of the published history
+-- the rule still holds after a load, which gives the seat the view of the published history
 loads : (s : State (Unit {0}) View) (id : ℕ) (b : Kept s) → IsBoard (set s.words 0 (slice_index s.words 0)) (set s.views id (view b.publisher.seen))
 loads s id b =
     let h : History = b.publisher.seen in

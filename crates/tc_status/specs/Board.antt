@@ -66,7 +66,8 @@ pub record IsBoard (words : List ℕ) (views : List View) : Type 0 where
   pub word : words ≡ status_word publisher.seen ∷ []
   pub behind : (id : ℕ) (v : View) → get_elem? views id ≡ some v → IsBehind publisher.seen v
 
--- A load found the word of the published history. The seat has then seen this history.
+-- A load found the word of a lawful history that begins with the one that the seat had seen. The seat has then seen
+-- this history.
 pub record IsRead (before : Me Unit View) (found : ℕ) (after : Me Unit View) : Type 0 where
   pub seat : after ≡ (view after.0.seen, before.1)
   pub allowed : IsAllowed after.0.seen.settings
@@ -80,7 +81,8 @@ pub record IsCompared (before after : Me Unit View) : Type 0 where
   pub seat : after ≡ (view before.0.seen, before.1)
   pub later : IsEarlier before.0.reported before.0.seen
 
--- the seat is live, is at this board, and has no slot
+-- The board has one word. The seat is at this board, is live and has no slot. Its reported history is the one that it
+-- has seen.
 pub record IsSeated (board seat : TableId) (me : Me Unit View) : Type 0 where
   pub same : seat ≡ board
   pub one_word : board.words ≡ 1

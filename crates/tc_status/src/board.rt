@@ -12,7 +12,8 @@ pub struct View {
     pub live: bool,
     /// The history that was published from this seat, or seen from it.
     pub seen: Past,
-    /// The history that was seen from the seat that was last joined to this one.
+    /// The history that was seen from the seat that was last joined to this one, until the publisher's next load or
+    /// store. At any other time it is the history in `seen`.
     pub reported: Past,
 }
 
@@ -90,7 +91,7 @@ impl Join<View> for Reports {
     ghost spent = { spent };
 }
 
-/// One word, which lies on the heap in a block of its own.
+/// A table of one word, which lies on the heap in a block of its own.
 pub type WordTable = Table<(), View, Past, BoardRule, Global>;
 
 /// A seat at a board. It takes no memory.

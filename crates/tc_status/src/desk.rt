@@ -44,7 +44,8 @@ impl<J: Journal> Model for DeskOf<J> {
 }
 
 impl<J: Journal> DeskOf<J> {
-    /// Creates a desk with a new channel, on a board of its own. The call requests the memory of both.
+    /// Creates a desk with a new channel, on a board of its own. The call requests the memory of both. If the settings
+    /// aren't allowed, it returns their first fault. If memory runs out, it returns [`SettingsFault::NoMemory`].
     pub fn new(alloc: Global, settings: Settings) -> Result<DeskOf<J>, SettingsFault>
         ensures settings { IfOk result (λ desk. desk.channel.settings ≡ settings) }
         ensures journal { IfOk result (λ desk. desk.channel.journal ≡ []) }
@@ -57,14 +58,14 @@ impl<J: Journal> DeskOf<J> {
         Ok(DeskOf { channel, publisher })
     }
 
-    /// Returns the channel.
+    /// Lends the channel.
     pub fn channel(&self) -> &ChannelWith<J>
         ensures { result.now ≡ self.now.channel }
     {
         &self.channel
     }
 
-    /// Returns the publisher of the channel's status.
+    /// Lends the publisher of the channel's status.
     pub fn publisher(&self) -> &Publisher
         ensures board { result.now.board ≡ self.now.board }
         ensures published { result.now.published ≡ self.now.channel }
@@ -72,7 +73,8 @@ impl<J: Journal> DeskOf<J> {
         &self.publisher
     }
 
-    /// Passes a frame to the channel. This call and the next three allocate no more than the channel does.
+    /// Passes a frame to the channel, and publishes the channel if the call is answered. This call and the next three
+    /// allocate no more than the channel does.
     pub fn frame(&mut self, frame: &Frame) -> Result<FrameReply, NoMemory>
         ensures allowed { IsAllowed self.old.channel.settings }
         ensures lawful { IsLawful self.old.channel.settings self.old.channel.journal }
@@ -119,7 +121,7 @@ impl<J: Journal> DeskOf<J> {
         Ok(packet)
     }
 
-    /// Takes the oldest unit of this chosen MAP out of the channel.
+    /// Takes the oldest unit out of the channel's queue of this chosen MAP.
     pub fn take_unit(&mut self, map: u8) -> Result<Vec<u8>, TakeUnitFault>
         ensures allowed { IsAllowed self.old.channel.settings }
         ensures lawful { IsLawful self.old.channel.settings self.old.channel.journal }
@@ -137,7 +139,7 @@ impl<J: Journal> DeskOf<J> {
     }
 
     /// Creates a watcher of this desk's board, which has seen the whole journal of the channel. The call requests no
-    /// more memory than [`Publisher::watcher`] does.
+    /// memory. It fails only if the board can count no more owners.
     pub fn watcher(&mut self) -> Result<Watcher, NoMemory>
         ensures board { IfOk result (λ watcher. watcher.board ≡ self.old.board) }
         ensures seen { IfOk result (λ watcher. watcher.seen ≡ self.old.channel) }

@@ -20,7 +20,8 @@ pub fn each_seat_is_behind_the_publisher()
         → get_elem? views 0 ≡ some p → get_elem? views id ≡ some v → v.live ≡ true → IsEarlier v.seen p.seen }
 {}
 
-/// The two flags of the link have bits of their own in the CLCW of a channel, so that they can be set in a word that was read.
+/// The two flags of the link have bits of their own in the CLCW of a channel, so they can be set in a word that was
+/// read.
 pub fn the_flags_of_the_link_have_their_own_bits()
     ensures { (h : History) (link : Link) → clcw h.settings h.journal link ≡ status_word h + bit link.no_rf * 2 ^ 15 + bit link.no_bit_lock * 2 ^ 14 }
 {}

@@ -57,7 +57,7 @@ impl Publisher {
         Ok(Publisher { board, seat })
     }
 
-    /// Publishes the channel's journal, by one store.
+    /// Publishes the channel's journal, by one store. The journal must begin with the one that was published last.
     pub fn publish<J: Journal>(&mut self, channel: &ChannelWith<J>)
         requires { IsEarlier self.old.published channel.now }
         ensures board { self.new.board ≡ self.old.board }
