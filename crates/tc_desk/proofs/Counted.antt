@@ -3,7 +3,8 @@ use Rattle.tc_desk.proofs.Names.{◌≡◌, inl, inr, ℕ, ◌≤◌, ◌-◌, �
 use native.Mathlib.Decide.{dec_le}
 use mathlib.Core.Logic.{dite}
 
--- if operators can close a desk, they have together made the whole journal
+-- Let the operators have made the whole journal in the case that there are no fewer of them than were issued. If they
+-- can then close the desk, they are balanced.
 pub as-balanced : (issued : ℕ) (makers : List Own) (journal : List Event) → CanClose issued makers journal → (issued ≤ length makers → total_made makers ≡ length journal) → IsBalanced makers journal
 as-balanced issued makers journal can whole =
     let few = can.0 in

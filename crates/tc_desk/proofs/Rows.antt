@@ -245,7 +245,7 @@ closed_all owned_desks rows guard reported closed moments ours can all is =
           (closed_one h (column place rows) channel fresh.0 fresh.1 (can place h found.1) (out_at (reported_rows guard rows) closed place _ channel out (rows_at guard rows place h ours_guard found.1) there));
     }
 
--- the close of desks that aren't balanced is refused
+-- if the operators of one desk can't close it, `Unbalanced` is a reason why the desks weren't closed
 pub unbalanced : (owned_desks : List AtLock) (rows : List (List AtLock)) (guard : List AtHand) (refusal : Refusal) → refusal ≡ Unbalanced → AreMoments owned_desks guard → CannotCloseOne guard rows → IsClosingRefusal owned_desks rows refusal
 unbalanced owned_desks rows guard refusal is moments cannot =
     let h = cannot.1 in

@@ -46,7 +46,8 @@ abbrev pub made : Event → Moment → Own → Own
 made e now own = record { seen = with_entry now e; made = own.made ++ (length now.entries, e) ∷ []; issued = own.issued }
 
 -- The call was decided at a moment of the desk that continues all that the operator had seen. If it was answered, its
--- event is the next one of the journal, and the next one that the operator made.
+-- event is the next one of the journal, and the next one that the operator made. If it was refused, the operator has
+-- only seen this moment.
 pub record IsCall {R F : Type 0} (e : Event) (ok : Moment → R → Type 0) (err : Moment → F → Type 0) (before : AtLock) (result : Result R F) (after : AtLock) : Type 0 where
   pub now : Moment
   pub later : IsBeginning before.own.seen now

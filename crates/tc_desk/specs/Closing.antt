@@ -5,17 +5,17 @@ use Rattle.tc_channel.specs.Journal.{History}
 use Rattle.logged_lock.specs.Log.{total_made, IsMergeOf, AreBehind}
 use Rattle.tc_desk.specs.Log.{Own, AtLock, accounts_of}
 
--- the operators have made as many events as the journal has, which are fewer than the largest count of 64 bits
+-- the operators have made as many events as the journal has, and the journal has fewer than 2^64 - 1 events
 abbrev pub IsBalanced : List Own → List Event → Type 0
 IsBalanced makers journal = (total_made makers ≡ length journal) × (length journal < 2 ^ 64 - 1)
 
--- The operators `makers` can close a desk whose owner has issued `issued` operators. Either all issued operators are
--- among them, or they have made as many events as the journal has. In both cases they have made fewer events than the
--- largest count of 64 bits.
+-- The operators `makers` can close a desk whose owner has issued `issued` operators. Either there are no fewer of them
+-- than were issued, or they have made as many events as the journal has. In both cases they have made fewer than 2^64 -
+-- 1 events.
 abbrev pub CanClose : ℕ → List Own → List Event → Type 0
 CanClose issued makers journal = (total_made makers < 2 ^ 64 - 1) × ((issued ≤ length makers) ⊎ (total_made makers ≡ length journal))
 
--- There is a cause of an imbalance. Either not all issued operators are among these, or these operators have made at
+-- There is a cause of an imbalance. Either there are fewer of these operators than were issued, or they have made at
 -- least 2^64 - 1 events.
 abbrev pub IsCause : ℕ → List Own → Type 0
 IsCause issued makers = (length makers < issued) ⊎ (2 ^ 64 - 1 ≤ total_made makers)

@@ -78,15 +78,15 @@ pub record IsResting (views : List Sight) : Type 0 where
 abbrev pub count_of : Own → ℕ
 count_of own = min (length own.made) (2 ^ 64 - 1)
 
--- the number of operators that were issued, in a count of 128 bits
+-- the number of operators that were issued, or 2^128 - 1 if there are more
 abbrev pub issued_count : Own → ℕ
 issued_count own = min own.issued (2 ^ 128 - 1)
 
 abbrev pub accounts_of : List AtLock → List Own
 accounts_of operators = map (λ (o : AtLock). o.own) operators
 
--- a desk whose owner has its lock: the owner before it took the lock, the desk now, and the accounts of operators that
--- were reported to the owner
+-- a desk whose owner has its lock: the lock, the owner before it took the lock, the moment of the desk now, and the
+-- accounts of operators that were reported to the owner
 pub record AtHand : Type 0 where
   pub desk : LockAt Identity
   pub owner : AtLock

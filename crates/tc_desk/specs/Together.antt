@@ -34,7 +34,7 @@ AreOurs owned_desks operator_lists = All (λ (operator_list : List AtLock). lock
 abbrev pub nobody : AtLock
 nobody = record { lock = nowhere.board; own = (gone nowhere).own }
 
--- the operators at the desk of this place, one from each list
+-- the operators at the desk at this place, one from each list
 abbrev pub column : ℕ → List (List AtLock) → List AtLock
 column place operator_lists = map (λ (operator_list : List AtLock). slice_index_or operator_list place nobody) operator_lists
 
@@ -62,7 +62,7 @@ AreBalanced guard operator_lists = (place : ℕ) (h : AtHand) → slice_get guar
 abbrev pub CanCloseEach : List AtHand → List (List AtLock) → Type 0
 CanCloseEach guard operator_lists = (place : ℕ) (h : AtHand) → slice_get guard place ≡ Some h → CanClose h.owner.own.issued (accounts_of (column place operator_lists)) h.now.entries
 
--- the operators of one desk can't close it
+-- there is a desk whose operators can't close it
 abbrev pub CannotCloseOne : List AtHand → List (List AtLock) → Type 0
 CannotCloseOne guard operator_lists = (place : ℕ) × (h : AtHand) × (slice_get guard place ≡ Some h) × ¬ CanClose h.owner.own.issued (accounts_of (column place operator_lists)) h.now.entries
 

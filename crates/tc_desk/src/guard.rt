@@ -40,7 +40,7 @@ impl<J: Journal> Model for DeskGuard<J> {
 }
 
 impl<J: Journal> DeskGuard<J> {
-    /// Takes the lock if it is free.
+    /// Takes the lock if it is free. Otherwise returns the desk and its owner.
     pub(crate) fn hold(
         desk: LockedDesk<J>,
         owner: DeskOwner,
@@ -72,7 +72,7 @@ impl<J: Journal> DeskGuard<J> {
         })
     }
 
-    /// Unlocks the desk.
+    /// Unlocks the desk, and returns it with its owner.
     pub(crate) fn leave(self) -> (LockedDesk<J>, DeskOwner)
         requires { self.reported ≡ [] }
         ensures desk { result.0 ≡ self.desk }
@@ -95,9 +95,9 @@ impl<J: Journal> DeskGuard<J> {
         )
     }
 
-    /// Returns whether `operators` operators, which have made `count` events in all, can close the desk. They can if
-    /// they are all operators that were issued, or if the journal has `count` events. A count of 2^64 - 1 stands for
-    /// that number or more, and the result is then false.
+    /// Returns whether `operators` operators, which have made `count` events in all, can close the desk. They can if no
+    /// more operators were issued, or if the journal has `count` events. A count of 2^64 - 1 stands for that number or
+    /// more, and the result is then false.
     pub(crate) fn can_close(&self, operators: usize, count: u64) -> bool
         ensures { (makers : List Own) → operators ≡ length makers → count ≡ min (total_made makers) (2 ^ 64 - 1)
             → (IsTrue result ↔ CanClose self.now.owner.own.issued makers self.now.now.entries) }

@@ -10,7 +10,8 @@ ghost use Rattle.tc_desk.specs.Call.{IsReleased, IsReleaseFault, made, looked};
 ghost use Rattle.tc_desk.specs.Alone.{HasMadeAll, HasSeenItsOwn};
 
 /// If a journal is a merge of the events of one operator alone, that operator has made, and has seen, all events of the
-/// journal.
+/// journal. This law and the next one are about an operator that has seen a beginning of the journal, with at least as
+/// many events as it has made.
 pub fn the_only_operator_made_the_whole_journal()
     ensures { (own : Own) (journal : List Event) → HasSeenItsOwn own
         → IsBeginning own.seen (record { head = own.seen.head; entries = journal }) → IsMergeOf journal (own ∷ [])
@@ -28,7 +29,8 @@ pub fn the_only_maker_made_the_whole_journal()
 
 /// Suppose that after a call an operator has made all events that it has seen. Then it had made all events that it had
 /// seen before the call, too, and the call was answered at exactly the moment that it had seen. An operator that works
-/// alone is therefore answered after the journal of its own events so far.
+/// alone is therefore answered after the journal of its own events so far. The law is about operators that have seen at
+/// least as many events as they have made, and each call keeps them so.
 pub fn one_alone_is_answered_after_its_own_events()
     ensures event { (before : Own) (now : Moment) (e : Event) → HasSeenItsOwn before → IsBeginning before.seen now
         → HasMadeAll (made e now before) → HasMadeAll before × (now ≡ before.seen) }
@@ -48,8 +50,8 @@ pub fn each_event_stands_at_its_place()
         × (now ≡ record { head = closed.head; entries = take (length now.entries) closed.entries }) }
 {}
 
-/// A release is answered if a data field waits, and refused as empty if none does. A release is never both answered and
-/// refused at one moment.
+/// A release is answered only if a data field waits, and refused as empty only if none does. It is therefore never both
+/// answered and refused as empty at one moment.
 pub fn a_release_finds_a_data_field()
     ensures { (m : Moment) (delivery : Delivery) → IsReleased m delivery → IsReleaseFault m ReleaseFault.Empty → ⊥ }
 {}

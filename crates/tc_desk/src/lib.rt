@@ -2,9 +2,9 @@
 //!
 //! Several threads share a [`LockedDesk`]. Each has a [`DeskOperator`] of its own, which the desk's [`DeskOwner`]
 //! creates, and uses it to run an [`Operation`]. Contracts see the identity of the lock, and which events of the
-//! channel's journal each operator has seen and made. So each answer follows from the journal of this channel, and
-//! [`close_together`] returns channels whose journals are merges of the events that their operators made. Each call
-//! takes the lock once, and waits while another thread has it.
+//! channel's journal each operator has seen and made. Therefore each answer follows from the journal of this channel,
+//! and [`close_together`] returns channels whose journals are merges of the events that their operators made. Each call
+//! of an operator takes the lock once, and waits while another thread has it.
 #![tactic(auto)]
 
 mod guard;

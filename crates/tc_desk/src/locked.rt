@@ -190,7 +190,7 @@ fn meet_by<J: Journal, R: Wait>(
     seat.into_badge()
 }
 
-// Counts one more event.
+// Counts one more event. At 2^64 - 1 the count stays as it is.
 fn raise(count: &mut CachePadded<u64>)
     ensures count { padded_value count.new ≡ min (padded_value count.old + 1) (2 ^ 64 - 1) }
 {
@@ -337,7 +337,8 @@ impl DeskOperator {
 
 impl<J: Journal> LockedDesk<J> {
     /// Creates a desk with a new channel behind a lock that is free, and its owner. The call requests the memory of the
-    /// desk and of the lock.
+    /// desk and of the lock. If the settings aren't allowed, it returns their first fault. If memory runs out, it
+    /// returns [`SettingsFault::NoMemory`].
     pub fn new(
         alloc: Global,
         settings: Settings,

@@ -29,7 +29,9 @@ impl<J: Journal> Model for OwnedDesk<J> {
 }
 
 impl<J: Journal> OwnedDesk<J> {
-    /// Creates a desk behind a lock that is free. The call requests the memory of the desk and of the lock.
+    /// Creates a desk behind a lock that is free. The call requests the memory of the desk and of the lock. If the
+    /// settings aren't allowed, it returns their first fault. If memory runs out, it returns
+    /// [`SettingsFault::NoMemory`].
     pub fn new(alloc: Global, settings: Settings) -> Result<OwnedDesk<J>, SettingsFault>
         ensures settings { IfOk result (λ owned_desk. owned_desk.own.seen.head.settings ≡ settings) }
         ensures journal { IfOk result (λ owned_desk. owned_desk.own.seen.entries ≡ []) }
@@ -40,7 +42,7 @@ impl<J: Journal> OwnedDesk<J> {
         Ok(OwnedDesk { desk, owner })
     }
 
-    /// Returns the desk, for the calls of operators.
+    /// Lends the desk, for the calls of operators.
     pub fn desk(&self) -> &LockedDesk<J>
         ensures lock { result.now.id ≡ self.now.lock }
         ensures head { result.now.head ≡ self.now.own.seen.head }

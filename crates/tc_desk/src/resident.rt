@@ -6,7 +6,7 @@ ghost use base.Fml.{ftrue};
 use atomic_table::Badge;
 use std::marker::Model;
 
-/// A badge that threads may share, since a `&` to it can't be read.
+/// A badge that threads may share, since nothing can be read through a `&` to it.
 pub(crate) struct ResidentBadge<V> {
     badge: Badge<V>,
 }

@@ -1,4 +1,4 @@
-//! The channel of a desk under its lock.
+//! The data under a desk's lock: a slot for the desk. This module also has the parts of a desk that never change.
 
 ghost use Rattle.std.specs.Prelude.{◌≡◌, Some, IsSome};
 ghost use Rattle.crossbeam_utils.specs.Padded.{padded_value};
@@ -63,7 +63,7 @@ impl<J: Journal> Logged<DeskHead, Event> for DeskSlot<J> {
 }
 
 impl<J: Journal> DeskSlot<J> {
-    /// Creates a slot with this desk in it, or an empty slot.
+    /// Creates a slot with this desk in it, or an empty slot for `None`.
     pub(crate) fn new(desk: Option<DeskOf<J>>) -> DeskSlot<J>
         ensures { padded_value result.desk ≡ desk }
     {

@@ -23,7 +23,7 @@ pub trait OperatorList: Drop {
     fn operators(&self) -> &[DeskOperator]
         ensures { result.now ≡ at_desks self.now };
 
-    /// Returns the operators by value, which make no more events.
+    /// Returns the operators by value, in the order of the desks. They make no more events.
     fn into_operators(self) -> Vec<DeskOperator>
         ensures { result.items ≡ at_desks self };
 }
@@ -48,8 +48,8 @@ pub enum Refusal {
     /// A lock isn't free. No call of this crate returns with a lock taken, so the owner of the desks never sees this
     /// refusal.
     InUse,
-    /// The operators at one of the desks don't account for its journal. Either they aren't all operators that were
-    /// issued and haven't made as many events as the journal has, or they have made 2^64 - 1 events or more.
+    /// The operators at one of the desks don't account for its journal. Either there are fewer of them than were
+    /// issued, and they haven't made as many events as the journal has, or they have made 2^64 - 1 events or more.
     Unbalanced,
 }
 
@@ -98,8 +98,8 @@ fn leave<J: Journal>(guard: DeskGuard<J>) -> OwnedDesk<J>
     OwnedDesk { desk, owner }
 }
 
-// Takes the locks, beginning with that of the last desk, as long as they are free. The guards come in the order in
-// which the locks are taken.
+// Takes the locks, beginning with the lock of the last desk, as long as they are free. The guards come in the order in
+// which the locks are taken. Returns whether all locks were taken.
 fn hold_all<J: Journal>(owned_desks: &mut Vec<OwnedDesk<J>>, guards: &mut Vec<DeskGuard<J>>) -> bool
     requires empty { guards.old.items ≡ [] }
     requires room { vec_len owned_desks.old ≤ vec_capacity guards.old }
@@ -197,8 +197,8 @@ fn take_all_out<J: Journal>(
     room
 }
 
-// Takes all locks, in the order of the desks. If one of the locks isn't free, none is taken, and all desks are
-// returned.
+// Takes all locks, and returns the guards in the order of the desks. If one of the locks isn't free, the locks that
+// were taken are released, and all desks are returned.
 fn take_locks<J: Journal>(
     mut owned_desks: Vec<OwnedDesk<J>>,
     mut guards: Vec<DeskGuard<J>>,
@@ -233,7 +233,7 @@ fn give_back<J: Journal>(
     owned_desks
 }
 
-// Returns desks that were not closed.
+// Returns the desks and the operators that weren't closed, with the refusal.
 fn left_open<J: Journal, C: Drop>(
     owned_desks: Vec<OwnedDesk<J>>,
     operator_lists: Vec<C>,
@@ -249,8 +249,10 @@ fn left_open<J: Journal, C: Drop>(
 }
 
 /// Takes the channels out of their locks, in the order of the desks, if all events of each journal were made by the
-/// operators of that desk. This is so if the lists have all operators that were issued. Two lists are allocated before
-/// any lock is taken. All locks are taken, and all counts are compared, before any channel is taken out.
+/// operators of that desk. This is so if the lists have all operators that were issued. Otherwise the desks and the
+/// operators are returned. The call refuses a desk whose operators have made 2^64 - 1 events or more, because they
+/// aren't counted any further. Two lists are allocated before any lock is taken. All locks are taken, and all counts
+/// are compared, before any channel is taken out.
 pub fn close_together<J: Journal, C: OperatorList>(
     alloc: Global,
     owned_desks: Vec<OwnedDesk<J>>,
