@@ -61,7 +61,8 @@ pub(crate) fn print<R: AllocGlobal + Print + Eprint>(
     }
 }
 
-// The largest number of slips with which a word is still taken for a misspelt command.
+// The largest number of slips with which a word is still taken for a misspelt command. A slip is one letter that is
+// added, left out or changed, or two neighbours in the wrong order.
 const SLIPS: usize = 2;
 
 // The largest likeness of the word and a command for which this code suggests the command. If they are more alike,

@@ -1,4 +1,4 @@
-//! The meaning of the words with which a program is started, as the table of the program's words gives it.
+//! The meaning of the words with which a program is started. A table for each program lists the words that it takes.
 
 ghost use Rattle.std.specs.Prelude.{◌≡◌, ◌≤◌, IfOk, IfErr};
 ghost use Rattle.std.specs.Process.{exit_status};
@@ -63,7 +63,8 @@ pub(crate) fn ask<R: Env + AllocGlobal + Print + Eprint>(
     }
 }
 
-/// Returns the spacecraft id among the words. Each program that calls this function requires an id.
+/// Returns the spacecraft id among the words, which is at most 1,023. If there is none, prints that to standard error,
+/// and returns the exit status. Each program that calls this function requires an id.
 pub(crate) fn spacecraft_of<R: Eprint>(rt: &R, asked: Asked) -> Result<u16, ExitCode>
     ensures id { IfOk result (λ scid. scid ≤ MAX_SCID) }
     ensures status { IfErr result (λ status. exit_status status ≡ BAD_COMMAND_LINE) }

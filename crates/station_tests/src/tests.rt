@@ -92,7 +92,8 @@ fn closed(rt: &(impl Abort + Print), station: Station, operators: Vec<Operator>)
     }
 }
 
-// Checks that there are as many channels as counts, and that each channel has that number of events.
+// Checks that there are as many channels as counts, and that the number of events of each channel is the count at its
+// place.
 fn check_events<J: Journal>(rt: &impl Abort, channels: &[ChannelWith<J>], counts: &[u64]) {
     assert_eq!(rt; channels.len(), counts.len());
     for (channel, count) in channels.iter().zip(counts) {

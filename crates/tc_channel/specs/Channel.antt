@@ -41,8 +41,8 @@ FollowsKindWithin limit (kinds.Ad ns) old new field = new ≡ old
 FollowsKindWithin limit (kinds.Bc command) old new field = new ≡ old
 FollowsKindWithin limit kinds.Invalid old new field = new ≡ old
 
--- `unit` is the unit that a data field ends after the fields that left the open run of its stream. It is `None` if the
--- field ends no unit, or if the unit is longer than the limit.
+-- `unit` is the unit that a data field ends after any fields that leave the run stored for its stream. It is `None` if
+-- the field ends no unit, or if the unit is longer than the limit.
 abbrev pub EndsWithin : ℕ → OpenRuns → Service → List ℕ → Option (List ℕ) → Type 0
 EndsWithin limit open_runs service field unit = (fields : List (List ℕ)) → LeaveAtMost limit fields open_runs (stream_place service field) → unit ≡ at_most limit (unit_ended open_runs.segmented fields field)
 

@@ -30,8 +30,8 @@ pub trait Journal: Drop {
     fn start(alloc: Global) -> Self
         ensures events { events result ≡ [] };
 
-    /// Creates the entry of an event, and makes room for it in the journal. The events stay the same. The call fails if
-    /// memory runs out, which it can't if no entry takes memory.
+    /// Creates the entry of an event, and makes room for it in the journal. The events stay the same. The call fails
+    /// only if memory runs out, and never if entries take no memory.
     fn prepare(&mut self, alloc: Global, event: &LentEvent<'_>) -> Result<Self::Entry, AllocError>
         ensures same { events self.new ≡ events self.old }
         ensures ready { IfOk result (λ entry. is_ready self.new entry (event_of event.now)) }

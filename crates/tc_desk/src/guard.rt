@@ -96,8 +96,8 @@ impl<J: Journal> DeskGuard<J> {
     }
 
     /// Returns whether `operators` operators, which have made `count` events in all, can close the desk. They can if no
-    /// more operators were issued, or if the journal has `count` events. A count of 2^64 - 1 stands for that number or
-    /// more, and the result is then false.
+    /// more operators than these were issued, or if the journal has `count` events. A count of 2^64 - 1 stands for that
+    /// number or more, and the result is then false.
     pub(crate) fn can_close(&self, operators: usize, count: u64) -> bool
         ensures { (makers : List Own) → operators ≡ length makers → count ≡ min (total_made makers) (2 ^ 64 - 1)
             → (IsTrue result ↔ CanClose self.now.owner.own.issued makers self.now.now.entries) }

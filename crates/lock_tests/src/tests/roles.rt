@@ -59,7 +59,8 @@ fn comes_true(flag: &AtomicBool, turns: u32) -> bool {
     false
 }
 
-// Holds the lock for so long that a thread that waits for it stops polling it and sleeps.
+// Takes the lock, sets the flag `taken`, and holds the lock for so long that a thread that waits for it stops polling
+// it and sleeps.
 fn have_for_long<R: Wait + Clock>(
     rt: &R,
     lock: &BookLock,
@@ -76,7 +77,7 @@ fn have_for_long<R: Wait + Clock>(
     true
 }
 
-// Writes the number once the lock is taken, and returns whether it was written.
+// Writes the number 1 once the flag `taken` is set, and returns whether the number was written.
 fn write_behind<R: Wait>(rt: &R, lock: &BookLock, seat: &mut BookSeat, taken: &AtomicBool) -> bool
     requires { IsWriter lock.now seat.old }
     ensures { IsWriter lock.now seat.new }
@@ -84,7 +85,7 @@ fn write_behind<R: Wait>(rt: &R, lock: &BookLock, seat: &mut BookSeat, taken: &A
     comes_true(taken, 100_000_000) && write(rt, lock, seat, 1)
 }
 
-// Takes the lock and releases it again and again until the flag is set, and returns whether it was.
+// Takes the lock and releases it again and again until the flag is set. Returns whether the flag was found set.
 fn have_it_all_the_time<R: Wait>(
     rt: &R,
     lock: &BookLock,
@@ -235,7 +236,8 @@ fn act_both<R: Threads + Wait + Clock + Sync>(
 }
 
 // Runs two threads that take the lock whenever it is free, at most `times` times each, and a third thread that writes
-// after a while. Returns whether the third thread wrote before the others were done.
+// three numbers, each after a while. Returns whether the third thread was done before either of the others had taken
+// the lock `times` times.
 pub(super) fn against_two<R: Threads + Wait + Clock + Sync>(
     rt: &R,
     lock: &BookLock,

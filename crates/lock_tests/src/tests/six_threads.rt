@@ -53,7 +53,7 @@ impl Pair {
         Pair { one, two }
     }
 
-    // Runs both writers, each in a thread of its own.
+    // Runs both writers, each in a thread of its own. Returns whether both wrote all their numbers.
     fn work<R: Threads + Wait + Clock + Sync>(&mut self, rt: &R, lock: &BookLock) -> bool
         requires one { IsWriter lock.now self.old.one.seat }
         requires two { IsWriter lock.now self.old.two.seat }
@@ -73,7 +73,7 @@ struct Six {
 }
 
 impl Six {
-    // Runs all six writers, each in a thread of its own.
+    // Runs all six writers, each in a thread of its own. Returns whether all of them wrote all their numbers.
     fn work<R: Threads + Wait + Clock + Sync>(&mut self, rt: &R, lock: &BookLock) -> bool
         requires one { IsWriter lock.now self.old.one.one.seat × IsWriter lock.now self.old.one.two.seat }
         requires two { IsWriter lock.now self.old.two.one.seat × IsWriter lock.now self.old.two.two.seat }
@@ -100,7 +100,7 @@ impl Six {
     }
 }
 
-// Runs the four writers of two pairs.
+// Runs the four writers of two pairs, each in a thread of its own. Returns whether all four wrote all their numbers.
 fn work_by_four<R: Threads + Wait + Clock + Sync>(
     rt: &R,
     lock: &BookLock,

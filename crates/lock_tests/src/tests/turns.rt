@@ -8,7 +8,8 @@ use super::*;
 use std::marker::Brand;
 use std::sync::Wait;
 
-// Writes the number through a seat that holds the lock, and releases the lock.
+// Writes the number through a seat that holds the lock, and releases the lock. Returns whether there was memory for the
+// number.
 fn write_with<P: Number>(lock: &BookLock, seat: &mut BookSeat, number: u32) -> bool
     requires number { P.number ≡ number }
     requires own { seat.old.table_id ≡ lock.now.id }

@@ -45,9 +45,9 @@ fn who_has_it_all_the_time_keeps_nobody_away(rt: HostRuntime) {
     assert_eq!(rt; numbers(&rt, rt.alloc(), &lock, &mut other), 100);
 }
 
-// Two threads that only try the lock always take it before a woken thread can take it. So a thread that sleeps gets the
-// lock only if the lock is reserved for it. The thread requests that once it has slept twice. Each of its three turns
-// then waits for about four turns of the other threads.
+// Two threads that only try the lock always take it before a woken thread can take it. A thread that sleeps therefore
+// gets the lock only if the lock is reserved for threads that have slept. It requests this once it has slept twice.
+// Each of its three turns then waits for about four turns of the other threads.
 #[test]
 fn who_has_slept_twice_comes_before_who_only_tries(rt: HostRuntime) {
     let (lock, mut first) = new_lock(&rt, rt.alloc());

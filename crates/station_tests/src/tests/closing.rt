@@ -1,4 +1,5 @@
-//! Closing a station with operators of another station, whose counts differ, and closing counting stations.
+//! Tests that close a station with the operator of another station, whose counts differ, and tests that close counting
+//! stations.
 
 ghost use Rattle.std.specs.Prelude.{◌≡◌, All};
 

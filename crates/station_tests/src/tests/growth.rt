@@ -129,8 +129,8 @@ impl Published {
         }
     }
 
-    // Brings a frame that must have this event. The watcher must read the first word before the publication, and the
-    // second one after it.
+    // Brings a frame that must lead to the event of FARM-1 with this number. The watcher must read the first word
+    // before the publication, and the second one after it.
     fn frame(&mut self, rt: &impl Abort, octets: &[u8], event: u8, words: [u32; 2]) {
         let frame = read_frame(octets).expect(rt, "a frame");
         let reply = match self.channel.frame(&frame) {

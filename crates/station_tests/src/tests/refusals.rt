@@ -28,7 +28,7 @@ fn settings_that_make_no_station(rt: HostRuntime) {
     check_fault(&rt, alloc, 42, &[64], bad);
 }
 
-// Checks that a call for `n` operators issues `n` of them, or fails with this fault.
+// Checks that a call for `n` operators has the result `issued`: the number of operators, or the fault.
 fn check_issued(
     rt: &impl Abort,
     station: &mut Station,
@@ -58,7 +58,8 @@ const OTHER_BOTH: [u8; 13] = [
     0x00, 0x2b, 0x08, 0x0c, 0x00, 0xc0, 0x10, 0x05, 0xc0, 0x00, 0x00, 0x00, 0xaa,
 ];
 
-// Checks that octets for no channel are refused with this fault when they are located, and when they are brought.
+// Checks that octets for no channel are refused with this fault when they are located, and when they are brought with
+// and without a watcher. None of the calls may be counted for the operator.
 fn check_unplaced(
     rt: &(impl Wait + Abort),
     operator_list: &mut OperatorList<Recorded>,

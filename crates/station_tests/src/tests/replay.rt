@@ -16,7 +16,7 @@ pub(super) struct Row<'a> {
     pub(super) answers: &'a str,
 }
 
-// Creates the settings of channel 1 or of channel 2. The two differ only in their first V(R).
+// Creates the settings of channel 1 or of channel 2. Besides their ids, the two differ only in their first V(R).
 pub(super) fn row_settings(rt: &impl Abort, alloc: Global, row: &Row, vcid: u8) -> Settings {
     let first = if vcid == 1 { 0 } else { 100 };
     let wanted = Wanted {
@@ -38,7 +38,7 @@ pub(super) fn new_channel(rt: &impl Abort, alloc: Global, row: &Row, vcid: u8) -
     }
 }
 
-// Prints the name of the call for which memory was refused. The answer to the repeated call tells which call that was.
+// Prints the name of the call for which memory was refused. The answer to the repeated call shows which call that was.
 fn call_of(rt: &impl Print, who: &str, answer: &Asked) {
     let _ = match answer {
         Ok(Answer::Frame { vcid: _, reply }) => {
@@ -51,8 +51,8 @@ fn call_of(rt: &impl Print, who: &str, answer: &Asked) {
     };
 }
 
-// Requests the operation of a line, and returns the text of the answer. If memory runs out, nothing may have changed,
-// and the operation is requested again.
+// Carries out the operation of a line on `asked`, and returns the text of the answer. If memory runs out, nothing may
+// have changed, and the operation is carried out again.
 pub(super) fn ask<A: Asking, R: Wait + Abort + Print>(
     rt: &R,
     alloc: Global,
@@ -174,8 +174,8 @@ impl Replay {
         }
     }
 
-    // Carries out the operation of a line on channel 1 and then on channel 2, if there is one. Checks that channel 1
-    // gives this answer, and that its journal then has the event.
+    // Carries out the operation of a line on channel 1 and then on channel 2, if there is one. Checks that the answer
+    // of channel 1 is the expected one, and that the journal then has the event, unless the operation was refused.
     fn step<A: Asking, R: Wait + Abort + Print>(
         &mut self,
         rt: &R,

@@ -36,8 +36,8 @@ static ROWS: [Row; 5] = [
     },
 ];
 
-// Each row is played on stations whose channels keep their journals, and on stations whose channels count events. It is
-// played with and without watchers.
+// Each row is played on stations whose channels keep their journals, and on stations whose channels only count events.
+// It is played with and without watchers.
 #[test]
 fn a_station_answers_as_channels_that_stand_alone(rt: HostRuntime) {
     for row in &ROWS {

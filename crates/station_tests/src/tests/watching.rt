@@ -1,4 +1,4 @@
-//! Comparisons of the status that watchers read.
+//! Tests of the status words that watchers read.
 
 ghost use Rattle.std.specs.Prelude.{◌≡◌};
 ghost use Rattle.tc_station.specs.Moments.{IsWatcherOf};

@@ -13,8 +13,8 @@ use tc_desk::DeskOperator;
 // The number of frames that each of the two threads brings.
 const TURNS: u8 = 250;
 
-// Returns the Type-BD frame of a turn of a thread. Its unit has two octets: the number of the thread, and that of the
-// turn.
+// Returns the Type-BD frame of a turn of a thread. Its unit has two octets: the number of the thread, and the number of
+// the turn.
 fn turn_frame(who: u8, turn: u8) -> [u8; 8] {
     [0x20, 0x2a, 0x04, 0x07, 0x00, 0xc3, who, turn]
 }

@@ -1,4 +1,4 @@
-//! Closing two desks at once, with all workers that have an operator at each desk.
+//! Tests that close two desks at once. Each worker has an operator at each of the desks.
 
 ghost use Rattle.std.specs.Prelude.{◌≡◌, ◌∷◌, [], map};
 ghost use Rattle.tc_desk.specs.Together.{AreOurs};
