@@ -166,7 +166,7 @@ impl<S: Logged<D, E>, D: Head, E> LoggedLock<S, D, E> {
         TAKEN
     }
 
-    // Raises the word of a taken lock to the mark of this thread ([`asking`]), sleeps while the word stays the same,
+    // Raises the word of a taken lock to the mark of this thread (`asking`), sleeps while the word stays the same,
     // and returns the last word that the thread saw. The word isn't raised if the lock is free, or if the word is
     // already that high. If the word changes before it is raised, the thread doesn't sleep.
     fn sleep<R: Wait>(&self, rt: &R, seat: &mut LockSeat<S, D, E>, word: u64, sleeps: u64) -> u64

@@ -130,7 +130,7 @@ popped-none key (w ∷ ws) none = by (eqb w.key key) (λ e. popped-none key ws e
   by true rest e = ap (λ (x : StoredQueue). x ∷ ws) (nothing-shorter w e)
   by false rest e = ap (λ (x : List StoredQueue). w ∷ x) (rest e)
 
--- whether or not an oldest packet was taken, the core is that of some channel
+-- whether or not an oldest packet was taken, the core is still the core of some channel
 pub queues-work : (parts : Parts) (later : List Keyed) (apid : ℕ) → AreChannelCore parts → rings_in later ≡ popped apid (rings_in parts.queues)
     → room_sizes later ≡ room_sizes parts.queues → (AreCommitted parts.queues → AreCommitted later) → AreChannelCore (record parts { queues = later })
 queues-work parts later apid w is same still = by (oldest_for apid (rings_in parts.queues)) refl where
@@ -138,7 +138,7 @@ queues-work parts later apid w is same still = by (oldest_for apid (rings_in par
   by None none = (w.0, w.1, w.2, with-queues w.2 later parts.units w.3 (rw (is ∙ popped-none apid (rings_in parts.queues) none) w.3.holds) same refl (still w.3.committed) w.3.units_committed)
   by (Some item) some = (w.0, w.1, w.2 ++ Take apid ∷ [], packet-taken later apid w.3 (rw some refl) is same still)
 
--- whether or not an oldest unit was taken, the core is that of some channel
+-- whether or not an oldest unit was taken, the core is still the core of some channel
 pub units-work : (parts : Parts) (later : List Keyed) (map_id : ℕ) → AreChannelCore parts → rings_in later ≡ popped map_id (rings_in parts.units)
     → room_sizes later ≡ room_sizes parts.units → (AreCommitted parts.units → AreCommitted later) → AreChannelCore (record parts { units = later })
 units-work parts later map_id w is same still = by (oldest_for map_id (rings_in parts.units)) refl where
@@ -176,7 +176,7 @@ pub unit-copied : (parts : Parts) (later : List Keyed) (room map_id : ℕ) (answ
 unit-copied parts later room map_id (Err fault) reply is same still = tt
 unit-copied parts later room map_id (Ok count) reply is same still = λ limits s journal k. unit-taken later map_id k (rw (← reply) at (copied-waits room map_id (rings_in parts.units))) is same still
 
--- whether or not the oldest packet was copied out, the core is that of some channel
+-- whether or not the oldest packet was copied out, the core is still the core of some channel
 pub queues-copied : (P : Type 0) (parts : Parts) (later : List Keyed) (apid : ℕ) (answer : Result ℕ NotCopied) → AreChannelCore parts → OnOk answer (rings_in later ≡ popped apid (rings_in parts.queues))
     → room_sizes later ≡ room_sizes parts.queues → (AreCommitted parts.queues → AreCommitted later) → OnErr answer ((later ≡ parts.queues) × P) → AreChannelCore (record parts { queues = later })
 queues-copied P parts later apid (Ok count) w is same still kept = queues-work parts later apid w is same still

@@ -1,5 +1,5 @@
--- Notations, lemmas of std, types and definitions that most proofs use, under one name. `Ad` and `Bd` are the services,
--- and `header_of` and `place_of` are those of frames.
+-- Notations, lemmas of std, types and definitions that most proofs use, imported from one file. `Ad` and `Bd` are the
+-- services, `header_of` is the header of a frame, and `place_of` is the place of a frame's number in the window.
 pub use Rattle.std.proofs.Common.{vec_capacity, vec_len, ◌%◌}
 pub use Rattle.std.proofs.lemmas.List.{drop-append-le, drop-drop, length-drop, map-append}
 pub use Rattle.std.proofs.lemmas.List.Elements.{filter-append, filter_map-append}

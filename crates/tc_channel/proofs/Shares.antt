@@ -37,8 +37,8 @@ from-copies wanted ps ws copies fit is = rw is (record {
   count = length-copies wanted 0 ps ws;
 })
 
--- once each stored queue has its share of the items, the stored queues are those of the state in which each queue has
--- its share
+-- if its share of the items is put into each stored queue, the result is the stored form of the state's queues with
+-- their shares
 pub queues-follow : (wanted : ℕ → List ℕ → Bool) (old new : List StoredQueue) (copies : List Placed) (ps : List (List ℕ)) (qs : List Queue) → AreKept qs → old ≡ map stored qs
     → AreShares wanted ps old copies → new ≡ put_all old copies → new ≡ map stored (with_shares wanted ps qs)
 queues-follow wanted old new copies ps qs kept are shares new_is = new_is ∙ shares.put ∙ ap (shared wanted ps) are ∙ stored-shares wanted ps qs kept

@@ -37,7 +37,7 @@ part-length (x ∷ xs) [] h = absurd h
 part-length (x ∷ xs) (y ∷ ys) (inl p) = omega (arith, part-length xs ys p.1)
 part-length (x ∷ xs) (y ∷ ys) (inr p) = omega (arith, part-length (x ∷ xs) ys p)
 
--- a part that is as long as the whole is the whole
+-- a part of a list that is no shorter than the list is the list itself
 pub part-whole : (xs ys : List (List ℕ)) → IsPartOf xs ys → length ys ≤ length xs → xs ≡ ys
 part-whole [] [] h le = refl
 part-whole [] (y ∷ ys) h le = absurd (omega arith)

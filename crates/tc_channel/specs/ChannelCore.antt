@@ -75,7 +75,7 @@ pub record HoldsInRooms (limits : ℕ → ℕ) (s : Settings) (journal : List Ev
   pub sizes : AreEnough parts.store (room_sizes parts.queues)
   pub unit_sizes : AreEnough parts.store (room_sizes parts.units)
 
--- the parts are those of the run of some channel
+-- the parts belong to the run of some journal, with some limits and settings
 abbrev pub AreChannelCore : Parts → Type 0
 AreChannelCore parts = (limits : ℕ → ℕ) × (s : Settings) × (journal : List Event) × HoldsInRooms limits s journal parts
 

@@ -90,10 +90,11 @@ impl<J: Journal> ChannelWith<J> {
         }
     }
 
-    /// Takes in a frame of any virtual channel. An accepted AD data field is buffered. If an accepted BD data field
-    /// ends a unit, the unit is queued at once: whole if its MAP is chosen, otherwise as its packets. The call copies
-    /// the octets of the frame for a recorded journal, the data field of an accepted AD frame for the buffer, and the
-    /// unit or each packet that is queued. If the journal isn't recorded, only a frame of Type-BD may be refused.
+    /// Takes in a frame, whatever virtual channel it names. An accepted AD data field is buffered. If an accepted BD
+    /// data field ends a unit, the unit is queued at once: whole if its MAP is chosen, otherwise as its packets. The
+    /// call copies the octets of the frame for a recorded journal, the data field of an accepted AD frame for the
+    /// buffer, and the unit or each packet that is queued. It is refused only if memory runs out. If the journal isn't
+    /// recorded, this can happen only for a frame of Type-BD.
     pub fn frame(&mut self, frame: &Frame) -> Result<FrameReply, NoMemory>
         ensures allowed { IsAllowed self.old.settings }
         ensures lawful { IsLawful self.old.settings self.old.journal }
@@ -131,8 +132,9 @@ impl<J: Journal> ChannelWith<J> {
         Ok(reply)
     }
 
-    /// Releases the oldest data field from the buffer, and queues the unit that the field ends: whole if its MAP is
-    /// chosen, otherwise as its packets. The call copies the unit, or each packet that is queued.
+    /// Releases the oldest data field from the buffer, and queues the unit that the field ends, if it ends one: whole
+    /// if its MAP is chosen, otherwise as its packets. The call copies the unit, or each packet that is queued. It is
+    /// refused if the buffer is empty, or if memory runs out.
     pub fn release(&mut self) -> Result<Delivery, ReleaseFault>
         ensures allowed { IsAllowed self.old.settings }
         ensures lawful { IsLawful self.old.settings self.old.journal }
@@ -166,8 +168,8 @@ impl<J: Journal> ChannelWith<J> {
         Ok(delivery)
     }
 
-    /// Takes the oldest packet out of the queue with this APID. The packet is moved, not copied. Only a recorded
-    /// journal may grow, so without one the call never runs out of memory.
+    /// Takes the oldest packet out of the queue with this APID. The packet is moved, not copied. The call is refused if
+    /// there is no such queue, if the queue is empty, or if memory for a recorded journal runs out.
     pub fn take(&mut self, apid: u16) -> Result<Vec<u8>, TakeFault>
         ensures allowed { IsAllowed self.old.settings }
         ensures lawful { IsLawful self.old.settings self.old.journal }
@@ -209,8 +211,8 @@ impl<J: Journal> ChannelWith<J> {
         Ok(packet)
     }
 
-    /// Takes the oldest unit out of the queue of this chosen MAP. The unit is moved, not copied. Only a recorded
-    /// journal may grow, so without one the call never runs out of memory.
+    /// Takes the oldest unit out of the queue of this chosen MAP. The unit is moved, not copied. The call is refused if
+    /// the MAP isn't chosen, if its queue is empty, or if memory for a recorded journal runs out.
     pub fn take_unit(&mut self, map: u8) -> Result<Vec<u8>, TakeUnitFault>
         ensures allowed { IsAllowed self.old.settings }
         ensures lawful { IsLawful self.old.settings self.old.journal }

@@ -59,7 +59,8 @@ impl<R: Room> Model for ChannelCore<R> {
 
 impl<R: Room> ChannelCore<R> {
     /// Creates the core of a channel that starts. The core has the runs `runs`, none of which is open. It has a room
-    /// for each data field of the buffer, and rooms of `size` octets for packets and units.
+    /// for each data field of the buffer, and rooms of `size` octets for packets and units. No unit may be longer than
+    /// `size` octets. The call fails if memory runs out.
     pub fn new<C: Tick>(
         alloc: Global,
         settings: &Settings,

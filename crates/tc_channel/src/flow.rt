@@ -20,7 +20,8 @@ ghost use Rattle.tc_channel.specs.Through.{IsPartOf, packets_made, units_made, s
 
 use tc_link::a_written_clcw_reads_back;
 
-/// The Type-AD data fields passed to reassembly are the accepted and released ones, each once and in order.
+/// After a lawful journal, the Type-AD data fields passed to reassembly are the ones that were accepted and released,
+/// each once and in order.
 pub fn what_was_accepted_is_passed_on_in_order()
     ensures { (limits : ℕ → ℕ) (s : Settings) (journal : List Event) → IsLawfulWithin limits s journal
         → fields_passed Service.Ad (run_within limits s journal).passed

@@ -3,8 +3,8 @@ use Rattle.tc_desk.proofs.Names.{◌≡◌, inl, inr, ℕ, ◌≤◌, ◌-◌, �
 use native.Mathlib.Decide.{dec_le}
 use mathlib.Core.Logic.{dite}
 
--- Let the operators have made the whole journal in the case that there are no fewer of them than were issued. If they
--- can then close the desk, they are balanced.
+-- Suppose that the operators have made the whole journal if none of those that were issued is missing. If they can
+-- close the desk, they are balanced.
 pub as-balanced : (issued : ℕ) (makers : List Own) (journal : List Event) → CanClose issued makers journal → (issued ≤ length makers → total_made makers ≡ length journal) → IsBalanced makers journal
 as-balanced issued makers journal can whole =
     let few = can.0 in
