@@ -1,4 +1,4 @@
--- Each accepted frame has a field with at least one octet, and a number below 256.
+-- After a lawful journal, each accepted frame has a field with at least one octet, and a number below 256.
 use Rattle.tc_channel.proofs.Names.{ℕ, ◌<◌, List, [], ◌∷◌, length, map, drop, arith, AllByRecursion, length-drop, HasStep, IsWhole, accepts, Settings, Event, Frame, ChannelState, Accepted, step, row_of, first_of, header_of, passed_on, run_within, IsLawfulWithin}
 use Rattle.tc_channel.proofs.StateQueues.{kept-either}
 use Rattle.tc_channel.proofs.Runs.{keeps}
@@ -21,7 +21,8 @@ step-each P one c b (Frame octets) has h =
     (all-append P b.accepted (record { ns = (header_of octets).ns; field = drop 5 octets } ∷ []) h (one octets has.0, tt)) h
 step-each P one c b _ has h = h
 
--- a property that each whole frame has holds for each accepted frame
+-- after a lawful journal, a property that the field and the number of each whole frame have holds for each accepted
+-- frame
 pub each-accepted : (P : Accepted → Type 0) → OfWholes P → (limits : ℕ → ℕ) (c : Settings) (journal : List Event) → IsLawfulWithin limits c journal → AllByRecursion P (run_within limits c journal).accepted
 each-accepted P one limits c journal lawful = keeps (λ b. AllByRecursion P b.accepted) limits c journal lawful (step-each P one c) tt
 

@@ -16,7 +16,7 @@ pub within-unit : (segmented : Bool) (fields : List (List ℕ)) (field : List �
 within-unit true fields field = within-ended (header_of field).part (open_run fields) (body_of field)
 within-unit false fields field = bounded-within field
 
--- a unit within the largest size stays so under a limit
+-- a unit within the largest size is still within it if a limit is applied
 
 pub within-both : (limit : ℕ) (o : Option (List ℕ)) → IsWithinLimit o → IsWithinLimit (at_most limit o)
 within-both limit None within = tt

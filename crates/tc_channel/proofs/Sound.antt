@@ -50,7 +50,7 @@ entry-sound E10 S3 r room e full h = rw e (h.0, λ w. absurd cc)
 entry-sound row S1 r room e full h = rw e h
 entry-sound _ _ r room e full h = rw e h
 
--- components that agree with the state also agree with it after E10, with room or without
+-- components that agree with their state and with the buffer still do so after E10, with room or without
 released-sound : (st : State) (r : Report) (room later : Bool) → r.state ≡ st → SoundAt st r.wait r.lockout room → Sound later (Left E10 st r)
 released-sound S1 r room later e h = rw e h
 released-sound S2 r room later e h = (refl, h.1)

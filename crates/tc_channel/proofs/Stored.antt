@@ -22,7 +22,7 @@ step-counted c b (Frame octets) one h = kept-either IsCounted (row_of c b octets
 step-counted c b Release one h = omega arith
 step-counted c b _ one h = h
 
--- no more fields were released than accepted
+-- after a lawful journal, no more fields were released than accepted
 pub state-counted : (limits : ℕ → ℕ) (c : Settings) (journal : List Event) → IsLawfulWithin limits c journal → IsCounted (run_within limits c journal)
 state-counted limits c journal lawful = keeps IsCounted limits c journal lawful (step-counted c) (omega arith)
 

@@ -17,7 +17,7 @@ stream-other s n passed p h =
     let none : filter (is_of s n) (p ∷ []) ≡ [] = rw h refl in
     ap (map (λ (x : Passed). x.field)) (filter-append (is_of s n) passed (p ∷ []) ∙ ap (λ (x : List Passed). filter (is_of s n) passed ++ x) none ∙ append-nil (filter (is_of s n) passed))
 
--- two streams have the same place if and only if their service and their MAP are the same
+-- two streams of MAPs below 64 have the same place if and only if their service and their MAP are the same
 same_place : (s t : Service) (m n : ℕ) → m < 64 → n < 64 → (((same_service s t && eqb m n) ≡ true) → stream_at s n ≡ stream_at t m) × (((same_service s t && eqb m n) ≡ false) → stream_at s n ≢ stream_at t m)
 same_place Ad Ad m n m_in n_in = (λ h. elim (eqb_tells m n) [ inl e ↦ sym e.1 | inr e ↦ let x = e.0 in absurd cc ], λ h e. let x = eq-eqb m n (sym e) in cc)
 same_place Bd Bd m n m_in n_in = (λ h. elim (eqb_tells m n) [ inl e ↦ ap (λ k. 64 + k) (sym e.1) | inr e ↦ let x = e.0 in absurd cc ], λ h e. let x = eq-eqb m n (omega arith) in cc)

@@ -57,7 +57,8 @@ impl Publisher {
         Ok(Publisher { board, seat })
     }
 
-    /// Publishes the channel's journal, by one store. The journal must begin with the one that was published last.
+    /// Publishes the channel's journal, by one store. The channel must have the settings that were published last, and
+    /// its journal must begin with the journal that was published last.
     pub fn publish<J: Journal>(&mut self, channel: &ChannelWith<J>)
         requires { IsEarlier self.old.published channel.now }
         ensures board { self.new.board ≡ self.old.board }
