@@ -7,7 +7,7 @@ use std::fmt;
 /// A reason why the words of the command line can't be used.
 #[derive(Debug, Drop)]
 pub(crate) enum WordsFault {
-    /// The first word that isn't UTF-8, with its place after the program's name.
+    /// The first word that isn't UTF-8, with its place. The program's name is at place 0.
     NotText { place: usize, octets: Vec<u8> },
     /// Memory for the words ran out.
     NoMemory,

@@ -177,7 +177,7 @@ module _ {S D E : Type 0} (log : S → Log D E) (fits : S → Type 0) (top : D) 
       → IsFree log fits words' homes' b.now b.holder ⊎ IsTakenOut words' homes' → IsLock log fits top words' homes' views
   relock words words' homes homes' views b lock = record { now = b.now; headed = b.headed; owners = b.owners; long = b.long; holder = b.holder; seats = b.seats; others = b.others; first = b.first; at_first = b.at_first; reported = b.reported; counted = b.counted; lock = lock }
 
-  -- a view that is put in its own place changes nothing
+  -- if the view of a seat is replaced by itself, the rule still holds
   again : (words : List ℕ) (homes : List (Option S)) (views : List (View D E)) (id : ℕ) (v : View D E) → get_elem? views id ≡ some v → IsLock log fits top words homes views → IsLock log fits top words homes (set views id v)
   again words homes views id v at b = subst (λ l. IsLock log fits top words homes l) (sym (set_again views id v at)) b
 

@@ -1,4 +1,4 @@
--- The units that are delivered whole.
+-- Lemmas about chosen MAPs, and about the units that are delivered whole.
 use Rattle.tc_channel.proofs.Names.{◌≡◌, ◌≢◌, ◌<◌, ℕ, cond, take, ◌++◌, zero, suc, Bool, true, false, List, [], ◌∷◌, length, map, get_or, Option, Some, refl, sym, ap, ◌∙◌, inl, inr, arith, is_some, Any, ◌↔◌, IsTrue, eqb_tells, nat_tests, eq-eqb, ne_eqb, append-nil, take_all, Service, Settings, MapSetting, Event, ChannelState, Queue, queue_of, map_of, is_for, is_of_map, is_chosen, packets_offered, units_offered, with_share, room_of, run_within, unit_of, passed_on, take-nil}
 use Rattle.tc_channel.specs.Laws.{IsOfChosenMap, has_room_for_one}
 use Rattle.tc_channel.proofs.StateQueues.{keys, unit-keys-stay}

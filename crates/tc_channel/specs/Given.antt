@@ -10,7 +10,8 @@ use Rattle.tc_channel.specs.declared.event.Event.TheVariants.{Frame, Release, Ta
 use Rattle.tc_queues.specs.ChannelState.{ChannelState, Queue, queue_of, waiting}
 use Rattle.tc_channel.specs.Run.{step}
 
--- the item that a take from the queue with this key gives: the oldest item that waits there
+-- the item that a take from the queue with this key returns: the oldest item that waits there, or `None` if there is
+-- none
 abbrev pub oldest_in : ℕ → List Queue → Option (List ℕ)
 oldest_in key queues = option_and_then (λ items. slice_get items 0) (option_map waiting (queue_of key queues))
 

@@ -46,11 +46,9 @@ release_reply_at state = delivery_of (first_of (buffer state)) (unit_of state Ad
 
 -- the replies of a channel with a limit for each MAP after a journal
 
--- the reply to a frame
 unfoldable pub frame_reply_within : (ℕ → ℕ) → Settings → List Event → List ℕ → FrameReply
 frame_reply_within limits s journal octets = frame_reply_at s (run_within limits s journal) octets
 
--- the reply to a release
 unfoldable pub release_reply_within : (ℕ → ℕ) → Settings → List Event → Delivery
 release_reply_within limits s journal = release_reply_at (run_within limits s journal)
 

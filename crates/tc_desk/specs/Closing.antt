@@ -9,9 +9,9 @@ use Rattle.tc_desk.specs.Log.{Own, AtLock, accounts_of}
 abbrev pub IsBalanced : List Own → List Event → Type 0
 IsBalanced makers journal = (total_made makers ≡ length journal) × (length journal < 2 ^ 64 - 1)
 
--- The operators `makers` can close a desk whose owner has issued `issued` operators. Either there are no fewer of them
--- than were issued, or they have made as many events as the journal has. In both cases they have made fewer than 2^64 -
--- 1 events.
+-- The operators `makers` can close a desk whose owner has issued `issued` operators. They have made fewer than 2^64 - 1
+-- events. Besides, either there are no fewer of them than were issued, or they have made as many events as the journal
+-- has.
 abbrev pub CanClose : ℕ → List Own → List Event → Type 0
 CanClose issued makers journal = (total_made makers < 2 ^ 64 - 1) × ((issued ≤ length makers) ⊎ (total_made makers ≡ length journal))
 
@@ -21,8 +21,8 @@ abbrev pub IsCause : ℕ → List Own → Type 0
 IsCause issued makers = (length makers < issued) ⊎ (2 ^ 64 - 1 ≤ total_made makers)
 
 -- The journal of the closed channel is a merge of the events that these operators made, and has as many events as they
--- have made. The moment that each operator had seen is a beginning of this journal, and has the settings and the board
--- of the desk.
+-- have made, fewer than 2^64 - 1. The moment that each operator had seen is a beginning of this journal, and has the
+-- settings and the board of the desk.
 pub record IsClosed (owner : AtLock) (operators : List AtLock) (closed : History) : Type 0 where
   pub settings : closed.settings ≡ owner.own.seen.head.settings
   pub balanced : IsBalanced (accounts_of operators) closed.journal

@@ -38,7 +38,8 @@ nobody = record { lock = nowhere.board; own = (gone nowhere).own }
 abbrev pub column : ℕ → List (List AtLock) → List AtLock
 column place operator_lists = map (λ (operator_list : List AtLock). slice_index_or operator_list place nobody) operator_lists
 
--- the channel at the place of each desk is that desk's channel, closed with the operators there
+-- There are as many channels as desks. The channel at the place of each desk is that desk's channel, closed with the
+-- operators there.
 pub record AreClosed (owned_desks : List AtLock) (operator_lists : List (List AtLock)) (closed : List History) : Type 0 where
   pub as_many : length closed ≡ length owned_desks
   pub each : (place : ℕ) (owned_desk : AtLock) (channel : History) → slice_get owned_desks place ≡ Some owned_desk → slice_get closed place ≡ Some channel → IsClosed owned_desk (column place operator_lists) channel
@@ -70,8 +71,8 @@ CannotCloseOne guard operator_lists = (place : ℕ) × (h : AtHand) × (slice_ge
 abbrev pub HasCause : List AtLock → List (List AtLock) → Type 0
 HasCause owned_desks operator_lists = (place : ℕ) × (owned_desk : AtLock) × (slice_get owned_desks place ≡ Some owned_desk) × IsCause owned_desk.own.issued (accounts_of (column place operator_lists))
 
--- This is the reason why the desks weren't closed. If the counts are the reason, there are moments of the desks, one of
--- each, at which one of the desks wasn't balanced.
+-- This can be the reason why the desks weren't closed. If the counts are the reason, there are moments of the desks,
+-- one of each desk, at which not all desks were balanced.
 abbrev pub IsClosingRefusal : List AtLock → List (List AtLock) → Refusal → Type 0
 IsClosingRefusal owned_desks operator_lists NoMemory = Unit {0}
 IsClosingRefusal owned_desks operator_lists InUse = Unit {0}

@@ -46,8 +46,8 @@ fn who_has_it_all_the_time_keeps_nobody_away(rt: HostRuntime) {
 }
 
 // Two threads that only try the lock always take it before a woken thread can take it. A thread that sleeps therefore
-// gets the lock only if the lock is reserved for threads that have slept. It requests this once it has slept twice.
-// Each of its three turns then waits for about four turns of the other threads.
+// gets the lock only if the lock is reserved for threads that have slept. The thread requests this once it has slept
+// twice. Each of its three turns then waits for about four turns of the other threads.
 #[test]
 fn who_has_slept_twice_comes_before_who_only_tries(rt: HostRuntime) {
     let (lock, mut first) = new_lock(&rt, rt.alloc());
