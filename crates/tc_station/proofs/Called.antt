@@ -132,7 +132,8 @@ same-lock station o vcids owned scid issued desks owned_desks place vcid there o
     let at_owned_desk : position (λ v. v == vcid) owned ≡ Some place = ap (λ (x : Roster). position (λ v. v == vcid) x.vcids) seen ∙ place_is in
     same-lock-at station o vcids owned scid issued desks owned_desks place there owned_desk view ours seen (id-of vcids desks place vcid there ids is at).0 (id-of owned owned_desks place vcid owned_desk owned_desk_ids owned_desk_is at_owned_desk).0 is owned_desk_is
 
--- if another answer holds at the moment of a call, the call can be stated with this answer
+-- if another answer holds at the moment of a call and fits the operator's account after the call, the call can be
+-- stated with this answer
 answered-so : {R F S G : Type 0} (place vcid : ℕ) (e : Event) (ok : Moment → R → Type 0) (err : Moment → F → Type 0) (ok2 : Moment → S → Type 0) (err2 : Moment → G → Type 0) (before after : AtStation) (r : Result R F) (r2 : Result S G)
     (c : IsCallAt place vcid e ok err before r after) → MatchResult r2 (λ a. ok2 c.call.now a × (c.next.own ≡ made e c.call.now c.there.own)) (λ f. err2 c.call.now f × (c.next.own ≡ looked c.call.now c.there.own))
     → IsCallAt place vcid e ok2 err2 before r2 after

@@ -6,7 +6,7 @@ use Rattle.logged_lock.proofs.Steps.{beginning-trans, prefix-trans}
 use Rattle.tc_status.specs.Board as board
 
 -- The station was closed together with its operators. One of them is this operator, which may have made more calls. The
--- channel is the one at this place.
+-- channel is the one that the close returned at this place.
 pub record IsClosedSince (station : Roster) (place : ℕ) (operator : AtStation) (channel : History) : Type 0 where
   pub operators : List AtStation
   pub closed : List History
@@ -50,7 +50,8 @@ seen-in-closed station place o channel there at since =
     let longer = subst (λ (d : AtLock). IsBeginning d.own.seen on.after.own.seen) same on.longer in
     (owned_desk.0.own.seen.head, sym one.settings, beginning-trans there.own.seen on.after.own.seen closed longer begun)
 
--- the law about desks that these proofs rest on
+-- A law about desks that these proofs use. Suppose that a journal continues the moment after a call. Then the call's
+-- event is an entry of the journal, and the entries before it are those of the moment at which the call was decided.
 abbrev pub Stands : Type 0
 Stands = (before : Own) (now : Moment) (e : Event) (closed : Moment) → IsBeginning (made e now before).seen closed
     → (slice_get closed.entries (length now.entries) ≡ Some e) × (now ≡ record { head = closed.head; entries = take (length now.entries) closed.entries })

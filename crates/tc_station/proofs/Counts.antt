@@ -91,7 +91,8 @@ pub rises : (o : Option ℕ) (cs : List ℕ) (place : ℕ) → get_or cs place 0
 rises None cs place = omega arith
 rises (Some k) cs place = set-rises cs k (raised (get_or cs k 0)) (raised-up (get_or cs k 0)) place
 
--- A count rose by at least `least`, and by at most `least + others`. It never rises beyond 2^64 - 1.
+-- A count rose by at least `least`, and by at most `least + others`. If it would rise beyond 2^64 - 1, it stays at this
+-- number.
 pub record Between (least others before after : ℕ) : Type 0 where
   pub low : raised_by least before ≤ after
   pub high : after ≤ raised_by (least + others) before

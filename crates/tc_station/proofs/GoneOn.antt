@@ -4,7 +4,7 @@ use Rattle.logged_lock.specs.Log.{with_entry}
 use Rattle.logged_lock.proofs.Steps.{beginning-trans}
 use Rattle.tc_station.proofs.ClosedSince.{set-there}
 
--- a call continues the moment that the operator had seen at the desk of the call
+-- the moment that the operator has seen at a desk after a call there continues the moment that it had seen before
 pub longer : {R F : Type 0} (e : Event) (ok : Moment → R → Type 0) (err : Moment → F → Type 0) (there next : AtLock) (r : Result R F) → IsCall e ok err there r next → IsBeginning there.own.seen next.own.seen
 longer e ok err there next (Ok a) c =
     subst (λ (o : Own). IsBeginning there.own.seen o.seen) (sym c.answer.1) (beginning-trans there.own.seen c.now (with_entry c.now e) c.later (refl, (e ∷ [], refl)))

@@ -6,13 +6,13 @@ use Rattle.tc_queues.specs.declared.reply.FrameReply.{FrameReply}
 use Rattle.tc_desk.specs.Call.{IsFramedWatched}
 use Rattle.tc_station.specs.Moments.{IsWatcherAt, IsWatcherOf}
 
--- the effect of a meeting on the operator's desk is that of a refused call
+-- a meeting has the effect of a refused call on the operator's desk
 pub as-call : (early : Watching) (there : AtLock) (late : Watching) (next : AtLock) → IsMeeting early there late next
     → IsCall {R = Unit {0}} {F = Unit {0}} Release (λ m done. ⊥) (λ m done. HasSeenNoMore early m) there (Err tt) next
 as-call early there late next m =
     record { now = m.look.now; later = m.look.later; moment = m.look.moment; lock = m.look.lock; answer = (m.look.answer, m.look.looked) }
 
--- the operator has a desk at the place of each watcher
+-- if these desks have the heads of the station's desks, one of them is at the watcher's place
 pub desk-there : (station : Roster) (desks : List AtLock) (place : ℕ) (w : Watching) → heads_of desks ≡ station.heads → IsWatcherAt station place w → place < length desks
 desk-there station desks place w heads (head, at, board, settings) =
     let within = slice_get_within station.heads place head at in
@@ -53,7 +53,7 @@ watcher-there station place vcid frame err before after r answer at knows c is =
     ap (λ (l : List Identity). slice_get l place) (sym knows) ∙ (slice_get-map (λ (d : AtLock). d.own.seen.head) before.desks place ∙ ap (option_map (λ (d : AtLock). d.own.seen.head)) call.was) in
     (call.there.own.seen.head, (place, at, known), saw.0 ∙ ap (λ (h : Identity). h.board) head, ap (λ (h : History). h.settings) saw.1 ∙ ap (λ (h : Identity). h.settings) head)
 
--- the channel of a watcher is among those of the station
+-- the station has the channel of the watcher
 pub channel-there : (station : Roster) (vcids : List ℕ) (vcid : ℕ) (w : Watching) (place : Option ℕ) → vcids ≡ station.vcids → IsWatcherOf station vcid w → place ≡ position (λ v. v == vcid) vcids → place ≡ None → ⊥
 channel-there station vcids vcid w place whole (head, (p, here, of), board, settings) is none =
     none-some p (sym none ∙ (is ∙ (ap (λ (l : List ℕ). position (λ v. v == vcid) l) whole ∙ here)))

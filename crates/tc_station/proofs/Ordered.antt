@@ -1,4 +1,5 @@
--- If the channels of a station are in order, each has the id that the station lists at its place.
+-- If each channel has the id that the station lists at the channel's place, the list of the channels' ids is the
+-- station's list.
 use Rattle.tc_station.proofs.Names.{◌≡◌, ℕ, zero, suc, List, [], ◌∷◌, length, map, Some, refl, subst, arith, slice_get, slice_index, AtStation, History}
 
 pub in-order : (vcids : List ℕ) (channels : List History) → length channels ≡ length vcids → ((place : ℕ) (h : History) → slice_get channels place ≡ Some h → h.settings.vcid ≡ slice_index vcids place)

@@ -122,7 +122,7 @@ steps station own (j ∷ js) a b done f v place at =
     let rest = steps station own js done.0 b done.2 (tally-kept station own j.order a done.0 done.1 f) v place at in
     rw (sum_by-cons (λ (i : Job). cond (brings_to station v i.order) 1 0) j js, sum_by-cons (λ (i : Job). cond (is_other own v i.order) 1 0) j js) (between-both _ _ _ _ _ _ _ first rest)
 
--- a job lowers no count
+-- an operation on a channel lowers no count, and neither does a job
 tried-rises : (own : ℕ) (a b : Tally) → IsTried own a b → NoCountFalls a b
 tried-rises own a b (inl d) place = rw d (rises (position (λ w. w == own) a.vcids) a.counts place)
 tried-rises own a b (inr d) place = rw d (omega arith)

@@ -31,17 +31,18 @@ IsBroughtWatched station octets vcid reply seen =
     (frame : List ℕ) × IsLocated station octets vcid frame
     × AtSomeMomentOf vcid (λ s journal. (reply ≡ frame_reply s journal frame) × (seen ≡ with_event (record { settings = s; journal = journal }) (Frame frame)))
 
--- a data field waited, and its release had this result
+-- the station has a channel with this id, and a data field waited in it, whose release had this result
 abbrev pub IsReleasedAtStation : Roster → ℕ → Delivery → Type 0
 IsReleasedAtStation station vcid delivery =
     Contains station.vcids vcid × AtSomeMomentOf vcid (λ s journal. (buffered_fields s journal ≢ []) × (delivery ≡ release_reply s journal))
 
--- the packet is the oldest that waited
+-- the station has a channel with this id, and the packet is the oldest that waited there for this APID
 abbrev pub IsTakenAtStation : Roster → ℕ → ℕ → List ℕ → Type 0
 IsTakenAtStation station vcid apid packet =
     Contains station.vcids vcid × AtSomeMomentOf vcid (λ s journal. take_reply s journal apid ≡ Some packet)
 
--- the unit is the oldest that waited on this MAP (the MAP Access Service of CCSDS 232.0-B)
+-- the station has a channel with this id, and the unit is the oldest that waited there on this MAP (the MAP Access
+-- Service of CCSDS 232.0-B)
 abbrev pub IsUnitTakenAtStation : Roster → ℕ → ℕ → List ℕ → Type 0
 IsUnitTakenAtStation station vcid map_id unit =
     Contains station.vcids vcid × AtSomeMomentOf vcid (λ s journal. unit_reply s journal map_id ≡ Some unit)
@@ -54,6 +55,7 @@ IsWatched station vcid seen = Contains station.vcids vcid × (seen.settings.vcid
 abbrev pub IsWatcherAt : Roster → ℕ → Watching → Type 0
 IsWatcherAt station place watcher = (head : Identity) × (slice_get station.heads place ≡ Some head) × (watcher.board ≡ head.board) × (watcher.seen.settings ≡ head.settings)
 
--- the watcher reads the board of this very channel, and has seen a moment of a channel with these settings
+-- the watcher reads the board of the station's channel with this id, and has seen a moment of a channel with the same
+-- settings
 abbrev pub IsWatcherOf : Roster → ℕ → Watching → Type 0
 IsWatcherOf station vcid watcher = (head : Identity) × IsDeskOf station vcid head × (watcher.board ≡ head.board) × (watcher.seen.settings ≡ head.settings)

@@ -21,7 +21,7 @@ abbrev pub IsItsLast : ℕ → AtStation → ℕ → Event → Type 0
 IsItsLast place operator n e = (desk : AtLock) × (slice_get operator.desks place ≡ Some desk) × ((earlier : List (ℕ × Event)) × (desk.own.made ≡ earlier ++ (n, e) ∷ []))
 
 -- the event has a place in the channel's journal, its answer is the one that the earlier events give, and it is the
--- last event that the operator has made
+-- last event that the operator has made at the channel's desk
 abbrev pub IsAnsweredIn : ℕ → AtStation → History → Event → (List Event → Type 0) → Type 0
 IsAnsweredIn place operator channel e Answers = (n : ℕ) × (slice_get channel.journal n ≡ Some e) × Answers (take n channel.journal) × IsItsLast place operator n e
 
@@ -30,20 +30,22 @@ abbrev pub IsGivenOut : Roster → ℕ → List History → ℕ → History → 
 IsGivenOut station vcid closed place channel = IsPlace station vcid place × (slice_get closed place ≡ Some channel)
 
 -- The close returned the channel with this id. The event has a place in the channel's journal, its answer is the one
--- that the earlier events give, and it is the last event that the operator has made.
+-- that the earlier events give, and it is the last event that the operator has made at the channel's desk.
 abbrev pub IsAnsweredAmong : Roster → ℕ → AtStation → List History → Event → (Settings → List Event → Type 0) → Type 0
 IsAnsweredAmong station vcid operator closed e Answers =
     (place : ℕ) × (channel : History) × IsGivenOut station vcid closed place channel × IsAnsweredIn place operator channel e (Answers channel.settings)
 
 -- The octets begin with a frame for the channel that the answer names. The frame has a place in the journal of this
--- channel, and the answer's reply is the one at that place. The frame is the last event that the operator has made.
+-- channel, and the answer's reply is the one that the earlier events give. The frame is the last event that the
+-- operator has made at the channel's desk.
 abbrev pub IsBroughtAmong : Roster → List ℕ → Brought → AtStation → List History → Type 0
 IsBroughtAmong station octets brought operator closed =
     (frame : List ℕ) × IsLocated station octets brought.vcid frame × IsAnsweredAmong station brought.vcid operator closed (Frame frame) (λ s journal. brought.reply ≡ frame_reply s journal frame)
 
--- An operator of the station made this call, and a watcher met the desk before and after it. Then the operator may have
--- made more calls, and the station was closed together with its operators. The event has a place in the journal of its
--- channel. The call's answer is the one that the earlier events give, and these continue what the watcher had seen.
+-- Suppose that an operator of the station made this call, that the call was answered, and that a watcher met the desk
+-- before and after it. Suppose that the station was later closed together with its operators, perhaps after more calls
+-- of the operator. Then the event has a place in the journal of its channel. The call's answer is the one that the
+-- earlier events give, and the history that the watcher had seen before the call is a beginning of these events.
 abbrev pub StandsIfMet : {R F : Type 0} → Event → (Moment → R → Type 0) → (Moment → F → Type 0) → (R → Settings → List Event → Type 0) → Type 0
 StandsIfMet {R = R} {F = F} e ok err Answers =
     (station : Roster) (place vcid : ℕ) (early late : Watching) (before after last : AtStation) (answer : R) (operators : List AtStation) (closed : List History) (number : ℕ)

@@ -17,8 +17,8 @@ operator_lists_of operators = map (λ (o : AtStation). o.desks) operators
 abbrev pub AreClosedTogether : Roster → List AtStation → List History → Type 0
 AreClosedTogether station operators closed = (owned_desks : List AtLock) × AreOwnedDesksOf station owned_desks × AreClosed owned_desks (operator_lists_of operators) closed
 
--- This is the reason why the channels weren't closed together. If the reason is an imbalance, there was one moment of
--- all desks at which one of them wasn't balanced.
+-- This is the reason why the channels weren't closed together. If the reason is an imbalance, there are moments of the
+-- desks, one of each desk, at which one of the desks wasn't balanced.
 abbrev pub IsNotClosedTogether : Roster → List AtStation → Refusal → Type 0
 IsNotClosedTogether station operators refusal = (owned_desks : List AtLock) × AreOwnedDesksOf station owned_desks × IsClosingRefusal owned_desks (operator_lists_of operators) refusal
 

@@ -29,8 +29,8 @@ CannotBeMade events.Release m = buffered_fields m.head.settings m.entries ≡ []
 CannotBeMade (events.Take apid) m = (waiting_packets m.head.settings m.entries apid ≡ None) ⊎ (waiting_packets m.head.settings m.entries apid ≡ Some [])
 CannotBeMade (events.TakeUnit map_id) m = (waiting_units m.head.settings m.entries map_id ≡ None) ⊎ (waiting_units m.head.settings m.entries map_id ≡ Some [])
 
--- The event was made at the desk at this place, whose channel has this id, if it could be made. Otherwise nothing was
--- made there.
+-- The event was made at the desk at this place, whose channel has this id, if it could be made. Otherwise no event was
+-- made.
 abbrev pub IsTriedAt : ℕ → ℕ → Event → AtStation → AtStation → Type 0
 IsTriedAt place vcid e before after = (r : Result (Unit {0}) (Unit {0})) × IsCallAt place vcid e (λ m _. CanBeMade e m) (λ m _. CannotBeMade e m) before r after
 

@@ -33,8 +33,8 @@ abbrev pub AreDone : Roster → ℕ → List Job → Tally → Tally → Type 0
 AreDone station vcid [] before after = after ≡ before
 AreDone station vcid (job ∷ jobs) before after = (mid : Tally) × IsDone station vcid job.order before mid × AreDone station vcid jobs mid after
 
--- Memory may run out for this job in this channel's list. It can't run out for octets that are for no channel, since
--- these octets are passed over.
+-- Memory may run out for this job in this channel's list. It can't run out for octets that are for no channel of the
+-- station, nor for a channel that the station doesn't have, since such jobs are passed over.
 abbrev pub MayWantMemory : Roster → ℕ → Order → Type 0
 MayWantMemory station vcid (Bring octets) = (v : ℕ) × (frame : List ℕ) × IsLocated station octets v frame
 MayWantMemory station vcid Release = Contains station.vcids vcid
@@ -78,7 +78,8 @@ pub record AreStaffed (station : Roster) (lists : List WorkList) (operators : Li
   pub as_many : length operators ≡ length lists
   pub ours : All (IsOurs station) operators
 
--- the operator at each list's place worked on the list, and this is the lowest line that was refused
+-- the operator at each list's place worked on the list, and this is the lowest line whose job was refused because
+-- memory ran out, or `None` if there is no such job
 abbrev pub AreWorked : Roster → List WorkList → Option ℕ → List AtStation → List AtStation → Type 0
 AreWorked station lists line befores afters =
     (shifts : List Shift) × (map (λ s. s.list) shifts ≡ lists) × (map (λ s. s.before) shifts ≡ befores) × (map (λ s. s.after) shifts ≡ afters)
@@ -110,7 +111,7 @@ raised_by n count = max count (min (count + n) 18446744073709551615)
 
 -- The count of each channel rose by at least the number of jobs that bring a frame to the channel. The count of the
 -- list's channel rose by at most that number plus the number of releases and takes. The count of any other channel rose
--- by at most the number of jobs that bring a frame to it.
+-- by at most the number of jobs that bring a frame to it. A count that would rise beyond 2^64 - 1 stays at this number.
 abbrev pub IsRaised : Roster → WorkList → Tally → Tally → Type 0
 IsRaised station list before after =
     (vcid place : ℕ) → position (λ v. v == vcid) station.vcids ≡ Some place →

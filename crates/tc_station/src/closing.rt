@@ -1,5 +1,5 @@
-//! Comparisons of the operators' counts with the channels of a closed station: with their journals, or with the numbers
-//! of events that they report.
+//! Comparisons of the operators' counts with the channels of a closed station. The counts are compared either with the
+//! lengths of the channels' journals, or with the numbers of events that the channels report.
 
 ghost use Rattle.std.specs.Prelude.{◌≡◌, ◌<◌, ◌↔◌, length, IsTrue, All};
 ghost use Rattle.tc_station.specs.Balance.{counted_by_all, IsInBalance, AreInBalance, AreInReportedBalance};

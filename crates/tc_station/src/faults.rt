@@ -90,7 +90,7 @@ pub enum TakeUnitRefused {
     NoMemory,
 }
 
-/// The reason why not all lists were carried out.
+/// The reason why not all jobs of the lists were carried out.
 #[derive(Clone, Copy, Debug, PartialEq, Eq, Error)]
 pub enum WorkFault {
     /// The lowest line whose job was refused because memory ran out.
@@ -106,8 +106,8 @@ pub enum CloseFault {
     Missing(Station, Vec<Operator>),
     #[error("no memory")]
     NoMemory(Station, Vec<Operator>),
-    /// The channels were taken out of their locks. At least one of them has a virtual channel id other than that of its
-    /// place, or a number of events other than the one that the operators counted for it.
+    /// The channels were taken out of their locks. At least one of them doesn't have the virtual channel id of its
+    /// place, or doesn't have as many events as the operators counted for it.
     #[error("the operators' counts and the journals differ")]
     Unbalanced(Vec<Channel>, Vec<Operator>),
 }
@@ -130,8 +130,8 @@ pub enum CountingCloseFault {
     Missing(CountingStation, Vec<Operator>),
     #[error("no memory")]
     NoMemory(CountingStation, Vec<Operator>),
-    /// The channels were taken out of their locks. At least one of them has a virtual channel id other than that of its
-    /// place, a number of events other than the one that the operators counted for it, or 2^64 - 1 events or more.
+    /// The channels were taken out of their locks. At least one of them doesn't have the virtual channel id of its
+    /// place, doesn't have as many events as the operators counted for it, or has at least 2^64 - 1 events.
     #[error("the operators' counts and the numbers of events differ")]
     Unbalanced(Vec<CountingChannel>, Vec<Operator>),
 }

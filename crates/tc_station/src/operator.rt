@@ -73,8 +73,8 @@ impl Room {
     }
 }
 
-// Creates an operator at each of these desks, and appends it to `operators`, which has room for all of them. A new
-// operator has made no event.
+// Creates an operator at each of these desks, and appends it to `operators`, which is empty and has room for all of
+// them. A new operator has made no event.
 fn desk_operators<J: Journal>(
     mut operators: Vec<DeskOperator>,
     owned_desks: &mut [OwnedDesk<J>],

@@ -150,15 +150,17 @@ impl<J: Journal> StationOf<J> {
         Ok((place, Located { vcid, frame }))
     }
 
-    /// Returns the place of the channel with this id in the list of the station's channels.
+    /// Returns the place of the channel with this id in the list of the station's channels, or `None` if the station
+    /// has no such channel.
     pub fn place_of(&self, vcid: u8) -> Option<usize>
         ensures { MatchOption result (¬ Contains self.now.vcids vcid) (IsPlace self.now vcid) }
     {
         self.vcids.place_of(vcid)
     }
 
-    /// Issues operators, at most 65,535 over the station's life. For each operator, a list of ids and a list of
-    /// operators at the desks are allocated. All memory is allocated before the first operator is issued.
+    /// Issues `n` operators. A station can issue at most 65,535 operators in its life. The call allocates two lists
+    /// with room for `n` entries each, and for each operator a list of ids and a list of operators at the desks. All
+    /// memory is allocated before the first operator is issued.
     pub fn operators(&mut self, n: u16) -> Result<Vec<Operator>, OperatorsFault>
         ensures fresh { IfOk result (λ operators. map tally operators.items ≡ replicate n (fresh self.old.vcids)) }
         ensures new { IfOk result (λ operators. All HasMadeNothing operators.items) }
@@ -343,8 +345,8 @@ impl<J: Journal> StationOf<J> {
     }
 
     /// Runs the operation on the channel at `place`. The watcher meets the channel before and after the operation,
-    /// under one hold of the channel's lock. Before the operation, the watcher had seen no more than the channel's
-    /// journal. Afterwards it has seen all that the operator has.
+    /// under one hold of the channel's lock. The history that the watcher had seen is a beginning of the journal before
+    /// the operation. Afterwards the watcher has seen all that the operator has seen of the channel.
     pub fn operate_met<O: Operation<J>, R: Wait>(
         &self,
         rt: &R,
@@ -371,7 +373,8 @@ impl<J: Journal> StationOf<J> {
     }
 
     /// Lets the watcher meet its channel, under the channel's lock. The history that the watcher had seen is a
-    /// beginning of the journal at that moment. Afterwards the watcher has seen all that the operator has.
+    /// beginning of the journal at that moment. Afterwards the watcher has seen all that the operator has seen of the
+    /// channel.
     pub fn meet<R: Wait>(&self, rt: &R, operator: &mut Operator, watcher: &mut Watcher, vcid: u8)
         requires ours { IsOurs self.now operator.old }
         requires knows { KnowsDesks self.now operator.old }
@@ -578,7 +581,7 @@ fn has_vcid(list: &[Settings], vcid: u8) -> bool
     list.iter().any(|settings| settings.vcid == vcid)
 }
 
-// Returns the first virtual channel id that also occurs earlier in the list.
+// Returns the first virtual channel id that also occurs earlier in the list, or `None` if all ids are distinct.
 fn double_vcid(list: &[Settings]) -> Option<u8>
     ensures { MatchOption result (HaveDistinctVcids list.now) (IsFirstDouble list.now) }
 {

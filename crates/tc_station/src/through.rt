@@ -33,17 +33,18 @@ pub fn calls_go_on_one_after_another()
 {}
 
 /// Suppose that threads work at the channels of a station in any order, each with an operator of its own, and that the
-/// station is then closed together with these operators. The premises of this law are two contracts alone. One is that
-/// of a call by an operator of the station. The other is that of
-/// [`StationOf::close_together`](crate::StationOf::close_together), which is given this operator, as its last call left
-/// it, among others. The following holds for the channels that the close returns.
+/// station is then closed together with these operators. All premises of this law come from contracts. Some describe a
+/// call by an operator of the station, and the operator's later calls. The others describe
+/// [`StationOf::close_together`](crate::StationOf::close_together), whose operators include this operator in the state
+/// after its last call. The following holds for the channels that the close returns.
 ///
 /// - `merge`: The journal of each channel is a merge of the events that its operators made. Each event occurs once, and
 ///   each operator's events keep their order.
 /// - `frames`, `watched`, `releases`, `takes`, `units`: Each call of `bring`, `bring_watched`, `release`, `take` and
 ///   `take_unit` that was answered is an event of its channel's journal, and its answer is the one that the model gives
 ///   at the journal before the event. Right after the call, the event, with its number, is the last that the operator
-///   has made. Therefore one thread could have made all calls in the journal's order, with the same answers.
+///   has made at the channel's desk. Therefore one thread could have made all calls in the journal's order, with the
+///   same answers.
 /// - `met_frames`, `met_releases`, `met_takes`, `met_units`: The same holds for each of these operations that
 ///   `operate_met` answered. The history that the watcher had seen is a beginning of the journal before the event.
 /// - `words`: Suppose that a watcher reads a CLCW, perhaps reads again, and then meets the channel. The CLCW is then

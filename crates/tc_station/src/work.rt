@@ -1,4 +1,4 @@
-//! Workers, each of which carries out a list of jobs in a thread of its own.
+//! Workers, each of which carries out a list of jobs, in a thread of its own if another thread can be started.
 
 ghost use Rattle.std.specs.Prelude.{◌≡◌, ◌<◌, ℕ, All, Option, None, Some, length, map, slice_index_or, OnOk, OnErr, MatchResult};
 ghost use Rattle.std.specs.Thread.{IsSend, IsSync};
@@ -26,7 +26,7 @@ impl Gate for FreeGate {
     fn pass(&self, _vcid: u8) {}
 }
 
-/// An operation to be run.
+/// An operation that a worker is to run.
 #[derive(Debug, Drop, PartialEq, Eq)]
 pub enum Order {
     /// The order to bring these octets to the channel that their frame names.
@@ -95,7 +95,8 @@ where
         }
     }
 
-    // Carries out the lists, and returns the lowest line whose job was refused because memory ran out.
+    // Carries out the lists, and returns the lowest line whose job was refused because memory ran out, or `None` if
+    // memory didn't run out.
     #[cycle(work)]
     fn work_all<G: Gate + Sync, R: Threads + Wait + Sync>(
         &self,
@@ -116,7 +117,8 @@ where
         self.work_halves(rt, gate, front_lists, back_lists, front, back)
     }
 
-    // Carries out both halves of the lists, in two threads if another one can be started.
+    // Carries out both halves of the lists, in two threads if another one can be started. Returns the lowest line whose
+    // job was refused because memory ran out, or `None` if memory didn't run out.
     #[cycle(work)]
     fn work_halves<G: Gate + Sync, R: Threads + Wait + Sync>(
         &self,
@@ -146,7 +148,8 @@ where
         lower_line(a, b)
     }
 
-    // Carries out the list, if there is one.
+    // Carries out the list, if there is one, and returns the line of the job that was refused because memory ran out,
+    // if there is such a job.
     fn work_one<G: Gate, R: Wait>(
         &self,
         rt: &R,
@@ -165,7 +168,7 @@ where
     }
 
     // Passes the gate, and carries out the jobs of a list in order, up to the first that is refused because memory ran
-    // out.
+    // out. Returns the line of this job, or `None` if all jobs were carried out.
     fn do_list<G: Gate, R: Wait>(
         &self,
         rt: &R,
@@ -231,7 +234,7 @@ where
     }
 }
 
-// Returns the lower of two lines.
+// Returns the lower of two lines, or the only line if one is missing.
 fn lower_line(a: Option<u32>, b: Option<u32>) -> Option<u32>
     ensures { result ≡ lower a b }
 {
