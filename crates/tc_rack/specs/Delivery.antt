@@ -46,7 +46,7 @@ AreTakenFrom queue old [] new = new ≡ old
 AreTakenFrom queue old (answer ∷ answers) new =
     (between : Linked) × IsTakenFrom queue old answer between × AreTakenFrom queue between answers new
 
--- queues are emptied, one after the other
+-- queues are emptied, one after the other, with these answers to the takes
 abbrev pub AreEmptied : List QueueId → Linked → List Answer → Linked → Type 0
 AreEmptied [] old answers new = (answers ≡ []) × (new ≡ old)
 AreEmptied (queue ∷ queues) old answers new =

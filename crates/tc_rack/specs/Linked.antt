@@ -79,6 +79,6 @@ abbrev pub IsUnitAnswered : ℕ → Linked → Answer → Linked → Type 0
 IsUnitAnswered map_id old answer new =
     IsUnitTaken map_id old answer new ⊎ (IsUnitRefused map_id old answer × (new ≡ old))
 
--- the CLCW, with the flags of the link
+-- the answer with the CLCW, which shows the flags of the link
 abbrev pub reported_word : Linked → Answer
 reported_word channel = answers.Clcw (vcid_of channel) (clcw channel.history.settings channel.history.journal channel.link)

@@ -15,7 +15,8 @@ use Rattle.tc_rack.specs.Rack.{Racked, HasChannel, IsOf, Changes, IsRackLocateFa
 abbrev pub IsUnknown : Racked → ℕ → Answer → Type 0
 IsUnknown rack vcid answer = ¬ HasChannel rack.channels vcid × (answer ≡ Refused UnknownChannel)
 
--- either the channel with this id gives this answer and all other channels are as before, or there is no such channel
+-- Either the channel with this id gives this answer, and all other channels are as before. Or there is no such channel,
+-- the answer reports that, and nothing changes.
 abbrev pub IsChannelAnswer : ℕ → (Linked → Answer → Linked → Type 0) → Racked → Answer → Racked → Type 0
 IsChannelAnswer vcid Answers old answer new =
     Changes old vcid (λ before after. Answers before answer after) new ⊎ (IsUnknown old vcid answer × (new ≡ old))
@@ -32,7 +33,7 @@ IsFrameAnswer octets old answer new =
     IsFrameBrought octets old answer new
     ⊎ ((fault : LocateFault) × IsRackLocateFault old octets fault × (answer ≡ Refused (Unlocated fault)) × (new ≡ old))
 
--- the answer is the CLCW of the channel with this id, or there is no such channel
+-- the answer has the CLCW of the channel with this id, or reports that there is no such channel
 abbrev pub IsClcwAnswer : ℕ → Racked → Answer → Type 0
 IsClcwAnswer vcid rack answer = IsOf rack vcid (λ channel. answer ≡ reported_word channel) ⊎ IsUnknown rack vcid answer
 

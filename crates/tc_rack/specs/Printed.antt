@@ -9,7 +9,7 @@ use Rattle.tc_rack.specs.declared.answer.Refusal.TheVariants.{Unlocated, Unknown
 use Rattle.tc_rack.specs.declared.answer.Answer.{Answer}
 use Rattle.tc_rack.specs.declared.answer.Answer.TheVariants.{Frame, Release, Take, Unit as TakeUnit, Clcw, Refused}
 
--- the words for the reason why octets are no frame
+-- the word for the reason why octets don't begin with a frame
 abbrev pub frame_fault_text : FrameFault → List ℕ
 frame_fault_text Short = codes "short"
 frame_fault_text Version = codes "version"

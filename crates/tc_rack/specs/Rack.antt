@@ -57,7 +57,8 @@ abbrev pub IsLocatedInRack : Racked → List ℕ → ℕ → List ℕ → Type 0
 IsLocatedInRack rack octets place frame =
     BeginsWith octets frame × ((header_of frame).scid ≡ rack.scid) × ((channel : Linked) × IsChannelAt rack.channels (header_of frame).vcid place channel)
 
--- if there is a channel with this id, it has these flags of its link from now on
+-- if there is a channel with this id, its link gets these flags and the result is true, and otherwise nothing changes
+-- and the result is false
 abbrev pub IsLinkSet : Racked → ℕ → Link → Bool → Racked → Type 0
 IsLinkSet old vcid link true new = Changes old vcid (λ before after. after ≡ record before { link = link }) new
 IsLinkSet old vcid link false new = ¬ HasChannel old.channels vcid × (new ≡ old)

@@ -54,8 +54,8 @@ channel_text channel =
 abbrev pub report_text : List History → List ℕ
 report_text channels = flat_map channel_text channels
 
--- The text is the report of these channels. The channels come in rising order of their ids. Each has a lawful journal,
--- with fewer events than 2^64 - 1.
+-- The text is the report of these channels. The ids of the channels don't fall from one channel to the next. Each
+-- channel has allowed settings and a lawful journal, with fewer events than 2^64 - 1.
 pub record IsReportOf (channels : List History) (text : List ℕ) : Type 0 where
   pub rising : AreRising channels
   pub reported : All IsNumberReported channels

@@ -76,7 +76,7 @@ impl LinkedChannel {
         Ok(Answer::Frame { vcid, reply })
     }
 
-    /// Releases the oldest data field from the buffer.
+    /// Releases the oldest data field from the buffer. If the buffer is empty, the answer is a refusal.
     pub(crate) fn release(&mut self) -> Result<Answer, NoMemory>
         ensures answer { IfOk result (λ answer. IsReleaseAnswered self.old answer self.new) }
         ensures settings { self.new.history.settings ≡ self.old.history.settings }
@@ -90,7 +90,8 @@ impl LinkedChannel {
         }
     }
 
-    /// Takes the oldest packet with this APID. Nothing is allocated.
+    /// Takes the oldest packet with this APID. If there is no such queue or packet, the answer is a refusal. Nothing is
+    /// allocated.
     pub(crate) fn take(&mut self, apid: u16) -> Answer
         ensures answer { IsTakeAnswered apid self.old result self.new }
         ensures settings { self.new.history.settings ≡ self.old.history.settings }
@@ -108,7 +109,8 @@ impl LinkedChannel {
         }
     }
 
-    /// Takes the oldest unit of this chosen MAP. Nothing is allocated.
+    /// Takes the oldest unit of this MAP. If the MAP isn't chosen or no unit waits, the answer is a refusal. Nothing is
+    /// allocated.
     pub(crate) fn unit(&mut self, map: u8) -> Answer
         ensures answer { IsUnitAnswered map self.old result self.new }
         ensures settings { self.new.history.settings ≡ self.old.history.settings }
@@ -137,7 +139,7 @@ impl LinkedChannel {
         count.unwrap_or(0)
     }
 
-    /// Takes the oldest item that waits in a queue, and leaves the others. Nothing is allocated.
+    /// Takes the oldest item from a queue in which an item waits, and leaves the others. Nothing is allocated.
     pub(crate) fn take_from(&mut self, queue: QueueId) -> Answer
         requires { waiting_in queue self.old ≢ [] }
         ensures taken { IsTakenFrom queue self.old result self.new }
@@ -150,7 +152,7 @@ impl LinkedChannel {
         }
     }
 
-    /// Returns the CLCW with the flags of the link.
+    /// Returns the answer with the CLCW, which shows the flags of the link.
     pub(crate) fn clcw(&self) -> Answer
         ensures { result ≡ reported_word self.now }
     {

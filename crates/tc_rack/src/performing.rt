@@ -33,13 +33,14 @@ pub trait Backend {
     // an operation at which memory runs out may change the channels in this way
     ghost spares: { Self.Founded → Self.Founded → Type 0 };
 
-    /// Creates the channels that were set up.
+    /// Creates the channels that were set up. Returns `NoChannel` if none was set up, and `NoMemory` if memory runs
+    /// out.
     fn found(&self, alloc: Global, list: Configuration) -> Result<Self::Founded, Reason>
         ensures new { IfOk result (is_new self.now list) }
         ensures some { OnOk result (list ≢ []) }
         ensures reason { IfErr result (λ reason. (reason ≡ Reason.NoMemory) ⊎ ((reason ≡ Reason.NoChannel) × (list ≡ []))) };
 
-    /// Carries out an operation on the channels.
+    /// Carries out an operation on the channels. The only error is `NoMemory`.
     fn operate(&self, founded: &mut Self::Founded, operation: Operation) -> Result<Answer, Reason>
         ensures answer { IfOk result (λ answer. answers operation founded.old answer founded.new) }
         ensures reason { IfErr result (λ reason. reason ≡ Reason.NoMemory) }
@@ -139,8 +140,8 @@ fn operate<F: Backend>(
     }
 }
 
-/// Creates the channels from a copy of the set-up, if no operation came before. If memory runs out, the set-up stays as
-/// it was.
+/// Creates the channels from a copy of the set-up, if no operation came before. If no channel was set up, or if memory
+/// runs out, the call returns the reason, and the stage stays as it was.
 #[inline(always)]
 pub fn begin<F: Backend>(
     backend: &F,
@@ -182,7 +183,8 @@ fn begin_anew<F: Backend>(
     }
 }
 
-/// Returns the channels, which are created from the set-up if no operation came before.
+/// Returns the channels, which are created from the set-up if no operation came before. If no channel was set up, or if
+/// memory runs out, the call returns the reason.
 pub fn start<F: Backend>(
     backend: &F,
     alloc: Global,

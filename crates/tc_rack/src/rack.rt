@@ -140,8 +140,8 @@ impl Rack {
     /// Ends a delivery, which an [`Operation::Release`] begins. Takes each packet of each queue of a channel, and then
     /// each unit of each chosen MAP, in the order of the set-up, until no item waits. Writes the answer to each take,
     /// and then the CLCW, each with a line feed. If there is no such channel, nothing is written. Nothing is allocated,
-    /// and each answer is written before the next item is taken. If the writer fails, the item that was taken last is
-    /// lost.
+    /// and each answer is written before the next item is taken. If the writer fails at the answer to a take, the item
+    /// that was taken is lost.
     pub fn hand_on<W: Write>(&mut self, vcid: u8, writer: &mut W) -> io::Result<()>
         ensures { OnOk result (AreAnswersWritten (W.contents writer.old) (W.contents writer.new)
             (λ answers. IsDeliveryEnded vcid self.old answers self.new)) }

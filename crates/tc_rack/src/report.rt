@@ -12,7 +12,8 @@ use std::io::Write;
 use tc_channel::{CountingChannel, MapSetting, QueueSetting};
 use tc_text::WordDigits;
 
-/// Writes the report of each channel.
+/// Writes the report of each channel. The ids of the channels don't fall from one channel to the next, and each channel
+/// has fewer than 2^64 - 1 events.
 pub fn write_report<W: Write>(channels: &[CountingChannel], writer: &mut W) -> io::Result<()>
     requires rising { AreRising channels.now }
     requires reported { All IsNumberReported channels.now }

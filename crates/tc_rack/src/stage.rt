@@ -19,7 +19,8 @@ pub enum Stage<O> {
 }
 
 impl<O: Drop> Stage<O> {
-    /// Sets up the channel of a channel line.
+    /// Sets up the channel of a channel line. If the line is refused, the call returns the reason, which is `TooLate`
+    /// from the first operation on, and the stage stays as it was.
     pub fn add_channel(&mut self, settings: Settings) -> Result<(), Reason>
         ensures done { OnOk result (Does (phase_of self.old) (Instruction.Channel settings) (phase_of self.new)) }
         ensures reason { IfErr result (λ reason. (reason ≡ Reason.NoMemory) ⊎ IsBad (phase_of self.old) (Instruction.Channel settings) reason) }
@@ -31,7 +32,8 @@ impl<O: Drop> Stage<O> {
         }
     }
 
-    /// Adds the queue of a queue line or the chosen MAP of a map line to a channel.
+    /// Adds the queue of a queue line or the chosen MAP of a map line to a channel. If the line is refused, the call
+    /// returns the reason, which is `TooLate` from the first operation on, and the stage stays as it was.
     pub fn add_to_channel(
         &mut self,
         alloc: Global,
