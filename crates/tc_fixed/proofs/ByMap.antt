@@ -48,7 +48,7 @@ limit-small (m ∷ ms) others map_id all small = by (eqb m.map map_id) (limit-sm
 pub each-small : (limits : Limits) (map_id : ℕ) → HaveOctets limits.maps → limits.others ≤ 65542 → limit_of limits map_id ≤ 65542
 each-small limits map_id all small = limit-small limits.maps limits.others map_id all small
 
--- each place is that of a stream
+-- each place below 128 is the place of a stream, which has a service and a MAP
 pub place-split : (place : ℕ) → place < 128 → (service : Service) × (map_id : ℕ) × (map_id < 64) × (place ≡ place_of service map_id)
 place-split place inside = by (nat_lt place 64) refl where
   by : (t : Bool) → nat_lt place 64 ≡ t → (service : Service) × (map_id : ℕ) × (map_id < 64) × (place ≡ place_of service map_id)
@@ -67,7 +67,7 @@ small-at-start s limits store are have = by-place (λ n. n ≤ 65542) (limit_of 
 min-mono : (a b n : ℕ) → a ≤ b → min a n ≤ min b n
 min-mono a b n le = omega arith
 
--- rooms for the largest limit are large enough
+-- rooms of `item_size` octets are large enough for the items of each stream
 pub fits-at-start : (limits : Limits) (store : Store) (segmented : Bool) → store.segmented ≡ segmented → HaveLimits (limit_of limits) store
     → (place : ℕ) → place < 128 → min (limit_at store place) (largest_item store.segmented) ≤ item_size limits segmented
 fits-at-start limits store segmented is have place inside =

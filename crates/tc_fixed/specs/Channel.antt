@@ -1,5 +1,5 @@
--- The contents of a channel with fixed memory. Its core is that of the run of its journal within its limits, and its
--- settings can have these limits.
+-- The contents of a channel with fixed memory. The core holds the state after the run of the channel's journal within
+-- its limits, and a channel with these settings can have these limits.
 use Rattle.std.specs.Prelude.{List}
 use Rattle.tc_queues.specs.declared.settings.Settings.{Settings}
 use Rattle.tc_channel.specs.declared.event.Event.{Event}

@@ -78,7 +78,7 @@ pub record AreLimits (s : Settings) (limits : Limits) : Type 0 where
   pub by_headers : LimitsMapsByHeaders limits.maps s.segmented
   pub listed : AreListed limits s.maps
 
--- The limits are free of this fault. The faults of settings are defined in tc_channel.
+-- The limits are free of this fault. A fault of the settings isn't a fault of the limits.
 abbrev pub IsFreeOfLimitsFault : Settings → Limits → LimitsFault → Type 0
 IsFreeOfLimitsFault s limits (faults.Settings fault) = Unit {0}
 IsFreeOfLimitsFault s limits faults.BadOthers = IsOthers limits.others s.segmented

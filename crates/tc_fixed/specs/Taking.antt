@@ -12,7 +12,7 @@ abbrev pub IsOver : ℕ → ℕ → Option (List ℕ) → Type 0
 IsOver room needed None = ⊥
 IsOver room needed (Some item) = (room < length item) × (needed ≡ length item)
 
--- the fault of a packet queue, and that of a unit queue, for a fault that both have in common
+-- the fault of a packet queue for a fault that both kinds of queues have in common
 abbrev pub packet_fault_of : NotCopied → NothingTaken
 packet_fault_of NoQueue = taking.NoQueue
 packet_fault_of Empty = taking.Empty

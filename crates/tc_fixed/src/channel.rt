@@ -46,9 +46,9 @@ impl Tick for NoSteps {
 
 /// One virtual channel with the parts of a [`ChannelWith`](tc_channel::ChannelWith): FARM-1, the buffer of accepted
 /// data fields, reassembly, the packet queues, the unit queues of chosen MAPs, and the journal of all events. It has a
-/// room for each data field, packet, unit and open run that it may ever hold, and only its creation requests memory. So
-/// no other call allocates, and none can be refused because memory ran out. A call that is refused leaves the channel
-/// as it was.
+/// room for each data field, packet, unit and open run that it can hold at one time, and only its creation requests
+/// memory. So no other call allocates, and none can be refused because memory ran out. A call that is refused leaves
+/// the channel as it was.
 #[derive(Drop)]
 pub struct FixedChannelWith<N: Noted> {
     settings: Settings,
@@ -431,8 +431,8 @@ impl<N: Noted> FixedChannelWith<N> {
     }
 }
 
-// Creates the open runs of a new channel. On a plain channel each data field is a unit by itself, and its limit is that
-// of the MAPs that aren't listed.
+// Creates the open runs of a new channel. On a plain channel each data field is a unit by itself, and its limit is
+// `others`.
 fn open_none(alloc: Global, segmented: bool, limits: &Limits) -> Result<Runs<FixedRoom>, AllocError>
     requires others { IsOthers limits.now.others segmented }
     requires octets { HaveOctets limits.now.maps }

@@ -12,8 +12,8 @@ ghost use Rattle.tc_fixed.specs.Examples.{limits_on};
 ghost use Rattle.tc_fixed.specs.Limits.{AreLimits, AreLimitedMapsApart, IsFaultWithLimits, largest_limit, limit_of, none};
 ghost use Rattle.tc_fixed.specs.Storage.{storage_of, storage_within};
 
-/// A listed MAP has the limit that is listed for it, and each MAP that isn't listed has the limit `others`. No limit is
-/// over the largest one.
+/// If no MAP is listed twice, each listed MAP has the limit that is listed for it. Each MAP that isn't listed has the
+/// limit `others`. The limit of each MAP is at most the largest of `others` and the listed limits.
 pub fn a_listed_map_has_its_own_limit()
     ensures listed { (limits : Limits) (m : MapLimit) → AreLimitedMapsApart limits.maps → Contains limits.maps m → limit_of limits m.map ≡ m.octets }
     ensures others { (limits : Limits) (map_id : ℕ) → AllByRecursion (λ (m : MapLimit). m.map ≢ map_id) limits.maps
@@ -21,8 +21,8 @@ pub fn a_listed_map_has_its_own_limit()
     ensures largest { (limits : Limits) (map_id : ℕ) → limit_of limits map_id ≤ largest_limit limits }
 {}
 
-/// If no MAP is listed and the limit of the others is that of the largest unit, the limits are those of a channel of
-/// tc_channel. So a channel with these limits runs as a channel of tc_channel does.
+/// If no MAP is listed, and `others` is the length of the largest unit, each MAP has the limit that it has in a channel
+/// of tc_channel. So a channel with these limits runs as a channel of tc_channel does.
 pub fn without_limits_each_unit_is_left()
     ensures { limit_of none ≡ no_limits }
 {}

@@ -197,7 +197,7 @@ impl LentLimits<'_> {
         Ok(())
     }
 
-    // Returns the largest number of octets in a unit of any MAP.
+    // Returns the largest of `others` and the listed limits.
     fn largest(self) -> u32
         ensures { result ≡ largest_limit (limits_of self.entry) }
     {

@@ -17,7 +17,7 @@ const STREAMS: u128 = 128;
 /// for these settings on a machine of 64 bits, provided that a channel can be created from them. The result is 2^64 - 1
 /// if the number is larger. No other call of the channel requests memory. The bytes that an allocator adds to a block
 /// aren't counted. The lists of the settings aren't counted either, since the caller has chosen their size. The call
-/// takes one step for each queue and each MAP, and no memory.
+/// takes one step for each queue and each chosen MAP, and requests no memory.
 pub fn storage(settings: &Settings) -> u64
     ensures { result ≡ min (storage_of settings.now) (2 ^ 64 - 1) }
 {
@@ -33,8 +33,8 @@ pub fn storage_of_lent(settings: LentSettings<'_>) -> u64
 }
 
 /// Returns the number of bytes that [`FixedChannelWith::with_limits`](crate::FixedChannelWith::with_limits) requests
-/// for these settings and limits, counted as [`storage`] counts. The call takes one step for each queue and, for each
-/// of the 64 MAPs, one step for each listed limit.
+/// for these settings and limits, counted as [`storage`] counts. The call takes one step for each queue, each chosen
+/// MAP and each listed limit. For each of the 64 MAPs it takes at most one more step for each listed limit.
 pub fn storage_with_limits(settings: &Settings, limits: &Limits) -> u64
     ensures { result ≡ min (storage_within settings.now limits.now) (2 ^ 64 - 1) }
 {

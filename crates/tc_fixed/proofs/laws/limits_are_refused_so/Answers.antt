@@ -16,7 +16,7 @@ use Rattle.tc_fixed.specs.Examples.{limits_on}
 use Rattle.tc_fixed.specs.Limits.{AreLimitedMaps, AreLimitedMapsApart, HaveOctets, IsFreeOfLimitsFault, IsFirstLimitsFault, IsLimitsFault, IsListed, limits_faults_in_order}
 use Rattle.tc_fixed.proofs.laws.limits_are_refused_so.Goals as goal
 
--- the fault is the first one if the limits are free of those before it
+-- the fault is the first one if the limits have it and are free of the faults before it
 first-of : (s : Settings) (limits : Limits) (before later : List LimitsFault) (fault : LimitsFault) → AllByRecursion (IsFreeOfLimitsFault s limits) before → ¬ IsFreeOfLimitsFault s limits fault → IsFirstLimitsFault s limits (before ++ fault ∷ later) fault
 first-of s limits [] later fault free has = inl (refl, has)
 first-of s limits (b ∷ before) later fault free has = inr (free.0, first-of s limits before later fault free.1 has)

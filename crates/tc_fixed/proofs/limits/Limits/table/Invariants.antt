@@ -3,7 +3,7 @@ use Rattle.std.specs.List.{AllByRecursion}
 use Rattle.tc_fixed.specs.Limits.{limit_of}
 use Rattle.tc_fixed.proofs.limits.Limits.table.Given as goal
 
--- the first MAPs have their limits
+-- the table has the limits of the MAPs that the loop has passed
 abbrev pub invariant-loop-map : goal.invariant-loop-map
 invariant-loop-map l = record {
   size : length l.table ≡ 64;
