@@ -1,4 +1,4 @@
--- A delivery is begun and ended on the channels of a receiver.
+-- A delivery or a collection is begun and ended on the channels of a receiver.
 use Rattle.tc_live.proofs.Names.{◌≡◌, ℕ, List, Option, refl, sym, ap, ◌∙◌, subst, Answer, Stage, Operating, AreAnswersWritten, IsDeliveryEnded, Racked, Receiving, IsDeliveryBegun, IsDeliveryDone, IsCollectionBegun, collection_answer, begun, rack_for, LiveAnswer, FrameCheck, FrameEnds}
 use Rattle.tc_rack.specs.declared.operation.Operation.TheVariants as operations
 use Rattle.tc_rack.specs.Operation.{IsAnswerOf, IsClcwAnswer}

@@ -39,7 +39,7 @@ lines-cut answering.Read receiver last (Some octets) a b cut = (last, cut)
 lines-cut answering.Write receiver last (Some octets) a b cut = tt
 lines-cut answering.NoMemory receiver last (Some octets) a b cut = inl cut.1
 
--- if the sorted list has a channel that doesn't report its number of events, the receiver has such a channel
+-- if a channel of the sorted list doesn't report the exact number of its events, the receiver has such a channel
 pub is-number-unreported : (receiver : Receiving) (reported : Bool) (shown before after : List History) → IsTrue reported ↔ All IsNumberReported shown → reported ≡ false
     → shown ≡ after → IsPermutation before after → before ≡ histories (rack_at receiver) → IsNumberUnreported receiver
 is-number-unreported receiver reported shown before after just not same shuffled is all =

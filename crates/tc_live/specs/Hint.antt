@@ -7,7 +7,7 @@ use Rattle.tc_live.specs.declared.hint.Number.TheVariants.{Vcid, Width, Buffer, 
 use Rattle.tc_text.specs.declared.fault.Reason.{Reason}
 use Rattle.tc_text.specs.declared.fault.Reason.TheVariants.{UnknownCommand, WordCount, BadNumber, BadHex, BadVcid, BadWindow, BadBuffer, BadApid, BadCapacity, BadOption, BadMap, BadUnits}
 
--- the word before a reason, which is `bad` unless the reason begins with it
+-- the text before a reason: `bad` and a space, or nothing if the reason begins with `bad`
 abbrev pub bad_word_text : Reason → List ℕ
 bad_word_text BadNumber = []
 bad_word_text BadHex = []
@@ -37,7 +37,7 @@ unknown_text [] = commands_text
 unknown_text (command ∷ arguments) =
     if is_marked command then codes ": the line begins with a byte order mark; save the file without it" else commands_text
 
--- the form of the command that the words begin with
+-- the form of the command that the words begin with, or nothing if they don't begin with a command
 unfoldable pub command_form_text : List (List ℕ) → List ℕ
 command_form_text [] = []
 command_form_text (command ∷ arguments) =
@@ -80,7 +80,7 @@ most_of _ = 255
 abbrev pub takes_word : Number → List ℕ → Bool
 takes_word number word = elim (word_number 65535 word) [ None ↦ false | Some n ↦ nat_le n (most_of number) ]
 
--- the numbers after a command, in order
+-- The numbers after a command, in order. A command that isn't named here counts as one with a channel's id alone.
 unfoldable pub numbers_behind : List ℕ → List Number
 numbers_behind command =
     if is command (codes "channel") then Vcid ∷ Width ∷ Buffer ∷ First ∷ []
@@ -91,7 +91,7 @@ numbers_behind command =
     else if is command (codes "link") then Vcid ∷ NoRf ∷ NoBitLock ∷ []
     else Vcid ∷ []
 
--- the first of the numbers whose word can't be parsed
+-- the first of the numbers whose word can't be parsed, or `None` if all words for the numbers can be parsed
 abbrev pub first_misfit : List Number → List (List ℕ) → Option Number
 first_misfit [] arguments = None
 first_misfit (number ∷ numbers) [] = None

@@ -62,7 +62,7 @@ script_answer None = reported.Nothing
 script_answer (Some answer) = reported.Operation answer
 
 -- The receiver carries out an instruction of a script. If the instruction is an operation, its answer is reported.
--- Nothing but the channels changes.
+-- Nothing but the stage, which has the channels, changes.
 abbrev pub IsInstructed : Receiving → Instruction → Receiving → LiveAnswer → Type 0
 IsInstructed old instruction new answer =
     (a : Option Answer) × IsInstructionAnswered (IsPerformed old.scid) old.stage instruction new.stage a
@@ -132,7 +132,7 @@ abbrev pub IsCollectionBegun : Receiving → ℕ → Receiving → LiveAnswer �
 IsCollectionBegun old vcid new answer =
     (a : Answer) × IsClcwAnswer vcid (rack_at old) a × (answer ≡ collection_answer vcid a) × (new ≡ begun old)
 
--- all items that wait in the channel are handed on, with these answers
+-- all items that wait in the channel are handed on, with these answers, or there is no such channel and no answer
 abbrev pub IsDeliveryDone : Receiving → ℕ → Receiving → List Answer → Type 0
 IsDeliveryDone old vcid new answers = (rack : Racked) × IsDeliveryEnded vcid (rack_at old) answers rack × (new ≡ with_rack rack old)
 

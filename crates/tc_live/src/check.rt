@@ -20,7 +20,7 @@ pub enum FrameCheck {
 
 impl FrameCheck {
     /// Returns the line to carry out, or `None` if the line doesn't pass the check. If frames are checked, a frame is
-    /// copied to a new list without its field. Any other line is returned as it is.
+    /// copied to a new list without its field. Any other line is returned as it is. The only error is `NoMemory`.
     pub fn pass(self, alloc: Global, line: Line) -> Result<Option<Line>, Reason>
         ensures passed { IfOk result (λ passed. MatchOption passed (FailsCheck self line) (IsPassed self line)) }
         ensures reason { IfErr result (λ reason. reason ≡ Reason.NoMemory) }
@@ -36,7 +36,7 @@ impl FrameCheck {
 
     /// Returns the line to carry out for the octets that a CLTU carried, or `None` if they don't pass the check. If
     /// frames are checked, the frame ends where its length field says. It is copied to a new list without its frame
-    /// error control field.
+    /// error control field. The only error is `NoMemory`.
     pub fn pass_candidate(self, alloc: Global, octets: Octets) -> Result<Option<Line>, Reason>
         ensures passed { IfOk result (λ passed. MatchOption passed (FailsCandidate self octets) (IsCandidatePassed self octets)) }
         ensures reason { IfErr result (λ reason. reason ≡ Reason.NoMemory) }
@@ -72,7 +72,8 @@ fn take_frame_off(alloc: Global, octets: &[u8]) -> Result<Option<Line>, Reason>
     }
 }
 
-// Returns the line of the frame `octets`, without its frame error control field. Returns `None` if this field is wrong.
+// Returns the line of the frame `octets`, without its frame error control field. Returns `None` if the octets aren't
+// one frame with the right field at its end.
 fn take_field_off(alloc: Global, octets: &[u8]) -> Result<Option<Line>, Reason>
     ensures passed { IfOk result (λ passed. MatchOption passed (HasWrongField octets.now) (IsFieldOff octets.now)) }
     ensures reason { IfErr result (λ reason. reason ≡ Reason.NoMemory) }

@@ -7,7 +7,7 @@ ghost use Rattle.tc_live.specs.Hint.{bad_word_text, bounds_text, command_form_te
 use tc_lines::{large_number, next_word};
 use tc_text::Reason;
 
-/// Returns the word before a reason: `bad`, unless the reason begins with it.
+/// Returns the text before a reason: `bad` and a space, or an empty text if the reason begins with `bad`.
 pub(crate) fn word_before(reason: Reason) -> &'static str
     ensures { result.now ≡ bad_word_text reason }
 {
@@ -72,7 +72,7 @@ fn begins_with_mark(word: &[u8]) -> bool
     )
 }
 
-// Returns the form of the command that a line begins with.
+// Returns the form of the command that a line begins with, or an empty text if the line doesn't begin with a command.
 #[tactic(auto, unfolding(crate::specs::Hint::command_form_text))]
 fn form(octets: &[u8]) -> &'static str
     ensures { result.now ≡ command_form_text (words octets.now) }
@@ -180,7 +180,8 @@ fn number_hint(octets: &[u8]) -> &'static str
     }
 }
 
-// Returns the numbers after a command, in order.
+// Returns the numbers after a command, in order. A command that isn't named here counts as one with a channel's id
+// alone.
 #[tactic(auto, unfolding(crate::specs::Hint::numbers_behind))]
 fn numbers(command: &[u8]) -> &'static [Number]
     ensures { result.now ≡ numbers_behind command.now }
@@ -202,7 +203,8 @@ fn numbers(command: &[u8]) -> &'static [Number]
     }
 }
 
-// Returns the first of the numbers whose word can't be parsed.
+// Returns the first of the numbers whose word can't be parsed, or `None` if all words for the numbers can be parsed.
+// The words of the last numbers may be missing.
 #[tactic(auto, using(crate::proofs::Hints::none_left))]
 fn misfit(numbers: &[Number], arguments: &[u8]) -> Option<Number>
     ensures { result ≡ first_misfit numbers.now (words arguments.now) }

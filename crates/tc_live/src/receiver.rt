@@ -27,10 +27,10 @@ use tc_rack::{Operation, Rack, RackBackend, Stage, begin, perform, write_report}
 use tc_setup::{Configuration, Instruction};
 use tc_text::{Line, LiveLine, Reason, SpacecraftId, parse_line, parse_live_line};
 
-/// The channels of a spacecraft, which are set up so far or in operation, and the check that octets must pass before
-/// they are brought to one of the channels.
+/// A receiver of one spacecraft: its channels, which are being set up or are in operation, and the check that octets
+/// must pass before they are brought to one of the channels.
 ///
-/// A contract sees all fields, and of each channel its journal and the flags of its link.
+/// A contract sees all fields, and of each channel its settings, its journal and the flags of its link.
 #[derive(Drop)]
 pub struct Receiver {
     check: FrameCheck,
@@ -106,8 +106,8 @@ impl Receiver {
         }
     }
 
-    // Carries out a candidate, and brings its frame to the frame's channel. If more than fill follows the frame,
-    // nothing changes.
+    // Carries out a candidate, and brings its frame to the frame's channel. If more than fill follows the frame, or if
+    // the frame doesn't pass the check, nothing changes.
     fn candidate(&mut self, alloc: Global, octets: Octets) -> Result<LiveAnswer, Reason>
         ensures answer { IfOk result (IsCandidateDone self.old octets self.new) }
         ensures reason { IfErr result (λ reason. (reason ≡ Reason.NoMemory) ⊎ IsBadCandidate self.old octets reason) }
@@ -239,8 +239,8 @@ impl Receiver {
         }
     }
 
-    // Creates the channels from a copy of the configuration, if no operation came before. If memory runs out, the
-    // configuration stays as it was.
+    // Creates the channels from a copy of the configuration, if no operation came before. If no channel was set up, or
+    // if memory runs out, the call returns the reason, and the receiver stays as it was.
     fn begin(&mut self, alloc: Global) -> Result<(), Reason>
         ensures begun { OnOk result (self.new ≡ begun self.old) }
         ensures some { OnOk result (phase_of self.old.stage ≢ Setup []) }

@@ -103,8 +103,9 @@ pub fn serve<R: AllocGlobal + Input + Print>(
 ///
 /// The answer to a bad line is `bad` and the reason. If there is a hint on how to mend the line, it follows after a
 /// colon. The answer to a line with more octets than [`MAX_LINE`] is `bad too long`, and the line isn't kept. Octets
-/// after the last line feed are a line. If the octets of the reader are known, the answers to all lines are written. If
-/// the reader fails, the answers to the lines that it gave before are written.
+/// after the last line feed are a line. The contract holds for a reader whose remaining octets contracts know. It
+/// promises that the answers to all lines are written. If the reader fails, it promises this for the lines that the
+/// reader gave before.
 pub fn answer_lines<R: BufRead, W: Write>(
     alloc: Global,
     receiver: Receiver,
@@ -174,7 +175,7 @@ fn write_bad<W: Write>(octets: &[u8], reason: Reason, writer: &mut W) -> io::Res
     writeln!(writer, "{bad}{reason}{hint}")
 }
 
-// Writes the final report.
+// Writes the final report, flushes the writer, and returns the record of the ends of frames.
 fn close<W: Write>(
     alloc: Global,
     receiver: Receiver,

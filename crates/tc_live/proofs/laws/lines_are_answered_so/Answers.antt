@@ -67,7 +67,8 @@ link-line : IsLineSaid set_up (codes "link 1 1 0") (receiver_with no_signal) (co
 unfolding live_line_of words digits
 link-line = inl (reported.Link 1 no_signal, receiver_with no_signal, (LinkOf 1 no_signal, refl, ((true, rack no_signal, (0, channel no_flag, channel no_signal, (refl, refl), refl, refl), refl, refl), ((λ e. cc), refl))), ([], (refl, refl), sym (append-nil (codes "link 1 1 0\n"))))
 
--- The answer to the last line. In the CLCW, the No RF Available Flag, which is bit 16, is set.
+-- The answer to the last line. In the CLCW, the No RF Available Flag is set, which is bit 16 if the most significant
+-- bit is bit 0.
 abbrev clcw_text : List ℕ
 clcw_text = codes "clcw 1 " ++ word_text 0x01048000 ++ codes "\n"
 
