@@ -31,7 +31,7 @@ const BOTH: Wanted<'static> = Wanted {
     ..WANTED
 };
 
-// The reply to a Type-BD frame that was accepted (event 6), and ended no unit.
+// The reply to a Type-BD frame that was accepted (event 6), and whose delivery reports nothing.
 const PASSED: FrameReply = FrameReply {
     delivery: NOTHING,
     ..DELIVERED

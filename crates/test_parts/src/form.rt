@@ -1,4 +1,4 @@
-//! The forms of a channel: with its journal in memory, without a journal, and in rooms.
+//! The forms of a channel: with its journal in memory, with the number of its events alone, and with fixed memory.
 
 use crate::frames::NO_FLAG;
 use std::alloc::Global;
@@ -26,10 +26,10 @@ pub trait Form: Drop {
     /// Takes the oldest unit of a chosen MAP.
     fn take_whole(&mut self, alloc: Global, map: u8) -> Result<Octets, TakeUnitFault>;
 
-    /// Lends the oldest packet of an application.
+    /// Lends the oldest packet of an application, or returns `None` if no packet waits.
     fn lent_packet(&self, apid: u16) -> Option<&[u8]>;
 
-    /// Lends the oldest unit of a chosen MAP.
+    /// Lends the oldest unit of a chosen MAP, or returns `None` if no unit waits.
     fn lent_whole(&self, map: u8) -> Option<&[u8]>;
 
     /// Returns the CLCW with both link flags 0.
@@ -44,10 +44,10 @@ pub trait Form: Drop {
     /// Returns the number of events, and the number of data fields that wait.
     fn events_and_fields(&self) -> (u64, usize);
 
-    /// Returns the number of packets of an application that wait.
+    /// Returns the number of packets of an application that wait, or `None` if the application has no queue.
     fn packets(&self, apid: u16) -> Option<usize>;
 
-    /// Returns the number of units of a chosen MAP that wait.
+    /// Returns the number of units of a MAP that wait, or `None` if the MAP isn't chosen.
     fn whole_units(&self, map: u8) -> Option<usize>;
 }
 
@@ -105,7 +105,7 @@ impl<J: Journal> Form for ChannelWith<J> {
     }
 }
 
-// Returns octets for an item of this length, or `None` if there is no memory for them.
+// Returns as many zeros as the item has octets, or none if there is no item. Returns `None` if memory runs out.
 fn room_for(alloc: Global, item: Option<&[u8]>) -> Option<Vec<u8>> {
     vec![in alloc; 0; item.map_or(0, |item| item.len())].ok()
 }

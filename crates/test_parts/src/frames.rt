@@ -5,7 +5,7 @@ use std::alloc::{AllocError, Global};
 use tc_channel::{ChannelWith, Delivery, Event, FrameReply, Journal, NoMemory};
 use tc_link::{Act, Link, read_frame};
 
-/// A link without flags.
+/// The state of a link with neither flag set.
 pub const NO_FLAG: Link = Link {
     no_rf: false,
     no_bit_lock: false,
@@ -41,7 +41,7 @@ pub const BD_UNIT: [u8; 8] = [0x20, 0x2a, 0x04, 0x07, 0x00, 0xc3, 0xaa, 0xbb];
 /// An Unlock for virtual channel 1.
 pub const UNLOCK: [u8; 6] = [0x30, 0x2a, 0x04, 0x05, 0x00, 0x00];
 
-/// The delivery if no unit was ended.
+/// The delivery in which no packet or unit was queued or dropped, and no octets were left.
 pub const NOTHING: Delivery = Delivery {
     queued: 0,
     dropped: 0,
@@ -73,7 +73,7 @@ pub const NO_ROOM: FrameReply = FrameReply {
     delivery: NOTHING,
 };
 
-/// The reply to a Type-AD frame that is repeated.
+/// The reply to a Type-AD frame whose N(S) is in the negative part of the window, as that of a repeated frame is.
 pub const BEHIND: FrameReply = FrameReply {
     act: Act {
         event: 4,
@@ -112,7 +112,8 @@ pub fn is_frame(event: &Event, frame: &[u8]) -> bool {
     }
 }
 
-/// Brings the frame at the front of these octets to a channel, if they begin with one, and returns the reply.
+/// Brings the frame at the front of these octets to a channel, and returns the reply. Returns `None` if the octets
+/// don't begin with a frame.
 pub fn offer<J: Journal>(
     channel: &mut ChannelWith<J>,
     octets: &[u8],

@@ -4,7 +4,7 @@ use std::alloc::Global;
 use std::io;
 use std::io::{ErrorKind, Read, Write};
 
-/// A reader that gives at most `most` octets at each read, and fails at one read.
+/// A reader that gives at most `most` octets at each read, and fails at the read `fails_at`.
 #[derive(Drop)]
 pub struct Failing<'a> {
     rest: &'a [u8],
@@ -14,7 +14,8 @@ pub struct Failing<'a> {
 }
 
 impl<'a> Failing<'a> {
-    /// Creates a reader of these octets that fails at the read `fails_at`. Reads are numbered from 1.
+    /// Creates a reader of these octets that gives at most `most` octets at each read, and fails at the read
+    /// `fails_at`. Reads are numbered from 1, and the reader fails at no read if `fails_at` is 0.
     pub fn new(octets: &'a [u8], most: usize, fails_at: u32) -> Failing<'a> {
         Failing {
             rest: octets,
@@ -44,7 +45,7 @@ impl Read for Failing<'_> {
     }
 }
 
-/// A writer that keeps the octets that are written, fails at a write or at each flush, and counts both.
+/// A writer that keeps the octets that are written, may fail at one write or at each flush, and counts both.
 #[derive(Drop)]
 pub struct Watched {
     kept: Vec<u8>,

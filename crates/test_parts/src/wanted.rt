@@ -9,7 +9,7 @@ use tc_channel::{Items, MapSetting, QueueSetting, Settings};
 /// Settings as data.
 #[derive(Clone, Copy)]
 pub struct Wanted<'a> {
-    /// The virtual channel.
+    /// The virtual channel id.
     pub vcid: u8,
     /// The width of the window.
     pub width: u8,
@@ -25,8 +25,8 @@ pub struct Wanted<'a> {
     pub maps: &'a [(u8, u16)],
 }
 
-/// Virtual channel 1 with a window of width 10, room for one field, the first V(R) 0, and a queue of capacity 1 for
-/// APID 5.
+/// Virtual channel 1 with a window of width 10, room for one field, the first V(R) 0, segment headers, a queue of
+/// capacity 1 for APID 5, and no chosen MAP.
 pub const WANTED: Wanted<'static> = Wanted {
     vcid: 1,
     width: 10,

@@ -34,7 +34,8 @@ fn station_of_one<J: Journal>(rt: &impl Abort, alloc: Global) -> StationOf<J>
     StationOf::new(alloc, 42, list).expect(rt, "a station")
 }
 
-// Creates a station with virtual channels 1 and 2, which have buffers of this capacity and queues of one packet.
+// Creates a station with virtual channels 1 and 2. Each channel has a buffer of this capacity, and a queue for one
+// packet.
 fn station_of_two(rt: &impl Abort, alloc: Global, buffer: u8) -> Station
     ensures { result.vcids ≡ 1 ∷ 2 ∷ [] }
 {

@@ -8,7 +8,7 @@ use SettingsFault::{
 };
 
 // Each row has a virtual channel id, the width of a window, the capacity of a buffer, the APIDs and capacities of
-// queues, and the fault of settings with these values.
+// queues, and the fault of settings with these values, or `None` if they have no fault.
 static FAULTS: [(u8, u8, u8, &[(u16, u16)], Option<SettingsFault>); 12] = [
     (1, 10, 1, &[(5, 1)], None),
     (64, 10, 1, &[(5, 1)], Some(BadVcid)),
@@ -46,7 +46,7 @@ fn each_fault_of_settings(rt: HostRuntime) {
 }
 
 // Each row has a flag for segment headers, the chosen MAPs with the capacities of their queues, and the fault of
-// settings with these values.
+// settings with these values, or `None` if they have no fault.
 static FAULTS_OF_MAPS: [(bool, &[(u8, u16)], Option<SettingsFault>); 7] = [
     (true, &[(63, 256), (0, 1)], None),
     (false, &[], None),

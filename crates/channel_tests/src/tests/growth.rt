@@ -72,7 +72,8 @@ static EACH_CALL: [Step<'static>; 9] = [
     Holds(0, 0, Some(0)),
 ];
 
-// The calls are played after different numbers of discarded frames, so that the journal grows once in each call.
+// The calls are played after different numbers of discarded frames. For each call there is a number of frames after
+// which the journal's memory grows at this call.
 #[test]
 fn growth_of_each_call_of_a_channel(rt: HostRuntime) {
     for earlier in 0..5 {
@@ -219,7 +220,8 @@ fn growth_of_units_of_a_chosen_map(rt: HostRuntime) {
 
 static TAKE_OF_A_UNIT: [Step<'static>; 2] = [Frame(&BD_UNIT, DELIVERED), TakeUnit(3, &UNIT)];
 
-// The calls are played after different numbers of discarded frames, so that the journal grows once in a take of a unit.
+// The calls are played after different numbers of discarded frames. After one of these numbers, the journal's memory
+// grows at the take of the unit.
 #[test]
 fn growth_of_a_take_of_a_unit(rt: HostRuntime) {
     for earlier in 0..4 {
@@ -230,7 +232,7 @@ fn growth_of_a_take_of_a_unit(rt: HostRuntime) {
 // `SECOND`, unsegmented on MAP 0.
 const SECOND_FIELD: [u8; 8] = [0xc0, 0x10, 0x05, 0xc0, 0x01, 0x00, 0x00, 0xbb];
 
-// The reply to a frame whose packet or unit was dropped because its queue was full.
+// The reply to a Type-BD frame whose packet or unit was dropped because its queue was full.
 const DROPPED: FrameReply = FrameReply {
     delivery: Delivery {
         dropped: 1,
@@ -239,7 +241,7 @@ const DROPPED: FrameReply = FrameReply {
     ..PASSED
 };
 
-// Units of MAP 3 have an octet, none, and two.
+// The three units of MAP 3 that are taken in these steps have one octet, no octet, and two octets.
 static QUEUES: [Step<'static>; 30] = [
     NoRelease,
     NoTake(5, TakeFault::Empty),

@@ -1,6 +1,6 @@
 //! Limits of units by MAP. Expected values were worked out by hand from CCSDS 232.0-B, 4.4. A unit is either the octets
-//! behind the segment header of an unsegmented data field, or the octets that a first, continuing and last segment
-//! carry together.
+//! behind the segment header of an unsegmented data field, or the octets that a first segment, any continuing segments
+//! and a last segment carry together. On a channel without segment headers, each data field is a unit.
 
 use super::Step::{Field, Frame, Holds, Take, TakeUnit};
 use super::*;
@@ -10,7 +10,7 @@ const SEVEN_ON_0: MapLimit = MapLimit { map: 0, octets: 7 };
 
 const TWO_ON_3: MapLimit = MapLimit { map: 3, octets: 2 };
 
-// A packet of 8 octets. It is unsegmented on MAP 0, on MAP 1 and on MAP 63.
+// A packet of 8 octets, and the unsegmented data fields that carry it on MAPs 0, 1 and 63.
 const EIGHT: [u8; 8] = [0x10, 0x05, 0xc0, 0x00, 0x00, 0x01, 0xaa, 0xbb];
 
 const EIGHT_ON_0: [u8; 9] = [0xc0, 0x10, 0x05, 0xc0, 0x00, 0x00, 0x01, 0xaa, 0xbb];
@@ -32,7 +32,8 @@ static BY_PACKETS: [Step<'static>; 8] = [
     Take(5, &EIGHT),
 ];
 
-// The first four octets of a packet, and its last four or three, in a first and a last segment of MAP 0.
+// The first four octets of a packet, and its last four or three, in a first and a last segment of MAP 0. The packet of
+// 8 octets is over the limit of 7 octets, and the packet of 7 octets passes.
 static BY_SEGMENTS: [Step<'static>; 6] = [
     Field(&[0x40, 0x10, 0x05, 0xc0, 0x00], PASSED),
     Field(&[0x80, 0x00, 0x01, 0xaa, 0xbb], PASSED),

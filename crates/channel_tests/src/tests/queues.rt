@@ -15,8 +15,8 @@ fn channel_of_queues<C: Form>(rt: &(impl Abort + Print), alloc: Global, name: &s
     new_channel(rt, alloc, name, &wanted)
 }
 
-// The types, APIDs and data of twenty packets: two for APID 62, one for 63, one for 2,046, one of telemetry, the first
-// for 0 and the others for 7.
+// Twenty packets, each given as the two octets of its packet identification and the octet of its data. The first packet
+// is for APID 0, two are for 62, one is for 63, one is for 2,046, one is a telemetry packet, and fourteen are for 7.
 static PACKETS: [(u8, u8, u8); 20] = [
     (0x10, 0, 0),
     (0x10, 62, 1),

@@ -1,4 +1,4 @@
-//! Rooms, and items in rooms, of both forms.
+//! Rooms of both kinds, which are of a fixed size or grow, and items in rooms.
 
 use super::*;
 use tc_packet::{FixedRoom, GrowingRoom, Room};
@@ -23,7 +23,7 @@ fn octets_in_a_room(rt: HostRuntime) {
     check_room::<GrowingRoom, HostRuntime>(&rt, rt.alloc());
 }
 
-// Three items are put into two rooms, one after the other.
+// Two items are put into two rooms. A third item finds no room until the first item is taken out.
 #[test]
 fn items_in_two_rooms(rt: HostRuntime) {
     let mut slots: Slots<FixedRoom> = Slots::with_capacity(rt.alloc(), 2, 3).expect(&rt, "rooms");

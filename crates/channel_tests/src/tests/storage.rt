@@ -27,7 +27,7 @@ const USUAL: Wanted<'static> = Wanted {
 
 // Without segment headers, the buffer takes 4 * (32 + 1,019) bytes, the queues take 2 * 64, and the packets
 // 8 * (32 + 1,019). With segment headers, packets have 65,542 octets, and the streams take 128 * (40 + 65,542). The
-// queue of a MAP takes as much as any other queue. `BOTH` has a buffer of 1, two queues, and four items.
+// queue of a MAP takes as much as any other queue. `BOTH` has a buffer of 1, two queues, and rooms for four items.
 static OCTETS: [(Wanted<'static>, u64); 4] = [
     (PLAIN_QUEUES, 12_740),
     (TWO_QUEUES, 8_923_420),

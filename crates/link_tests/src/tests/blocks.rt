@@ -19,8 +19,8 @@ fn check(rt: &impl Abort, octets: u64, mode: Mode, fate: Fate) {
     assert!(rt; decode_block(octets, mode) == information);
 }
 
-// One wrong bit among the 63 is corrected in one mode, and detected in the other. Two and three wrong bits are
-// detected.
+// One wrong bit among the first 63 is corrected in the mode `Correct`, and detected in the mode `Detect`. Two wrong
+// bits are detected in both modes, and three in the mode `Detect`.
 #[test]
 fn wrong_bits_are_detected_or_corrected(rt: HostRuntime) {
     assert!(rt; encode_block(INFORMATION) == BLOCK.to_be_bytes());

@@ -8,7 +8,7 @@ use std::process::Abort;
 use tc_packet::{NoMemory, Reassembler, Service, read_segment};
 use test_parts::made_again;
 
-// Returns the unit that a field would end. The field isn't empty.
+// Returns the unit that a field, which must not be empty, would end, if any.
 fn ask(
     rt: &impl Abort,
     reassembler: &Reassembler,
@@ -54,8 +54,8 @@ impl Watched {
         }
     }
 
-    // Returns the unit that the field would end. Checks that the reassembler agrees on it with the definition over the
-    // whole stream.
+    // Returns the unit that the field would end, if any. Checks that `unit_after` of the reassembler and the definition
+    // over the whole stream agree on it.
     fn unit_after(&self, rt: &impl Abort, service: Service, field: &[u8]) -> Option<Vec<u8>> {
         let expected = definition::unit_after(self.alloc, &self.given, service, field).expect(
             rt,
@@ -73,8 +73,8 @@ impl Watched {
             .expect(rt, "a field");
     }
 
-    // Pushes a field to the reassembler. Checks that each call and the definition agree on the unit that the field
-    // completes, and returns this unit.
+    // Pushes a field to the reassembler. Checks that `unit_after`, `push` and the definition agree on the unit that the
+    // field completes, and returns this unit, if any.
     fn push(&mut self, rt: &impl Abort, service: Service, field: &[u8]) -> Option<Vec<u8>> {
         let expected = self.unit_after(rt, service, field);
         let answer = push(rt, &mut self.reassembler, service, field);

@@ -48,7 +48,8 @@ fn growth_of_the_frames_of_many_cltus(rt: HostRuntime) {
     }
 }
 
-// Feeds a stream to a decoder octet by octet, and returns the length of the first frame.
+// Feeds a stream to a decoder octet by octet. Returns the number of octets that the first CLTU carries, or `None` if no
+// CLTU ends.
 fn length_of(rt: &(impl Abort + Print), alloc: Global, stream: &[u8]) -> Option<usize> {
     let mut decoder = decoder_of(rt, alloc, Mode::Correct);
     for octet in stream {

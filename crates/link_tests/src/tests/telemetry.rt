@@ -34,7 +34,7 @@ fn growth_of_a_telemetry_frame_that_is_written(rt: HostRuntime) {
     assert!(rt; made.expect(&rt, "a frame").as_slice() == WHOLE.as_slice());
 }
 
-// Returns both counts of the next frame.
+// Writes the next frame, and returns both of its counts, or the fault.
 fn next_counts(
     counts: &mut Counts,
     alloc: Global,

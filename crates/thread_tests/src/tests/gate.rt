@@ -1,4 +1,5 @@
-//! Two workers meet at a gate while each holds the lock of its list's channel.
+//! Two workers meet at a gate while each holds the lock of its list's channel. A worker that waits in a gate holds the
+//! lock of this channel, and of no other.
 
 ghost use Rattle.std.specs.Prelude.{◌≡◌, All, length};
 ghost use Rattle.tc_station.specs.Tally.{IsOurs};
@@ -30,7 +31,7 @@ impl Meeting {
         }
     }
 
-    // Returns whether a worker passed for channel 1, and whether one passed for another channel.
+    // Returns whether a worker came to the gate for channel 1, and whether one came for another channel.
     fn came(&self) -> (bool, bool) {
         (
             self.first_came.load(Ordering::SeqCst),
@@ -60,7 +61,7 @@ impl Gate for Meeting {
     }
 }
 
-// Returns whether the flag is set within `turns` turns.
+// Waits for the flag, for at most `turns` turns of a loop, and returns whether it was set in that time.
 fn comes_true(flag: &AtomicBool, turns: u32) -> bool {
     for turn in 0..turns {
         if flag.load(Ordering::SeqCst) {
@@ -101,7 +102,7 @@ pub(super) fn new_operator_list(rt: &impl Abort, alloc: Global, n: u16) -> (Stat
     (station, operators)
 }
 
-// Carries out the lists to their end.
+// Carries out the lists, and checks that memory didn't run out.
 pub(super) fn do_lists<R: Threads + Wait + Sync + Abort, G: Gate + Sync>(
     rt: &R,
     gate: &G,
@@ -151,8 +152,8 @@ fn workers_of_a_script_meet(rt: HostRuntime) {
     assert!(rt; !gate.has_run_out());
 }
 
-// A gate at which the worker of channel 1 sets `inside`, and then waits for a report, for at most `turns` turns. Other
-// workers wait until `inside` is set.
+// A gate at which the worker of channel 1 sets `inside`, and then waits for a report, for at most `turns` turns. If the
+// report comes in that time, it sets `was_reported`. Other workers wait until `inside` is set, for at most as long.
 #[derive(Drop)]
 struct Inside {
     turns: u32,
@@ -193,7 +194,8 @@ impl Gate for Inside {
     }
 }
 
-// Reports to the gate once channel 2 is unlocked.
+// Waits until the watcher of channel 2 shows that the channel was unlocked, and then reports to the gate. The wait has
+// at most 100,000,000 turns.
 fn report_the_second(station: &Station, watcher: &mut Watcher, gate: &Inside) {
     for turn in 0..100_000_000u32 {
         if station.watch(watcher, NO_FLAG) == 0x01080200 {
@@ -220,13 +222,15 @@ fn a_channel_is_worked_while_the_lock_of_another_is_held(rt: HostRuntime) {
     assert!(rt; gate.was_reported());
 }
 
-// Reports to the gate if a watcher of channel 1 was created while a worker is inside.
+// Waits until the worker of channel 1 is inside the gate, creates a watcher of channel 1, and then reports to the gate.
 fn report_a_watcher(rt: &impl Wait, station: &Station, gate: &Inside) {
     if comes_true(&gate.inside, 100_000_000) && station.watcher(rt, 1).is_ok() {
         gate.report();
     }
 }
 
+// A watcher is created under the lock. The worker holds the lock while it is inside, so the report comes after the
+// worker has left the gate.
 #[test]
 fn who_passes_holds_the_lock(rt: HostRuntime) {
     let lists = two_unlocks(&rt, rt.alloc());

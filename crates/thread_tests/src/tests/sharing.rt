@@ -15,8 +15,8 @@ fn bring(rt: &impl Wait, station: &Station, operator: &mut Operator, frame: &[u8
     station.bring(rt, operator, frame).is_ok()
 }
 
-// Releases a data field of the channel. Returns whether that worked or the buffer was empty, since the other thread may
-// have emptied it.
+// Releases a data field of the channel. Returns whether the release succeeded, or was refused because the buffer was
+// empty, since the other thread may have emptied it.
 fn release(rt: &impl Wait, station: &Station, operator: &mut Operator, vcid: u8) -> bool
     requires { IsOurs station.now operator.old }
     ensures { IsOurs station.now operator.new }
@@ -27,7 +27,8 @@ fn release(rt: &impl Wait, station: &Station, operator: &mut Operator, vcid: u8)
     }
 }
 
-// Brings the channel's frame with this N(S), and releases a data field of the channel.
+// Brings the channel's frame with this N(S), and releases a data field of the channel. Returns whether both succeeded,
+// as `bring` and `release` define it.
 fn turn(rt: &impl Wait, station: &Station, operator: &mut Operator, vcid: u8, ns: u8) -> bool
     requires { IsOurs station.now operator.old }
     ensures { IsOurs station.now operator.new }
@@ -37,7 +38,8 @@ fn turn(rt: &impl Wait, station: &Station, operator: &mut Operator, vcid: u8, ns
     brought && released
 }
 
-// Takes 300 turns, each on channel 1 and then on channel 2, with rising N(S). Returns whether each turn succeeded.
+// Takes 300 turns, each on channel 1 and then on channel 2. The N(S) of the frames rises from 0, modulo 256. Returns
+// whether each turn succeeded.
 fn take_turns(rt: &impl Wait, station: &Station, operator: &mut Operator) -> bool
     requires { IsOurs station.now operator.old }
     ensures { IsOurs station.now operator.new }
@@ -52,7 +54,7 @@ fn take_turns(rt: &impl Wait, station: &Station, operator: &mut Operator) -> boo
     done
 }
 
-// Runs the turns of both operators, each in a thread of its own.
+// Runs the turns of both operators, each in a thread of its own, and returns whether all turns succeeded.
 fn share<R: Threads + Wait + Sync>(
     rt: &R,
     station: &Station,
@@ -80,7 +82,8 @@ fn counted_by_both(one: &Operator, two: &Operator, vcid: u8) -> Option<u64> {
     one.count(vcid)?.checked_add(two.count(vcid)?)
 }
 
-// Checks that the channel has as many events as the operators counted: each of the 600 frames, and each release.
+// Checks that the channel has as many events as the operators counted. There are at least 600 events, since each of the
+// 600 frames is one.
 fn check_journal(rt: &impl Abort, channel: &Channel, vcid: u8, counted: Option<u64>) {
     assert_eq!(rt; channel.settings().vcid, vcid);
     let events = channel.journal().len() as u64;

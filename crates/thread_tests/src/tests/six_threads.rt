@@ -127,7 +127,8 @@ impl Worker {
     }
 }
 
-// Returns V(R) in the watcher's next status, which must be that of channel 1 with a FARM-B counter of 0.
+// Returns V(R) in the CLCW that the watcher reads next, or `None` if this CLCW isn't one of channel 1 with a FARM-B
+// counter of 0.
 fn next_number(station: &Station, watcher: &mut Watcher) -> Option<u8> {
     let status = read_clcw(station.watch(watcher, NO_FLAG))?;
     if status.vcid == 1 && status.farm_b == 0 {
@@ -247,15 +248,15 @@ fn answer_to(rt: &impl Abort, channel: &mut Channel, event: &Event) -> Answer {
     }
 }
 
-// Checks that both channels report the same.
+// Checks that both channels have the same CLCW, and the same numbers of data fields and of packets for APID 5.
 fn check_alike(rt: &impl Abort, channel: &Channel, closed: &Channel) {
     assert_eq!(rt; channel.clcw(NO_FLAG), closed.clcw(NO_FLAG));
     assert_eq!(rt; channel.buffered(), closed.buffered());
     assert!(rt; channel.queued(5) == closed.queued(5));
 }
 
-// Returns the answers of a new channel to the events of the closed one's journal, and checks that both channels then
-// report the same.
+// Returns the answers of a new channel to the events of the closed channel's journal, and checks that both channels are
+// then alike.
 fn answers_again(rt: &impl Abort, alloc: Global, closed: &Channel) -> Vec<Answer> {
     let mut channel = Channel::new(alloc, settings(alloc, &CHANNEL).expect(rt, "settings")).expect(
         rt,
@@ -270,7 +271,7 @@ fn answers_again(rt: &impl Abort, alloc: Global, closed: &Channel) -> Vec<Answer
     answers
 }
 
-// Checks that all answers include the worker's answers in order, and no others to this task.
+// Checks that the answers to this task, among all answers, are exactly the worker's answers, in order.
 fn check_in_order(rt: &impl Abort, all: &[Answer], task: Task, got: &[Answer]) {
     let mut got = got.iter();
     for answer in all {
@@ -322,7 +323,8 @@ fn check_frames(rt: &impl Abort, journal: &[Event]) {
     }
 }
 
-// Checks that the journal has as many events as the operators counted, and that the last status is the channel's.
+// Checks that the journal has as many events as the operators counted, that it has each frame twice, and that `status`
+// is the channel's CLCW.
 fn check_closed(rt: &impl Abort, channel: &Channel, counted: u64, status: u32) {
     let events = channel.journal().len() as u64;
     assert_eq!(rt; events, counted);

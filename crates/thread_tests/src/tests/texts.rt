@@ -83,7 +83,7 @@ fn check_takes(rt: &impl Abort, alloc: Global) {
     assert!(rt; have_texts(alloc, units.as_slice()));
 }
 
-// Checks that a refused close has this text.
+// Checks that this fault of a close has this text.
 fn check_close_text<F: std::fmt::Display + Drop>(
     rt: &impl Abort,
     alloc: Global,

@@ -1,4 +1,4 @@
-//! Two threads that work on two channels, which are then closed together.
+//! Two threads work on two channels, which are then closed together.
 
 ghost use Rattle.std.specs.Prelude.{All};
 ghost use Rattle.tc_station.specs.Tally.{IsOurs};
@@ -27,7 +27,7 @@ fn bring(rt: &impl Abort, alloc: Global, octets: &[u8]) -> Job {
     }
 }
 
-// Returns the worker's frames, for channel 1 and for channel 2 in turn.
+// Creates the list of jobs that bring the worker's frames, for channel 1 and for channel 2 in turn.
 fn frames_of(rt: &impl Abort, alloc: Global, worker: u8) -> WorkList {
     let mut jobs = Vec::new(alloc);
     for number in 0..FRAMES {

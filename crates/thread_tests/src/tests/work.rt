@@ -24,8 +24,8 @@ fn list_for(rt: &impl Abort, alloc: Global, vcid: u8, order: Order) -> WorkList 
 }
 
 // Creates seven lists. There is no channel 9. The order before each Unlock is refused. These orders are a release of an
-// empty buffer, a release on channel 9, octets that aren't a frame, the take of a packet that has no queue, a take from
-// an empty queue, and the take of a unit of a MAP that isn't chosen. The last list has no jobs.
+// empty buffer, a release on channel 9, octets that aren't a frame, a take for an APID without a queue, a take from an
+// empty queue, and the take of a unit of a MAP that isn't chosen. The last list has no jobs.
 fn seven_lists(rt: &impl Abort, alloc: Global) -> [WorkList; 7] {
     [
         list_for(rt, alloc, 1, Order::Release),

@@ -84,7 +84,7 @@ fn check_push(
 // The row of `FIRST`, which opens `SHORT_RUN`.
 const OPENED: Row = (&FIRST, None, Some(&SHORT_RUN));
 
-// Segments of each part. A first and an unsegmented segment drop the open run.
+// Segments of each of the four kinds. A first segment and an unsegmented segment drop the run that is open.
 static SEGMENTS: [Row; 8] = [
     OPENED,
     OPENED,

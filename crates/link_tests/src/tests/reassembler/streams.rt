@@ -98,7 +98,8 @@ fn some_service(numbers: &mut Numbers) -> Service {
     }
 }
 
-// Brings `fields` fields. After each field, checks the open runs of all streams that the field may have changed.
+// Pushes `fields` pseudorandom fields. After each field, checks the open runs of both services on each of the three
+// MAPs.
 fn check_stream(rt: &impl Abort, alloc: Global, seed: u64, fields: usize, bound: u32)
     requires { 0 < bound }
 {
