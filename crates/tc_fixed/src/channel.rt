@@ -344,7 +344,7 @@ impl<N: Noted> FixedChannelWith<N> {
         self.channel_core.oldest_unit(map, steps)
     }
 
-    /// Returns FARM-1's components.
+    /// Returns FARM-1's state, V(R), the flags Lockout, Wait and Retransmit, and the FARM-B counter.
     pub fn report(&self) -> Report
         ensures report { result ≡ (run_within (limit_of self.now.limits) self.now.settings self.now.journal).report }
         ensures farm_b { result.farm_b < 4 }
@@ -355,7 +355,7 @@ impl<N: Noted> FixedChannelWith<N> {
         self.channel_core.report()
     }
 
-    /// Returns the communications link control word.
+    /// Returns the communications link control word, with these flags of the link.
     pub fn clcw(&self, link: Link) -> u32
         ensures word { result ≡ clcw_within (limit_of self.now.limits) self.now.settings self.now.journal link }
         ensures allowed { IsAllowed self.now.settings }

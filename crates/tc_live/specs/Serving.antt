@@ -20,7 +20,7 @@ use Rattle.tc_rack.specs.Report.{IsReportOf}
 use Rattle.tc_live.specs.declared.serving.ServingFault.{ServingFault}
 use Rattle.tc_live.specs.declared.serving.ServingFault.TheVariants.{Read, Write, NoMemory, Unbalanced}
 
--- some channel has had more events than the final report can give
+-- some channel has had at least 2^64 - 1 events, a number that the final report can't give
 abbrev pub IsNumberUnreported : Receiving → Type 0
 IsNumberUnreported receiver = ¬ All IsNumberReported (histories (rack_at receiver))
 
@@ -87,7 +87,7 @@ IsReceptionCutShort receiver octets before after NoMemory = Keeps before after �
 IsReceptionCutShort receiver octets before after Unbalanced =
     (last : Receiving) × lines.AreAllWritten line_limit IsLineSaid receiver octets last before after × IsNumberUnreported last
 
--- the receiver's fault that stands for a fault while lines were answered
+-- the receiver's fault for a fault that stopped the answering of lines
 abbrev pub fault_at_lines : AnsweringFault → ServingFault
 fault_at_lines answering.Read = Read
 fault_at_lines answering.Write = Write

@@ -54,7 +54,7 @@ impl fmt::Display for ServingFault {
 impl Error for ServingFault {}
 
 impl ServingFault {
-    // Returns the fault of the receiver that stands for a fault while lines were answered.
+    // Returns the receiver's fault for a fault that stopped the answering of lines.
     fn of(fault: tc_lines::ServingFault) -> ServingFault
         ensures { result ≡ fault_at_lines fault }
     {

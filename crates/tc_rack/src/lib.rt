@@ -3,7 +3,7 @@
 //! set-up at first, and later the channels in operation.
 //!
 //! A contract sees each channel of a [`Rack`] with its journal and the flags of its link. The contract of an operation
-//! is therefore an equation: the answer is the reply that the channel of the operation gives after its journal.
+//! therefore determines the answer, which is the reply that the channel of the operation gives after its journal.
 #![tactic(auto)]
 
 mod answer;

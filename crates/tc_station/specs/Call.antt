@@ -42,9 +42,9 @@ pub record IsCounted {R F : Type 0} (station : Roster) (place vcid : ℕ) (e : E
   pub knows : KnowsTheSame before after
   pub later : HasGoneOnAtEach before after
 
--- The operator made this call, and a watcher met the desk before and after it, all under one hold of the desk's lock.
--- The watcher had seen no more than the journal at the moment of the call, and afterwards it has seen all that the
--- operator has.
+-- The operator made this call, and a watcher of the desk's board met the desk before and after it. The history that the
+-- watcher had seen is a beginning of the journal at the moment of the call. Afterwards the watcher has seen all that
+-- the operator has seen of the channel.
 pub record IsMetCallAt {R F : Type 0} (place vcid : ℕ) (e : Event) (ok : Moment → R → Type 0) (err : Moment → F → Type 0) (early : Watching) (before : AtStation) (result : Result R F) (late : Watching) (after : AtStation) : Type 0 where
   pub at : IsCallAt place vcid e (λ m r. ok m r × HasSeenNoMore early m) (λ m f. err m f × HasSeenNoMore early m) before result after
   pub met : HasMet at.next.own.seen late
@@ -59,15 +59,15 @@ pub record IsMetAt (place vcid : ℕ) (early : Watching) (before : AtStation) (l
   pub others : after.desks ≡ slice_set before.desks place next
   pub vcids : after.vcids ≡ before.vcids
 
--- The operator made this call at the desk of the channel with this id, or the station has no such channel and nothing
--- happened.
+-- Either the operator made this call at the desk of the channel with this id, or the station has no such channel. In
+-- the second case the result is the fault `unknown`, and nothing happened.
 abbrev pub IsCallOn : {R F : Type 0} → Roster → ℕ → Event → (Moment → R → Type 0) → (Moment → F → Type 0) → F → AtStation → Result R F → AtStation → Type 0
 IsCallOn {R = R} {F = F} station vcid e ok err unknown before result after =
     ((place : ℕ) × IsPlace station vcid place × IsCallAt place vcid e ok err before result after)
     ⊎ (¬ Contains station.vcids vcid × (result ≡ Err unknown) × (after ≡ before))
 
--- The operator brought the frame at the front of the octets to the desk of the channel that the frame names. If there
--- is no such frame or channel, the answer is the reason, and nothing happened.
+-- Either the operator brought the frame at the front of the octets to the desk of the channel that the frame names, or
+-- there is no such frame or channel. In the second case the result is the reason, and nothing happened.
 abbrev pub IsBringCall : {R : Type 0} → Roster → List ℕ → (ℕ → List ℕ → Moment → R → Type 0) → (List ℕ → Moment → BringFault → Type 0) → AtStation → Result R BringFault → AtStation → Type 0
 IsBringCall {R = R} station octets ok err before result after =
     ((place vcid : ℕ) × (frame : List ℕ) × IsPlaced station octets place vcid frame × IsCallAt place vcid (Frame frame) (ok vcid frame) (err frame) before result after)

@@ -1,4 +1,4 @@
--- The view of an operator in contracts: the channels of its station, a count for each, and its accounts at their desks.
+-- The view of an operator in contracts, its counts, and the changes that calls make to them.
 use Rattle.std.specs.Prelude.{◌≡◌, ℕ, ◌+◌, List, [], map, Option, Some, None, if◌then◌else◌, ◌==◌, nat_lt, slice_get, slice_index, slice_set, position, length, replicate, option_map, All}
 use Rattle.logged_lock.specs.Log.{IsBeginning}
 use Rattle.tc_desk.specs.Log.{AtLock, count_of}

@@ -93,7 +93,7 @@ pub enum TakeUnitRefused {
 /// The reason why not all jobs of the lists were carried out.
 #[derive(Clone, Copy, Debug, PartialEq, Eq, Error)]
 pub enum WorkFault {
-    /// The lowest line whose job was refused because memory ran out.
+    /// Memory ran out for at least one job. The line is the lowest line of such a job.
     #[error("line {line}: no memory")]
     NoMemory { line: u32 },
 }

@@ -7,7 +7,7 @@ use tc_channel::Journal;
 use tc_desk::Question;
 use tc_status::DeskOf;
 
-/// A question that passes a gate.
+/// A question without an answer, which passes the gate once while the desk's lock is held.
 #[derive(Drop)]
 pub(crate) struct Passing<'a, G> {
     pub(crate) gate: &'a G,

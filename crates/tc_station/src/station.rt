@@ -123,8 +123,8 @@ impl<J: Journal> StationOf<J> {
         Ok(station)
     }
 
-    /// Returns the frame at the front of the octets, and the id of the channel that the frame is for. The call takes no
-    /// lock.
+    /// Returns the frame at the front of the octets, and the id of the channel that the frame is for. If the octets are
+    /// for no channel of the station, the call returns the reason. It takes no lock.
     pub fn locate<'a>(&self, octets: &'a [u8]) -> Result<Located<'a>, LocateFault>
         ensures { MatchResult result (λ located. IsLocated self.now octets.now located.vcid located.frame) (IsLocateFault self.now octets.now) }
     {
@@ -284,7 +284,8 @@ impl<J: Journal> StationOf<J> {
         Ok(unit)
     }
 
-    /// Creates a watcher of a channel's status, under the channel's lock.
+    /// Creates a watcher of a channel's status word, under the channel's lock. `NoMemory` is returned only if the board
+    /// of the word can count no more owners.
     pub fn watcher(&self, rt: &impl Wait, vcid: u8) -> Result<Watcher, WatcherFault>
         ensures answer { MatchResult result (λ watcher. IsWatched self.now vcid watcher.seen) (IsWatcherFault self.now vcid) }
         ensures desk { IfOk result (IsWatcherOf self.now vcid) }
@@ -301,7 +302,7 @@ impl<J: Journal> StationOf<J> {
     /// Returns the CLCW of the watcher's channel at some moment, with these link flags. The call takes one load and no
     /// lock, and waits for no other thread.
     ///
-    /// The moment is no earlier than that of the previous read.
+    /// The moment is no earlier than the last one that the watcher had seen.
     pub fn watch(&self, watcher: &mut Watcher, link: Link) -> u32
         ensures board { watcher.new.board ≡ watcher.old.board }
         ensures watcher { (vcid : ℕ) → IsWatcherOf self.now vcid watcher.old → IsWatcherOf self.now vcid watcher.new }

@@ -29,7 +29,7 @@ impl Model for Vcids {
 }
 
 impl Vcids {
-    /// Creates the table for these ids.
+    /// Creates the table for these ids, which are distinct and at most 63.
     pub(crate) fn new(ids: Vec<u8>) -> Vcids
         requires distinct { AllPairs (λ a b. a ≢ b) ids.items }
         requires allowed { All (λ v. v ≤ 63) ids.items }
