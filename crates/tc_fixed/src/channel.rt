@@ -88,10 +88,10 @@ impl<N: Noted> FixedChannelWith<N> {
         }
     }
 
-    /// Creates a channel as [`new`](FixedChannelWith::new) does, but with a limit for the units of each MAP, so that it
-    /// requests less memory: [`storage_with_limits`](crate::storage_with_limits) bytes. A unit of more octets than its
-    /// MAP's limit is dropped when it ends, and no reply reports the loss. Without limits, only a unit of more than
-    /// 65,542 octets is dropped in this way.
+    /// Creates a channel as [`new`](FixedChannelWith::new) does, but with a limit for the units of each MAP. The call
+    /// requests [`storage_with_limits`](crate::storage_with_limits) bytes, which are fewer if the limits are low. A unit
+    /// of more octets than its MAP's limit is dropped when it ends, and no reply reports the loss. Without limits, only
+    /// a unit of more than 65,542 octets is dropped in this way.
     pub fn with_limits(
         alloc: Global,
         settings: Settings,
@@ -110,8 +110,8 @@ impl<N: Noted> FixedChannelWith<N> {
     }
 
     /// Processes a frame of any virtual channel. An accepted AD data field is copied into the buffer. The unit that an
-    /// accepted BD data field completes is queued at once: as a whole if its MAP is chosen, and otherwise as its
-    /// packets, each copied into its room.
+    /// accepted BD data field completes is queued at once, as far as there are queues with room: as a whole if its MAP
+    /// is chosen, and otherwise as its packets. Each item is copied into its room.
     pub fn frame(&mut self, frame: &Frame) -> FrameReply
         ensures allowed { IsAllowed self.old.settings }
         ensures lawful { IsLawfulWithin (limit_of self.old.limits) self.old.settings self.old.journal }
@@ -138,8 +138,8 @@ impl<N: Noted> FixedChannelWith<N> {
         reply
     }
 
-    /// Releases the oldest data field from the buffer, and queues the unit that it completes: as a whole if its MAP is
-    /// chosen, and otherwise as its packets.
+    /// Releases the oldest data field from the buffer, and queues the unit that it completes, as far as there are
+    /// queues with room: as a whole if its MAP is chosen, and otherwise as its packets.
     pub fn release(&mut self) -> Result<Delivery, NothingReleased>
         ensures allowed { IsAllowed self.old.settings }
         ensures lawful { IsLawfulWithin (limit_of self.old.limits) self.old.settings self.old.journal }

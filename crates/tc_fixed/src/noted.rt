@@ -1,4 +1,4 @@
-//! The journal of a channel that may not allocate.
+//! The journal of a channel with fixed memory, which must not allocate.
 
 ghost use Rattle.std.specs.Prelude.{◌≡◌, List, ◌∷◌, [], ◌++◌, length, min, ◌^◌, ◌-◌};
 ghost use Rattle.tc_channel.specs.declared.event.Event.{Event};

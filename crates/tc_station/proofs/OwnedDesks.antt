@@ -131,7 +131,7 @@ desk-of station owned_desks place vcid owned_desk ids heads is at =
     let here = slice_get_read (heads_of owned_desks) (length (heads_of owned_desks)) place (head owned_desk) refl inside read in
     (id.1, (place, at, ap (λ (l : List Identity). slice_get l place) (sym heads) ∙ here))
 
--- if operators are issued from a slice over all owned desks, the whole list then has the desks of the slice
+-- if `k` operators are issued from a slice over all owned desks, each desk of the whole list has issued `k` more
 pub written-owned_desks : (n k : ℕ) (old new : List AtLock) → new ≡ issued_more k old → n ≡ length old → take n (new ++ drop (length new) old) ≡ issued_more k old
 written-owned_desks n k old new is long = take_at new (drop (length new) old) n (ap (length {A = AtLock}) is ∙ (length-map old _ ∙ sym long)) ∙ is
 

@@ -207,7 +207,7 @@ work-holds station P lists line os ps each w k o lt =
     let inside : k < length w.0 = omega (arith, ap (length {A = WorkList}) w.1, length-map w.0 (λ (s : Shift). s.list)) in
     rw (← w.2, ← w.3) (shifts-hold station P w.0 each w.4 k o inside)
 
--- each operator still knows its desks, and has gone on at each of them
+-- the settings and boards that each operator has seen are as before, and the operator has gone on at each of its desks
 pub work-knows : (station : Roster) (lists : List WorkList) (line : Option ℕ) (os ps : List AtStation) → AreWorked station lists line os ps → (k : ℕ) (o : AtStation) → k < length lists
     → KnowsTheSame (get_or os k o) (get_or ps k o)
 work-knows station lists line os ps = work-holds station KnowsTheSame lists line os ps (λ s x. x.knows)
