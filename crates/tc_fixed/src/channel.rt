@@ -89,9 +89,9 @@ impl<N: Noted> FixedChannelWith<N> {
     }
 
     /// Creates a channel as [`new`](FixedChannelWith::new) does, but with a limit for the units of each MAP. The call
-    /// requests [`storage_with_limits`](crate::storage_with_limits) bytes, which are fewer if the limits are low. A unit
-    /// of more octets than its MAP's limit is dropped when it ends, and no reply reports the loss. Without limits, only
-    /// a unit of more than 65,542 octets is dropped in this way.
+    /// requests [`storage_with_limits`](crate::storage_with_limits) bytes, which are fewer if the limits are low. A
+    /// unit of more octets than its MAP's limit is dropped when it ends, and no reply reports the loss. Without limits,
+    /// only a unit of more than 65,542 octets is dropped in this way.
     pub fn with_limits(
         alloc: Global,
         settings: Settings,

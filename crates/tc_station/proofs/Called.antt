@@ -147,8 +147,8 @@ answered-so place vcid e ok err ok2 err2 before after r r2 c answer = record {
   vcids = c.vcids;
 }
 
--- if `ok2` holds for `b` at each moment at which `ok` holds for the call's answer `a`, the call can be stated with `ok2`
--- and `b`
+-- if `ok2` holds for `b` at each moment at which `ok` holds for the call's answer `a`, the call can be stated with
+-- `ok2` and `b`
 pub ok-call : {R F S G : Type 0} (place vcid : ℕ) (e : Event) (ok : Moment → R → Type 0) (err : Moment → F → Type 0) (ok2 : Moment → S → Type 0) (err2 : Moment → G → Type 0) (before after : AtStation) (r : Result R F) (a : R) (b : S)
     → IsCallAt place vcid e ok err before r after → r ≡ Ok a → ((m : Moment) → ok m a → ok2 m b) → IsCallAt place vcid e ok2 err2 before (Ok b) after
 ok-call place vcid e ok err ok2 err2 before after r a b c is weaker =

@@ -5,7 +5,8 @@ use Rattle.std.proofs.lemmas.Map.Made.{IsDistinct-from_AllPairs}
 use Rattle.std.proofs.lemmas.Map.Steps.{length-le_from_distinct_below}
 use Rattle.tc_station.specs.VcidTable.{IsVcidTable, entry_place}
 
--- The table has the place of each of the first `n` ids. Its entry for any other number stands for no place.
+-- The table has the place of each of the first `n` ids. For any other number, it has no entry, or an entry that stands
+-- for no place.
 pub record HaveEntries (ids : List ℕ) (n : ℕ) (table : List ℕ) : Type 0 where
   pub size : length table ≡ 64
   pub here : (k : ℕ) → k < n → get_or table (get_or ids k 0) 64 ≡ k
