@@ -7,7 +7,7 @@ use Rattle.tc_fixed.specs.declared.faults.NothingTaken.TheVariants as taking
 use Rattle.tc_fixed.specs.declared.faults.NoUnitTaken.{NoUnitTaken}
 use Rattle.tc_fixed.specs.declared.faults.NoUnitTaken.TheVariants as unit_taking
 
--- the item has `needed` octets, which is more than there is room for
+-- there is an item, and it has `needed` octets, which is more than there is room for
 abbrev pub IsOver : ℕ → ℕ → Option (List ℕ) → Type 0
 IsOver room needed None = ⊥
 IsOver room needed (Some item) = (room < length item) × (needed ≡ length item)

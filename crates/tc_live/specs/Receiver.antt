@@ -101,7 +101,7 @@ abbrev pub link_answer : Bool → ℕ → Link → LiveAnswer
 link_answer true vcid link = reported.Link vcid link
 link_answer false vcid link = reported.UnknownChannel
 
--- the flags of a channel's link are set, if there is such a channel
+-- the flags of a channel's link are set and reported, or the answer reports that there is no such channel
 abbrev pub IsLinked : Receiving → ℕ → Link → Receiving → LiveAnswer → Type 0
 IsLinked old vcid link new answer =
     (known : Bool) × (rack : Racked) × IsLinkSet (rack_at old) vcid link known rack
@@ -111,7 +111,7 @@ abbrev pub report_answer : ℕ → Option Holding → LiveAnswer
 report_answer vcid None = reported.UnknownChannel
 report_answer vcid (Some holding) = reported.Report vcid holding
 
--- the state of a channel is reported, if there is such a channel
+-- the state of a channel is reported, or the answer reports that there is no such channel
 abbrev pub IsReportDone : Receiving → ℕ → Receiving → LiveAnswer → Type 0
 IsReportDone old vcid new answer =
     (found : Option Holding) × IsReported (rack_at old) vcid found × (answer ≡ report_answer vcid found) × (new ≡ begun old)

@@ -1,5 +1,5 @@
--- The answer to an operation, and the channels after it. The answer is given as a function of the journal of the
--- channel that the operation names.
+-- The answer to an operation, and the channels after it. The answer follows from the journal of the channel that the
+-- operation names.
 use Rattle.std.specs.Prelude.{◌≡◌, ◌⊎◌, ℕ, List}
 use Rattle.tc_link.specs.Frame.{BeginsWith, header_of}
 use Rattle.tc_link.specs.declared.location.LocateFault.{LocateFault}

@@ -18,8 +18,8 @@ abbrev pub IsFound : {O : Type 0} → (List Settings → O → Type 0) → Stage
 IsFound IsNew (SettingUp list) found = IsNew list found
 IsFound IsNew (Operating there) found = found ≡ there
 
--- A refused line leaves everything as it was, unless memory runs out. In that case the line may leave the channels that
--- the operation found in a state that the backend allows.
+-- A refused line leaves everything as it was, unless memory runs out. In that case the channels that the operation
+-- found may be in operation afterwards, in any state that the backend allows.
 abbrev pub IsLeft : {O : Type 0} → (List Settings → O → Type 0) → (O → O → Type 0) → Reason → Stage O → Stage O → Type 0
 IsLeft {O} IsNew Spares reason old new =
     (new ≡ old) ⊎ ((reason ≡ NoMemory) × (found after : O) × IsFound IsNew old found × Spares found after × (new ≡ Operating after))

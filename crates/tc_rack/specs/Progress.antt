@@ -1,4 +1,4 @@
--- The progress of a script, as a function of its lines alone. Its channels are set up first, and then each of them has
+-- The progress of a script, which its lines alone determine. Its channels are set up first, and then each of them has
 -- the journal of the operations so far.
 use Rattle.std.specs.Prelude.{◌≡◌, ℕ, List}
 use Rattle.tc_queues.specs.declared.settings.Settings.{Settings}

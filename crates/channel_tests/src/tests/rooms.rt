@@ -44,7 +44,8 @@ fn items_in_two_rooms(rt: HostRuntime) {
     assert_eq!(&rt; slots.front(), Some([4].as_slice()));
 }
 
-// The first of three items waits, and the others are staged and rolled back.
+// The first of three items waits, and the others are staged and rolled back. Two more items then find room, and a third
+// one finds none.
 #[test]
 fn items_staged_and_rolled_back(rt: HostRuntime) {
     let mut slots: Slots<GrowingRoom> = Slots::with_capacity(rt.alloc(), 3, 3).expect(&rt, "rooms");

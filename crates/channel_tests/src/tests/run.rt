@@ -1,4 +1,4 @@
-//! Steps on a channel as data, with the expected answers, and a run that makes them on a channel of any form.
+//! Steps on a channel as data, with the expected answers, and a run that plays them on a channel of any form.
 
 use super::*;
 use tc_link::Report;

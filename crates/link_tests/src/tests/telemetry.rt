@@ -13,7 +13,9 @@ const HEADER: TmHeader = TmHeader {
 
 const CLCW: [u8; 4] = [0x01, 0x04, 0x00, 0x01];
 
-// The bits 00 0000101010 001 1, the counts, the bits 0 0 0 11 11111111110, an idle octet and the CLCW.
+// The bits 00 0000101010 001 1 are the version, the spacecraft id, the virtual channel id and the flag of the
+// operational control field. Both counts follow, then the bits 0 0 0 11 11111111110 of the data field status, an idle
+// octet and the CLCW.
 const FRAME: [u8; 11] = [
     0x02, 0xa3, 0xff, 0x07, 0x1f, 0xfe, 0x55, 0x01, 0x04, 0x00, 0x01,
 ];

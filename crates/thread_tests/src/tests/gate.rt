@@ -153,7 +153,7 @@ fn workers_of_a_script_meet(rt: HostRuntime) {
 }
 
 // A gate at which the worker of channel 1 sets `inside`, and then waits for a report, for at most `turns` turns. If the
-// report comes in that time, it sets `was_reported`. Other workers wait until `inside` is set, for at most as long.
+// report comes in that time, this worker sets `was_reported`. Other workers wait for `inside`, for at most as long.
 #[derive(Drop)]
 struct Inside {
     turns: u32,

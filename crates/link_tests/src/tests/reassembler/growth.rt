@@ -141,7 +141,7 @@ fn growth_of_a_unit_that_a_segment_would_end(rt: HostRuntime) {
     }
 }
 
-// Checks that a field without a segment header is the unit that both calls return.
+// Checks that `unit_after` and `push` both return a field without a segment header as a unit.
 fn check_plain(rt: &(impl Abort + Print), reassembler: &mut Reassembler, field: &[u8]) {
     let would_end = || ask(rt, reassembler, Service::Bd, field);
     let answer = made_again(rt, "unit_after, plain", NoMemory, &would_end);
