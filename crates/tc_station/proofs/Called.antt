@@ -15,7 +15,7 @@ pub head-kept : {R F : Type 0} (e : Event) (ok : Moment → R → Type 0) (err :
 head-kept e ok err there next (Ok a) c = ap (λ (o : Own). o.seen.head) c.answer.1 ∙ c.later.0
 head-kept e ok err there next (Err f) c = ap (λ (o : Own). o.seen.head) c.answer.1 ∙ c.later.0
 
--- an event that is made raises the count by one
+-- an event that is made raises the count by one, unless the count has reached 2^64 - 1
 count-made : (e : Event) (now : Moment) (own : Own) → count_of (made e now own) ≡ raised (count_of own)
 count-made e now own =
     let one : length (made e now own).made ≡ length own.made + 1 = length-append own.made ((length now.entries, e) ∷ []) in
@@ -112,7 +112,7 @@ module _ {R F : Type 0} (e : Event) (ok : Moment → R → Type 0) (err : Moment
     later = gone-on e ok err station o vcids desks place there next r view ids ours is c (id-of vcids desks place vcid there ids is at).0;
   }
 
--- at a place, the operator's desk and the station's desk have the same lock
+-- at each place, the desk of an operator of the station has the lock of the station's own desk
 pub same-lock-at : (station : Roster) (o : AtStation) (vcids owned : List ℕ) (scid issued : ℕ) (desks owned_desks : List AtLock) (place : ℕ) (there owned_desk : AtLock)
     → at_station vcids desks ≡ o → IsOurs station o → at_owned_desks scid owned issued owned_desks ≡ station → place < length desks → place < length owned_desks
     → there ≡ get_or desks place there → owned_desk ≡ get_or owned_desks place owned_desk → there.lock ≡ owned_desk.lock
@@ -123,7 +123,7 @@ same-lock-at station o vcids owned scid issued desks owned_desks place there own
     let same : locks_of desks ≡ locks_of owned_desks = ap (λ (x : AtStation). locks_of x.desks) view ∙ (ours.1 ∙ sym (ap (λ (x : Roster). x.locks) seen)) in
     ap lock is ∙ (sym mine ∙ (ap (λ (l : List TableId). get_or l place owned_desk.lock) same ∙ (theirs ∙ ap lock (sym owned_desk_is))))
 
--- at the place of a channel, the operator's desk and the station's desk have the same lock
+-- at the place of a channel, the desk of an operator of the station has the lock of the station's own desk
 pub same-lock : (station : Roster) (o : AtStation) (vcids owned : List ℕ) (scid issued : ℕ) (desks owned_desks : List AtLock) (place vcid : ℕ) (there owned_desk : AtLock)
     → at_station vcids desks ≡ o → vcids_of (settings_of_desks desks) ≡ vcids → IsOurs station o → at_owned_desks scid owned issued owned_desks ≡ station → vcids_of (settings_of_desks owned_desks) ≡ owned → IsPlace station vcid place
     → there ≡ get_or desks place there → owned_desk ≡ get_or owned_desks place owned_desk → there.lock ≡ owned_desk.lock

@@ -82,7 +82,7 @@ met-among stands e ok err Answers says station place vcid early late before afte
     called-among stands station place vcid e (λ m r. ok m r × HasSeenNoMore early m) (λ m f. err m f × HasSeenNoMore early m) before after last answer operators closed number
     (λ s journal. Answers answer s journal × board.IsEarlier early.seen (record { settings = s; journal = journal })) (λ m p. (says m answer p.0, p.1)) ours at met.at
 
--- the journal that the close returns is a merge of what the operators made
+-- each journal that the close returns is a merge of the events that the operators made at the channel's desk
 pub merge-among : (station : Roster) (operators : List AtStation) (closed : List History) (place : ℕ) (channel : History) → AreClosedTogether station operators closed → slice_get closed place ≡ Some channel
     → IsMergeOf channel.journal (accounts_of (column place (operator_lists_of operators)))
 merge-among station operators closed place channel together out =
