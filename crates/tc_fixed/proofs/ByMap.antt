@@ -37,7 +37,7 @@ limit-below (m ∷ ms) others map_id = by (eqb m.map map_id) (limit-below ms oth
 pub below-largest : (limits : Limits) (map_id : ℕ) → limit_of limits map_id ≤ largest_limit limits
 below-largest limits map_id = limit-below limits.maps limits.others map_id
 
--- no limit is over the largest unit
+-- no limit is over the largest unit if neither the listed limits nor `others` are
 limit-small : (ms : List MapLimit) (others map_id : ℕ) → HaveOctets ms → others ≤ 65542 → limit_in ms others map_id ≤ 65542
 limit-small [] others map_id all small = small
 limit-small (m ∷ ms) others map_id all small = by (eqb m.map map_id) (limit-small ms others map_id (λ i d lt. all (suc i) d (omega arith)) small) where

@@ -25,7 +25,7 @@ pub fault-answered : {F : Type 0} (fault : NotCopied → F) (reply : Result ℕ 
 fault-answered fault reply why (Err e) was is = rw was (ap (λ x. Err x) is)
 fault-answered fault reply why (Ok count) was is = absurd is
 
--- each fault is returned exactly when the waiting packets are the reason for it
+-- each fault is returned if and only if the packets that wait, or the room for one of them, are the reason for it
 pub record Says (room : ℕ) (waiting : Option (List (List ℕ))) (answer : Result ℕ NothingTaken) : Type 0 where
   pub no_queue : IsErrOf answer taking.NoQueue ↔ (waiting ≡ None)
   pub empty : IsErrOf answer taking.Empty ↔ (waiting ≡ Some [])
@@ -46,7 +46,7 @@ by-packet room (Some (item ∷ later)) = by (nat_lt room (length item)) refl whe
 pub packet-says : (room : ℕ) (waiting : Option (List (List ℕ))) (reply : Result ℕ NotCopied) (answer : Result ℕ NothingTaken) → reply ≡ copied_out room waiting → answer ≡ answer_by packet_fault_of reply → Says room waiting answer
 packet-says room waiting reply answer reply_is is = rw (is, reply_is) (by-packet room waiting)
 
--- each fault is returned exactly when the waiting units are the reason for it
+-- each fault is returned if and only if the units that wait, or the room for one of them, are the reason for it
 pub record SaysOfUnit (room : ℕ) (waiting : Option (List (List ℕ))) (answer : Result ℕ NoUnitTaken) : Type 0 where
   pub no_map : IsErrOf answer unit_taking.NoMap ↔ (waiting ≡ None)
   pub empty : IsErrOf answer unit_taking.Empty ↔ (waiting ≡ Some [])

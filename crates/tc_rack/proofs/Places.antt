@@ -1,4 +1,4 @@
--- A channel that was found is at its place, and new channels have distinct ids.
+-- A channel that was found is at its place, and new channels have distinct ids if their settings have.
 use Rattle.tc_rack.proofs.Names.{◌≡◌, ◌≢◌, ℕ, ◌<◌, List, [], ◌∷◌, length, map, get_or, sym, ap, ◌∙◌, subst, arith, get_or-map, length-map, AllPairs, Settings, Linked, vcid_of, new_linked, IsChannelAt, AreChannelsApart}
 use Rattle.std.proofs.lemmas.Option.{get_or_from_slice_get}
 
