@@ -31,7 +31,7 @@ counted-append count mode room (x ∷ xs) ys s =
     ap (λ (n : ℕ). count (fate_of mode room s x) + n) (counted-append count mode room xs ys (reception_step mode room s x).0)
     ∙ sym (add_assoc (count (fate_of mode room s x)) (counted_in count mode room (reception_step mode room s x).0 xs) (counted_in count mode room (state_after mode room (reception_step mode room s x).0 xs) ys))
 
--- a code block is counted when its last octet comes
+-- over the eight octets of a code block, its fate is counted once
 pub block-counted : (count : Option Fate → ℕ) (mode : Mode) (room : ℕ) (frame block : List ℕ) → count None ≡ 0 → length block ≡ 8
     → count (Some (fate_after mode room frame block)) ≡ counted_in count mode room (Decoding frame []) block
 block-counted count mode room frame (a ∷ b ∷ c ∷ d ∷ e ∷ f ∷ g ∷ h ∷ []) none eight = omega (arith, none)
@@ -98,7 +98,6 @@ filled-octets fs each =
     let fills : IsOctets fill = octets-take 6 (alike 0x55) (alike-octets 0x55 (omega arith)) in
     subst IsOctets (sym f.2) (octets-append fs (take f.0 fill) each (octets-take f.0 fill fills))
 
--- a list of octets without a fault has 1 to 1,029 octets
 pub some-octets : (fs : List ℕ) → cltu_fault_of fs ≡ None → 0 < length fs
 some-octets fs none = grind (arith, nat_tests)
 
@@ -129,7 +128,7 @@ pub after-over : (room : ℕ) (frame information : List ℕ) → room < length f
 after-over room frame information over =
     ap (λ (t : Bool). if t then (Searching 0, []) else (Decoding (frame ++ information) [], [])) (lt-ltb room (length frame + 7) over)
 
--- each block is accepted while there is room
+-- code blocks without errors are accepted, if there is room for all octets that they carry
 blocks-taken : (mode : Mode) (room : ℕ) (fs frame rest : List ℕ) → IsOctets fs → AreSevens fs → length frame + length fs ≤ room
     → frames_of mode room (Decoding frame []) (code_blocks fs ++ rest) ≡ frames_of mode room (Decoding (frame ++ fs) []) rest
 blocks-taken mode room [] frame rest p q fits = ap (λ (x : List ℕ). frames_of mode room (Decoding x []) rest) (sym (append-nil frame))
@@ -145,7 +144,7 @@ blocks-taken mode room (a ∷ b ∷ c ∷ d ∷ e ∷ f ∷ g ∷ fs) frame rest
     ∙ ap (λ (x : List ℕ). frames_of mode room (Decoding x []) rest) (append_assoc frame information fs)
 blocks-taken mode room _ frame rest p q fits = absurd q
 
--- seven equal octets are rejected if no code block is near them
+-- a block of seven equal octets and a last one is rejected, if its syndrome isn't 0 and no single wrong bit leaves it
 alike-rejected : (mode : Mode) (o last s : ℕ) → o < 256 → last < 256 → syndrome (alike o) last ≡ s → 0 < s → placed s ≡ 63 → decoded mode (alike o ++ last ∷ []) ≡ None
 alike-rejected Detect o last s fits small is some place = some-wrong (alike o) last (record { each = alike-octets o fits; seven = refl }) small (λ z. omega arith)
 alike-rejected Correct o last s fits small is some place =
@@ -173,7 +172,7 @@ quiet-step mode room last o h = ap (λ (t : Bool). if t then (Decoding [] [], []
 found-step : (mode : Mode) (room last o : ℕ) → is_start mode last o ≡ true → reception_step mode room (Searching last) o ≡ (Decoding [] [], [])
 found-step mode room last o h = ap (λ (t : Bool). if t then (Decoding [] [], []) else (Searching o, [])) h
 
--- two octets that count as the start sequence are found, if the first of them doesn't end a start sequence itself
+-- two octets that count as the start sequence are found, unless the first of them and the octet before it also do
 pair-found : (mode : Mode) (room last a b : ℕ) (rest : List ℕ) → is_start mode last a ≡ false → is_start mode a b ≡ true
     → frames_of mode room (Searching last) (a ∷ b ∷ rest) ≡ frames_of mode room (Decoding [] []) rest
 pair-found mode room last a b rest first second =
@@ -194,7 +193,7 @@ filled-some frame some =
     let e : length (filled frame) ≡ length frame + length (take f.0 fill) = ap length f.2 ∙ length-append frame (take f.0 fill) in
     omega arith
 
--- the octets after a start sequence yield the frame that they carry, and the search continues after them
+-- after a start sequence, the rest of a CLTU yields the frame that it carries, with its fill, and the search continues
 body-given : (mode : Mode) (room : ℕ) (frame rest : List ℕ) → IsOctets frame → 0 < length frame → length (filled frame) ≤ room
     → frames_of mode room (Decoding [] []) ((code_blocks (filled frame) ++ tail_sequence) ++ rest) ≡ filled frame ∷ frames_of mode room (Searching 0) rest
 body-given mode room frame rest each some fits =
@@ -202,13 +201,13 @@ body-given mode room frame rest each some fits =
     ∙ blocks-taken mode room (filled frame) [] (tail_sequence ++ rest) (filled-octets frame each) (filled-sevens frame) (omega arith)
     ∙ tail-ends-some mode room (filled frame) rest (filled-some frame some)
 
--- a CLTU yields its frame after any octet
+-- while the receiving end searches, a CLTU yields its frame, with its fill, whatever octet came before it
 pub cltu-given : (mode : Mode) (room last : ℕ) (frame rest : List ℕ) → IsOctets frame → 0 < length frame → length (filled frame) ≤ room
     → frames_of mode room (Searching last) (cltu frame ++ rest) ≡ filled frame ∷ frames_of mode room (Searching 0) rest
 cltu-given mode room last frame rest each some fits =
     start-found mode room last ((code_blocks (filled frame) ++ tail_sequence) ++ rest) ∙ body-given mode room frame rest each some fits
 
--- with correction, a CLTU with a wrong bit in its start sequence also yields its frame
+-- with correction, a CLTU with one wrong bit in its start sequence also yields its frame
 pub cltu-begun : (room last k : ℕ) (frame rest : List ℕ) → k < 16 → IsOctets frame → 0 < length frame → length (filled frame) ≤ room
     → frames_of Correct room (Searching last) (flipped (cltu frame) k ++ rest) ≡ filled frame ∷ frames_of Correct room (Searching 0) rest
 cltu-begun room last k frame rest less each some fits =
@@ -226,7 +225,7 @@ quiet mode room last (o ∷ os) rest h =
     let more = quiet mode room o os rest h.1 in
     (more.0, ap (λ (s : Step). s.1 ++ frames_of mode room s.0 (os ++ rest)) (quiet-step mode room last o h.0) ∙ more.1)
 
--- octets before a CLTU don't hide it, if no start sequence occurs in them
+-- octets before a CLTU don't hide it, if nothing in them counts as a start sequence
 pub found-after : (mode : Mode) (room last : ℕ) (before frame rest : List ℕ) → HasNoStart mode last before → IsOctets frame → 0 < length frame → length (filled frame) ≤ room
     → frames_of mode room (Searching last) (before ++ (cltu frame ++ rest)) ≡ filled frame ∷ frames_of mode room (Searching 0) rest
 found-after mode room last before frame rest quietly each some fits =
@@ -251,7 +250,7 @@ pub ended : (room : ℕ) (frame : List ℕ) → (after_block room frame None).0 
 ended room [] = refl
 ended room (f ∷ fs) = refl
 
--- eight octets of the idle sequence end a CLTU
+-- eight octets of the idle sequence in the place of a code block end a CLTU
 idle-block : (mode : Mode) (room : ℕ) (frame more : List ℕ)
     → state_after mode room (Decoding frame []) (0x55 ∷ 0x55 ∷ 0x55 ∷ 0x55 ∷ 0x55 ∷ 0x55 ∷ 0x55 ∷ 0x55 ∷ more) ≡ state_after mode room (Searching 0) more
 idle-block mode room frame more =
@@ -325,7 +324,7 @@ pub state-kept : (mode : Mode) (room : ℕ) (os : List ℕ) (state : Reception) 
 state-kept mode room [] state short = short
 state-kept mode room (o ∷ os) state short = state-kept mode room os (reception_step mode room state o).0 (step-kept mode room o state short)
 
--- in each state that searches, the next CLTU is found
+-- while the receiving end searches, the next CLTU is found
 search-given : (mode : Mode) (room : ℕ) (state : Reception) (frame rest : List ℕ) → IsSearching state → IsOctets frame → 0 < length frame → length (filled frame) ≤ room
     → frames_of mode room state (cltu frame ++ rest) ≡ filled frame ∷ frames_of mode room (Searching 0) rest
 search-given mode room (Searching last) frame rest searching each some fits = cltu-given mode room last frame rest each some fits
@@ -405,7 +404,7 @@ taken_octet room before after os rest o given whole state frames = record {
 pub take-both : (i n : ℕ) (os : List ℕ) → take (i + n) os ≡ take i os ++ take n (drop i os)
 take-both i n os = sym (take-append-drop i (take (i + n) os)) ∙ rw (take-take i (i + n) os (omega arith), drop-take i n os) refl
 
--- two fronts that are processed one after the other are one front that is processed
+-- if the front of a piece and then the front of the rest are processed, both together are a front that is processed
 pub taken-more : (room : ℕ) (first before after : Receiver) (os left rest : List ℕ) (given more : List (List ℕ)) → before.mode ≡ first.mode
     → IsTaken room first before os left given → IsTaken room before after left rest more → IsTaken room first after os rest (given ++ more)
 taken-more room first before after os left rest given more mode t u =

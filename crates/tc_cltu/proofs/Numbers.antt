@@ -47,7 +47,7 @@ zero-octets zero i = omega arith
 zero-octets (suc n) zero = omega arith
 zero-octets (suc n) (suc i) = zero-octets n i
 
--- the first seven octets of a block in which the bits of the number `e` were inverted
+-- the first seven octets of a block in which the bits that are set in the number `e` were inverted
 abbrev pub by_number : List ℕ → ℕ → ℕ → List ℕ
 by_number own last e = take 7 (to_le_bytes w64 (bit_xor (from_le_bytes w64 (own ++ last ∷ [])) e))
 

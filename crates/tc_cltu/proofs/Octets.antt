@@ -108,7 +108,7 @@ random-zeros zero r = refl
 random-zeros (suc n) r = ap (λ (x : ℕ). x ∷ randomised_from (octet_on r) (replicate n 0)) (xor_zero_l r) ∙ ap (λ (x : List ℕ). r ∷ x) (random-zeros n (octet_on r))
 
 -- ---- the sequence of the randomiser, bit by bit
--- after a step, each bit of the register is the one that was below it
+-- bit k + 1 of the register after a step is bit k before the step
 abbrev IsMoved : ℕ → ℕ → Type 0
 IsMoved r k = bit_at (moved_on r) (suc k) ≡ bit_at r k
 

@@ -21,7 +21,7 @@ weight (b ∷ bs) = b + weight bs
 abbrev pub zeros : ℕ → List ℕ
 zeros n = replicate n 0
 
--- `n` bits, of which only bit `k` is one
+-- `n` bits, of which only bit `k` is 1, counted from 0 at the front
 unfoldable pub single : ℕ → ℕ → List ℕ
 single k zero = []
 single zero (suc n) = 1 ∷ zeros n
@@ -92,7 +92,7 @@ two-is (suc zero ∷ bs) p h =
     (0, suc rest.0, omega arith, omega arith, ap (λ (x : List ℕ). 1 ∷ x) tail)
 two-is _ p h = absurd (omega arith)
 
--- the differences of two lists are the ones of their sum
+-- two bits differ if and only if their sum is 1, and so two lists differ in as many places as their sum has ones
 place : (b c : ℕ) → b < 2 → c < 2 → (if b == c then 0 else 1) ≡ bit_xor b c
 place (suc (suc b)) c p q = absurd (omega arith)
 place b (suc (suc c)) p q = absurd (omega arith)
@@ -113,7 +113,8 @@ none-same (b ∷ bs) (c ∷ cs) l p q h =
     cc
 none-same _ _ l p q h = absurd (omega arith)
 
--- the number of differences of two lists is at most the sum of their numbers of differences from a third list
+-- For single bits, and then for lists: two lists differ in at most as many places as they differ from a third list,
+-- counted for both together.
 triple : (b c d : ℕ) → b < 2 → c < 2 → d < 2 → (if b == d then 0 else 1) ≤ (if c == b then 0 else 1) + (if c == d then 0 else 1)
 triple (suc (suc b)) c d p q r = absurd (omega arith)
 triple b (suc (suc c)) d p q r = absurd (omega arith)

@@ -4,7 +4,7 @@ use Rattle.tc_cltu.proofs.Names.{Correct, Detect, Mode, differences, flipped, lt
 use lib.Count.{ones, ones_in}
 use Rattle.tc_cltu.specs.Reception.{start_errors, is_start}
 
--- the ones in the sum of two octets are the bits in which these octets differ
+-- the sum of an octet and an octet of the start sequence has as many ones as there are bits in which these two differ
 firsts : (o : ℕ) → o < 256 → ones (bit_xor o 0xEB) ≡ differences (octet_bits o) (octet_bits 0xEB)
 unfolding octet_bits ones ones_in
 firsts = same_below (λ o. ones (bit_xor o 0xEB)) (λ o. differences (octet_bits o) (octet_bits 0xEB)) 256 refl

@@ -76,7 +76,7 @@ first-more limit block x xs over = ap (λ (t : Bool). if t then first_within lim
 first-here : (limit : ℕ) (block x : List ℕ) (xs : List (List ℕ)) → errors block x ≤ limit → first_within limit block (x ∷ xs) ≡ Some x
 first-here limit block x xs within = ap (λ (t : Bool). if t then first_within limit block xs else Some x) (le-ltb limit (errors block x) within)
 
--- a code block can carry `y`, and its errors are within the limit
+-- a code block can carry `y`, and the given block differs from that code block in at most `limit` places
 abbrev IsWithin : ℕ → List ℕ → List ℕ → Type 0
 IsWithin limit block y = IsInformation y × (errors block y ≤ limit)
 
@@ -127,7 +127,7 @@ differences-append _ bs _ ds l = absurd (omega arith)
 pub block-length : (own : List ℕ) (last : ℕ) → length own ≡ 7 → length (own ++ last ∷ []) ≡ 8
 block-length own last l = length-append own (last ∷ []) ∙ omega arith
 
--- if some information is within the limit, a candidate near the block is found
+-- if some information is within the limit, which is at most 1, a candidate near the block is found
 some-found : (own information : List ℕ) (last limit : ℕ) → IsInformation own → IsInformation information → limit ≤ 1 → errors (own ++ last ∷ []) information ≤ limit
     → IsFound limit (own ++ last ∷ []) (near own 56)
 some-found own information last limit good is low within =
@@ -217,7 +217,7 @@ none-wrong mode own last good fits s =
     let e : errors (own ++ last ∷ []) own ≡ 0 = sym (ap (differences (word (own ++ last ∷ []))) w) ∙ differences-self (word (own ++ last ∷ [])) own_bits.1 in
     taken mode own last own good good (omega arith)
 
--- if inverting bit `k` makes the block a code block, the octets of that code block are the result
+-- if inverting bit `k` makes the block a code block, correction yields the octets of that code block
 one-turned : (own : List ℕ) (last k : ℕ) (own' : List ℕ) (last' : ℕ) → IsInformation own → last < 256 → k < 63 → left (single k 63) ≡ syndrome own last
     → IsInformation own' → last' < 256 → flipped (own ++ last ∷ []) k ≡ own' ++ last' ∷ [] → decoded Correct (own ++ last ∷ []) ≡ Some own'
 one-turned own last k own' last' good fits less s good' fits' is =

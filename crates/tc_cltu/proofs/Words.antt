@@ -87,7 +87,7 @@ pub word-parts : (information : List ℕ) (last : ℕ) → length information �
 word-parts (a ∷ b ∷ c ∷ d ∷ e ∷ f ∷ g ∷ []) last l = word-is a b c d e f g last
 word-parts _ last l = absurd (omega arith)
 
--- the word of a block leaves the sum of its information's remainder and its parity bits
+-- the word of a block leaves the sum of its first seven octets' remainder and its parity bits
 pub word-left : (information : List ℕ) (last : ℕ) → length information ≡ 7 → last < 256
     → left (word (information ++ last ∷ [])) ≡ bit_xor (block_remainder 0 (bits_of information)) (last / 2)
 unfolding left
@@ -105,7 +105,7 @@ word-alike information o p l h =
 pub parity-fits : (information : List ℕ) → parity_of information < 2 ^ 7
 parity-fits information = xor_lt 7 127 (block_remainder 0 (bits_of information)) (omega arith) (remainder-fits (bits_of information) 0 (omega arith))
 
--- the word of a code block leaves 127, and no other block with its information does
+-- the word of a code block leaves the remainder 127, and, by the next lemma, no other word with its information does
 pub block-left : (information : List ℕ) → length information ≡ 7 → left (word (code_block information)) ≡ 127
 block-left information l =
     let fits = parity-fits information in

@@ -21,7 +21,7 @@ filled [] = []
 filled (a ∷ b ∷ c ∷ d ∷ e ∷ f ∷ g ∷ rest) = a ∷ b ∷ c ∷ d ∷ e ∷ f ∷ g ∷ filled rest
 filled octets = take 7 (octets ++ fill)
 
--- the code blocks of the octets, each of which carries seven
+-- The code blocks for the octets, of which each block carries seven. Octets after the last whole seven are left out.
 abbrev pub code_blocks : List ℕ → List ℕ
 code_blocks (a ∷ b ∷ c ∷ d ∷ e ∷ f ∷ g ∷ rest) = code_block (a ∷ b ∷ c ∷ d ∷ e ∷ f ∷ g ∷ []) ++ code_blocks rest
 code_blocks _ = []
@@ -34,7 +34,7 @@ cltu frame = start_sequence ++ code_blocks (filled frame) ++ tail_sequence
 abbrev pub most_octets : ℕ
 most_octets = 1029
 
--- the reason why octets can't become a CLTU
+-- the reason, apart from lack of memory, why octets can't become a CLTU, if there is one
 abbrev pub cltu_fault_of : List ℕ → Option CltuFault
 cltu_fault_of frame =
     if length frame == 0 then Some Empty

@@ -41,7 +41,7 @@ code_block information = information ++ parity_of information * 2 ∷ []
 abbrev pub word : List ℕ → List ℕ
 word block = take 63 (bits_of block)
 
--- the number of the 63 bits in which a block differs from the code block of the information
+-- the number of places, out of 63, in which a block differs from the code block of the information
 abbrev pub errors : List ℕ → List ℕ → ℕ
 errors block information = differences (word block) (word (code_block information))
 
@@ -50,7 +50,7 @@ abbrev pub most_errors : Mode → ℕ
 most_errors Detect = 0
 most_errors Correct = 1
 
--- a list of octets with bit k inverted, counted from the most significant bit of the first octet
+-- a list of octets with bit k inverted, where bit 0 is the most significant bit of the first octet
 abbrev pub flipped : List ℕ → ℕ → List ℕ
 flipped [] k = []
 flipped (o ∷ os) k = if nat_lt k 8 then bit_xor o (2 ^ (7 - k)) ∷ os else o ∷ flipped os (k - 8)
@@ -60,7 +60,7 @@ abbrev pub near : List ℕ → ℕ → List (List ℕ)
 near information zero = information ∷ []
 near information (suc k) = flipped information k ∷ near information k
 
--- the first of these candidates whose code block differs from the block in at most `limit` bits
+-- the first of a list of candidates whose code block differs from the block in at most `limit` bits, if there is one
 abbrev pub first_within : ℕ → List ℕ → List (List ℕ) → Option (List ℕ)
 first_within limit block [] = None
 first_within limit block (information ∷ more) = if nat_lt limit (errors block information) then first_within limit block more else Some information

@@ -4,7 +4,7 @@ use Rattle.std.specs.Prelude.{ℕ, zero, suc, ◌+◌, ◌*◌, ◌%◌, ◌^◌
 use Rattle.std.specs.Int.{bit_at}
 
 -- The register holds the next eight bits of the sequence, the first as its most significant bit. Bit n + 8 of the
--- sequence is the sum of bits n + 6, n + 4, n + 3, n + 2, n + 1 and n.
+-- sequence is the sum, modulo 2, of bits n + 6, n + 4, n + 3, n + 2, n + 1 and n.
 unfoldable pub next_bit : ℕ → ℕ
 next_bit r = (bit_at r 1 + bit_at r 3 + bit_at r 4 + bit_at r 5 + bit_at r 6 + bit_at r 7) % 2
 
@@ -15,7 +15,7 @@ moved_on r = r * 2 % 2 ^ 8 + next_bit r
 unfoldable pub octet_on : ℕ → ℕ
 octet_on r = moved_on (moved_on (moved_on (moved_on (moved_on (moved_on (moved_on (moved_on r)))))))
 
--- the sum of the octets and the sequence from this register on
+-- the octets, each combined by exclusive or with the next octet of the sequence, which starts with register `r`
 abbrev pub randomised_from : ℕ → List ℕ → List ℕ
 randomised_from r [] = []
 randomised_from r (o ∷ os) = bit_xor o r ∷ randomised_from (octet_on r) os
@@ -23,7 +23,7 @@ randomised_from r (o ∷ os) = bit_xor o r ∷ randomised_from (octet_on r) os
 abbrev pub randomised : List ℕ → List ℕ
 randomised octets = randomised_from 0xff octets
 
--- the sequence from this register on, as octets and as bits
+-- the first octets of the sequence that starts with register `r`, and, in the next definition, its first bits
 abbrev pub random_octets : ℕ → ℕ → List ℕ
 random_octets r zero = []
 random_octets r (suc n) = r ∷ random_octets (octet_on r) n

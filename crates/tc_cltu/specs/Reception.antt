@@ -1,5 +1,5 @@
 -- The receiving end (CCSDS 231.0-B), which searches for a start sequence, and then decodes code blocks until it rejects
--- one.
+-- one or has no room for one.
 use Rattle.std.specs.Prelude.{◌≡◌, ℕ, zero, suc, ◌+◌, ◌<◌, ◌≤◌, Bool, true, false, List, [], ◌∷◌, ◌++◌, length, take, drop, Option, Some, None, is_some, nat_eq, nat_lt, if◌then◌else◌}
 use Rattle.std.specs.Cmp.Lexicographic.{pointwise}
 use Rattle.tc_fecf.specs.Checksum.{bits_of}
@@ -11,8 +11,8 @@ use Rattle.tc_cltu.specs.declared.block.Fate.TheVariants.{Right, Corrected, Tail
 use Rattle.tc_cltu.specs.declared.block.Mode.{Mode}
 use Rattle.tc_cltu.specs.declared.block.Mode.TheVariants.{Detect}
 
--- The state of the receiving end. `Searching` holds the octet that came last, 0 at first. `Decoding` holds the octets
--- of the accepted blocks, and the octets of the next block that have come.
+-- The state of the receiving end. `Searching` holds the octet that came last in this search, or 0 if none has come.
+-- `Decoding` holds the octets of the accepted blocks, and the octets of the next block that have come.
 pub data Reception : Type 0 where
   Searching : ℕ → Reception
   Decoding : List ℕ → List ℕ → Reception
@@ -22,7 +22,7 @@ abbrev pub Step : Type 0
 Step = Reception × List (List ℕ)
 
 -- The step after a whole block. The octets of an accepted block are kept while there is room for them. A rejected block
--- completes a candidate frame if there were blocks before it, and a block that finds no room completes none.
+-- completes a candidate frame if blocks were accepted before it, and a block that finds no room completes none.
 abbrev pub after_block : ℕ → List ℕ → Option (List ℕ) → Step
 after_block room frame (Some information) = if nat_lt room (length frame + 7) then (Searching 0, []) else (Decoding (frame ++ information) [], [])
 after_block room [] None = (Searching 0, [])
@@ -32,7 +32,8 @@ after_block room (o ∷ frame) None = (Searching 0, (o ∷ frame) ∷ [])
 unfoldable pub start_errors : ℕ → ℕ → ℕ
 start_errors last octet = differences (bits_of (last ∷ octet ∷ [])) (bits_of start_sequence)
 
--- Whether two octets count as the start sequence. They may have as many wrong bits as the mode allows in a code block.
+-- true if two octets count as the start sequence, that is, have at most as many wrong bits as the mode allows in a code
+-- block
 unfoldable pub is_start : Mode → ℕ → ℕ → Bool
 is_start mode last octet = if nat_lt (most_errors mode) (start_errors last octet) then false else true
 
@@ -42,7 +43,7 @@ reception_step mode room (Decoding frame block) octet =
     if nat_lt (length block) 7 then (Decoding frame (block ++ octet ∷ []), [])
     else after_block room frame (decoded mode (block ++ octet ∷ []))
 
--- the state after a list of octets, and all candidate frames that they complete
+-- the state after a list of octets, and, in the next definition, all candidate frames that these octets complete
 abbrev pub state_after : Mode → ℕ → Reception → List ℕ → Reception
 state_after mode room state [] = state
 state_after mode room state (octet ∷ octets) = state_after mode room (reception_step mode room state octet).0 octets
@@ -51,18 +52,19 @@ abbrev pub frames_of : Mode → ℕ → Reception → List ℕ → List (List �
 frames_of mode room state [] = []
 frames_of mode room state (octet ∷ octets) = (reception_step mode room state octet).1 ++ frames_of mode room (reception_step mode room state octet).0 octets
 
--- The fate of a code block. `rejected_as` is the fate of a block that isn't accepted.
+-- the fate of a block that isn't accepted
 abbrev pub rejected_as : List ℕ → Fate
 rejected_as block = if pointwise nat_eq block tail_sequence then Tail else Rejected
 
+-- the fate of a block if there is room for it
 abbrev pub fate_in : Mode → List ℕ → Fate
 fate_in mode block =
     if is_some (decoded Detect block) then Right
     else if is_some (decoded mode block) then Corrected
     else rejected_as block
 
--- The fate of a block, given the octets that the CLTU carried before it. A block that decodes but finds no room is
--- `Overlong`.
+-- The fate of a block, given the octets that the CLTU carried before it, the octets that the block carries, and its fate
+-- if there is room for it. A block that decodes but finds no room is `Overlong`.
 abbrev pub fate_behind : ℕ → List ℕ → Option (List ℕ) → Fate → Fate
 fate_behind room frame None fate = fate
 fate_behind room frame (Some information) fate = if nat_lt room (length frame + 7) then Overlong else fate
@@ -87,20 +89,21 @@ abbrev pub overruns_of : Option Fate → ℕ
 overruns_of (Some Overlong) = 1
 overruns_of _ = 0
 
--- the sum of `count` over the fates of the code blocks that end in the octets
+-- The sum of `count` over all octets. For each octet, `count` is given the fate of the code block that the octet
+-- completes, or `None`.
 abbrev pub counted_in : (Option Fate → ℕ) → Mode → ℕ → Reception → List ℕ → ℕ
 counted_in count mode room state [] = 0
 counted_in count mode room state (octet ∷ octets) =
     count (fate_of mode room state octet) + counted_in count mode room (reception_step mode room state octet).0 octets
 
--- the number of corrected code blocks, and the number of rejected code blocks that aren't the tail sequence
+-- the number of corrected code blocks, and, in the next definition, of rejected code blocks that aren't the tail sequence
 abbrev pub corrected_in : Mode → ℕ → Reception → List ℕ → ℕ
 corrected_in mode room state octets = counted_in corrections_of mode room state octets
 
 abbrev pub rejected_in : Mode → ℕ → Reception → List ℕ → ℕ
 rejected_in mode room state octets = counted_in rejections_of mode room state octets
 
--- the number of CLTUs that carry more than there is room for
+-- the number of code blocks for which there was no room, each of which ends the reception of its CLTU
 abbrev pub overlong_in : Mode → ℕ → Reception → List ℕ → ℕ
 overlong_in mode room state octets = counted_in overruns_of mode room state octets
 
@@ -140,7 +143,7 @@ abbrev pub IsSearching : Reception → Type 0
 IsSearching (Searching last) = Unit {0}
 IsSearching (Decoding frame block) = ⊥
 
--- the receiving end can reach this state, in which less than a whole block waits
+-- Less than a whole block waits. This holds in each state that the receiving end reaches from a search.
 abbrev pub IsReception : Reception → Type 0
 IsReception (Searching last) = Unit {0}
 IsReception (Decoding frame block) = length block < 8

@@ -14,9 +14,9 @@ use crate::writer::TAIL;
 /// The treatment of code blocks with wrong bits.
 #[derive(Clone, Copy, Debug, PartialEq, Eq)]
 pub enum Mode {
-    /// A block with wrong bits is rejected. One to three wrong bits are always detected (triple error detection).
+    /// No bit is corrected. A block with one to three wrong bits is always rejected (triple error detection).
     Detect,
-    /// One wrong bit is corrected, and two are always detected (single error correction).
+    /// One wrong bit is corrected. A block with two wrong bits is always rejected (single error correction).
     Correct,
 }
 
@@ -39,7 +39,8 @@ pub enum Fate {
 #[derive(Clone, Copy, Debug, PartialEq, Eq)]
 pub struct Judged {
     pub fate: Fate,
-    /// The block without its wrong bit, if it is accepted. Its first seven octets are those that it carries.
+    /// The block with any wrong bit corrected, or `None` if the block is rejected. Its first seven octets are those that
+    /// it carries.
     pub block: Option<[u8; 8]>,
 }
 
@@ -85,7 +86,7 @@ pub fn decode_block(block: [u8; 8], mode: Mode) -> Option<[u8; 7]>
     Some([a, b, c, d, e, f, g])
 }
 
-/// Returns the fate of a code block and, if it is accepted, the block without its wrong bit.
+/// Returns the fate of a code block and, if it is accepted, the block with any wrong bit corrected.
 #[inline(always)]
 pub fn judge(block: &[u8; 8], mode: Mode) -> Judged
     ensures fate { result.fate ≡ fate_in mode block.now }
@@ -104,8 +105,8 @@ pub fn judge(block: &[u8; 8], mode: Mode) -> Judged
     }
 }
 
-/// Returns the fate of a code block, and the block without its wrong bit, or `None` if the mode rejects it. This takes
-/// less time than [`judge`], which also says whether a rejected block is the tail sequence.
+/// Returns the fate of a code block, and the block with any wrong bit corrected, or `None` if the mode rejects the block.
+/// This takes less time than [`judge`], which also finds out whether a rejected block is the tail sequence.
 #[inline(always)]
 #[tactic(auto, using(crate::proofs::Numbers::parts))]
 pub fn accept(block: &[u8; 8], mode: Mode) -> Option<(Fate, [u8; 8])>
@@ -131,7 +132,7 @@ fn rejection(block: &[u8; 8]) -> Fate
     }
 }
 
-// Returns the block in which the bits of a number are inverted. The lowest octet of the number is for the first octet.
+// Returns the block with each bit inverted that is set in `bits`. The lowest octet of `bits` applies to the first octet.
 fn inverted(block: &[u8; 8], bits: u64) -> [u8; 8]
     ensures { result ≡ to_le_bytes w64 (bit_xor (from_le_bytes w64 block.now) bits) }
 {
@@ -173,7 +174,8 @@ pub struct Blocks {
 }
 
 impl Blocks {
-    /// Counts the code block that an octet completed, if it completed one.
+    /// Counts a code block that was corrected, rejected or overlong. Nothing changes for `None`, a right block and the
+    /// tail sequence.
     pub fn count(&mut self, fate: Option<Fate>)
         requires corrected { self.old.corrected + 1 < 2 ^ 64 }
         requires rejected { self.old.rejected + 1 < 2 ^ 64 }

@@ -12,12 +12,12 @@ use std::alloc::{AllocError, Global};
 use std::marker::Model;
 use std::mem::replace;
 
-/// The effect of an octet of a stream.
+/// The effect of an octet of a stream, or of the eight octets of a code block.
 #[derive(Clone, Copy, Debug, PartialEq, Eq)]
 pub struct Fed {
-    /// The fate of the code block that the octet completed, if it completed one.
+    /// The fate of the code block that was completed, if one was.
     pub fate: Option<Fate>,
-    /// Whether the octet completed a candidate frame, which [`carried`](Decoder::carried) then lends.
+    /// True if a candidate frame was completed, which [`carried`](Decoder::carried) then lends.
     pub ended: bool,
 }
 
@@ -26,17 +26,17 @@ const NOTHING: Fed = Fed {
     ended: false,
 };
 
-/// A decoder that finds CLTUs in a stream of octets. A CLTU yields a candidate frame, which is followed by fill.
+/// A decoder that finds CLTUs in a stream of octets. A CLTU yields a candidate frame, to which any fill still belongs.
 ///
-/// The decoder compares each two consecutive octets with the start sequence. In [`Mode::Correct`] one of their sixteen
-/// bits may be wrong, and in [`Mode::Detect`] none. After the start sequence, code blocks are decoded until one is
-/// rejected. The tail sequence is rejected in each mode. A CLTU that carries more than [`MOST_OCTETS`] yields no
-/// candidate frame. The fate of the block that exceeds this limit is [`Fate::Overlong`].
+/// While it searches, the decoder compares each two consecutive octets with the start sequence. In [`Mode::Correct`] one
+/// of their sixteen bits may be wrong, and in [`Mode::Detect`] none. After the start sequence, code blocks are decoded
+/// until one is rejected or exceeds [`MOST_OCTETS`]. The tail sequence is rejected in each mode. A CLTU that carries more
+/// than [`MOST_OCTETS`] yields no candidate frame. The fate of the block that exceeds this limit is [`Fate::Overlong`].
 #[derive(Drop)]
 pub struct Decoder {
     mode: Mode,
     decoding: bool,
-    // the octet that came last, while the decoder searches for a start sequence
+    // the last octet of a search for a start sequence, or 0 if none has come
     last: u8,
     frame: Vec<u8>,
     block: [u8; 8],
@@ -120,9 +120,9 @@ impl Decoder {
         Some(self.end_block(block))
     }
 
-    /// Processes the front of a piece of the stream. The front is a whole code block if one begins there, and otherwise
-    /// one octet. Returns the effect of the front and the rest of the piece, or `None` if the piece is empty. No memory
-    /// is requested.
+    /// Processes the front of a piece of the stream. The front is a code block if one begins there and the piece has all
+    /// of it, and otherwise one octet. Returns the effect of the front and the rest of the piece, or `None` if the piece
+    /// is empty. No memory is requested.
     #[inline(always)]
     #[tactic(auto, using(crate::proofs::Decoding::taken_block, crate::proofs::Decoding::taken_octet))]
     pub fn feed_front<'a>(&mut self, piece: &'a [u8]) -> Option<(Fed, &'a [u8])>

@@ -16,8 +16,8 @@ ghost use Rattle.tc_cltu.specs.declared.block.Mode.TheVariants.{Detect, Correct}
 ghost use Rattle.tc_cltu.specs.declared.block.Fate.TheVariants.{Right, Tail, Rejected};
 ghost use Rattle.tc_cltu.specs.declared.writer.CltuFault.TheVariants.{Empty, TooLong};
 
-/// The parity bits are the complement of the remainder of the polynomial division, and that division has no other
-/// remainder.
+/// The register, whose complement the parity bits are defined as, ends with the remainder of the polynomial division.
+/// That division has only one remainder.
 pub fn the_parity_is_the_remainder()
     ensures remainder { (information : List ℕ) → IsBlockRemainder (block_remainder 0 (bits_of information)) (bits_of information) }
     ensures only { (r s : ℕ) (bits : List ℕ) → IsBlockRemainder r bits → IsBlockRemainder s bits → r ≡ s }
@@ -67,7 +67,8 @@ pub fn each_turned_bit_is_an_error()
 {}
 
 /// States examples of CLTUs, worked out by hand: the start sequence, code blocks with their parity bits and any fill,
-/// and the tail sequence. The frames are an Unlock and a frame with a packet.
+/// and the tail sequence. Two of the CLTUs carry frames, namely an Unlock and a frame with a packet. The last three
+/// clauses state that a CLTU can carry 1,029 octets, but not 1,030 and not none.
 #[tactic(auto, unfolding(crate::specs::CodeBlock::block_times_x, tc_fecf::specs::Checksum::octet_bits))]
 pub fn a_cltu_is_so()
     ensures one_block { cltu (0x00 ∷ 0x00 ∷ 0x00 ∷ 0x00 ∷ 0x00 ∷ 0x00 ∷ 0x01 ∷ [])
@@ -100,7 +101,8 @@ pub fn a_cltu_gives_its_frame()
         ≡ frames_of mode most_octets state one ++ frames_of mode most_octets (state_after mode most_octets state one) other }
 {}
 
-/// The whole frames that a CLTU carries are found again by their length fields. Exactly the CLTU's fill follows them.
+/// The whole frames that a CLTU carries, at most `most` of them, are found again by their length fields. Only fill
+/// follows them.
 pub fn a_cltu_gives_its_frames()
     ensures { (mode : Mode) (last most : ℕ) (frames : List (List ℕ)) (rest : List ℕ) → AllByRecursion IsWhole frames
         → 1 ≤ length frames → length frames ≤ most
@@ -123,9 +125,9 @@ pub fn the_next_cltu_is_found()
         ≡ frames_of mode most_octets state (before ++ idle 15) ++ filled frame ∷ frames_of mode most_octets (Searching 0) rest }
 {}
 
-/// Adding the random sequence twice changes nothing. Added to zeros, it yields the sequence itself, and its octets are
-/// the bits of the register, one after the other. In the example, the first 40 bits are as the standard prints them.
-/// The others were computed from the register, bit by bit, in another language.
+/// Adding the random sequence twice changes nothing. Added to zeros, it yields the sequence itself. The bits of its
+/// octets are those that the register produces, one after the other. In the example, the first 40 bits are as the
+/// standard prints them. The others were computed from the register, bit by bit, in another language.
 pub fn the_random_sequence_comes_off_as_it_went_on()
     ensures twice { (octets : List ℕ) → randomised (randomised octets) ≡ octets }
     ensures zeros { (n : ℕ) → randomised (replicate n 0) ≡ random_octets 0xff n }

@@ -5,8 +5,8 @@ ghost use Rattle.tc_cltu.specs.Randomiser.{randomised};
 
 use crate::tables::NEXT_OCTETS;
 
-/// Adds the random sequence, from its start on, to the octets that code blocks are to carry or have carried (CCSDS
-/// 231.0-B). Adding it twice changes nothing.
+/// Adds the random sequence, from its start on and by exclusive or, to the octets that code blocks are to carry or have
+/// carried (CCSDS 231.0-B). Adding it twice changes nothing.
 ///
 /// No other function randomises a CLTU. A sender calls this one before [`write_cltu`](crate::write_cltu), and a
 /// receiver calls it with each candidate frame.

@@ -52,7 +52,7 @@ pub fn write_cltu(alloc: Global, frame: &[u8]) -> Result<Vec<u8>, CltuFault>
     Ok(made)
 }
 
-// Returns the CLTU. Memory for all of it is allocated at the start.
+// Returns the CLTU that carries `frame`. Memory for all of it is allocated at the start.
 fn coded(alloc: Global, frame: &[u8]) -> Result<Vec<u8>, AllocError>
     requires { length frame.now ≤ most_octets }
     ensures { IfOk result (λ made. made.items ≡ cltu frame.now) }

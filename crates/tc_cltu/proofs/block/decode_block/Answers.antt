@@ -3,7 +3,7 @@ use Rattle.tc_cltu.proofs.Numbers.{seven_of, seven-first}
 use Rattle.tc_cltu.proofs.Taking.{found-option, taken-option, refused-option}
 use Rattle.tc_cltu.proofs.block.decode_block.Goals as goal
 
--- the seven octets of an accepted block, as they are returned
+-- the code returns the octets one by one, and they are the first seven of the accepted block
 carried : (right : List ℕ) (o : Option (List ℕ)) → length right ≡ 8 → o ≡ Some (take 7 right) → Some (seven_of right) ≡ o
 carried right o long is = ap Some (seven-first right long) ∙ sym is
 
