@@ -39,8 +39,8 @@ pub enum Fate {
 #[derive(Clone, Copy, Debug, PartialEq, Eq)]
 pub struct Judged {
     pub fate: Fate,
-    /// The block with any wrong bit corrected, or `None` if the block is rejected. Its first seven octets are those that
-    /// it carries.
+    /// The block with any wrong bit corrected, or `None` if the block is rejected. Its first seven octets are the
+    /// octets that it carries.
     pub block: Option<[u8; 8]>,
 }
 
@@ -105,8 +105,8 @@ pub fn judge(block: &[u8; 8], mode: Mode) -> Judged
     }
 }
 
-/// Returns the fate of a code block, and the block with any wrong bit corrected, or `None` if the mode rejects the block.
-/// This takes less time than [`judge`], which also finds out whether a rejected block is the tail sequence.
+/// Returns the fate of a code block, and the block with any wrong bit corrected, or `None` if the mode rejects the
+/// block. This takes less time than [`judge`], which also finds out whether a rejected block is the tail sequence.
 #[inline(always)]
 #[tactic(auto, using(crate::proofs::Numbers::parts))]
 pub fn accept(block: &[u8; 8], mode: Mode) -> Option<(Fate, [u8; 8])>
@@ -132,7 +132,7 @@ fn rejection(block: &[u8; 8]) -> Fate
     }
 }
 
-// Returns the block with each bit inverted that is set in `bits`. The lowest octet of `bits` applies to the first octet.
+// Returns the block with each bit inverted that is set in `bits`. The lowest octet of `bits` is for the first octet.
 fn inverted(block: &[u8; 8], bits: u64) -> [u8; 8]
     ensures { result ≡ to_le_bytes w64 (bit_xor (from_le_bytes w64 block.now) bits) }
 {

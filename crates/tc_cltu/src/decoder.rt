@@ -28,10 +28,11 @@ const NOTHING: Fed = Fed {
 
 /// A decoder that finds CLTUs in a stream of octets. A CLTU yields a candidate frame, to which any fill still belongs.
 ///
-/// While it searches, the decoder compares each two consecutive octets with the start sequence. In [`Mode::Correct`] one
-/// of their sixteen bits may be wrong, and in [`Mode::Detect`] none. After the start sequence, code blocks are decoded
-/// until one is rejected or exceeds [`MOST_OCTETS`]. The tail sequence is rejected in each mode. A CLTU that carries more
-/// than [`MOST_OCTETS`] yields no candidate frame. The fate of the block that exceeds this limit is [`Fate::Overlong`].
+/// While it searches, the decoder compares each two consecutive octets with the start sequence. In [`Mode::Correct`]
+/// one of their sixteen bits may be wrong, and in [`Mode::Detect`] none. After the start sequence, code blocks are
+/// decoded until one is rejected or exceeds [`MOST_OCTETS`]. The tail sequence is rejected in each mode. A CLTU that
+/// carries more than [`MOST_OCTETS`] yields no candidate frame. The fate of the block that exceeds this limit is
+/// [`Fate::Overlong`].
 #[derive(Drop)]
 pub struct Decoder {
     mode: Mode,
@@ -120,9 +121,9 @@ impl Decoder {
         Some(self.end_block(block))
     }
 
-    /// Processes the front of a piece of the stream. The front is a code block if one begins there and the piece has all
-    /// of it, and otherwise one octet. Returns the effect of the front and the rest of the piece, or `None` if the piece
-    /// is empty. No memory is requested.
+    /// Processes the front of a piece of the stream. The front is a code block if one begins there and the piece has
+    /// all of it, and otherwise one octet. Returns the effect of the front and the rest of the piece, or `None` if the
+    /// piece is empty. No memory is requested.
     #[inline(always)]
     #[tactic(auto, using(crate::proofs::Decoding::taken_block, crate::proofs::Decoding::taken_octet))]
     pub fn feed_front<'a>(&mut self, piece: &'a [u8]) -> Option<(Fed, &'a [u8])>

@@ -16,8 +16,8 @@ ghost use Rattle.tc_cltu.specs.declared.block.Mode.TheVariants.{Detect, Correct}
 ghost use Rattle.tc_cltu.specs.declared.block.Fate.TheVariants.{Right, Tail, Rejected};
 ghost use Rattle.tc_cltu.specs.declared.writer.CltuFault.TheVariants.{Empty, TooLong};
 
-/// The register, whose complement the parity bits are defined as, ends with the remainder of the polynomial division.
-/// That division has only one remainder.
+/// The parity bits are by definition the complement of a register. This register ends with the remainder of the
+/// polynomial division, and that division has only one remainder.
 pub fn the_parity_is_the_remainder()
     ensures remainder { (information : List ℕ) → IsBlockRemainder (block_remainder 0 (bits_of information)) (bits_of information) }
     ensures only { (r s : ℕ) (bits : List ℕ) → IsBlockRemainder r bits → IsBlockRemainder s bits → r ≡ s }

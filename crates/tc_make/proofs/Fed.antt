@@ -10,7 +10,7 @@ use Rattle.tc_make.specs.Decoders.{IsFed, IsPieceSaid, candidates_text, blocks_t
 use Rattle.tc_make.proofs.Written.{joined}
 
 -- the candidate frames that were written so far, followed by those that end in the remaining octets, are all candidate
--- frames
+-- frames of the octets
 abbrev pub IsSoFar : Mode → List ℕ → List ℕ → Reception → Reception → Option (List ℕ) → Option (List ℕ) → Type 0
 IsSoFar mode rest os first state a b =
     (given : List (List ℕ)) × Appends a b (candidates_text given) × (given ++ frames_of mode 1029 state rest ≡ frames_of mode 1029 first os)
@@ -25,7 +25,7 @@ some-fed mode was rest now os first state next more a b c same is (given, before
       ∙ ap (λ (x : List (List ℕ)). given ++ x) (subst (λ (m : Mode). more ++ frames_of m 1029 next now ≡ frames_of m 1029 state rest) same is) ∙ h,
 )
 
--- once all octets are taken, the whole answer is written
+-- once all octets are taken, and the line with the counts is written, the whole answer is written
 pub all-fed : (mode : Mode) (corrected rejected overlong : ℕ) (os : List ℕ) (first state : Reception) (a b c : Option (List ℕ)) → IsSoFar mode [] os first state a b
     → corrected ≡ corrected_in mode 1029 first os → rejected ≡ rejected_in mode 1029 first os → overlong ≡ overlong_in mode 1029 first os → Appends b c (blocks_text corrected rejected overlong)
     → Appends a c (candidates_text (frames_of mode 1029 first os) ++ blocks_text (corrected_in mode 1029 first os) (rejected_in mode 1029 first os) (overlong_in mode 1029 first os))

@@ -167,7 +167,7 @@ unexplained ending octets shown fault a b is e w =
 pub is-fault : (rest : List ℕ) (fault : FrameFault) → fault_of rest ≡ Some fault → IsSome (fault_of rest)
 is-fault rest fault e = subst IsSome (sym e) refl
 
--- these frames were found and written, and these octets follow them
+-- `count` whole frames were found at the front of the octets and written, and `rest` is the octets after them
 abbrev pub Found : List ℕ → ℕ → List ℕ → Option (List ℕ) → Option (List ℕ) → Type 0
 Found octets count rest a b =
     (frames : List (List ℕ)) × AllByRecursion IsWhole frames × (octets ≡ concat frames ++ rest) × (length frames ≡ count) × Appends a b (frames_text frames)

@@ -50,15 +50,15 @@ abbrev pub IsCommandSaid : Ending → ℕ → ℕ → Command → List ℕ → T
 IsCommandSaid ending scid vcid command =
     Unless (command_reason_of scid vcid) (λ text. (frame : List ℕ) × IsCommandFrame frame scid vcid command × IsEnded ending frame text)
 
--- this is the frame at a place of a unit, with this ending
+-- `sent` is the frame at a place of a unit, counted from 0, with this ending
 abbrev pub IsSentAt : Ending → Parting → ℕ → List ℕ → Type 0
 IsSentAt ending p place sent = (frame : List ℕ) × IsFrameAt p place frame × (ending_reason_of ending frame ≡ None) × (sent ≡ ended ending frame)
 
--- this is a reason why the frame at a place isn't made
+-- the frame at a place isn't made for this reason: memory ran out, or the frame can't have this ending
 abbrev pub IsStopAt : Ending → Parting → ℕ → Reason → Type 0
 IsStopAt ending p place reason = (reason ≡ NoMemory) ⊎ ((frame : List ℕ) × IsFrameAt p place frame × (ending_reason_of ending frame ≡ Some reason))
 
--- these are the frames of a unit from a place on, in order, with this ending
+-- these are frames of a unit with this ending: one for each place from `place` on, in order, up to some place
 abbrev pub AreSent : Ending → Parting → ℕ → List (List ℕ) → Type 0
 AreSent ending p place [] = Unit {0}
 AreSent ending p place (sent ∷ later) = IsSentAt ending p place sent × AreSent ending p (suc place) later
@@ -104,15 +104,15 @@ field_fault_text fields.TooShort = refused_text (codes "check")
 field_fault_text fields.WrongSum = refused_text (codes "check")
 field_fault_text fields.NoMemory = bad_text NoMemory
 
--- The text explains a frame with this ending. A frame error control field is removed first. If it is wrong, the text
--- gives the reason.
+-- The text explains a frame with this ending. A frame error control field is removed first. If it can't be removed, the
+-- text gives the reason instead.
 abbrev pub IsEndedSaid : Ending → List ℕ → List ℕ → List ℕ → Type 0
 IsEndedSaid DataField frame rest text = IsWholeSaid frame rest text
 IsEndedSaid ErrorControl frame rest text =
     ((plain : List ℕ) × (frame ≡ frame_with_field plain) × (taking_fault_of frame ≡ None) × IsWholeSaid plain rest text)
     ⊎ ((fault : FieldFault) × (taking_fault_of frame ≡ Some fault) × (text ≡ field_fault_text fault))
 
--- the text explains the frame that octets begin with, or gives the reason why they don't begin with a frame
+-- the text explains the frame at the front of the octets, or gives the reason why there is no frame or no explanation
 abbrev pub IsExplained : Ending → List ℕ → List ℕ → Type 0
 IsExplained ending octets text =
     ((frame : List ℕ) × (rest : List ℕ) × IsDelimited octets frame rest × IsEndedSaid ending frame rest text)

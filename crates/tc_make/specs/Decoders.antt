@@ -13,7 +13,7 @@ no_decoders = replicate 256 None
 abbrev pub new_decoder : Mode → Receiver
 new_decoder mode = record { mode = mode; state = Searching 0; carried = [] }
 
--- the decoders after a stream is given a new one
+-- the decoders after a stream gets a new decoder, in the place of any that it had
 abbrev pub with_new_decoder : List (Option Receiver) → ℕ → Mode → List (Option Receiver)
 with_new_decoder decoders id mode = slice_set decoders id (Some (new_decoder mode))
 
@@ -33,13 +33,14 @@ fed_text d octets =
     candidates_text (frames_of d.mode most_octets d.state octets) ++ blocks_text (corrected_in d.mode most_octets d.state octets) (rejected_in d.mode most_octets d.state octets)
     (overlong_in d.mode most_octets d.state octets)
 
--- a decoder was given octets and this is the answer, or there is no decoder and the answer reports that
+-- Either a decoder took the octets and the text is its answer, or there is no decoder and the text reports that.
 abbrev pub IsFed : Option Receiver → List ℕ → Option Receiver → List ℕ → Type 0
 IsFed None octets new text = (new ≡ None) × (text ≡ bad_text NoDecoder)
 IsFed (Some old) octets new text =
     (d : Receiver) × (new ≡ Some d) × (d.mode ≡ old.mode) × (d.state ≡ state_after old.mode most_octets old.state octets) × (text ≡ fed_text old octets)
 
--- the decoder of a stream was given its next octets
+-- The decoder of a stream, if there is one, took the stream's next octets, and the text is the answer. Nothing changes
+-- for other streams.
 abbrev pub IsPieceSaid : List (Option Receiver) → ℕ → List ℕ → List (Option Receiver) → List ℕ → Type 0
 IsPieceSaid old id octets new text = (slot : Option Receiver) × (new ≡ slice_set old id slot) × IsFed (slice_index_or old id None) octets slot text
 
@@ -51,12 +52,13 @@ IsDecoderSaid old id mode new text = ((text ≡ []) × (new ≡ with_new_decoder
 abbrev pub search_text : Bool → List ℕ
 search_text cut = codes "search cut " ++ flag_text cut ++ codes "\n"
 
--- a decoder looks for a start sequence again, or there is no decoder and the answer reports that
+-- Either a decoder looks for a start sequence again, or there is no decoder and the text reports that.
 abbrev pub IsSearching : Option Receiver → Option Receiver → List ℕ → Type 0
 IsSearching None new text = (new ≡ None) × (text ≡ bad_text NoDecoder)
 IsSearching (Some old) new text =
     (d : Receiver) × (new ≡ Some d) × (d.mode ≡ old.mode) × (d.state ≡ Searching 0) × (text ≡ search_text (is_decoding old.state))
 
--- the decoder of a stream looks for a start sequence again
+-- The decoder of a stream, if there is one, looks for a start sequence again, and the text is the answer. Nothing
+-- changes for other streams.
 abbrev pub IsSearchSaid : List (Option Receiver) → ℕ → List (Option Receiver) → List ℕ → Type 0
 IsSearchSaid old id new text = (slot : Option Receiver) × (new ≡ slice_set old id slot) × IsSearching (slice_index_or old id None) slot text

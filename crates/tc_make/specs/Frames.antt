@@ -15,7 +15,7 @@ abbrev pub is_map_over : Option Segment → Bool
 is_map_over None = false
 is_map_over (Some segment) = nat_lt 63 segment.map
 
--- the first of the reasons below why a frame isn't made, or `None` if it is made
+-- the first of the reasons below why a frame isn't made, or `None` if none of them applies
 abbrev pub frame_reason_of : Header → Option Segment → List ℕ → Option Reason
 frame_reason_of header segment octets =
     if nat_lt 1023 header.scid then Some BadScid

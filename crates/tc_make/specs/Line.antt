@@ -26,7 +26,7 @@ Words = List (List ℕ)
 abbrev pub Said : Type 0
 Said = Result Line Reason
 
--- the octets that the one word of a form spells
+-- the octets that the only argument of a command spells, or an error if there isn't one argument or it isn't hexadecimal
 abbrev pub alone_of : Form → Words → Result (List ℕ) Reason
 alone_of form (word ∷ []) = elim (decode_of word) [ Ok octets ↦ Ok octets | Err fault ↦ Err BadHex ]
 alone_of form _ = Err (WordCount form)
@@ -61,7 +61,7 @@ with_six form _ says = Err (WordCount form)
 abbrev pub if_number : Number → ℕ → List ℕ → (ℕ → Said) → Said
 if_number name most word next = elim (word_number most word) [ None ↦ Err (BadNumber name) | Some number ↦ next number ]
 
--- the result of `next` for the octets that a word spells in hexadecimal digits
+-- the result of `next` for the octets that a word spells in hexadecimal digits, or an error if it doesn't spell octets
 abbrev pub with_octets : List ℕ → (List ℕ → Said) → Said
 with_octets word next = elim (decode_of word) [ Ok octets ↦ next octets | Err fault ↦ Err BadHex ]
 
@@ -184,7 +184,7 @@ search_of words = with_one forms.Search words (λ i. if_number numbers.Id 255 i 
 abbrev pub frames_of : Words → Said
 frames_of words = with_two forms.Frames words (λ m o. if_number numbers.Most 255 m (λ most. with_octets o (λ octets. Ok (Frames most octets))))
 
--- the meaning of a line about CLTUs or telemetry frames
+-- the meaning of a line about CLTUs or telemetry frames, or the reason why the line is bad
 unfoldable pub link_line_of : List ℕ → Words → Said
 link_line_of command arguments =
     if is command (codes "cltu") then cltu_of arguments

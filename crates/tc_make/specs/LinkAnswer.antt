@@ -14,7 +14,7 @@ use Rattle.tc_make.specs.declared.fault.Reason.{Reason}
 use Rattle.tc_make.specs.declared.fault.Reason.TheVariants.{BadScid, BadVcid, BadSize, NoData, TooMuchData, NoMemory}
 use Rattle.tc_make.specs.declared.line.TmOrder.{TmOrder}
 
--- the first of the reasons below why there is no CLTU for the octets, or `None` if there is one
+-- the first of the reasons below why there is no CLTU for the octets, or `None` if none of them applies
 abbrev pub cltu_reason_of : List ℕ → Option Reason
 cltu_reason_of octets =
     if length octets == 0 then Some NoData

@@ -12,7 +12,7 @@ made_header apid count = record { telecommand = true; secondary = false; apid = 
 abbrev pub IsMadePacket : List ℕ → ℕ → ℕ → List ℕ → Type 0
 IsMadePacket packet apid count octets = IsPacketOf packet (made_header apid count) octets
 
--- the first of the reasons below why a packet isn't made, or `None` if it is made
+-- the first of the reasons below why a packet isn't made, or `None` if none of them applies
 abbrev pub packet_reason_of : ℕ → ℕ → List ℕ → Option Reason
 packet_reason_of apid count octets =
     if nat_lt 2047 apid then Some BadApid

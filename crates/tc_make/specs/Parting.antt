@@ -7,15 +7,15 @@ use Rattle.tc_make.specs.declared.parting.Parting.{Parting}
 use Rattle.tc_make.specs.declared.fault.Reason.{Reason}
 use Rattle.tc_make.specs.declared.fault.Reason.TheVariants.{BadScid, BadVcid, BadMap, BadSize, NoData, TooMuchData}
 
--- the header of the Type-AD frame at a place, where N(S) is that of the first frame plus the place, modulo 256
+-- the header of the Type-AD frame at a place, whose N(S) is the sum, modulo 256, of the first frame's N(S) and the place
 abbrev pub header_at : Parting → ℕ → Header
 header_at p place = record { bypass = false; control = false; scid = p.scid; vcid = p.vcid; ns = (p.ns + place) % 256 }
 
--- this is the frame at a place, counted from 0
+-- `frame` is the frame for a unit's segment at a place, counted from 0
 abbrev pub IsFrameAt : Parting → ℕ → List ℕ → Type 0
 IsFrameAt p place frame = IsMadeFrame frame (header_at p place) (Some (segment_at p.map p.size place p.unit.now)) (piece_at p.size p.unit.now place)
 
--- the first of the reasons below why a unit isn't divided into segments, or `None` if it is divided
+-- the first of the reasons below why a unit isn't divided into segments, or `None` if none of them applies
 abbrev pub parting_reason_of : Parting → Option Reason
 parting_reason_of p =
     if nat_lt 1023 p.scid then Some BadScid

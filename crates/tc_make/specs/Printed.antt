@@ -147,7 +147,7 @@ fields_text header =
     codes "header " ++ kind_text header.bypass header.control ++ codes " scid " ++ decimal header.scid ++ codes " vc " ++ decimal header.vcid
     ++ codes " ns " ++ decimal header.ns
 
--- the end of the line `header ..`: the number of octets of the frame, and of those that follow it
+-- the end of the line `header ..`: the number of octets of the frame, and the number of octets that follow it
 abbrev pub lengths_text : ℕ → ℕ → List ℕ
 lengths_text n fill = codes " octets " ++ decimal n ++ codes " fill " ++ decimal fill ++ codes "\n"
 
@@ -223,14 +223,14 @@ more_text rest = if is_fill rest then [] else named_text (codes "more") rest
 abbrev pub explanation_text : Explanation → List ℕ
 explanation_text e = frame_text e ++ more_text e.rest.now
 
--- the lines of the frames that a CLTU carried
+-- a line for each of the frames
 abbrev pub frames_text : List (List ℕ) → List ℕ
 frames_text frames = flat_map (named_text (codes "frame")) frames
 
 abbrev pub fill_text : ℕ → List ℕ
 fill_text n = codes "fill " ++ decimal n ++ codes "\n"
 
--- the line of the octets that follow the frames of a CLTU, which says whether they are fill
+-- the line of the octets that follow the frames of a CLTU: their number if they are fill, and otherwise the octets
 unfoldable pub rest_text : List ℕ → List ℕ
 rest_text rest = if is_fill rest then fill_text (length rest) else named_text (codes "more") rest
 

@@ -13,14 +13,15 @@ use Rattle.tc_make.specs.declared.maker.Maker.{Maker}
 abbrev pub limit : ℕ
 limit = 262143
 
--- the line has this answer, and the next line finds the counts and the decoders that this one leaves
+-- `text` is the answer to the line in the state `old`, and `new` is the state after the line
 abbrev pub IsMakerAnswered : Maker → List ℕ → Maker → List ℕ → Type 0
 IsMakerAnswered old line new text = IsAnswer old (maker_line_of (words line)) new text
 
--- the answers to all lines of these octets were written, in order and each once
+-- the answers to all lines of the octets were written, in order and each once, starting in the state of a new maker
 abbrev pub AreWritten : Ending → List ℕ → Option (List ℕ) → Option (List ℕ) → Type 0
 AreWritten ending octets before after = (last : Maker) × lines.AreAllWritten limit IsMakerAnswered (new_maker ending) octets last before after
 
--- this text was written before this fault ended the answers early
+-- A fault ended the answers early. After a failed read, the answers to some first lines were written. Without memory,
+-- nothing was written. After a failed write, nothing is stated.
 abbrev pub IsMakingCutShort : Ending → List ℕ → Option (List ℕ) → Option (List ℕ) → ServingFault → Type 0
 IsMakingCutShort ending octets before after fault = (last : Maker) × lines.IsCutShort limit IsMakerAnswered (new_maker ending) octets last before after fault

@@ -192,7 +192,8 @@ fn write_segments<W: Write>(
     }
 }
 
-// Writes the frames of a unit, up to the first that can't be made. All frames but the last have the same length.
+// Writes the frames of a unit. If one can't be made, writes the reason in its place, and stops. All frames but the last
+// have the same length.
 fn write_parts<W: Write>(
     alloc: Global,
     ending: Ending,

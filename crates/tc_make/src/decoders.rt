@@ -53,7 +53,7 @@ impl Decoders {
     }
 
     /// Gives a stream a new decoder, which looks for a start sequence. It takes the place of any decoder that the
-    /// stream had. The new decoder is allocated.
+    /// stream had. The new decoder is allocated. If memory runs out, nothing changes.
     pub fn begin(&mut self, alloc: Global, id: u8, mode: Mode) -> Result<(), AllocError>
         ensures begun { OnOk result (self.new ≡ with_new_decoder self.old id mode) }
         ensures unchanged { OnErr result (self.new ≡ self.old) }
@@ -64,8 +64,9 @@ impl Decoders {
     }
 
     /// Gives the decoder of a stream its next octets. Writes the candidate frames that end in them, the numbers of code
-    /// blocks that were corrected and rejected, and the number of CLTUs that carried too many octets. The call requests
-    /// no memory. If it fails, the decoder has taken only some of the octets, from the first one on.
+    /// blocks that were corrected and rejected, and the number of CLTUs that carried too many octets. If the stream has
+    /// no decoder, writes that instead. The call requests no memory. If the writer fails, the decoder may have taken
+    /// only some of the octets, from the first one on.
     pub fn write_piece<W: Write>(&mut self, id: u8, octets: &[u8], writer: &mut W) -> io::Result<()>
         ensures { OnOk result (Writes (W.contents writer.old) (W.contents writer.new) (IsPieceSaid self.old id octets.now self.new)) }
     {
@@ -73,8 +74,8 @@ impl Decoders {
         feed(slot, octets, writer)
     }
 
-    /// Makes the decoder of a stream look for a start sequence again, as after a loss of bit lock. Writes whether the
-    /// search cut a CLTU short.
+    /// Makes the decoder of a stream look for a start sequence again, as after a loss of bit lock. Writes whether this
+    /// cut a CLTU short, or that the stream has no decoder.
     pub fn write_search<W: Write>(&mut self, id: u8, writer: &mut W) -> io::Result<()>
         ensures { OnOk result (Writes (W.contents writer.old) (W.contents writer.new) (IsSearchSaid self.old id self.new)) }
     {
@@ -142,7 +143,7 @@ fn write_blocks<W: Write>(blocks: Blocks, writer: &mut W) -> io::Result<()>
     )
 }
 
-// Writes the candidate frame, if `ended` is set because the last octet ended one.
+// Writes the candidate frame that the last octets completed, if `ended` is set.
 fn write_ended<W: Write>(decoder: &Decoder, ended: bool, writer: &mut W) -> io::Result<()>
     ensures { OnOk result (Appends (W.contents writer.old) (W.contents writer.new)
         (candidates_text (if ended then decoder.now.carried ∷ [] else []))) }

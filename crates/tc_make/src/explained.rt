@@ -23,7 +23,8 @@ use tc_link::{
 use tc_packet::{Packet, Part, Segment, next_packet, read_segment};
 
 /// Writes the explanation of the frame at the front of the octets, and of the octets that follow it. The frame is as
-/// long as its length field says. If frames end with a frame error control field, this field is removed first.
+/// long as its length field says. If frames end with a frame error control field, this field is removed first. If there
+/// is no frame at the front, or its field can't be removed, the reason is written instead.
 pub(crate) fn write_explained<W: Write>(
     alloc: Global,
     ending: Ending,
@@ -38,7 +39,7 @@ pub(crate) fn write_explained<W: Write>(
     }
 }
 
-// Writes the explanation of a frame with this ending.
+// Writes the explanation of a frame with this ending, or the reason why its frame error control field can't be removed.
 fn write_ended<W: Write>(
     alloc: Global,
     ending: Ending,
@@ -72,7 +73,7 @@ fn write_field_fault<W: Write>(fault: FieldFault, writer: &mut W) -> io::Result<
     }
 }
 
-// Writes the explanation of a whole frame.
+// Writes the explanation of a whole frame, and of the octets `rest` that follow it.
 fn write_whole_frame<W: Write>(frame: &[u8], rest: &[u8], writer: &mut W) -> io::Result<()>
     requires { IsWhole frame.now }
     ensures { OnOk result (Writes (W.contents writer.old) (W.contents writer.new) (IsWholeSaid frame.now rest.now)) }
@@ -139,7 +140,7 @@ fn write_more<W: Write>(rest: &[u8], writer: &mut W) -> io::Result<()>
 }
 
 /// Writes the frames that a CLTU carried, at most `most` of them, one after the other. Then writes the octets that
-/// follow them.
+/// follow them, or only their number if they are fill.
 pub(crate) fn write_frames<W: Write>(most: u8, octets: &[u8], writer: &mut W) -> io::Result<()>
     ensures { OnOk result (Writes (W.contents writer.old) (W.contents writer.new) (AreFramesSaid most octets.now)) }
 {
@@ -313,7 +314,7 @@ fn write_whole<W: Write>(secondary: bool, octets: &[u8], writer: &mut W) -> io::
     writeln!(writer, " secondary {secondary} {digits}")
 }
 
-/// Writes the explanation of octets as a CLCW.
+/// Writes the explanation of octets as a CLCW, or the reason why they aren't one.
 pub(crate) fn write_clcw<W: Write>(octets: &[u8], writer: &mut W) -> io::Result<()>
     ensures { OnOk result (Writes (W.contents writer.old) (W.contents writer.new) (OrNoMemory (IsClcwSaid octets.now))) }
 {

@@ -18,7 +18,7 @@ pub enum Reason {
     Marked,
     /// The line has more or fewer words than the form of its command.
     WordCount(Form),
-    /// A number doesn't consist of 1 to 5 decimal digits, or is over the bound of its type.
+    /// A number doesn't consist of 1 to 5 decimal digits, or is over the largest value of its type, 255 or 65,535.
     BadNumber(Number),
     /// Octets aren't given as an even number of hexadecimal digits.
     BadHex,

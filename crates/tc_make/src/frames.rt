@@ -14,8 +14,8 @@ use tc_write::segment_octet;
 /// Makes the frame with this header. Its data field carries the octets. If a segment header is given, the data field
 /// begins with it (CCSDS 232.0-B, 4.1.2 and 4.1.3).
 ///
-/// The data field, including the segment header, must have 1 to 1,019 octets. Only the data field and the frame are
-/// allocated.
+/// The data field, including the segment header, must have 1 to 1,019 octets. Only the frame and, if there is a segment
+/// header, the data field are allocated.
 pub fn make_frame(
     alloc: Global,
     header: &Header,

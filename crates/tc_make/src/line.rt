@@ -32,7 +32,8 @@ pub struct Sizing {
     pub size: u16,
 }
 
-/// An order for a telemetry frame: its spacecraft and virtual channel, its number of octets, and its CLCW.
+/// An order for a telemetry frame: its spacecraft and virtual channel, its number of octets, and its operational
+/// control field, for example a CLCW.
 #[derive(Clone, Copy, Debug, PartialEq, Eq)]
 pub struct TmOrder {
     pub scid: u16,
@@ -326,7 +327,7 @@ fn parted(alloc: Global, stream: Stream, sizing: Sizing, digits: &[u8]) -> Resul
     })
 }
 
-// Returns the octets that the only word of a form spells.
+// Returns the octets that the only argument of a command spells.
 fn alone(alloc: Global, form: Form, words: &[&[u8]]) -> Result<Octets, Reason>
     ensures octets { IfOk result (λ octets. alone_of form (map (λ word. word.now) words.now) ≡ Ok octets) }
     ensures reason { IfErr result (λ reason. (reason ≡ Reason.NoMemory) ⊎ (alone_of form (map (λ word. word.now) words.now) ≡ Err reason)) }

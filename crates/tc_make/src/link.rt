@@ -22,7 +22,7 @@ use tc_cltu::{CltuFault, randomise, write_cltu};
 use tc_lines::Digits;
 use tc_tm::{Counts, ErrorControl, TmFault, TmFields, TmReadFault, read_tm};
 
-/// Writes the CLTU that carries the octets.
+/// Writes the CLTU that carries the octets, or the reason why there is none.
 pub(crate) fn write_coded<W: Write>(alloc: Global, octets: &[u8], writer: &mut W) -> io::Result<()>
     ensures { OnOk result (Writes (W.contents writer.old) (W.contents writer.new) (OrNoMemory (IsCltuSaid octets.now))) }
 {
@@ -63,7 +63,7 @@ fn with_random(alloc: Global, octets: &[u8]) -> Result<Vec<u8>, AllocError>
     Ok(made)
 }
 
-/// Writes the explanation of octets as a telemetry frame.
+/// Writes the explanation of octets as a telemetry frame, or the reason why they aren't one.
 pub(crate) fn write_telemetry<W: Write>(
     ending: Ending,
     octets: &[u8],
@@ -135,7 +135,7 @@ fn control_word(control: &[u8]) -> &'static str
     if control[0] > 127 { "report" } else { "clcw" }
 }
 
-/// Writes the next telemetry frame of a virtual channel.
+/// Writes the next telemetry frame of a virtual channel, or the reason why it isn't made.
 pub(crate) fn write_tm<W: Write>(
     alloc: Global,
     ending: Ending,

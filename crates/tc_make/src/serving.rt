@@ -13,8 +13,8 @@ use std::io::{BufRead, BufReader, BufWriter, Write};
 use tc_lines::{LineAnswerer, ServingFault};
 use thiserror::Error;
 
-/// The largest number of octets that a line may have, including its line feed. The longest line that can be carried out
-/// has a unit of 65,542 octets, and fits.
+/// The largest number of octets that a line may have, including its line feed. A line with the largest unit, of 65,542
+/// octets, fits.
 pub const MAX_LINE: usize = 262_144;
 
 impl LineAnswerer for Maker {

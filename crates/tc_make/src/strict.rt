@@ -6,7 +6,8 @@ use std::io::{ErrorKind, Write};
 // The text with which the answer to a bad line begins.
 const BAD: &[u8] = b"bad ";
 
-/// A writer that passes answers on to `writer`, and fails once an answer that begins with `bad` was flushed.
+/// A writer that passes answers on to `writer`. Once it has passed on a line that begins with `bad `, each flush fails
+/// after it has flushed `writer`.
 #[derive(Drop)]
 pub(crate) struct Strict<W: Write + Drop> {
     writer: W,
@@ -24,7 +25,7 @@ impl<W: Write + Drop> Strict<W> {
         }
     }
 
-    /// Returns whether a line was bad.
+    /// Returns whether a line that begins with `bad ` was passed on.
     pub(crate) fn has_bad(&self) -> bool {
         self.has_bad
     }
