@@ -54,7 +54,7 @@ one-more-happens scid vcid s (first ∷ jobs) job old mid new (next, happens, re
 not-both : (e : Event) (m : Moment) → CanBeMade e m → CannotBeMade e m → ⊥
 not-both e m can cannot = grind arith
 
--- an event can be made at all moments with the same settings and the same journal, or at none of them
+-- if an event can be made at some moment, it can be made at `moment` with the settings and the journal of that moment
 moved-can : (e : Event) (m : Moment) (s : Settings) (j : List Event) → m.head.settings ≡ s → m.entries ≡ j → CanBeMade e m → CanBeMade e (moment s j)
 moved-can (events.Frame octets) m s j p q can = tt
 moved-can e m s j p q can = subst (λ (x : Settings × List Event). CanBeMade e (moment x.0 x.1)) (λ i. (p i, q i)) can
@@ -63,7 +63,8 @@ moved-cannot : (e : Event) (m : Moment) (s : Settings) (j : List Event) → m.he
 moved-cannot (events.Frame octets) m s j p q cannot = cannot
 moved-cannot e m s j p q cannot = subst (λ (x : Settings × List Event). CannotBeMade e (moment x.0 x.1)) (λ i. (p i, q i)) cannot
 
--- if an event can be made, the new journal is the old one followed by the event, and otherwise it is the old one
+-- If an event can be made, the new journal is the old one followed by the event. Otherwise, by the next lemma, the journal
+-- stays the same.
 next-can : (e : Event) (m : Moment) (s : Settings) (old new : List Event) → m.head.settings ≡ s → m.entries ≡ old → CanBeMade e m → IsTriedNext s e old new → new ≡ old ++ e ∷ []
 next-can e m s old new p q can (inl (there, is)) = is
 next-can e m s old new p q can (inr (none, is)) = absurd (not-both e (moment s old) (moved-can e m s old p q can) none)
@@ -123,7 +124,7 @@ worked-more s place old mid new before between after first second = record {
       );
 }
 
--- `IsMadeOf` holds for the desk of a call if the premises hold for the operator's account after the call
+-- `IsMadeOf` holds for the desk of a call, if each of its parts holds for the operator's account `o` after the call
 desk-grown : (there next : AtLock) (now : Moment) (o : Own) (s : Settings) (old new : List Event) → next.own ≡ o → o.seen.head ≡ now.head → (HasSeenItsOwn there.own → HasSeenItsOwn o)
     → (HasSeenItsOwn there.own → HasMadeAll o → HasMadeAll there.own × (now ≡ there.own.seen)) → (now.head.settings ≡ s → now.entries ≡ old → o.seen.entries ≡ new) → IsMadeOf s old new there next
 desk-grown there next now o s old new is head its law journal = λ own. (

@@ -83,7 +83,7 @@ nothing-at o place nothing = elim (cases_lt place (length o.desks)) [
 
 -- ---- a plan that was carried out
 
--- issuing operators leaves the plan of a station as it is
+-- a plan still fits the channels after the station has issued operators
 issued-planned : (parted : Parted) (station : Roster) (n : ℕ) (rack : Racked) → station ≡ record parted.station { issued = n } → IsPlanned parted rack → IsPlanned (record parted { station = station }) rack
 issued-planned parted station n rack issued planned =
     subst (λ (s : Roster). IsPlanned (record parted { station = s }) rack) (sym issued)
@@ -170,7 +170,8 @@ module _ (laws : WorkLaws) (station : Roster) (lists : List WorkList) (rack : Ra
       ap (λ (d : AtLock). d.own.seen.head.settings) (sym (get_or_from_slice_get owned_desks k owned_desk.0 nobody owned_desk.1)) ∙ desk-settings owned_desks k c.history.settings known in
       one-closed shifts befores ops of-lists of-befores of-ops each none nothing knows k c shift.0 owned_desk.0 h here shift.1 own (all.each k owned_desk.0 h owned_desk.1 at))
 
--- the channels that result from the workers are those that result when the lines are carried out in order
+-- The channels that result from the workers are, in some order, those that result when the lines are carried out in
+-- order.
 worked-channels : WorkLaws → (parted : Parted) (rack : Racked) (channels : List History) → IsPlanned parted rack → IsWorkedOut parted channels → IsPermutation (histories rack) channels
 worked-channels laws parted rack channels planned out =
     let issued = issued-planned parted out.station (length parted.lists) rack out.issued planned in

@@ -26,7 +26,7 @@ unmapped f (x ∷ xs) (suc k) y at = unmapped f xs k y at
 pub same-at : {X Y Z : Type 0} (f : X → Z) (g : Y → Z) (xs : List X) (ys : List Y) (k : ℕ) (x : X) (y : Y) → map f xs ≡ map g ys → slice_get xs k ≡ Some x → slice_get ys k ≡ Some y → f x ≡ g y
 same-at {X} {Y} {Z} f g xs ys k x y same at here = same_Some (f x) (g y) (sym (mapped-at f xs k x at) ∙ (ap (λ (l : List Z). slice_get l k) same ∙ mapped-at g ys k y here))
 
--- a list is the image of another one, if each of its elements is the image of the element at the same place
+-- a list is the image of another one of the same length, if each element is the image of the other's element at its place
 pub same-mapped : {X Y : Type 0} (f : X → Y) (xs : List X) (ys : List Y) → length ys ≡ length xs
     → ((k : ℕ) (x : X) (y : Y) → slice_get xs k ≡ Some x → slice_get ys k ≡ Some y → y ≡ f x) → ys ≡ map f xs
 same-mapped f [] [] long each = refl

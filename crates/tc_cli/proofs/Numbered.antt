@@ -1,4 +1,4 @@
--- The number of a job is that of its line in the script. If memory runs out for a job, its line was reached.
+-- Each job has the number of its line in the script. If memory runs out for a job, its line was reached.
 use Rattle.std.proofs.Common.{◌≡◌, ◌≤◌, ℕ, suc, ◌+◌, List, [], ◌∷◌, ◌⊎◌, Option, None, Some, map, length, inl, inr, refl, sym, ap, ◌∙◌, subst, arith, Any, slice_get, slice_set}
 use Rattle.tc_cli.proofs.Names.{Add, AreParted, ArePartedFor, AtStation, Channel, Clcw, Does, Frame, GivesToFound, Instruction, IsFrameGiven, IsGiven, IsJobLine, IsParted, IsScriptFault, Job, Nothing, Operating, Parted, Plan, Release, Roster, ScriptFault, SettingUp, Settings, Take, TakeUnit, WorkList, empty_list, eqb_tells, instruction_of, lower, none-some, none_parted, one_parted, phase_of, same_Some, script_limit, with_job}
 use Rattle.std.specs.List.{AllByRecursion}

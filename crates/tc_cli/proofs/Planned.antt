@@ -153,8 +153,8 @@ unit-can scid map_id c = elim (waits-or-not (waiting_units c.history.settings c.
   ]
 ]
 
--- these channels give the operation an answer that `Answers` allows, and afterwards they fit the plan that has the
--- operation's job, too
+-- these channels give an answer that `Answers` allows, and afterwards they fit `parted`, the plan after the operation's
+-- job was appended
 abbrev IsAnsweredSo : (Racked → Answer → Racked → Type 0) → Parted → Racked → Type 0
 IsAnsweredSo Answers parted rack = (answer : Answer) × (new : Racked) × Answers rack answer new × IsPlanned parted new
 

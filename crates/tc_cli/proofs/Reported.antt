@@ -65,7 +65,8 @@ same-ids (c ∷ cs) (d ∷ ds) rising rises same =
     let rest = same-ids cs ds (rising-rest c cs rising) (rising-rest d ds rises) (rest-counts c cs d ds head same) in
     λ i. head i ∷ rest i
 
--- two lists of channels with the same ids are equal if any two of their channels with the same id are equal
+-- two lists of channels with the same ids in the same order are equal, if any two of their channels with the same id are
+-- equal
 same-channels : (cs ds : List History) → ((c d : History) (i j : ℕ) → slice_get cs i ≡ Some c → slice_get ds j ≡ Some d → vcid_of c ≡ vcid_of d → c ≡ d) → map vcid_of cs ≡ map vcid_of ds → cs ≡ ds
 same-channels [] [] keyed is = refl
 same-channels [] (d ∷ ds) keyed is = let l = ap (length {A = ℕ}) is in absurd (omega (arith, l))

@@ -19,7 +19,7 @@ first-bad script rest line after before phase reason (inl memory) leads next wit
 first-bad script rest line after before phase reason (inr bad) leads next within =
     inr (within, record { before = before; phase = phase; rest = rest; line = line; after = after; leads = leads; next = next; number_is = refl; bad = bad })
 
--- if no octets are left, each line is good, whether or not the report was written
+-- if no octets are left, and the report was written, each line is good
 pub good-end : (reported : Result (Unit {0}) ScriptFault) (script rest : List ℕ) (count : ℕ) (phase : Phase) → Leads script count phase rest → rest ≡ []
     → OnOk reported (IsGood script)
 good-end (Ok done) script rest count phase leads end = (count, phase, rw end at leads)

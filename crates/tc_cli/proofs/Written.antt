@@ -13,7 +13,7 @@ use Rattle.tc_cli.specs.Written.{IsSessionReportWritten, IsScriptUnreported, IsS
 use Rattle.tc_cli.proofs.Alone.{AloneLaws}
 use Rattle.tc_cli.proofs.Sessions.{progress_of, reported-alone}
 
--- if two results are `Ok` in the same cases, a fact that holds if the first is `Ok` also holds if the second is `Ok`
+-- if either both results or none are `Ok`, a fact that holds if the first is `Ok` also holds if the second is `Ok`
 pub on-ok-same : {T U E F : Type 0} (r : Result T E) (s : Result U F) (A : Type 0) → is_ok s ≡ is_ok r → OnOk r A → OnOk s A
 on-ok-same (Ok x) (Ok y) A same holds = holds
 on-ok-same (Ok x) (Err f) A same holds = tt
@@ -117,8 +117,8 @@ abbrev pub IsReportInOrder : Type 0
 IsReportInOrder = (scid : ℕ) (script : List ℕ) (channels : List History) (text : List ℕ) → AreWorkedChannels scid script channels → IsReportOf channels text
     → (answers : List (Option Answer)) × (progress : Progress) × AreAnswers (IsPerformed scid) script answers progress [] × IsScriptReport scid progress text
 
--- if the octets of the reader are known, the report that is written is the one of these octets when their lines are
--- carried out in order
+-- if the octets of the reader are known, the text that is written is the report of the script with these octets when its
+-- lines are carried out in order
 pub parallel-written : IsReportInOrder → (known : Option (List ℕ)) (scid : ℕ) (script read : List ℕ) (channels shown : List History) (a b c : Option (List ℕ))
     → script ≡ read → IfSome known (λ octets. read ≡ octets) → shown ≡ channels → AreWorkedChannels scid script channels → AreRising channels → All IsNumberReported channels
     → All IsLawfulHistory shown → Appends a b (report_text shown) → Keeps b c → IfSome known (λ octets. IsWrittenInParallel scid octets a c)
@@ -156,7 +156,7 @@ read-cut-short (Some script) scid a (Line number reason) why = inl (why.1, inl (
 read-cut-short (Some script) scid a Write why = tt
 read-cut-short (Some script) scid a Unbalanced why = absurd why
 
--- if the octets of the reader are known, the text that was written is that of the script with these octets
+-- if the octets of the reader are known, the text that was written is the text of the script with these octets
 pub whole-written : (done : Result (Unit {0}) ScriptFault) (known : Option (List ℕ)) (scid : ℕ) (script read : List ℕ) (a b c : Option (List ℕ))
     → script ≡ read → IfSome known (λ octets. read ≡ octets) → OnOk done (IsScriptWritten scid script a b) → Keeps b c → OnOk done (IfSome known (λ octets. IsScriptWritten scid octets a c))
 whole-written done known scid script read a b c whole is written kept =

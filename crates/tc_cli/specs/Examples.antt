@@ -2,7 +2,7 @@
 use Rattle.std.specs.Prelude.{ℕ, List, codes}
 
 -- A script for spacecraft 42. At first there is nothing to release. A packet of application 5 is brought in a Type-AD
--- frame, released and taken. Another application has no queue, and another MAP isn't chosen. Two octets for MAP 3 come
+-- frame, released and taken. Application 6 has no queue, and MAP 4 isn't chosen. Two octets for the chosen MAP 3 come
 -- in a Type-BD frame, and one more packet waits in the buffer at the end.
 abbrev pub script : List ℕ
 script = codes "channel 1 10 2 0\nqueue 1 5 1\nmap 1 3 1\nrelease 1\nframe 002a040c00c01005c0000000aa\nrelease 1\ntake 1 5\ntake 1 6\nunit 1 4\nframe 202a040700c3aabb\nframe 002a040c01c01005c0000000aa\n"

@@ -20,7 +20,8 @@ use Rattle.tc_rack.specs.declared.stage.Stage.TheVariants.{SettingUp, Operating}
 abbrev pub Plan : Type 0
 Plan = Stage Parted
 
--- An operation finds these jobs. If no operation came before, the station is new, and there are no jobs yet.
+-- `found` is the station and the jobs that an operation finds. If no operation came before, the station is new, and there
+-- are no jobs yet.
 abbrev pub ArePartedFor : ℕ → Plan → Parted → Type 0
 ArePartedFor scid (SettingUp list) found = IsNewlyParted scid list found
 ArePartedFor scid (Operating parted) found = found ≡ parted
@@ -51,8 +52,8 @@ IsLineParted scid number plan line new =
     (said : Said) × (line_of (words line) ≡ Ok said) × Does (phase_of plan) (instruction_of said) (phase_of new)
     × IsParted scid number plan (instruction_of said) new
 
--- The script begins with this number of good lines. The job of each of them was appended to the list of its channel,
--- with the number of the line. The lines lead to this plan, and leave these octets of the script.
+-- The script begins with this number of good lines. The job of each line that has one was appended to the list of its
+-- channel, with the number of the line. The lines lead to this plan, and leave these octets of the script.
 pub data AreParted (scid : ℕ) (script : List ℕ) : ℕ → Plan → List ℕ → Type 0 where
   none_parted : AreParted scid script 0 (SettingUp []) script
   one_parted : {count : ℕ} {plan new : Plan} {rest line after : List ℕ}

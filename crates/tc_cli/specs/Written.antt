@@ -113,8 +113,8 @@ IsScriptUnbalanced scid script old new =
     × Appends old new (answers_text answers)
 
 -- This text was written for a script that ended early. Nothing was written if the script wasn't read. Otherwise the
--- answers to the lines before the one that ended the script were written, or the answers to all lines if the counts are
--- out of balance. If writing failed, nothing is known about the text.
+-- answers to the lines before the one that ended the script were written, or the answers to all lines if the script
+-- ended at its report. If writing failed, nothing is stated about the text.
 abbrev pub IsScriptCutShort : ℕ → List ℕ → Option (List ℕ) → Option (List ℕ) → ScriptFault → Type 0
 IsScriptCutShort scid script old new (Line number reason) =
     ((reason ≡ NoMemory) × IsOutOfMemory scid script number old new)

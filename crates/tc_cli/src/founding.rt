@@ -25,7 +25,7 @@ pub(crate) fn found(
         Ok(station) => Ok(station),
         Err(StationFault::NoChannel) => Err(Reason::NoChannel),
         Err(StationFault::NoMemory) => Err(Reason::NoMemory),
-        // A configuration has no other fault, so these can't occur.
+        // `scid` is at most 1,023, and a configuration has no other fault, so these can't occur.
         Err(StationFault::BadScid) => unreachable!(),
         Err(StationFault::DoubleVcid(_)) => unreachable!(),
         Err(StationFault::Settings(_, _)) => unreachable!(),

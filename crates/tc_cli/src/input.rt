@@ -18,7 +18,8 @@ const NO_WRITER: ScriptFault = ScriptFault::Line {
 };
 
 /// Runs the script on standard input as [`run_script`](crate::run_script) does, and writes to standard output. If the
-/// whole script was carried out, returns whether each of its frames ended with its frame error control field.
+/// whole script was carried out, returns true if it has a frame and each of its frames ends with its frame error
+/// control field. Otherwise, or if memory runs out for this check, returns false.
 pub fn run_input<R: AllocGlobal + Input + Print + Wait>(
     rt: &R,
     scid: u16,
@@ -34,7 +35,7 @@ pub fn run_input<R: AllocGlobal + Input + Print + Wait>(
 }
 
 /// Runs the script on standard input as [`parallel_script`](crate::parallel_script) does, and writes to standard
-/// output. The result is that of [`run_input`].
+/// output. The result has the same meaning as the result of [`run_input`].
 pub fn parallel_input<R: AllocGlobal + Input + Print + Threads + Wait + Sync>(
     rt: &R,
     scid: u16,

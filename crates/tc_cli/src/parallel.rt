@@ -197,7 +197,8 @@ fn part(
     }
 }
 
-// Appends the job of a frame line to the list of the channel that the octets are for.
+// Appends the job of a frame line to the list of the channel that the octets are for, if there is one. If no operation
+// came before, creates the station and its lists first.
 fn give_frame(
     plan: &mut Plan,
     alloc: Global,
@@ -218,7 +219,8 @@ fn give_frame(
     }
 }
 
-// Appends the order of a line to the list of a channel.
+// Appends the order of a line to the list of a channel, if there is such a channel. If no operation came before,
+// creates the station and its lists first.
 fn give_order(
     plan: &mut Plan,
     alloc: Global,
@@ -255,7 +257,8 @@ fn begin(plan: &mut Plan, alloc: Global, scid: u16) -> Result<(), Reason>
     }
 }
 
-// Creates the station and its lists. This function is compiled apart from the code that runs for each line.
+// Creates the station and its lists, if no operation came before. This function is compiled apart from the code that
+// runs for each line.
 #[cold]
 #[inline(never)]
 fn begin_anew(plan: &mut Plan, alloc: Global, scid: u16) -> Result<(), Reason>

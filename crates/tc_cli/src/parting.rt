@@ -87,7 +87,8 @@ impl Parted {
         append(alloc, &mut list.jobs, job)
     }
 
-    /// Lets a worker for each list carry out the jobs of a script with `lines` lines, and closes the station.
+    /// Lets a worker for each list carry out the jobs of a script with `lines` lines, and closes the station. Returns
+    /// the channels in rising order of their ids.
     pub(crate) fn work<T: Threads + Wait + Sync, G: Gate + Sync>(
         self,
         rt: &T,

@@ -27,7 +27,7 @@ use tc_text::{Reason, ScriptFault, next_line, parse_line, read_whole};
 /// The script may have up to 1,048,576 octets. It is read whole, and kept, before the first line is carried out. If the
 /// octets of the reader are known, a script is carried out to its end only if each line is good. A bad line that ends
 /// the script is its first bad line. Each answer, and the report, follows from the lines before it. This includes each
-/// CLCW, although a CLCW is read without its channel's lock: the watcher that reads it meets the channel at each
+/// CLCW, although a CLCW is read without its channel's lock: the watcher that reads it meets the channel at each other
 /// operation on the channel, and once more before the report. If the script ends early, only the answers to the lines
 /// before that point are written, unless a write failed.
 pub fn run_script<T: Wait, R: Read, W: Write>(

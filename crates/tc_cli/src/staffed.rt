@@ -19,7 +19,7 @@ use tc_status::Watcher;
 use tc_text::Reason;
 
 /// A station with the one operator that it has issued, and a watcher for each channel. Each watcher meets its channel
-/// at each operation on the channel.
+/// before and after each operation on the channel, except for a read of the CLCW.
 #[derive(Drop)]
 pub(crate) struct StaffedStation {
     station: CountingStation,
@@ -120,7 +120,8 @@ impl StaffedStation {
         station.operate_met(rt, &mut self.operator, watcher, place, operation)
     }
 
-    /// Brings octets to the channel that their frame names.
+    /// Brings octets to the channel that their frame names. The answer is a refusal if there is no such frame or
+    /// channel.
     pub(crate) fn bring(&mut self, rt: &impl Wait, octets: &[u8]) -> Result<Answer, Reason>
         ensures answer { IfOk result (λ answer. IsBringAnswer octets.now self.old answer self.new) }
         ensures reason { IfErr result (λ reason. reason ≡ Reason.NoMemory) }
