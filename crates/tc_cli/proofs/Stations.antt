@@ -10,7 +10,7 @@ use Rattle.tc_cli.specs.Parting.{IsNewStation}
 use Rattle.tc_cli.specs.Watched.{IsOrdered}
 use Rattle.tc_cli.proofs.Lists.{element}
 
--- in a list with distinct ids, no entry is the first with the id of an earlier one
+-- in a list with distinct ids, no entry repeats the id of an earlier one
 pub no-double : (list : List Settings) (vcid : ℕ) → HaveDistinctVcids list → IsFirstDouble list vcid → ⊥
 no-double list vcid distinct (i, s, at, v, before, (k, t, kt, is, tv)) =
     let ki : k < i = omega (arith, length-take i list) in

@@ -56,20 +56,21 @@ IsSaid said.NoMemory old line new text = (new ≡ old) × (text ≡ [])
 IsSaid said.Lost old line new text = (has_ended old ≡ false) × (new ≡ Ended)
 IsSaid said.Over old line new text = (old ≡ Ended) × (new ≡ Ended) × (text ≡ [])
 
--- the fault of a script with this number of lines, which stands for a fault at its end
+-- the fault that a script with this number of lines reports for a fault at its end
 abbrev pub script_fault : ℕ → ServingFault → ScriptFault
 script_fault lines closing.Unbalanced = faults.Unbalanced
 script_fault lines closing.Read = faults.Line lines NoMemory
 script_fault lines closing.Write = faults.Line lines NoMemory
 script_fault lines closing.NoMemory = faults.Line lines NoMemory
 
--- the reason why there is no final report, for a script with this number of lines, or for lines of tclive if there is
--- no number
+-- the text of the reason why there is no final report: in the words of tcrx for a script, which has this number of
+-- lines, and in the words of tclive if there is no number
 abbrev pub closing_text : Option ℕ → ServingFault → List ℕ
 closing_text None fault = serving_fault_text fault ++ codes "\n"
 closing_text (Some lines) fault = fault_text (script_fault lines fault) ++ codes "\n"
 
--- The receiver was closed. The text is its final report, or the reason why there is none.
+-- The receiver was closed. The text is its final report, or the reason why there is none. If the text was lost, nothing
+-- is stated about it.
 abbrev pub IsClosed : Said → Receiving → Option ℕ → List ℕ → Type 0
 IsClosed said.Done receiver lines text = IsFinalReport receiver text
 IsClosed said.Bad receiver lines text = (fault : ServingFault) × IsClosingFault receiver fault × (fault ≢ closing.Write) × (text ≡ closing_text lines fault)
@@ -92,8 +93,8 @@ IsEnded said.Done old new text = IsEngineEnded said.Done old text × (new ≡ En
 IsEnded said.Bad old new text = IsEngineEnded said.Bad old text × (new ≡ Ended)
 IsEnded said.Lost old new text = IsEngineEnded said.Lost old text × (new ≡ Ended)
 
--- The record of whether the frames of all lines so far ended with a frame error control field. Once the lines have
--- ended, this is the record that was left.
+-- The record of whether the frames of all lines so far ended with a frame error control field. A maker keeps none. Once
+-- the lines have ended, this is the record that was left.
 abbrev pub ends_at : Engine → FrameEnds → FrameEnds
 ends_at (Live receiver) left = receiver.ends
 ends_at (Script receiver lines) left = receiver.ends

@@ -11,8 +11,8 @@ use std::mem::replace;
 use tc_live::{FrameEnds, Receiver, ServingFault};
 use tc_text::{Reason, ScriptFault};
 
-// The number of bytes that are reserved for a text before its line is carried out. An answer requests more memory only
-// if its line hands on more items than fit, or makes more frames than fit.
+// The number of bytes that are reserved for a text before its line is carried out. The text of an answer requests more
+// memory only if it is longer.
 const ROOM: usize = 147_456;
 
 /// The outcome of a line, or of the end of the lines.
@@ -35,7 +35,7 @@ pub enum Said {
 pub struct Session {
     pub engine: Engine,
     pub text: Vec<u8>,
-    /// The outcome that the text belongs to, if the text hasn't been given out yet.
+    /// The outcome that the text belongs to, if a caller still has to fetch the text because its buffer was too short.
     pub waits: Option<Said>,
     /// The record of whether the receiver's frames ended with a frame error control field, kept once the lines have
     /// ended.
@@ -152,7 +152,7 @@ impl Session {
     }
 }
 
-// Returns the fault of a script of `line` lines that stands for a fault at its end.
+// Returns the fault that a script of `line` lines reports for a fault at its end.
 fn script_fault(fault: ServingFault, line: u32) -> ScriptFault
     ensures { result ≡ script_fault line fault }
 {
