@@ -34,7 +34,7 @@ pub fn compare<'a>(
     None
 }
 
-// Returns the number of lines at the front that both texts share.
+// Returns the number of whole lines at the front that both texts share.
 fn common_lines(found: &[u8], expected: &[u8]) -> usize {
     found
         .iter()

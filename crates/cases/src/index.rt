@@ -15,6 +15,7 @@ pub struct Case<'a> {
 }
 
 /// Parses a line of the index. The line has the name of a case, the spacecraft id, and the fault if there is one.
+/// Returns `None` if there is no id after the name, or the id is over 1,023.
 pub fn parse_case(line: &str) -> Option<Case<'_>>
     ensures { IfSome result (λ case. case.scid ≤ 1023) }
 {

@@ -15,7 +15,7 @@ pub struct LargeCase {
 /// The number of octets that a script may have.
 const LIMIT: usize = 1_048_576;
 
-/// Returns the octets of a script: `count` times `octet`, and then those of `end`.
+/// Returns the octets of a script: `count` times `octet`, and then the octets of `end`.
 fn repeated(alloc: Global, octet: u8, count: usize, end: &[u8]) -> Result<Vec<u8>, AllocError>
     ensures { IfOk result (λ script. script.items ≡ replicate count octet ++ end.now) }
 {

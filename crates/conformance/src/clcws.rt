@@ -37,7 +37,8 @@ fn text_of(alloc: Global, fields: &ClcwFields) -> Result<String> {
     )?)
 }
 
-// Returns whether these fields are written as this word. The library only writes a status field of 0.
+// Returns whether the library writes these fields as this word. It only writes a status field of 0, so for fields with
+// another status the result is true.
 fn is_written(word: u32, fields: &ClcwFields) -> bool {
     let report = Report {
         state: State::S1,

@@ -100,7 +100,8 @@ impl<C: Form> Lone<C> {
         ask(self.alloc, &mut self.channels[place], vcid, &operation)
     }
 
-    // Brings octets to the channel that their frame names.
+    // Brings octets to the channel that their frame names. The answer is a refusal if there is no such frame or
+    // channel.
     fn bring(&mut self, octets: &[u8]) -> Option<Answer> {
         let frame = match read_frame(octets) {
             Ok(frame) => frame,
@@ -164,7 +165,7 @@ fn ask<C: Form>(alloc: Global, channel: &mut C, vcid: u8, operation: &Operation)
     }
 }
 
-// Returns the place of the channel with this id.
+// Returns the place of the channel with this id, if there is one.
 fn place_of<C: Form>(channels: &[C], vcid: u8) -> Option<usize>
     ensures { IfSome result (λ place. place < length channels.now) }
 {

@@ -56,7 +56,8 @@ impl Tally {
     }
 }
 
-// Prints the number of cases that agree, and each case that doesn't. Returns whether all cases agree.
+// Runs all cases. Prints each case that doesn't agree, and then the numbers of cases that agree and of scripts. Returns
+// whether all cases agree.
 fn check_all<R: Files + AllocGlobal + Print + Threads + Wait + Sync>(rt: &R) -> Result<bool> {
     let mut tally = Tally {
         cases: 0,
@@ -133,9 +134,9 @@ fn check_clcws<R: Files + AllocGlobal + Print>(rt: &R, tally: &mut Tally) -> Res
     Ok(())
 }
 
-// Returns whether a script leads to the expected answers in each way in which it is run. Run line by line, on a station
-// or on channels of some form, it must give `answers`. Run with a worker for each channel, it must give only the report
-// at the end of `answers`.
+// Returns whether a script leads to the expected answers and fault in each way in which it is run. A run line by line,
+// on a station or on channels of some form, must give `answers`. A run with a worker for each channel must give only
+// the report at the end of `answers`.
 fn agrees_each_way<R: AllocGlobal + Print + Threads + Wait + Sync>(
     rt: &R,
     case: &Case,
@@ -155,7 +156,7 @@ fn agrees_each_way<R: AllocGlobal + Print + Threads + Wait + Sync>(
     Ok(all)
 }
 
-// Returns whether a script leads to the expected answers and fault. If it doesn't, reports that.
+// Returns whether a script leads to the expected answers and fault. If it doesn't, prints the first difference.
 fn agrees<R: AllocGlobal + Print + Threads + Wait + Sync>(
     rt: &R,
     case: &Case,

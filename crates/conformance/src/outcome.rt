@@ -53,7 +53,7 @@ impl fmt::Display for Command {
     }
 }
 
-/// Runs a script in memory.
+/// Runs a script that is in memory, in the way that `command` names.
 pub(crate) fn perform<T: Threads + Wait + Sync>(
     rt: &T,
     alloc: Global,

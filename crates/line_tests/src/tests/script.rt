@@ -15,8 +15,7 @@ enum Way {
     InParallel,
 }
 
-// Runs a script for spacecraft 42. The library's functions that run scripts are called only here, and their contracts
-// hold for any script.
+// Runs a script for spacecraft 42 in one of the two ways. All tests that run a script call this function.
 fn run<T: Threads + Wait + Sync + AllocGlobal, R: Read, W: Write>(
     rt: &T,
     way: Way,
@@ -29,7 +28,7 @@ fn run<T: Threads + Wait + Sync + AllocGlobal, R: Read, W: Write>(
     }
 }
 
-/// A script with a frame that becomes a packet, and one for which there is no room.
+/// A script with a frame whose packet is taken, and a frame for whose data field the buffer has no room.
 const SCRIPT: &str =
     "channel 1 10 1 0\nqueue 1 5 1\nclcw 1\nframe 002a040c00c01005c0000000aa\nclcw 1\nframe 002a040c01c01005c0000000aa\nclcw 1\nrelease 1\nclcw 1\ntake 1 5\nrelease 1\n";
 
@@ -39,7 +38,7 @@ const ANSWERS: &str =
 /// The final report of `SCRIPT`.
 const REPORT: &str = "final 1 01040801 events 4 buffered 0\nqueue 1 5 0\n";
 
-/// A script with two units of a chosen MAP, one by each service.
+/// A script with two units of a chosen MAP, one in a Type-AD frame and one in a Type-BD frame.
 const UNITS: &str =
     "channel 1 10 1 0\nmap 1 3 2\nframe 002a040800c3aabbcc\nrelease 1\nframe 202a040700c3ddee\nunit 1 3\nunit 1 3\nclcw 1\n";
 

@@ -1,4 +1,4 @@
-//! Sessions of lines, which give the answers of the programs.
+//! Tests of sessions, which answer lines as the programs do.
 
 use std::alloc::Global;
 use std::process::Abort;
@@ -7,8 +7,8 @@ use tc_make::Ending;
 use tc_session::{Engine, Said, Session, live_engine, maker_engine, script_engine};
 use tc_text::SpacecraftId;
 
-/// A frame for channel 1 of spacecraft 42 with a packet for application 5, and the same frame with its frame error
-/// control field.
+/// A frame line for channel 1 of spacecraft 42, whose frame has a packet for application 5. The next constant is the
+/// line for this frame with its frame error control field.
 const FRAME: &[u8] = b"frame 002a040c00c01005c0000000aa";
 
 const FRAME_WITH_FIELD: &[u8] = b"frame 002a040e00c01005c0000000aa6b6e";

@@ -1,4 +1,4 @@
-//! Lines of the live receiver that aren't lines of a script.
+//! Tests of commands that `tclive` has and scripts don't have.
 
 use super::check_answers;
 

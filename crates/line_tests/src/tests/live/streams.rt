@@ -1,4 +1,5 @@
-//! Streams of lines: those that fail, and octets after the last line feed.
+//! Tests of streams of lines: reads, writes and flushes that fail, octets after the last line feed, the record of how
+//! frames end, and the texts of faults.
 
 use super::receiver;
 use std::io::BufReader;

@@ -1,5 +1,5 @@
-//! Frames with and without their frame error control field. The check sums are those of Python's `binascii.crc_hqx(..,
-//! 0xffff)`.
+//! Tests of frames with and without their frame error control field. Python's `binascii.crc_hqx(.., 0xffff)` computed
+//! the check sums.
 
 use std::alloc::Global;
 use tc_fecf::{FieldFault, with_field, without_field};

@@ -1,4 +1,5 @@
-//! Streams of lines: those that fail, lines that are too long, and octets after the last line feed.
+//! Tests of streams of lines: reads, writes and flushes that fail, lines that are too long, and octets after the last
+//! line feed.
 
 use std::io;
 use std::io::{BufReader, ErrorKind, Read};
@@ -6,7 +7,7 @@ use std::test::Fail;
 use tc_make::{Ending, MAX_LINE, ServingFault, answer_lines};
 use test_parts::{Failing, Watched};
 
-/// A reader that gives a thousand octets at each read, and is interrupted before each.
+/// A reader that returns at most 1,000 octets at a time. Before each read that returns octets, one read is interrupted.
 #[derive(Drop)]
 struct Interrupted<'a> {
     rest: &'a [u8],

@@ -1,5 +1,5 @@
-//! Calls that request memory. With ample memory each call succeeds at once. If memory is refused once, the call leaves
-//! the state as it was, and the next call succeeds with the same answers.
+//! Tests of calls that request memory. With ample memory each call succeeds at once. If memory is refused once, the
+//! call leaves the state as it was, and the next call succeeds with the same answers.
 
 use super::{ANSWERS, REPORT, SCRIPT, UNITS, UNITS_ANSWERS, UNITS_REPORT, Way, run};
 use std::alloc::Global;
@@ -92,8 +92,9 @@ fn report_growth(rt: HostRuntime) {
     check_script(&rt, script, report, 4, 4);
 }
 
-// Runs a script in parallel. If memory is refused, nothing is written. The fault then has line 0 if the script was
-// being read, or else a line from `first` to `last`.
+// Checks that a script runs in parallel and writes this report, if necessary after memory was refused once. In that
+// case nothing was written at first. The line of the fault is 0 if memory ran out while the script was read, and
+// otherwise a line from `first` to `last`.
 fn check_parallel<R: Threads + Wait + Sync + Abort + Print + AllocGlobal>(
     rt: &R,
     script: &str,

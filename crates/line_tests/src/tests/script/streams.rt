@@ -1,4 +1,4 @@
-//! Streams that fail, and scripts at the limit.
+//! Tests of streams that fail, and of scripts at the limit of their size.
 
 use super::{ANSWERS, REPORT, SCRIPT, Way, run};
 use std::io;
@@ -122,7 +122,7 @@ fn reading_ends(rt: HostRuntime) {
     assert_eq!(rt; reader.reads, 1_048_577);
 }
 
-// Returns a channel line, and a frame line that continues with zeros until the script has this length.
+// Returns a script of this length: a channel line, and a frame line all of whose digits are 0.
 fn long_script<T: Abort + AllocGlobal>(rt: &T, length: usize) -> Vec<u8> {
     let start = b"channel 1 10 1 0\nframe ";
     let mut script = vec![in rt.alloc(); b'0'; length].expect(rt, "a script");
@@ -132,7 +132,7 @@ fn long_script<T: Abort + AllocGlobal>(rt: &T, length: usize) -> Vec<u8> {
     script
 }
 
-// Checks that a script of this length has these answers.
+// Checks that a script of this length has these answers, and ends in this way.
 fn check_long<T: Abort + Threads + Wait + Sync + AllocGlobal>(
     rt: &T,
     length: usize,
