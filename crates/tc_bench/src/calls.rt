@@ -44,10 +44,10 @@ const UNIT_ENDED: Field = (Some(LAST | CHOSEN), 19, 2);
 // A data field of a plain channel. It is one packet.
 const PLAIN_FIELD: Field = (None, 1_012, 1_019);
 
-// The number of frames that are brought to each channel before its calls. All calls are made twice, and before each
-// time these frames come. The calls are 35 events on the first channel and five on the plain one. So during the second
+// The number of frames that are brought to each channel before its calls. All calls are made twice, and these frames
+// come before each time. The calls are 34 events on the first channel and five on the plain one. So during the second
 // time the first channel has more than 64 events and fewer than 128, and the plain one has more than 32 and fewer than
-// 64. The list of a kept journal's events doubles its room when it is full, so it grows in none of these calls.
+// 64. The list of a kept journal's events doubles its room when it is full, so it doesn't grow during the second time.
 const BEFORE: u8 = 20;
 
 // A call on a channel.
@@ -55,7 +55,7 @@ const BEFORE: u8 = 20;
 enum Call {
     // A Type-AD frame that is accepted.
     Next(Field),
-    // A Type-AD frame that is discarded because it repeats the N(S) of the frame before it.
+    // A Type-AD frame that is discarded because its N(S) is one less than the expected one.
     Again(Field),
     // A Type-BD frame, with the numbers of items of its unit that are queued and dropped, and the end of its printed
     // line.

@@ -37,7 +37,7 @@ pub(crate) enum Action<'a> {
     Worst(&'a str, u16),
 }
 
-/// Returns the action that the words request. The program's name is the first word.
+/// Returns the action that the words request, or `None` if they request none. The program's name is the first word.
 pub(crate) fn judge(words: &[String]) -> Option<Action<'_>> {
     match words {
         [] | [_] => Some(Action::Scores),

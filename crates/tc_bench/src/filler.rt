@@ -43,7 +43,7 @@ pub(crate) enum Kind {
     Next,
     /// The Type-AD frame that is expected, for which there is room, and whose data field is then released.
     Released,
-    /// A Type-AD frame that repeats the N(S) of the frame before it. It is discarded.
+    /// A Type-AD frame whose N(S) is one less than the expected one. It is discarded.
     Again,
     /// A Type-BD frame.
     Bypassing,
@@ -70,8 +70,8 @@ fn reply_of(kind: Kind, items: Items) -> FrameReply {
     }
 }
 
-/// A channel, with the state of its sender. This is the N(S) of the next Type-AD frame, the application of the packets,
-/// and the place in the unit at which the next data field begins.
+/// A channel, with the state of its sender. The state is the N(S) of the next Type-AD frame, the application of the
+/// packets, and the place in the unit at which the next data field begins.
 #[derive(Drop)]
 pub(crate) struct Filler<F: Form> {
     pub(crate) channel: F,
@@ -128,7 +128,8 @@ impl<F: Form> Filler<F> {
         octets
     }
 
-    /// Brings a frame, and checks the numbers of items of its unit that are queued and dropped.
+    /// Brings a frame of this kind, and checks the reply. For `Released`, it then releases the data field. `items` has
+    /// the numbers of items of the unit that must be queued and dropped.
     pub(crate) fn bring(&mut self, kind: Kind, field: Field, items: Items) -> Result<()> {
         let octets = self.octets(kind, field);
         let reply = self.channel.bring(&read_frame(&octets)?)?;
@@ -156,9 +157,9 @@ impl<F: Form> Filler<F> {
         }
     }
 
-    /// Opens a run of 65,542 octets, as many as the largest unit has. The first two segments have 1,024 octets, and 64
-    /// times that are six octets fewer. So the last doubling of the run's room makes it almost twice as large as
-    /// necessary.
+    /// Opens a run of 65,542 octets, as many as the largest unit has. The first two segments have 1,024 octets
+    /// together. Doubled from there, the room of the run comes to 65,536 octets, which are six too few. So the last
+    /// doubling makes the room almost twice as large as necessary.
     pub(crate) fn open(&mut self, kind: Kind, map: u8) -> Result<()> {
         self.bring(kind, (Some(FIRST | map), LARGEST, 6), NOTHING)?;
         for _ in 0..64 {

@@ -87,9 +87,8 @@ impl<J: Journal> Form for ChannelWith<J> {
     }
 }
 
-// The calls here go through the functions of `seen`, so that another program finds each call in the machine code.
-// `worst` uses these functions only for the call that it measures. Frames and releases don't go through them here,
-// because `worst` also brings and releases frames before that call.
+// Some calls here go through functions of `seen`, so that another program finds them in the machine code. Frames and
+// releases don't, because `worst` also brings and releases frames before the call that it measures.
 impl Form for FixedChannel {
     fn memory(settings: &Settings) -> (&'static str, u64) {
         ("storage", storage(settings))

@@ -8,7 +8,7 @@ use std::alloc::Global;
 use tc_channel::Octets;
 use tc_link::{Header, write_frame};
 
-/// The number of packets in a data field full of small packets.
+/// The number of packets of seven octets in the data field of a load with small packets.
 pub(crate) const PACKETS: usize = 100;
 
 // Appends a packet of the application. `length` is the number in its length field, which is one less than the number of

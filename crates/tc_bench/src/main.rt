@@ -1,13 +1,13 @@
-//! `tc_bench` runs a fixed load on stations, makes rounds on a bare channel, or fills a channel. Another program
-//! measures the costs.
+//! `tc_bench` runs a fixed load on stations, makes rounds on a bare channel, fills a channel, or makes a single call.
+//! Another program measures the costs.
 //!
-//! With no argument it runs the load and prints its scores. Each answer changes a score, so a receiver with other
-//! answers prints other scores. With `rounds recorded`, `rounds counting` or `rounds rooms` and a number it makes this
-//! number of rounds on a bare channel of that form, and prints the score of the answers. The rounds bring Type-AD
-//! frames, or the load that another word names.
+//! With no argument it runs the load and prints its scores. Answers and final reports change a score, so a receiver
+//! with other answers prints other scores. With `rounds recorded`, `rounds counting` or `rounds rooms` and a number it
+//! makes this number of rounds on a bare channel of that form, and prints the score of the answers. The rounds bring
+//! Type-AD frames, or the load that another word names.
 //!
 //! With `fill` and `plain`, `one` or `many` it creates a counting channel of that plan, prints the bound of its memory,
-//! and fills it. The plans `plain_7`, `plain_8` and `plain_63` are those of plain channels with that number of queues.
+//! and fills it. The plans `plain_7`, `plain_8` and `plain_63` are for plain channels with 7, 8 and 63 queues.
 //! With `fill calls` it makes each kind of call twice, and prints a line after each call. With `fill recorded` it does
 //! this on a channel whose journal is recorded. If `fixed_` stands before one of these words other than `recorded`, the
 //! channel has rooms. Nothing that the program keeps beside the channel grows between two lines. With `fill

@@ -13,7 +13,8 @@ use tc_channel::{Channel, CountingChannel, Octets};
 use tc_fixed::FixedChannel;
 use tc_link::read_frame;
 
-// The number of packets for which the queue has room. All packets of a full data field can wait in it.
+// The number of packets for which the queue has room in the load with small packets. All packets of a data field of
+// this load can wait in it.
 const CAPACITY: u16 = 128;
 
 const OLDEST: Oldest = Oldest::LentPacket(APID);

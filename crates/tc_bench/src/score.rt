@@ -8,7 +8,6 @@ const FACTOR: u64 = 1_099_511_628_211;
 /// A number that the answers and their order determine. It is 0 before the first answer.
 #[derive(Drop)]
 pub(crate) struct Score {
-    /// The number.
     pub(crate) sum: u64,
 }
 

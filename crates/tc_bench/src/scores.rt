@@ -40,7 +40,8 @@ fn senders(alloc: Global, vcids: &[u8]) -> Result<Vec<Sender>> {
     Ok(senders)
 }
 
-// Returns the score of a row. Each answer in turn adds to it, and then the reports of the closed channels.
+// Returns the score of a row. Without workers, each answer in turn adds to it. In the end the reports of the closed
+// channels add to it.
 fn score_of<R: Threads + Wait + Sync>(
     rt: &R,
     alloc: Global,

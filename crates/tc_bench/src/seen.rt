@@ -1,6 +1,6 @@
 //! The calls of a channel in rooms, each made by a function of its own that is never inlined. The function `call_NAME`
-//! makes the call NAME. From the machine code another program can tell which functions the call reaches, how deep its
-//! stack goes, and how many instructions it takes.
+//! makes the call NAME. Another program can find this function in the machine code, and so determine which functions
+//! the call reaches, how deep its stack goes, and how many instructions it takes.
 
 use std::alloc::Global;
 use tc_channel::{Delivery, FrameReply, Settings, SettingsFault};

@@ -62,7 +62,7 @@ impl Sender {
     }
 }
 
-// Writes a frame for each octet.
+// Writes a frame for each of the 256 values of an octet, in rising order.
 fn write_each<F: Fn(u8) -> Sent>(
     alloc: Global,
     vcid: u8,

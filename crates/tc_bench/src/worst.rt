@@ -48,8 +48,8 @@ struct Caller {
 }
 
 impl Caller {
-    // Creates a channel with `queues` packet queues, the last of which has more room. Each MAP but that of the packets
-    // is chosen.
+    // Creates a channel with `queues` packet queues, the last of which has more room. Each MAP is chosen, except the
+    // MAP of the packets.
     fn new(alloc: Global, queues: u16) -> Result<Caller> {
         let plan = Plan {
             buffer: 64,
@@ -73,7 +73,7 @@ impl Caller {
         Ok(Caller { filler, taken })
     }
 
-    // Brings the segments of a largest unit that come before the last one.
+    // If the field is the last segment of a largest unit, brings the segments before it. Otherwise brings nothing.
     fn open(&mut self, kind: Kind, (header, length, _): Field) -> Result<()> {
         let header = header.unwrap_or(0);
         if header & UNSEGMENTED != LAST {
