@@ -1,4 +1,4 @@
-//! Long scripts, at the limit of their size, that repeat one octet.
+//! Long scripts that repeat one octet. Their size is at the limit, or one octet over it.
 
 ghost use Rattle.std.specs.Prelude.{◌≡◌, ◌++◌, IfOk, replicate};
 

@@ -1,4 +1,4 @@
-//! Words that another program built, and the fields of those that are CLCWs.
+//! Words that another program built, and the fields of the words that are CLCWs.
 
 use anyhow::{Result, anyhow};
 use std::alloc::Global;

@@ -26,8 +26,8 @@ pub(crate) enum Command {
     Run,
     /// A run with a worker for each channel, and the final report alone.
     Parallel,
-    /// Runs like `Run`, but on channels without a station. The channels of `Alone` keep their journals in memory, those
-    /// of `Counting` have no journals, and those of `Rooms` are in rooms.
+    /// Runs like `Run`, but on channels without a station. The channels of `Alone` keep their journals in memory, the
+    /// channels of `Counting` keep no journals, and the channels of `Rooms` are in rooms.
     Alone,
     Counting,
     Rooms,

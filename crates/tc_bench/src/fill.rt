@@ -58,9 +58,10 @@ fn plain_rows(plan: &Plan) -> [Row; 2] {
 // Frames of a hostile sender, for the channel of `MANY`, which has 70 queues of two packets and three chosen MAPs of
 // three units. Each frame must get the answer that the model gives.
 static HOSTILE_ROWS: [Row; 16] = [
-    // A thousand first segments over 16 MAPs. Each begins the run of its MAP anew, and no run ends.
+    // A thousand first segments come over 16 MAPs. Each begins the run of its MAP anew, and no run ends.
     (BEGUN, (0, 16), 1_000, NOTHING),
-    // Packets for empty queues, for full queues and for no queue. Then units for empty queues and for full queues.
+    // Packets come until the queues are full, then for full queues, and then for no queue. Units come until their
+    // queues are full, and then for full queues.
     (Piece::Packet, (0, 70), 140, ONE),
     (Piece::Packet, (0, 70), 140, DROPPED),
     (Piece::Packet, (70, 1), 1, DROPPED),
@@ -78,7 +79,8 @@ static HOSTILE_ROWS: [Row; 16] = [
         64,
         NOTHING,
     ),
-    // Two runs of as many octets as a unit may have. Each is dropped when it ends. Then comes a run that never ends.
+    // Two runs have as many octets as a unit may have, and each is dropped when it ends. Then comes a run that never
+    // ends.
     (Piece::Run(Kind::Bypassing), (0, 1), 1, NOTHING),
     (ENDED, (0, 1), 1, DROPPED),
     (Piece::Run(Kind::Bypassing), (63, 1), 1, NOTHING),

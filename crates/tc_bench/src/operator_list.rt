@@ -36,8 +36,8 @@ impl OperatorList {
         Ok(())
     }
 
-    /// Makes a round. It brings the sender's frame `number`, and a second frame. Then it reads the status through a new
-    /// watcher, releases the oldest data field, and takes the oldest packet.
+    /// Makes a round. It brings the sender's Type-AD frame with the N(S) `number`, and a second frame. Then it reads
+    /// the CLCW through a new watcher, releases the oldest data field, and takes the oldest packet.
     pub(crate) fn make_round(
         &mut self,
         rt: &impl Wait,

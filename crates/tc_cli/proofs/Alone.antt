@@ -1,6 +1,6 @@
 -- If the operator of a station has made all events of its desks, each of its answers follows from the lines before it.
--- The CLCWs that its watchers read do so, too, if in the end each watcher has seen exactly the events that the operator
--- has seen.
+-- So does each CLCW that its watchers read, if in the end each watcher has seen exactly the events that the operator has
+-- seen.
 use Rattle.std.proofs.Common.{◌≡◌, ◌<◌, ℕ, zero, suc, List, [], ◌∷◌, ◌++◌, Some, Err, All, map, length, get_or, set, slice_get, inl, inr, refl, sym, ap, ◌∙◌, subst, arith, ◌==◌, Contains, slice_index}
 use Rattle.tc_cli.proofs.Names.{All-head, All-tail, AllHaveMet, Answer, AreClosedTogether, AtLock, AtStation, Changes, Event, HasChannel, HasMadeAll, HasMetAt, HasSeenItsOwn, HasSeenNoMore, HaveMet, History, Identity, IsAnswerOf, IsAnsweredAt, IsBeginning, IsBringAnswer, IsChannelAnswer, IsClcwAnswer, IsClosed, IsDeskAnswer, IsFrameAnswer, IsFrameAnswered, IsMergeOf, IsPlace, IsRackLocateFault, IsReleaseAnswered, IsTakeAnswered, IsUnitAnswered, IsWordAnswer, KnowsDesks, Linked, LocateFault, Staffed, Moment, Operation, Own, Racked, Roster, Settings, Watching, clcw, eqb-true, eqb_tells, get_or_from_slice_get, header_of, heads_of, histories, history_of, length-map, length-set, linked, looked, made, map-map, new_linked, new_rack, no_flag, nobody, position-Some, same_Some, settings_in, slice_get-get_or, slice_get_within, reported_word, vcid_of}
 use Rattle.std.proofs.lemmas.List.{map-set}
@@ -309,8 +309,8 @@ module _ (laws : AloneLaws) where
       let whole = laws.whole d.own c.journal own (refl, behind.1) closed.merge in
       (whole.0, λ i. record { settings = (closed.settings ∙ ap (λ (h : Identity). h.settings) behind.0) i; journal = sym whole.1 i })
 
-  -- if a station is closed together with its one operator, the operator has made all events, and the closed channels
-  -- are those that it has seen
+  -- if a station is closed together with its one operator, the operator has made all events, and has seen the channels as
+  -- they are when they are closed
   pub closed-alone : (m : Staffed) (closed : List History) → AreSeen m.operator.desks → locks_of m.operator.desks ≡ m.station.locks → AreClosedTogether m.station (m.operator ∷ []) closed
       → AreAlone m.operator.desks × (closed ≡ histories (rack_of m))
   closed-alone m closed seen locks (owned_desks, owned, all) =

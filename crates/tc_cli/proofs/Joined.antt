@@ -50,7 +50,7 @@ all-made station (s ∷ shifts) each none zero x at =
     subst (λ (y : Shift). AreMade station y.list.vcid y.list.jobs y.before y.after) (same_Some s x at) made
 all-made station (s ∷ shifts) each none (suc k) x at = all-made station shifts each.1 (first-none s.refused (lowest shifts) none).1 k x at
 
--- the events that the k-th account at a desk has made are those that the k-th operator has made at this desk
+-- the k-th account at a desk has made the events that the k-th operator has made at this desk
 maker-at : (ops : List AtStation) (place k : ℕ) (o : AtStation) → slice_get ops k ≡ Some o → made_by (accounts_of (column place (operator_lists_of ops))) k ≡ (desk_at place o).own.made
 maker-at [] place k o at = absurd (none-some o at)
 maker-at (p ∷ ops) place zero o at = ap (λ (x : AtStation). (desk_at place x).own.made) (same_Some p o at)
@@ -96,7 +96,7 @@ module _ (laws : WorkLaws) (station : Roster) (lists : List WorkList) (rack : Ra
       sym (length-map shifts (λ (s : Shift). s.list)) ∙ (ap (length {A = WorkList}) same
       ∙ (sym (length-map lists (λ (l : WorkList). l.vcid)) ∙ (ap (length {A = ℕ}) (planned.lists ∙ sym planned.ids) ∙ length-map rack.channels vcid_of)))
 
-  -- the settings that the station has at a place are those of the channel at this place
+  -- at the place of a channel, the station has the settings of this channel
   settings-at : (k : ℕ) (c : Linked) → slice_get rack.channels k ≡ Some c → slice_get (settings_in station) k ≡ Some c.history.settings
   settings-at k c at = ap (λ (l : List Settings). slice_get l k) (sym planned.settings) ∙ mapped-at (λ (y : Linked). y.history.settings) rack.channels k c at
 
@@ -151,7 +151,7 @@ module _ (laws : WorkLaws) (station : Roster) (lists : List WorkList) (rack : Ra
       let same : h.settings ≡ c.history.settings = closed.settings ∙ settings in
       λ i. record { settings = same i; journal = journal i }
 
-  -- once the station is closed, its channels are those that result when the lines are carried out in order
+  -- once the station is closed, its channels are the channels that result when the lines are carried out in order
   all-closed : (befores ops : List AtStation) (closed : List History) → All HasMadeNothing befores → All (KnowsDesks station) befores → AreWorked station lists None befores ops
       → AreClosedTogether station ops closed → closed ≡ histories rack
   all-closed befores ops closed nothing knows (shifts, of-lists, of-befores, of-ops, each, none) (owned_desks, owned, all) =
@@ -170,8 +170,8 @@ module _ (laws : WorkLaws) (station : Roster) (lists : List WorkList) (rack : Ra
       ap (λ (d : AtLock). d.own.seen.head.settings) (sym (get_or_from_slice_get owned_desks k owned_desk.0 nobody owned_desk.1)) ∙ desk-settings owned_desks k c.history.settings known in
       one-closed shifts befores ops of-lists of-befores of-ops each none nothing knows k c shift.0 owned_desk.0 h here shift.1 own (all.each k owned_desk.0 h owned_desk.1 at))
 
--- The channels that result from the workers are, in some order, those that result when the lines are carried out in
--- order.
+-- the workers leave the channels to which the lines lead when they are carried out in order, but perhaps listed in
+-- another order
 worked-channels : WorkLaws → (parted : Parted) (rack : Racked) (channels : List History) → IsPlanned parted rack → IsWorkedOut parted channels → IsPermutation (histories rack) channels
 worked-channels laws parted rack channels planned out =
     let issued = issued-planned parted out.station (length parted.lists) rack out.issued planned in

@@ -17,7 +17,7 @@ as-many station ordered =
     sym (length-map station.heads settings)
     ∙ (sym (length-map (map settings station.heads) (λ (s : Settings). s.vcid)) ∙ ap (length {A = ℕ}) ordered.named)
 
--- if a watcher is replaced by another watcher of the same desk, the watchers are still those of the station's channels
+-- if a watcher is replaced by another watcher of the same desk, there is still one watcher for each channel of the station
 pub watcher-set : (station : Roster) (watchers : List Watching) (place : ℕ) (early late : Watching) → AreWatchersOf station watchers → slice_get watchers place ≡ Some early → IsWatcherAt station place late
     → AreWatchersOf station (slice_set watchers place late)
 watcher-set station watchers place early late all was one = (

@@ -5,7 +5,7 @@ use Rattle.tc_station.specs.Moments.{IsWatcherAt}
 use Rattle.tc_station.specs.Roster.{Roster, settings_in}
 use Rattle.tc_station.specs.StationSettings.{vcids_of}
 
--- the ids of the station's channels are those of their settings, and are all different
+-- the station's channels have the ids in their settings, in the same order, and all ids are different
 pub record IsOrdered (station : Roster) : Type 0 where
   pub named : vcids_of (settings_in station) ≡ station.vcids
   pub distinct : AllPairs (λ (a b : ℕ). a ≢ b) station.vcids

@@ -86,7 +86,7 @@ IsScriptWritten scid script old new =
 
 -- The script has a line with this number for which `IsSo` holds. If the octets written so far are known, only the
 -- answers to the lines before it are appended to them. Since the station isn't closed, each answer is only known to be
--- the one at some moment of its channel's desk.
+-- an answer at some moment of its channel's desk.
 abbrev pub IsWrittenBefore : ℕ → List ℕ → ℕ → (Session → List ℕ → Type 0) → Option (List ℕ) → Option (List ℕ) → Type 0
 IsWrittenBefore scid script number IsSo old new =
     (answers : List (Option Answer)) × (session : Session) × (rest : List ℕ) × (line : List ℕ) × (after : List ℕ)

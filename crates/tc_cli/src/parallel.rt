@@ -26,7 +26,7 @@ use tc_station::{Gate, Job, Order};
 use tc_text::{Reason, ScriptFault, next_line, parse_line, read_whole};
 
 /// Reads a script and checks each of its lines. Then one worker for each channel carries out the frames, releases and
-/// takes of this channel. Only the final report is written, and it is the one that `run_script` writes for the script.
+/// takes of this channel. Only the final report is written. It is the report that `run_script` writes for the script.
 /// The script is read whole, and all its jobs are kept before the first one is carried out.
 ///
 /// Each worker passes the gate once, while it holds its channel's lock. If the octets of the reader are known, nothing

@@ -144,7 +144,7 @@ blocks-taken mode room (a ∷ b ∷ c ∷ d ∷ e ∷ f ∷ g ∷ fs) frame rest
     ∙ ap (λ (x : List ℕ). frames_of mode room (Decoding x []) rest) (append_assoc frame information fs)
 blocks-taken mode room _ frame rest p q fits = absurd q
 
--- a block of seven equal octets and a last one is rejected, if its syndrome isn't 0 and no single wrong bit leaves it
+-- a block of seven equal octets and a last one is rejected, if its syndrome isn't 0 and isn't left by a single wrong bit
 alike-rejected : (mode : Mode) (o last s : ℕ) → o < 256 → last < 256 → syndrome (alike o) last ≡ s → 0 < s → placed s ≡ 63 → decoded mode (alike o ++ last ∷ []) ≡ None
 alike-rejected Detect o last s fits small is some place = some-wrong (alike o) last (record { each = alike-octets o fits; seven = refl }) small (λ z. omega arith)
 alike-rejected Correct o last s fits small is some place =

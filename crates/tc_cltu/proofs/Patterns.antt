@@ -113,8 +113,8 @@ none-same (b ∷ bs) (c ∷ cs) l p q h =
     cc
 none-same _ _ l p q h = absurd (omega arith)
 
--- For single bits, and then for lists: two lists differ in at most as many places as they differ from a third list,
--- counted for both together.
+-- Two lists differ in at most as many places as they differ from a third list, counted for both together. The first
+-- lemma states this for single bits.
 triple : (b c d : ℕ) → b < 2 → c < 2 → d < 2 → (if b == d then 0 else 1) ≤ (if c == b then 0 else 1) + (if c == d then 0 else 1)
 triple (suc (suc b)) c d p q r = absurd (omega arith)
 triple b (suc (suc c)) d p q r = absurd (omega arith)

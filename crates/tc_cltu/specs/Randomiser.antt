@@ -23,11 +23,12 @@ randomised_from r (o ∷ os) = bit_xor o r ∷ randomised_from (octet_on r) os
 abbrev pub randomised : List ℕ → List ℕ
 randomised octets = randomised_from 0xff octets
 
--- the first octets of the sequence that starts with register `r`, and, in the next definition, its first bits
+-- the first `n` octets of the sequence that starts with register `r`
 abbrev pub random_octets : ℕ → ℕ → List ℕ
 random_octets r zero = []
 random_octets r (suc n) = r ∷ random_octets (octet_on r) n
 
+-- the first `n` bits of this sequence
 abbrev pub random_bits : ℕ → ℕ → List ℕ
 random_bits r zero = []
 random_bits r (suc n) = bit_at r 7 ∷ random_bits (moved_on r) n

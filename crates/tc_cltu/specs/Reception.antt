@@ -43,11 +43,12 @@ reception_step mode room (Decoding frame block) octet =
     if nat_lt (length block) 7 then (Decoding frame (block ++ octet ∷ []), [])
     else after_block room frame (decoded mode (block ++ octet ∷ []))
 
--- the state after a list of octets, and, in the next definition, all candidate frames that these octets complete
+-- the state after a list of octets
 abbrev pub state_after : Mode → ℕ → Reception → List ℕ → Reception
 state_after mode room state [] = state
 state_after mode room state (octet ∷ octets) = state_after mode room (reception_step mode room state octet).0 octets
 
+-- all candidate frames that a list of octets completes, in order
 abbrev pub frames_of : Mode → ℕ → Reception → List ℕ → List (List ℕ)
 frames_of mode room state [] = []
 frames_of mode room state (octet ∷ octets) = (reception_step mode room state octet).1 ++ frames_of mode room (reception_step mode room state octet).0 octets
@@ -96,14 +97,15 @@ counted_in count mode room state [] = 0
 counted_in count mode room state (octet ∷ octets) =
     count (fate_of mode room state octet) + counted_in count mode room (reception_step mode room state octet).0 octets
 
--- the number of corrected code blocks, and, in the next definition, of rejected code blocks that aren't the tail sequence
+-- the number of corrected code blocks that the octets complete
 abbrev pub corrected_in : Mode → ℕ → Reception → List ℕ → ℕ
 corrected_in mode room state octets = counted_in corrections_of mode room state octets
 
+-- the number of rejected code blocks that the octets complete, apart from tail sequences
 abbrev pub rejected_in : Mode → ℕ → Reception → List ℕ → ℕ
 rejected_in mode room state octets = counted_in rejections_of mode room state octets
 
--- the number of code blocks for which there was no room, each of which ends the reception of its CLTU
+-- The number of code blocks that the octets complete and that find no room. Each of them ends the reception of its CLTU.
 abbrev pub overlong_in : Mode → ℕ → Reception → List ℕ → ℕ
 overlong_in mode room state octets = counted_in overruns_of mode room state octets
 

@@ -79,7 +79,7 @@ IsFramesSaid ending p text =
     × (((length frames ≡ parts_of p) × (text ≡ frames_text frames))
     ⊎ ((length frames < parts_of p) × ((reason : Reason) × IsStopAt ending p (length frames) reason × (text ≡ frames_text frames ++ bad_text reason))))
 
--- the fields of the parting are those of the line's stream, sizing and unit
+-- the fields of the parting have the values of the line's stream, sizing and unit
 pub record IsPartingOf (stream : Stream) (sizing : Sizing) (unit : List ℕ) (p : Parting) : Type 0 where
   pub scid : p.scid ≡ stream.scid
   pub vcid : p.vcid ≡ stream.vcid
