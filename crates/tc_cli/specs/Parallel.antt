@@ -66,7 +66,7 @@ AreWorkedChannels scid script channels =
     (count : ℕ) × (plan : Plan) × AreParted scid script count plan []
     × (((phase_of plan ≡ Setup []) × (channels ≡ [])) ⊎ ((found : Parted) × ArePartedFor scid plan found × IsWorkedOut found channels))
 
--- the workers of the whole script have left its station out of balance, and there is a cause of the imbalance
+-- the workers of the whole script are done, and its station has a cause of an imbalance
 abbrev pub AreWorkedUnbalanced : ℕ → List ℕ → Type 0
 AreWorkedUnbalanced scid script =
     (count : ℕ) × (plan : Plan) × (found : Parted) × AreParted scid script count plan [] × ArePartedFor scid plan found × IsWorkedUnbalanced found

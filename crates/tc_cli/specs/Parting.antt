@@ -78,7 +78,7 @@ abbrev pub IsJobLine : List WorkList → ℕ → Type 0
 IsJobLine lists line = Any (λ (l : WorkList). Any (λ (job : Job). job.line ≡ line) l.jobs) lists
 
 -- The station has issued an operator for each list. Before the first job the operators had made no event. They did all
--- jobs, and there is a cause of the station's imbalance.
+-- jobs, and the station has a cause of an imbalance.
 abbrev pub IsWorkedUnbalanced : Parted → Type 0
 IsWorkedUnbalanced parted =
     (station : Roster) × (befores operators : List AtStation) × (station ≡ record parted.station { issued = length parted.lists })

@@ -62,8 +62,7 @@ IsSessionReport scid session text =
     ⊎ ((found met : Staffed) × (channels : List History) × IsStaffedFound scid session found × AllHaveMet found met × IsOurs met.station met.operator
     × IsClosedReport met.station (met.operator ∷ []) channels × IsReportOf channels text)
 
--- at the end of a session, once each watcher had met its desk, the station is out of balance, and there is a cause of
--- the imbalance
+-- at the end of a session, once each watcher has met its desk, the station has a cause of an imbalance
 abbrev pub IsSessionUnbalanced : ℕ → Session → Type 0
 IsSessionUnbalanced scid session =
     (found met : Staffed) × IsStaffedFound scid session found × AllHaveMet found met × IsCauseAtStation met.station (met.operator ∷ [])

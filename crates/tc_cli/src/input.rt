@@ -18,8 +18,8 @@ const NO_WRITER: ScriptFault = ScriptFault::Line {
 };
 
 /// Runs the script on standard input as [`run_script`](crate::run_script) does, and writes to standard output. If the
-/// whole script was carried out, returns true if it has a frame and each of its frames ends with its frame error
-/// control field. Otherwise, or if memory runs out for this check, returns false.
+/// whole script was carried out, returns whether it has a frame and each of its frames ends with its frame error
+/// control field. If memory runs out for this check, returns false.
 pub fn run_input<R: AllocGlobal + Input + Print + Wait>(
     rt: &R,
     scid: u16,

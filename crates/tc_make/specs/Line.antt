@@ -86,7 +86,7 @@ stream_of s v n =
       ]
     ]
 
--- the sizing that two words name: a MAP, and the number of octets that each of its segments carries
+-- the sizing that two words name: a MAP, and the number of octets of the unit that each segment except the last carries
 abbrev pub sizing_of : List ℕ → List ℕ → Result Sizing Reason
 sizing_of m z =
     elim (word_number 255 m) [

@@ -25,7 +25,7 @@ pub struct Stream {
     pub ns: u8,
 }
 
-/// The MAP of segments, and the number of octets that each segment carries.
+/// The MAP of segments, and the number of octets of the unit that each segment except the last carries.
 #[derive(Clone, Copy, Debug, PartialEq, Eq)]
 pub struct Sizing {
     pub map: u8,

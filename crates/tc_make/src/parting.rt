@@ -15,7 +15,8 @@ pub struct Parting<'a> {
     /// The N(S) of the first frame.
     pub ns: u8,
     pub map: u8,
-    /// The number of octets of the unit that a segment carries. The last segment carries the octets that are left.
+    /// The number of octets of the unit that each segment except the last carries. The last segment carries the octets
+    /// that are left.
     pub size: u16,
     pub unit: &'a [u8],
 }
