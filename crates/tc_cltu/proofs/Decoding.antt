@@ -172,7 +172,7 @@ quiet-step mode room last o h = ap (λ (t : Bool). if t then (Decoding [] [], []
 found-step : (mode : Mode) (room last o : ℕ) → is_start mode last o ≡ true → reception_step mode room (Searching last) o ≡ (Decoding [] [], [])
 found-step mode room last o h = ap (λ (t : Bool). if t then (Decoding [] [], []) else (Searching o, [])) h
 
--- two octets that count as the start sequence are found, unless the first of them and the octet before it also do
+-- two octets that count as the start sequence are found, if the octet before them and the first of them don't also do so
 pair-found : (mode : Mode) (room last a b : ℕ) (rest : List ℕ) → is_start mode last a ≡ false → is_start mode a b ≡ true
     → frames_of mode room (Searching last) (a ∷ b ∷ rest) ≡ frames_of mode room (Decoding [] []) rest
 pair-found mode room last a b rest first second =
@@ -404,7 +404,7 @@ taken_octet room before after os rest o given whole state frames = record {
 pub take-both : (i n : ℕ) (os : List ℕ) → take (i + n) os ≡ take i os ++ take n (drop i os)
 take-both i n os = sym (take-append-drop i (take (i + n) os)) ∙ rw (take-take i (i + n) os (omega arith), drop-take i n os) refl
 
--- if the front of a piece and then the front of the rest are processed, both together are a front that is processed
+-- processing the front of a piece, and then the front of the rest, processes a longer front of the piece
 pub taken-more : (room : ℕ) (first before after : Receiver) (os left rest : List ℕ) (given more : List (List ℕ)) → before.mode ≡ first.mode
     → IsTaken room first before os left given → IsTaken room before after left rest more → IsTaken room first after os rest (given ++ more)
 taken-more room first before after os left rest given more mode t u =

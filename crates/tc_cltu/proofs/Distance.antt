@@ -141,7 +141,7 @@ far one other is is' few =
     words-same one other _ _ is is'
     (near-words (word (code_block one)) (word (code_block other)) a.0 b.0 a.1 b.1 (block-left one is.seven ∙ sym (block-left other is'.seven)) few)
 
--- two code blocks carry equal octets, if a block differs from them in at most three places, counted for both together
+-- two code blocks carry equal octets, if the numbers of places in which a block differs from each of them add up to at most 3
 pub between : (block one other : List ℕ) → length block ≡ 8 → IsInformation one → IsInformation other → errors block one + errors block other ≤ 3 → one ≡ other
 between block one other l is is' few =
     let a = word-bits (code_block one) (code-length one is) in let b = word-bits (code_block other) (code-length other is') in let c = word-bits block l in

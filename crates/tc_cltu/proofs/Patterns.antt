@@ -21,7 +21,7 @@ weight (b ∷ bs) = b + weight bs
 abbrev pub zeros : ℕ → List ℕ
 zeros n = replicate n 0
 
--- `n` bits, of which only bit `k` is 1, counted from 0 at the front
+-- `n` bits, of which only bit `k` is 1, where the first bit is bit 0
 unfoldable pub single : ℕ → ℕ → List ℕ
 single k zero = []
 single zero (suc n) = 1 ∷ zeros n
@@ -113,8 +113,8 @@ none-same (b ∷ bs) (c ∷ cs) l p q h =
     cc
 none-same _ _ l p q h = absurd (omega arith)
 
--- Two lists differ in at most as many places as they differ from a third list, counted for both together. The first
--- lemma states this for single bits.
+-- The number of places in which two lists differ is at most the sum of the numbers of places in which each of them
+-- differs from a third list. The first lemma states this for single bits.
 triple : (b c d : ℕ) → b < 2 → c < 2 → d < 2 → (if b == d then 0 else 1) ≤ (if c == b then 0 else 1) + (if c == d then 0 else 1)
 triple (suc (suc b)) c d p q r = absurd (omega arith)
 triple b (suc (suc c)) d p q r = absurd (omega arith)

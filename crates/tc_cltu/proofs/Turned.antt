@@ -12,8 +12,8 @@ xors-assoc (b ∷ bs) (c ∷ cs) (d ∷ ds) =
     ap (λ (x : ℕ). x ∷ xors (xors bs cs) ds) (xor_assoc b c d) ∙ ap (λ (x : List ℕ). bit_xor b (bit_xor c d) ∷ x) (xors-assoc bs cs ds)
 xors-assoc _ _ _ = refl
 
--- adding a bit 1 changes a bit, and adding a bit 0 doesn't, so a sum differs from a list in as many places as the list
--- that was added has ones
+-- Adding a bit 1 changes a bit, and adding a bit 0 doesn't. So adding a list of bits changes as many bits as the list has
+-- ones.
 place-sum : (c e : ℕ) → c < 2 → e < 2 → (if bit_xor c e == c then 0 else 1) ≡ e
 place-sum (suc (suc c)) e p q = absurd (omega arith)
 place-sum c (suc (suc e)) p q = absurd (omega arith)

@@ -26,7 +26,7 @@ const NOTHING: Fed = Fed {
     ended: false,
 };
 
-/// A decoder that finds CLTUs in a stream of octets. A CLTU yields a candidate frame, to which any fill still belongs.
+/// A decoder that finds CLTUs in a stream of octets. A CLTU yields a candidate frame, which still includes any fill.
 ///
 /// While it searches, the decoder compares each two consecutive octets with the start sequence. In [`Mode::Correct`]
 /// one of their sixteen bits may be wrong, and in [`Mode::Detect`] none. After the start sequence, code blocks are

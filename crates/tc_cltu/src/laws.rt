@@ -68,7 +68,7 @@ pub fn each_turned_bit_is_an_error()
 
 /// States examples of CLTUs, worked out by hand: the start sequence, code blocks with their parity bits and any fill,
 /// and the tail sequence. Two of the CLTUs carry frames, namely an Unlock and a frame with a packet. The last three
-/// clauses state that a CLTU can carry 1,029 octets, but not 1,030 and not none.
+/// clauses state that a CLTU can carry 1,029 octets, but neither 1,030 nor none.
 #[tactic(auto, unfolding(crate::specs::CodeBlock::block_times_x, tc_fecf::specs::Checksum::octet_bits))]
 pub fn a_cltu_is_so()
     ensures one_block { cltu (0x00 ∷ 0x00 ∷ 0x00 ∷ 0x00 ∷ 0x00 ∷ 0x00 ∷ 0x01 ∷ [])
@@ -126,7 +126,7 @@ pub fn the_next_cltu_is_found()
 {}
 
 /// Adding the random sequence twice changes nothing. Added to zeros, it yields the sequence itself. The bits of its
-/// octets are those that the register produces, one after the other. In the example, the first 40 bits are as the
+/// octets are the bits that the register produces, one after the other. In the example, the first 40 bits are as the
 /// standard prints them. The others were computed from the register, bit by bit, in another language.
 pub fn the_random_sequence_comes_off_as_it_went_on()
     ensures twice { (octets : List ℕ) → randomised (randomised octets) ≡ octets }
