@@ -13,7 +13,7 @@ use Rattle.tc_cli.specs.Written.{IsSessionReportWritten, IsScriptUnreported, IsS
 use Rattle.tc_cli.proofs.Alone.{AloneLaws}
 use Rattle.tc_cli.proofs.Sessions.{progress_of, reported-alone}
 
--- if either both results or none are `Ok`, a fact that holds if the first is `Ok` also holds if the second is `Ok`
+-- if both results are `Ok` or neither is, a fact that holds if the first is `Ok` also holds if the second is `Ok`
 pub on-ok-same : {T U E F : Type 0} (r : Result T E) (s : Result U F) (A : Type 0) → is_ok s ≡ is_ok r → OnOk r A → OnOk s A
 on-ok-same (Ok x) (Ok y) A same holds = holds
 on-ok-same (Ok x) (Err f) A same holds = tt

@@ -54,7 +54,7 @@ IsCommandSaid ending scid vcid command =
 abbrev pub IsSentAt : Ending → Parting → ℕ → List ℕ → Type 0
 IsSentAt ending p place sent = (frame : List ℕ) × IsFrameAt p place frame × (ending_reason_of ending frame ≡ None) × (sent ≡ ended ending frame)
 
--- the frame at a place isn't made for this reason: memory ran out, or the frame can't have this ending
+-- this is a reason why the frame at a place isn't made: memory ran out, or the frame can't have this ending
 abbrev pub IsStopAt : Ending → Parting → ℕ → Reason → Type 0
 IsStopAt ending p place reason = (reason ≡ NoMemory) ⊎ ((frame : List ℕ) × IsFrameAt p place frame × (ending_reason_of ending frame ≡ Some reason))
 

@@ -65,7 +65,7 @@ impl Decoders {
 
     /// Gives the decoder of a stream its next octets. Writes the candidate frames that end in them, the numbers of code
     /// blocks that were corrected and rejected, and the number of CLTUs that carried too many octets. If the stream has
-    /// no decoder, writes that instead. The call requests no memory. If the writer fails, the decoder may have taken
+    /// no decoder, writes only that. The call requests no memory. If the writer fails, the decoder may have taken
     /// only some of the octets, from the first one on.
     pub fn write_piece<W: Write>(&mut self, id: u8, octets: &[u8], writer: &mut W) -> io::Result<()>
         ensures { OnOk result (Writes (W.contents writer.old) (W.contents writer.new) (IsPieceSaid self.old id octets.now self.new)) }
