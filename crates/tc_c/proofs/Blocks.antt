@@ -1,4 +1,4 @@
--- Lemmas about the code blocks of a CLTU, and about the lengths of both.
+-- Lemmas about the code blocks of a CLTU, and about the lengths of a CLTU and of its code blocks.
 use Rattle.tc_c.proofs.Names.{◌≡◌, ℕ, ◌+◌, ◌*◌, ◌/◌, ◌<◌, ◌≤◌, List, [], ◌∷◌, ◌++◌, length, drop, take, refl, ap, ◌∙◌, arith, length-append, code_block, cltu, filled, code_blocks, start_sequence, tail_sequence}
 
 pub blocks-length : (os : List ℕ) → length (code_blocks (filled os)) ≡ 8 * ((length os + 6) / 7)

@@ -10,7 +10,7 @@ use Rattle.tc_channel.proofs.unrecorded.Unrecorded.TheLaws as unrecorded
 use Rattle.tc_c_base.specs.contracts.parts.Parts as Parts
 use Rattle.tc_c.specs.contracts.place.Place as Place
 
--- the box of a counting channel
+-- the box of a channel
 abbrev pub E : Bx
 E = record {
   row = channel_row;

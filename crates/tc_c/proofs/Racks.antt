@@ -45,7 +45,7 @@ differs None vcid e = λ is. cc
 abbrev pub AreLater : List (Option LimitedHistory) → ℕ → ℕ → Type 0
 AreLater channels vcid place = (at : ℕ) (other : LimitedHistory) → IsHeldAt channels vcid at other → place ≤ at
 
--- the channel in a seat is the first one with the id, if it has the id and no channel before it has
+-- if the channel in a seat has the id, and no channel before it has the id, it is the first channel with the id
 pub first : (seats : List Seat) (i : ℕ) (d : Seat) (old : List (Option LimitedHistory)) (vcid : ℕ) → i < length seats
     → channels_in seats ≡ old → option_map (λ (h : LimitedHistory). h.settings.vcid) (get_or seats i d).place.channel ≡ Some vcid → AreLater old vcid i
     → (h : LimitedHistory) × IsFirstWithVcid old vcid i h

@@ -64,7 +64,7 @@ accepted carried f x information o fits room is whole =
     let small = le-ltb 1029 (length (take carried f) + 7) (omega arith) in
     rw (is, small, whole) refl
 
--- the fate of such a block
+-- if an accepted block keeps the carried octets within 1,029, its fate is the one that its own octets determine
 pub accepted-fate : (mode : Mode) (frame block information : List ℕ) → length frame + 7 ≤ 1029 → decoded mode block ≡ Some information → fate_after mode 1029 frame block ≡ fate_in mode block
 accepted-fate mode frame block information fits is =
     ap (λ (o : Option (List ℕ)). fate_behind 1029 frame o (fate_in mode block)) is

@@ -10,7 +10,7 @@ few kept report e = search (rules, arith) steps 1000000
 pub agreed : (kept : FarmRecord) (report : Report) → report_of kept ≡ Ok report → agrees report.state report.lockout report.wait report.retransmit ≡ true
 agreed kept report e = grind (arith, common_steps) steps 1000000
 
--- if a FARM-1 could be read from a record, it has an allowed width, and its components could be read
+-- if a FARM-1 can be read, its width is the given one and is allowed, and its components can be read
 parted : (w : Bool) (r : Result Report Status) (width : ℕ) (farm : Machine)
     → (if w then with_ok r (λ report. Ok (record { width = width; report = report })) else Err BadWidth) ≡ Ok farm
     → (w ≡ true) × (r ≡ Ok farm.report) × (farm.width ≡ width)

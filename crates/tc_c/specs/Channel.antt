@@ -72,7 +72,7 @@ abbrev pub IsUnfit : Result Settings Status → Status → Type 0
 IsUnfit (Err flag) fault = fault ≡ flag
 IsUnfit (Ok s) fault = (f : SettingsFault) × IsFault s f × (fault ≡ settings_status f)
 
--- the reason why no channel is created: that of `IsUnfit`, or `NoMemory` if the settings have no fault
+-- the reason why no channel is created: a reason by `IsUnfit`, or `NoMemory` if the settings have no fault
 abbrev pub IsRefusedBy : Result Settings Status → Status → Type 0
 IsRefusedBy given fault = IsUnfit given fault ⊎ ((fault ≡ NoMemory) × (s : Settings) × (given ≡ Ok s) × IsAllowed s)
 
@@ -86,7 +86,7 @@ abbrev pub IsUnfitWithin : Result Settings Status → Limits → Status → Type
 IsUnfitWithin (Err flag) limits fault = fault ≡ flag
 IsUnfitWithin (Ok s) limits fault = (f : LimitsFault) × IsFaultWithLimits s limits f × (fault ≡ limits_status f)
 
--- the reason why no channel is created within these limits: that of `IsUnfitWithin`, or `NoMemory` if the settings and
--- the limits have no fault
+-- the reason why no channel is created within these limits: a reason by `IsUnfitWithin`, or `NoMemory` if the settings
+-- and the limits have no fault
 abbrev pub IsRefusedWithin : Result Settings Status → Limits → Status → Type 0
 IsRefusedWithin given limits fault = IsUnfitWithin given limits fault ⊎ ((fault ≡ NoMemory) × (s : Settings) × (given ≡ Ok s) × IsAllowed s × AreLimits s limits)

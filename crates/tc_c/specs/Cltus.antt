@@ -1,4 +1,4 @@
--- CLTUs as octets in a buffer, and the reasons why there are none.
+-- The statuses for the reasons why no CLTU is written.
 use Rattle.tc_cltu.specs.declared.writer.CltuFault.{CltuFault}
 use Rattle.tc_cltu.specs.declared.writer.CltuFault.TheVariants as cltus
 use Rattle.tc_c_base.specs.declared.status.Status.{Status}

@@ -15,11 +15,12 @@ abbrev pub mode_of : Bool → Mode
 mode_of true = Correct
 mode_of false = Detect
 
--- the number of octets that a buffer needs: the largest number of octets in a CLTU, and one code block behind them
+-- the number of octets that a buffer needs, for the most octets that a CLTU carries, and one code block behind them
 abbrev pub decoder_room : ℕ
 decoder_room = 1037
 
--- the mode in which the decoder of a record takes code blocks, or the first reason why the record stands for no decoder
+-- The given mode, or the first reason why the decoder can't take octets in it. Either a number of the record is too
+-- large, or the buffer, which has `room` octets, is too short.
 abbrev pub decoder_allowed : DecoderRecord → ℕ → Mode → Result Mode Status
 decoder_allowed decoder room mode =
     if nat_lt 7 decoder.count || nat_lt most_octets decoder.carried then Err BadDecoder
@@ -39,11 +40,11 @@ reception_of decoder frame =
     if decoder.decoding == 0 then Searching decoder.last
     else Decoding (take decoder.carried frame) (take decoder.count (drop decoder.carried frame))
 
--- the list of the candidate frames, one or none, that a call has ended, given its record and the buffer
+-- the list of the candidate frames that ended in a call, one or none, given the call's record and the buffer after it
 abbrev pub given_by : DecodedRecord → List ℕ → List (List ℕ)
 given_by answer frame = if answer.ended == 0 then [] else take answer.decoder.carried frame ∷ []
 
--- the record when no octet was taken
+-- the record of a call that takes no octets
 abbrev pub none_taken : Status → DecoderRecord → DecodedRecord
 none_taken fault decoder = record { status = code_of fault; decoder = decoder; ended = 0; taken = 0; corrected = 0; rejected = 0; overlong = 0 }
 

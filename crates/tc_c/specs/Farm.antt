@@ -44,8 +44,8 @@ state_of number = if number == 1 then Ok S1 else if number == 2 then Ok S2 else 
 abbrev pub flag_of : ℕ → Result Bool Status
 flag_of number = if number == 0 then Ok false else if number == 1 then Ok true else Err BadFlag
 
--- Whether FARM-1 can have these flags in a state. The flags are Lockout, Wait and Retransmit, in this order. Lockout is
--- set in S3 alone. Wait is set in S2, and isn't set in S1. If Wait is set, Retransmit is set too.
+-- FARM-1 can have these flags in a state. The flags are Lockout, Wait and Retransmit, in this order. Lockout is set in
+-- S3, and isn't set in S1 and S2. Wait is set in S2, and isn't set in S1. If Wait is set, Retransmit is set too.
 abbrev pub agrees : State → Bool → Bool → Bool → Bool
 agrees S1 false false retransmit = true
 agrees S2 false true true = true
@@ -79,7 +79,8 @@ farm_of kept =
 abbrev pub first_farm : ℕ → ℕ → Result Machine Status
 first_farm width first = if is_width width then Ok (record { width = width; report = first_report first }) else Err BadWidth
 
--- the arrival with this number (`value` is the N(S) of an AD frame, or the new V(R) of a Set V(R))
+-- The arrival with this number, or `BadArrival` if there is none. `value` is the N(S) of an AD frame, or the new V(R) of
+-- a Set V(R).
 abbrev pub arrival_by : ℕ → ℕ → Bool → Result Arrival Status
 arrival_by number value room =
     if number == 1 then Ok (Frame (Ad value) room)
@@ -104,7 +105,7 @@ asked_of kept number value room =
 abbrev pub left : Machine → Arrival → Machine
 left farm arrival = record { width = farm.width; report = after (row_of farm.width farm.report.vr arrival) farm.report }
 
--- a FARM-1 that the steps of a run can lead to
+-- a FARM-1 with an allowed width, a FARM-B counter below 4, and flags that agree with its state
 pub record IsFarm (farm : Machine) : Type 0 where
   pub width : IsWidth farm.width
   pub farm_b : farm.report.farm_b < 4

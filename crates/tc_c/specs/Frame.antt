@@ -52,7 +52,7 @@ header_in header =
     with_ok (flag_of header.control) (λ control.
     Ok (record { bypass = bypass; control = control; scid = header.scid; vcid = header.vcid; ns = header.ns })))
 
--- the header of a frame that can be written, or the first reason why no frame can, in the order below
+-- the header of the frame to write, or the first reason why this frame can't be written, in the order below
 abbrev pub header_to_write : HeaderRecord → List ℕ → Result Header Status
 header_to_write header field =
     with_ok (header_in header) (λ read. elim (write_fault_of read field) [ None ↦ Ok read | Some fault ↦ Err (write_status fault) ])

@@ -15,7 +15,7 @@ with_channel place channel = record place { channel = Some channel }
 abbrev pub LendsOfPlace : MutBor Place → MutBor LimitedHistory → Fml
 LendsOfPlace place channel = Lends place_row channel_row place channel (with_channel place.now)
 
--- once the borrow ends, the seat holds the channel that the borrow left, or is as it was
+-- once the borrow ends, the seat holds the channel that the borrow left, or, if none was lent, it is as it was
 abbrev pub LendsOfSeat : MutBor Seat → Option (MutBor LimitedHistory) → Fml
 LendsOfSeat seat lent =
     LendsSo seat_row channel_row seat lent (λ left channel. OnSome lent (left.place.channel ≡ Some channel))

@@ -111,8 +111,8 @@ candidate_reply reply length more = record {
 abbrev pub no_candidate_reply : Status → CandidateReplyRecord
 no_candidate_reply fault = candidate_reply (no_rack_reply fault) 0 false
 
--- Either the octets begin with a frame, whose length field says where it ends, and this frame is brought to its
--- channel. Or the octets begin with no frame.
+-- Either the octets begin with a frame, whose end its length field determines, and this frame gets the reply by
+-- `IsEndedReplied`. Or the octets begin with no frame, and all channels are as they were.
 abbrev pub IsCandidateReplied : List (Option LimitedHistory) → ℕ → Bool → List ℕ → CandidateReplyRecord → List (Option LimitedHistory) → Type 0
 IsCandidateReplied old scid ends octets reply new =
     ((frame : List ℕ) × (rest : List ℕ) × (brought : RackReplyRecord) × IsDelimited octets frame rest × IsEndedReplied old scid ends frame brought new

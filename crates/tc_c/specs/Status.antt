@@ -14,7 +14,7 @@ use Rattle.tc_fixed.specs.declared.limits.LimitsFault.TheVariants as limits
 use Rattle.tc_c_base.specs.declared.status.Status.{Status}
 use Rattle.tc_c_base.specs.declared.status.Status.TheVariants as st
 
--- the status with the name of a fault of frames
+-- the status for octets that begin with no frame, by their fault
 abbrev pub frame_status : FrameFault → Status
 frame_status frames.Short = st.Short
 frame_status frames.Version = st.Version
@@ -22,7 +22,7 @@ frame_status frames.Spare = st.Spare
 frame_status frames.LengthSmall = st.LengthSmall
 frame_status frames.Truncated = st.Truncated
 
--- the status with the name of a reason why octets are for none of the channels
+-- the status for octets that are for none of the channels, by the reason
 abbrev pub locate_status : LocateFault → Status
 locate_status (locations.Frame fault) = frame_status fault
 locate_status locations.OtherSpacecraft = st.OtherSpacecraft
@@ -34,7 +34,7 @@ write_status writing.EmptyData = st.EmptyData
 write_status writing.TooLong = st.TooLong
 write_status writing.NoMemory = st.NoMemory
 
--- the status with the name of a reason why a frame error control field isn't added or isn't taken off
+-- the status for octets to which no frame error control field is added, or from which none is taken off, by the reason
 abbrev pub field_status : FieldFault → Status
 field_status (fields.NoFrame fault) = frame_status fault
 field_status fields.Fill = st.Fill
@@ -43,7 +43,7 @@ field_status fields.TooShort = st.NoFecf
 field_status fields.WrongSum = st.WrongFecf
 field_status fields.NoMemory = st.NoMemory
 
--- the status with the name of a fault of settings
+-- the status for settings from which no channel is created, by the reason
 abbrev pub settings_status : SettingsFault → Status
 settings_status settings.BadVcid = st.BadVcid
 settings_status settings.BadWindow = st.BadWidth
@@ -57,7 +57,7 @@ settings_status settings.BadUnits = st.BadUnits
 settings_status settings.PlainMap = st.PlainMap
 settings_status settings.NoMemory = st.NoMemory
 
--- the status with the name of a fault of limits, or of a fault of the settings with them
+-- the status for settings and limits from which no channel is created, by the reason
 abbrev pub limits_status : LimitsFault → Status
 limits_status (limits.Settings fault) = settings_status fault
 limits_status limits.BadOthers = st.BadOthers

@@ -25,7 +25,7 @@ error_of false = Absent
 abbrev pub error_given : ℕ → Result ErrorControl Status
 error_given fecf = with_ok (flag_of fecf) (λ present. Ok (error_of present))
 
--- the header that a record stands for, and the record of a header
+-- the header that a record stands for
 abbrev pub tm_header_in : TmHeaderRecord → TmHeader
 tm_header_in header = record {
   scid = header.scid;
@@ -54,8 +54,8 @@ tm_read_status reading.Version = st.Version
 tm_read_status reading.NoControl = st.NoControl
 tm_read_status reading.WrongSum = st.WrongFecf
 
--- whether a frame of this number of octets is written with a frame error control field, or the first reason why it
--- can't be written
+-- the given choice, if a frame with this header and `size` octets can be written with it, or the first reason why no such
+-- frame can be written
 abbrev pub tm_allowed : TmHeaderRecord → ℕ → ErrorControl → Result ErrorControl Status
 tm_allowed header size error = elim (tm_fault_of error header.scid header.vcid size) [ None ↦ Ok error | Some fault ↦ Err (tm_write_status fault) ]
 

@@ -32,8 +32,8 @@ packet_allowed field header =
 abbrev pub packet_to_write : PacketHeaderRecord → List ℕ → Result PacketHeader Status
 packet_to_write header field = with_ok (packet_header_in header) (packet_allowed field)
 
--- The header of the frame that carries the segment at a place of a unit. The header of the unit's first frame is given.
--- Type-C frames have no segment header.
+-- The header of the frame that carries the segment at a place of a unit, or the first reason why there is no such frame.
+-- The header of the unit's first frame is given. It can't be a Type-C frame, because such a frame has no segment header.
 abbrev pub segment_allowed : ℕ → ℕ → ℕ → List ℕ → Header → Result Header Status
 segment_allowed map size place unit header =
     if header.control || (nat_lt 1023 header.scid || nat_lt 63 header.vcid) then Err BadField
@@ -55,7 +55,7 @@ IsSegmentFrame frame header map size place unit = IsMadeFrame frame header (Some
 abbrev pub segment_length : ℕ → ℕ → List ℕ → ℕ
 segment_length size place unit = length (piece_at size unit place) + 6
 
--- the command whose kind has this number (for Set V(R), `number` is the new V(R))
+-- the command whose kind has this number, or `BadCommand` if there is none (for Set V(R), `number` is the new V(R))
 abbrev pub command_by : ℕ → ℕ → Result Command Status
 command_by kind number = if kind == 3 then Ok Unlock else if kind == 4 then Ok (SetVr number) else Err BadCommand
 

@@ -19,7 +19,7 @@ use tc_channel::{Delivery, FrameReply, Tick};
 use tc_fixed::{FixedChannel, NothingReleased};
 use tc_link::read_frame;
 
-/// The outcome for a frame. Flags are 0 or 1. If the call fails, each number is 0.
+/// The outcome for a frame. Flags are 0 or 1. If the call fails, each number except `status` is 0.
 #[repr(C)]
 #[derive(Clone, Copy)]
 pub struct ReplyRecord {
@@ -30,13 +30,13 @@ pub struct ReplyRecord {
     pub dropped: u32,
     /// The number of FARM-1's event, 1 to 9.
     pub event: u8,
-    /// Whether the frame was accepted.
+    /// 1 if the frame was accepted, otherwise 0.
     pub accepted: u8,
-    /// Whether octets were left after the last packet.
+    /// 1 if octets were left after the last packet, otherwise 0.
     pub rest: u8,
 }
 
-/// The outcome for a data field that was released. If the call fails, each number is 0.
+/// The outcome for a data field that was released. If the call fails, each number except `status` is 0.
 #[repr(C)]
 #[derive(Clone, Copy)]
 pub struct DeliveryRecord {
@@ -45,7 +45,7 @@ pub struct DeliveryRecord {
     pub queued: u32,
     /// The number of packets that were dropped, or 1 for a whole unit without room in its queue.
     pub dropped: u32,
-    /// Whether octets were left after the last packet, 0 or 1.
+    /// 1 if octets were left after the last packet, otherwise 0.
     pub rest: u8,
 }
 

@@ -78,7 +78,7 @@ fn word(kept: FarmRecord, vcid: u8, no_rf: u8, no_bit_lock: u8) -> Result<u32, S
     Ok(clcw_word(&report, vcid, link(no_rf, no_bit_lock)?))
 }
 
-/// Returns the link with these flags.
+/// Returns the link with these flags, or BadFlag if one of them is neither 0 nor 1.
 pub(crate) fn link(no_rf: u8, no_bit_lock: u8) -> Result<Link, Status>
     ensures { result ≡ link_of no_rf no_bit_lock }
 {

@@ -16,11 +16,11 @@ use tc_cltu::{Blocks, Fate, Judged, MOST_OCTETS, Mode, accept, begins, judge};
 #[repr(C)]
 #[derive(Clone, Copy)]
 pub struct DecoderRecord {
-    /// Whether one wrong bit of a code block is corrected. If not, wrong bits are only detected.
+    /// 1 if one wrong bit of a code block is corrected. If it is 0, wrong bits are only detected.
     pub correct: u8,
-    /// Whether a start sequence has come, so that code blocks are being decoded.
+    /// 1 if a start sequence has come, so that code blocks are being decoded, otherwise 0.
     pub decoding: u8,
-    /// The last octet so far, while a start sequence is looked for.
+    /// The last octet that came while a start sequence is looked for, or 0 if none has come.
     pub last: u8,
     /// The number of octets of the next code block that have come, 0 to 7.
     pub count: u8,
@@ -36,8 +36,8 @@ pub struct DecodedRecord {
     pub status: u32,
     /// The decoder after the octets that were taken, or the given one if the call fails.
     pub decoder: DecoderRecord,
-    /// Whether the last octet that was taken ended a candidate frame, which is the first `carried` octets of the
-    /// buffer.
+    /// 1 if the last octet that was taken ended a candidate frame, otherwise 0. The candidate frame is the first
+    /// `carried` octets of the buffer.
     pub ended: u8,
     /// The number of octets that were taken.
     pub taken: u64,
@@ -56,8 +56,8 @@ pub struct DecodedRecord {
 /// The buffer has 1,037 octets, for the most that a CLTU carries and one code block. Its octets belong to the decoder
 /// until a candidate frame has ended.
 ///
-/// The call fails with BadFlag for a flag that is neither 0 nor 1. It fails with BadDecoder if the record is otherwise
-/// one that no decoder has, and with NoRoom for a shorter buffer. If it fails, the record and the buffer stay as they
+/// The call fails with BadFlag for a flag that is neither 0 nor 1. It fails with BadDecoder if `count` is over 7 or
+/// `carried` is over 1,029, and with NoRoom for a shorter buffer. If it fails, the record and the buffer stay as they
 /// were.
 #[unsafe(no_mangle)]
 pub extern "C" fn tcrx_cltu_octets_at(
@@ -96,8 +96,8 @@ pub extern "C" fn tcrx_cltu_octets_at(
 /// Makes a decoder look for a start sequence anew, as after a loss of bit lock (CCSDS 231.0-B). The code blocks since
 /// the last start sequence then end no candidate frame. Returns the decoder after that, with zeros in all other fields.
 ///
-/// The call fails with BadFlag for a flag that is neither 0 nor 1. It fails with BadDecoder if the record is otherwise
-/// one that no decoder has.
+/// The call fails with BadFlag for a flag that is neither 0 nor 1. It fails with BadDecoder if `count` is over 7 or
+/// `carried` is over 1,029. If it fails, the returned decoder is the given one.
 #[unsafe(no_mangle)]
 pub extern "C" fn tcrx_cltu_search(decoder: DecoderRecord) -> DecodedRecord
     ensures searching { IfOk (decoder_given decoder decoder_room) (λ mode. result ≡ none_taken Status.Done (searching decoder)) }
@@ -206,12 +206,12 @@ struct Taken {
     decoder: DecoderRecord,
     // the fate of the code block that the octets ended, if they ended one
     fate: Option<Fate>,
-    // whether the octets ended a candidate frame
+    // set if the octets ended a candidate frame
     ended: bool,
 }
 
-// Takes eight octets if a whole code block begins with them, otherwise one octet. Returns the number of octets with the
-// outcome.
+// Takes the first eight octets at once if they are a whole code block, otherwise only the first octet. Returns the
+// outcome and the number of octets taken.
 #[inline(always)]
 fn take_front(mode: Mode, decoder: DecoderRecord, octets: &[u8], frame: &mut [u8]) -> (Taken, usize)
     requires some { 0 < length octets.now }
@@ -282,7 +282,8 @@ fn take_octet(mode: Mode, decoder: DecoderRecord, octet: u8, frame: &mut [u8]) -
     }
 }
 
-// Returns the mode in which the decoder takes code blocks, or the first reason why no decoder has this record.
+// Returns the mode in which the decoder takes code blocks, or the first fault of the record and of the buffer, which has
+// `room` octets.
 fn read_decoder(decoder: DecoderRecord, room: usize) -> Result<Mode, Status>
     ensures mode { MatchResult result (λ mode. decoder_given decoder room ≡ Ok mode) (λ fault. decoder_given decoder room ≡ Err fault) }
     ensures count { IfOk result (λ mode. decoder.count < 8) }
@@ -301,7 +302,7 @@ fn read_decoder(decoder: DecoderRecord, room: usize) -> Result<Mode, Status>
     Ok(if correct { Mode::Correct } else { Mode::Detect })
 }
 
-// Takes an octet of a decoder that looks for a start sequence.
+// Takes an octet while the decoder looks for a start sequence. Returns the decoder after it.
 fn search(mode: Mode, decoder: DecoderRecord, octet: u8) -> DecoderRecord
     ensures { result ≡ (if is_start mode decoder.last octet then record decoder {
       decoding = 1;
@@ -376,8 +377,8 @@ fn end_block(mode: Mode, decoder: DecoderRecord, block: &[u8; 8], frame: &mut [u
     }
 }
 
-// Writes what a block carries behind the octets that were carried before it. The whole block is written, so that its
-// last octet is behind them.
+// Writes a code block to the buffer, behind the `carried` octets at its front. The first seven octets of the block are
+// those that it carries. Its eighth octet is written too, but isn't counted as carried.
 #[inline(always)]
 fn carry(carried: usize, block: &[u8; 8], frame: &mut [u8])
     requires { carried + 8 ≤ length frame.old }
@@ -393,7 +394,7 @@ fn carry(carried: usize, block: &[u8; 8], frame: &mut [u8])
 // The outcome for code blocks that are accepted.
 #[derive(Clone, Copy)]
 struct Accepted {
-    // the number of octets that were carried, with those of the blocks
+    // the number of octets carried since the start sequence, including those of these blocks
     carried: u16,
     // the number of octets in the blocks
     taken: usize,
@@ -401,8 +402,9 @@ struct Accepted {
     corrected: u64,
 }
 
-// Takes the code blocks at the front of the octets, up to the first that is rejected or finds no room, behind the octets
-// that were carried before. The loop isn't inlined, so that the loop over all octets, which calls it, stays short.
+// Takes code blocks from the front of the octets, and writes what they carry behind the octets carried before. Stops
+// before the first block that isn't whole, is rejected, or would bring the carried octets to more than 1,029. The loop
+// isn't inlined, so that the loop over all octets, which calls it, stays short.
 #[inline(never)]
 fn take_blocks(mode: Mode, before: u16, octets: &[u8], frame: &mut [u8]) -> Accepted
     requires carried { before ≤ most_octets }
@@ -433,8 +435,9 @@ fn take_blocks(mode: Mode, before: u16, octets: &[u8], frame: &mut [u8]) -> Acce
     }
 }
 
-// Takes the code block at the front of the octets, and returns how many of its bits were corrected. Returns `None` if
-// no whole code block is there, or if it is rejected or finds no room. Then the buffer stays as it was.
+// Takes the code block at the front of the octets, and returns how many of its bits were corrected, 0 or 1. Returns
+// `None` if no whole code block is there, if the block is rejected, or if it would bring the carried octets to more than
+// 1,029. Then the buffer stays as it was.
 #[inline(always)]
 fn accept_block(mode: Mode, carried: usize, octets: &[u8], frame: &mut [u8]) -> Option<u64>
     requires room { decoder_room ≤ length frame.old }

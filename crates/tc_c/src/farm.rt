@@ -144,7 +144,7 @@ pub(crate) fn record(width: u8, report: Report) -> FarmRecord
     }
 }
 
-/// Returns the flag that a number stands for.
+/// Returns the flag that a number stands for, or BadFlag if the number is neither 0 nor 1.
 pub(crate) fn flag(number: u8) -> Result<bool, Status>
     ensures flag { result ≡ flag_of number }
     ensures fault { IfErr result (λ fault. fault ≡ Status.BadFlag) }
@@ -178,7 +178,7 @@ fn agree(state: State, lockout: bool, wait: bool, retransmit: bool) -> bool
     }
 }
 
-// Returns the components that a record has.
+// Returns the components in a record, or the first reason why FARM-1 can't have them.
 fn report(kept: FarmRecord) -> Result<Report, Status>
     ensures { result ≡ report_of kept }
 {
@@ -202,7 +202,7 @@ fn report(kept: FarmRecord) -> Result<Report, Status>
     })
 }
 
-/// Returns the FARM-1 that a record stands for.
+/// Returns the FARM-1 that a record stands for, or the first reason why no FARM-1 has this record.
 pub(crate) fn farm(kept: FarmRecord) -> Result<Farm, Status>
     ensures { result ≡ farm_of kept }
 {
@@ -242,7 +242,8 @@ fn has_entry(window: &Window, report: &Report, arrival: Arrival) -> bool
     }
 }
 
-// Reads the arguments of a call from C: a FARM-1 and an arrival.
+// Reads a FARM-1 and an arrival from the arguments of a call. Returns the first fault of the arguments, or NoEntry if
+// they have no fault and the table has no entry for the arrival.
 fn asked(kept: FarmRecord, number: u8, value: u8, room: u8) -> Result<(Farm, Arrival), Status>
     ensures asked { result ≡ asked_of kept number value room }
     ensures width { IfOk result (λ asked. asked.0.width ≡ kept.width) }

@@ -164,7 +164,7 @@ pub extern "C" fn tcrx_write_frame_at(
     }
 }
 
-// Returns the octets of the header of a frame with this data field.
+// Returns the octets of the header of a frame with this data field, or the first reason why the frame can't be written.
 fn front(header: HeaderRecord, field: &[u8]) -> Result<[u8; 5], Status>
     ensures five { IfOk result (λ front. length front ≡ 5) }
     ensures frame { IfOk result (λ front. IfOk (header_to_write header field.now) (λ h. IsFrame (front ++ field.now) h field.now)) }

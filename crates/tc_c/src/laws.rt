@@ -29,7 +29,9 @@ ghost use Rattle.tc_c.specs.Farm.{IsFarm, first_farm, record_of, farm_of, arriva
 ghost use Rattle.tc_c.specs.Frame.{kind_number, kind_value, header_record, frame_record};
 ghost use Rattle.tc_c.specs.Packet.{packet_record, written_packet};
 
-/// Each FARM-1 can be read from its record. If a FARM-1 can be read from a record, it is the record of that FARM-1.
+/// Each FARM-1 can be read from its record (`back`). If a FARM-1 can be read from a record, the record is this FARM-1's
+/// own (`kept`). The FARM-1 then has an allowed width, a FARM-B counter below 4, and flags that agree with its state
+/// (`farm`).
 pub fn a_record_reads_back()
     ensures back { (farm : Machine) → IsFarm farm → farm_of (record_of farm) ≡ Ok farm }
     ensures kept { (kept : FarmRecord) (farm : Machine) → farm_of kept ≡ Ok farm → record_of farm ≡ kept }
@@ -42,7 +44,7 @@ pub fn a_step_leaves_a_farm()
         → IsFarm (left farm arrival) }
 {}
 
-/// A FARM-1 that starts can be read from its record by the next call, and so can the components of a channel after each
+/// A FARM-1 that starts can be read from its record by the next call, and so can the FARM-1 of a channel after each
 /// lawful journal.
 pub fn each_channel_has_a_farm()
     ensures start { (width first : ℕ) (farm : Machine) → first_farm width first ≡ Ok farm → IsFarm farm }
@@ -98,8 +100,9 @@ pub fn statuses_have_these_numbers()
         ∷ []) ≡ 100 ∷ 101 ∷ 102 ∷ 103 ∷ 104 ∷ 105 ∷ 106 ∷ [] }
 {}
 
-/// In S2 and S3, Wait is never set without Retransmit. FARM-1 sets both when it has no room for a frame, and both stay
-/// set until there is room. A frame outside the window leads from S2 to S3, with both flags as they were.
+/// A record in S2 or S3 with Wait but without Retransmit is refused, because no FARM-1 has it. FARM-1 sets both flags
+/// when it has no room for the expected frame. While Wait is set, only an Unlock or a Set V(R) clears Retransmit, and it
+/// clears Wait as well. A frame outside the window leads from S2 to S3, with both flags as they were.
 pub fn no_farm_waits_without_retransmit()
     ensures wait { farm_of (record { width = 10; state = 2; vr = 0; farm_b = 0; lockout = 0; wait = 1; retransmit = 0 }) ≡ Err st.FlagsDisagree }
     ensures lockout { farm_of (record { width = 10; state = 3; vr = 0; farm_b = 0; lockout = 1; wait = 1; retransmit = 0 }) ≡ Err st.FlagsDisagree }
@@ -113,7 +116,7 @@ pub fn what_was_written_reads_back()
         → packet_record packet ≡ written_packet (length packet) header }
 {}
 
-/// Each text fits 64 octets with the octet 0 after it.
+/// Each text fits in 64 octets, together with the octet 0 after it.
 pub fn each_text_fits_64_octets()
     ensures { (st : Status) → length (text_of st) < 64 }
 {}

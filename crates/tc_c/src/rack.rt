@@ -20,7 +20,8 @@ use tc_fecf::{Delimited, delimit, is_fill};
 use tc_link::{LocateFault, each_input_begins_with_one_frame_at_most, read_frame};
 use tc_write::{check_taking, write_without_field};
 
-/// The outcome for a frame, and the channel that took it in. Flags are 0 or 1. If the call fails, each number is 0.
+/// The outcome for a frame, and the channel that took it in. Flags are 0 or 1. If the call fails, each number except
+/// `status` is 0.
 #[repr(C)]
 #[derive(Clone, Copy)]
 pub struct RackReplyRecord {
@@ -31,16 +32,16 @@ pub struct RackReplyRecord {
     pub dropped: u32,
     /// The number of FARM-1's event, 1 to 9.
     pub event: u8,
-    /// Whether the frame was accepted.
+    /// 1 if the frame was accepted, otherwise 0.
     pub accepted: u8,
-    /// Whether octets were left after the last packet.
+    /// 1 if octets were left after the last packet, otherwise 0.
     pub rest: u8,
-    /// The virtual channel id.
+    /// The virtual channel id of the channel.
     pub vcid: u8,
 }
 
-/// The outcome for the frame at the front of a candidate. Flags are 0 or 1. If the call fails, each number is 0, except
-/// `more` and `length`, which are set if a frame was found.
+/// The outcome for the frame at the front of a candidate. Flags are 0 or 1. If the call fails, each number except
+/// `status`, `more` and `length` is 0. If it fails before a frame is found, `more` and `length` are 0, too.
 #[repr(C)]
 #[derive(Clone, Copy)]
 pub struct CandidateReplyRecord {
@@ -52,7 +53,7 @@ pub struct CandidateReplyRecord {
     pub accepted: u8,
     pub rest: u8,
     pub vcid: u8,
-    /// Whether more than fill follows the frame.
+    /// 1 if more than fill follows the frame, otherwise 0.
     pub more: u8,
     /// The number of octets in the frame, with its frame error control field.
     pub length: u16,
@@ -92,7 +93,7 @@ fn vcid_in(seat: &mut Seat) -> Option<u8>
     }
 }
 
-// Returns the place of the first channel with this id.
+// Returns the place of the first channel with this id, or `None` if no channel has it.
 fn place_of(seats: &mut [Seat], vcid: u8) -> Option<usize>
     ensures place { MatchOption result (¬ IsHeld (channels_in seats.old) vcid)
         (λ place. (h : LimitedHistory) × IsFirstWithVcid (channels_in seats.old) vcid place h) }
@@ -107,7 +108,8 @@ fn place_of(seats: &mut [Seat], vcid: u8) -> Option<usize>
     None
 }
 
-// Returns the place of the channel that the frame at the front of the octets is for, and its virtual channel id.
+// Finds the channel that the frame at the front of the octets is for. Returns the channel's place and its virtual channel
+// id, or the first reason why the octets are for none of the channels.
 fn located(seats: &mut [Seat], scid: u16, octets: &[u8]) -> Result<(usize, u8), LocateFault>
     ensures located { MatchResult result (λ found. (frame : List ℕ) × (h : LimitedHistory)
         × IsLocatedAmong (channels_in seats.old) scid octets.now found.0 frame h × ((header_of frame).vcid ≡ found.1))
@@ -218,7 +220,7 @@ fn bring_ended(seats: &mut [Seat], scid: u16, ends: bool, frame: &[u8]) -> RackR
     }
 }
 
-// Returns a reply with the length of the frame, and with the flag for the octets behind it.
+// Returns the reply for a candidate: the reply for its frame, with the length of the frame and the flag `more`.
 fn found(reply: RackReplyRecord, length: u16, more: bool) -> CandidateReplyRecord
     ensures { result ≡ candidate_reply reply length more }
 {
@@ -252,8 +254,8 @@ fn bring_candidate(seats: &mut [Seat], scid: u16, ends: bool, octets: &[u8]) -> 
 /// octets that a CLTU carried. The length field says where the frame ends, and the octets after it are fill, or the
 /// next frame (frame delimiting and fill removal, and then frame validation: CCSDS 232.0-B).
 ///
-/// The call fails with BadFlag for another `fecf`, then with the first fault of the octets if they begin with no frame.
-/// Then it fails as `tcrx_rack_frame_at` does for the frame. Each channel then stays as it was.
+/// The call fails with BadFlag if `fecf` is neither 0 nor 1, then with the first fault of the octets if they begin with
+/// no frame. Otherwise it fails as `tcrx_rack_frame_at` does for the frame. If it fails, each channel stays as it was.
 #[unsafe(no_mangle)]
 pub extern "C" fn tcrx_rack_candidate_at(
     seats: &mut [Seat],

@@ -15,7 +15,8 @@ use tc_c_base::Status;
 use tc_channel::{MapSetting, QueueSetting};
 use tc_fixed::{LentLimits, MapLimit, storage_of_lent, storage_with_lent};
 
-// Returns the storage for the settings that the records stand for.
+// Returns the bytes of storage for the settings that the records stand for, at most 2^64 - 1, or the first reason why no
+// channel can be created from them.
 fn storage(
     given: SettingsRecord,
     queues: &[QueueSetting],
@@ -29,7 +30,8 @@ fn storage(
     Ok(storage_of_lent(checked(given, queues, maps)?))
 }
 
-// Returns the storage for the settings that the records stand for, within these limits.
+// Returns the bytes of storage for the settings that the records stand for, within these limits, at most 2^64 - 1. Or
+// returns the first reason why no channel can be created from them.
 fn limited_storage(
     given: SettingsRecord,
     queues: &[QueueSetting],
@@ -45,8 +47,9 @@ fn limited_storage(
     Ok(storage_with_lent(checked_within(given, queues, maps, limits)?, limits))
 }
 
-/// Returns the number of bytes that `tcrx_channel_new_at` requests for these settings. The channel's own block and the
-/// copies of both lists aren't counted. No other call of the channel requests memory.
+/// Returns the number of bytes that `tcrx_channel_new_at` requests for these settings, or 2^64 - 1 if they are more than
+/// that. The channel's own block and the copies of both lists aren't counted. No other call of the channel requests
+/// memory.
 ///
 /// The call fails with BadFlag for a flag that is neither 0 nor 1, and with the status of the first fault of the
 /// settings. If it fails, the count is 0. The call requests no memory.
@@ -67,9 +70,9 @@ pub extern "C" fn tcrx_storage_at(
     }
 }
 
-/// Returns the number of bytes that `tcrx_channel_new_with_limits_at` requests for these settings and limits. The
-/// channel's own block and the copies of the lists and of the limits aren't counted. The call fails as
-/// `tcrx_storage_at` does. The faults of the limits come after those of the settings.
+/// Returns the number of bytes that `tcrx_channel_new_with_limits_at` requests for these settings and limits, or
+/// 2^64 - 1 if they are more than that. The channel's own block and the copies of the lists and of the limits aren't
+/// counted. The call fails as `tcrx_storage_at` does. The faults of the limits come after those of the settings.
 #[unsafe(no_mangle)]
 pub extern "C" fn tcrx_storage_with_limits_at(
     given: SettingsRecord,

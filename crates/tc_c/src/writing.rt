@@ -69,7 +69,8 @@ pub extern "C" fn tcrx_write_packet_at(
     }
 }
 
-// Returns the octets of the header of a packet with this packet data field.
+// Returns the octets of the header of a packet with this packet data field, or the first reason why the packet can't be
+// written.
 fn front(header: PacketHeaderRecord, field: &[u8]) -> Result<[u8; 6], Status>
     ensures six { IfOk result (λ front. length front ≡ 6) }
     ensures packet { IfOk result (λ front. IfOk (packet_to_write header field.now) (λ h. IsPacketOf (front ++ field.now) h field.now)) }
@@ -145,7 +146,8 @@ pub extern "C" fn tcrx_write_segment_at(
     }
 }
 
-// Returns the header of the frame that carries the segment at this place.
+// Returns the header of the frame that carries the segment at this place, or the first reason why this frame can't be
+// written.
 fn header_at(
     header: HeaderRecord,
     map: u8,
