@@ -9,7 +9,6 @@ use Rattle.tc_c_base.specs.declared.status.Status.TheVariants as st
 -- (50). From 60 on, no channel is created from settings. From 70 on, a call on a channel fails. From 80 on, no channel
 -- is created with limits. From 90 on, the statuses are for CLTUs and telemetry frames. From 100 on, they are for
 -- sessions of lines.
--- lines.
 abbrev pub entry_of : Status → ℕ × List ℕ
 entry_of st.Done = (0, codes "done")
 entry_of st.Short = (1, codes "fewer than 5 octets")
@@ -93,7 +92,7 @@ statuses =
     ∷ st.PlainLimit ∷ st.UnlistedMap ∷ st.LongCltu ∷ st.BadLength ∷ st.NoControl ∷ st.BadDecoder ∷ st.NoSession
     ∷ st.SessionInUse ∷ st.BadScid ∷ st.BadLine ∷ st.Waiting ∷ st.Lost ∷ st.Over ∷ []
 
--- the first status of a list that has this number
+-- the first status of a list that has this number, or `None` if no status of the list has it
 abbrev pub status_numbered : ℕ → List Status → Option Status
 status_numbered number [] = None
 status_numbered number (status ∷ others) = if number == code_of status then Some status else status_numbered number others

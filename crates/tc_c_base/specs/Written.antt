@@ -5,7 +5,7 @@ use Rattle.tc_c_base.specs.declared.status.Status.{Status}
 use Rattle.tc_c_base.specs.declared.status.Status.TheVariants.{Done, NoRoom}
 use Rattle.tc_c_base.specs.declared.buffer.WrittenRecord.{WrittenRecord}
 
--- the record of a call that fails, which wrote no octets
+-- the record of a call that wrote no octets and has this status, which isn't `NoRoom`
 abbrev pub no_octets : Status → WrittenRecord
 no_octets fault = record { status = code_of fault; length = 0 }
 

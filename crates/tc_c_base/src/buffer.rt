@@ -11,11 +11,11 @@ use crate::status::{Status, code};
 pub struct WrittenRecord {
     pub status: u32,
     /// The number of octets that were written to the front of the buffer. If the buffer is too short, it is the number
-    /// that is needed. Otherwise it is 0.
+    /// that is needed. If nothing was written for another reason, it is 0.
     pub length: usize,
 }
 
-/// Returns the record of a call that fails with this status.
+/// Returns the record of a call that wrote no octets and has this status, which isn't NoRoom.
 pub fn not_written(fault: Status) -> WrittenRecord
     ensures { result ≡ no_octets fault }
 {

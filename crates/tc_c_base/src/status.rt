@@ -178,14 +178,14 @@ pub fn code(status: Status) -> u32
     each_status!(number_of_status of status)
 }
 
-/// Returns the status with this number.
+/// Returns the status with this number, or `None` if no status has it.
 pub fn from_number(number: u32) -> Option<Status>
     ensures { result ≡ status_of number }
 {
     numbered(&each_status!(list_of_statuses of ()), number)
 }
 
-// Returns the first status of a list that has this number.
+// Returns the first status of a list that has this number, or `None` if no status of the list has it.
 fn numbered(statuses: &[Status], number: u32) -> Option<Status>
     ensures { result ≡ status_numbered number statuses.now }
 {

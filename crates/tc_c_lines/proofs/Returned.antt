@@ -14,7 +14,7 @@ pub left-so : {A : Type 0} (lent : Option A) (held : A) (left : Option SessionVa
 left-so (Some x) held left new is holds = holds
 left-so None held left new is holds = absurd cc
 
--- if an option's value has a property, it also has each property that follows from it
+-- if the value of an option has the property P, and Q follows from P, the value has the property Q
 pub some-more : {X : Type 0} (o : Option X) (P Q : X → Type 0) → ((x : X) → P x → Q x) → IfSome o P → IfSome o Q
 some-more None P Q more holds = tt
 some-more (Some x) P Q more holds = more x holds
@@ -24,11 +24,11 @@ pub in-use : (start : Result Engine Status) (held : Option SessionValue) → is_
 in-use start (Some session) is = (refl, refl)
 in-use start None is = absurd cc
 
--- the condition of a start also holds for each engine that equals the created one
+-- the condition of a start also holds for each start that equals the given one
 pub started-as : (made start : Result Engine Status) (held new : Option SessionValue) (result : ℕ) → made ≡ start → IsStarted made held new result → IsStarted start held new result
 started-as made start held new result is started = subst (λ (s : Result Engine Status). IsStarted s held new result) is started
 
--- the condition of a start holds for the required engine, even if there was no memory for it
+-- if the condition of a start holds for the outcome of creating the engine, it holds for the required engine, too
 pub made-so : (start made : Result Engine Status) (new : Option SessionValue) (result : ℕ) → IsMade start made → IsStarted made None new result → IsStarted start None new result
 made-so (Ok engine) made new result (inl is) started = subst (λ (s : Result Engine Status). IsStarted s None new result) is started
 made-so (Ok engine) made new result (inr is) started = inr (subst (λ (s : Result Engine Status). IsStarted s None new result) is started)

@@ -20,14 +20,16 @@ use Rattle.tc_session.specs.declared.session.Said.{Said}
 use Rattle.tc_session.specs.declared.session.Said.TheVariants.{Done, Bad, NoMemory, Lost, Over}
 use Rattle.tc_session.specs.declared.session.Session.{Session as SessionValue}
 
--- the check that frames must pass, or the ending that frames get, given the flag for their frame error control field
+-- the check that frames must pass, given the flag for their frame error control field
 abbrev pub check_of : ℕ → Result FrameCheck Status
 check_of fecf = if fecf == 0 then Ok Nothing else if fecf == 1 then Ok ErrorControl else Err st.BadFlag
 
+-- the ending that frames get, given the flag for their frame error control field
 abbrev pub ending_of : ℕ → Result Ending Status
 ending_of fecf = if fecf == 0 then Ok endings.DataField else if fecf == 1 then Ok endings.ErrorControl else Err st.BadFlag
 
--- the engine with which a session of each kind starts, or the reason why there is none (memory left aside)
+-- The engine with which a session starts, or the first fault of the arguments, for each of the three kinds of sessions.
+-- These definitions leave out the case in which memory runs out.
 abbrev pub live_with : ℕ → Result FrameCheck Status → Result Engine Status
 live_with scid (Ok check) = Ok (Live (new_receiver check scid))
 live_with scid (Err fault) = Err fault
@@ -45,16 +47,16 @@ maker_with (Err fault) = Err fault
 abbrev pub maker_start : ℕ → Result Engine Status
 maker_start fecf = maker_with (ending_of fecf)
 
--- the engine was created, or there was no memory for it, or the status says why there is none
+-- the engine was created, or there was no memory for it, or the status is the fault of the arguments
 abbrev pub IsMade : Result Engine Status → Result Engine Status → Type 0
 IsMade (Ok engine) result = (result ≡ Ok engine) ⊎ (result ≡ Err st.NoMemory)
 IsMade (Err fault) result = result ≡ Err fault
 
--- a session is held that has this engine, and no text of it waits
+-- a session with this engine is held, and none of its texts waits
 abbrev pub IsFresh : Engine → Option SessionValue → Type 0
 IsFresh engine held = (session : SessionValue) × (held ≡ Some session) × (session.engine ≡ engine) × (session.waits ≡ None)
 
--- a session started in a seat that held none, or the seat is as it was and the status says why
+-- a session started in a seat that held none, or the seat is as it was and the status is the reason
 abbrev pub IsStarted : Result Engine Status → Option SessionValue → Option SessionValue → ℕ → Type 0
 IsStarted start (Some held) new result = (result ≡ code_of st.SessionInUse) × (new ≡ Some held)
 IsStarted (Err fault) None new result = (result ≡ code_of fault) × (new ≡ None)
@@ -87,7 +89,7 @@ abbrev pub IsReportGiven : SessionValue → SessionValue → List ℕ → List �
 IsReportGiven old new buffer filled result =
     (said : Said) × IsEnded said old.engine new.engine new.text.items × IsGiven said new.text.items buffer filled new.waits result
 
--- 1 if each frame ended with its frame error control field, otherwise 0
+-- 1 if frames came and each of them ended with its frame error control field, otherwise 0
 abbrev pub flag_of : FrameEnds → ℕ
 flag_of NoFrame = 0
 flag_of EachWithField = 1

@@ -15,7 +15,7 @@ with_session place session = record place { session = Some session }
 abbrev pub LendsOfPlace : MutBor Place → MutBor SessionValue → Fml
 LendsOfPlace place session = Lends place_row session_row place session (with_session place.now)
 
--- once the borrow ends, the seat holds the session that the borrow left, or is as it was
+-- once the borrow ends, the seat holds the session that the borrow left, or, if none was lent, it is as it was
 abbrev pub LendsOfSeat : MutBor Seat → Option (MutBor SessionValue) → Fml
 LendsOfSeat seat lent =
     LendsSo seat_row session_row seat lent (λ left session. OnSome lent (left.place.session ≡ Some session))

@@ -19,7 +19,7 @@ use tc_session::{Engine, Said, Session};
 #[derive(Clone, Copy)]
 pub struct FlagRecord {
     pub status: u32,
-    /// The flag, 0 or 1, or 0 if the call fails.
+    /// The flag, which is 0 or 1. It is 0 if the call fails.
     pub flag: u8,
 }
 
@@ -36,7 +36,8 @@ fn status_of(said: Said) -> Status
     }
 }
 
-// Puts a session that starts with this engine into a seat that holds none.
+// Puts a session that starts with this engine into a seat that holds none. Returns the number of the status. If the
+// engine is a fault, or if memory runs out, the seat stays empty.
 fn sit(alloc: Global, seat: &mut Seat, start: Result<Engine, Status>) -> u32
     requires { seat.old.place.session ≡ None }
     ensures { IsStarted start seat.old.place.session seat.new.place.session result }

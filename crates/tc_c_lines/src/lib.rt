@@ -1,6 +1,6 @@
-//! The calls for C that answer lines of text. C holds a session in a seat in its own memory. It passes the session one
-//! line at a time, with a buffer for the text of the answer. The texts are those of the programs `tclive`, `tcrx run`
-//! and `tcmake`.
+//! The calls for C that answer lines of text. C holds a session in a seat in its own memory. It calls the session with
+//! one line at a time, and with a buffer for the text of the answer. The texts are those of the programs `tclive`,
+//! `tcrx run` and `tcmake`.
 //!
 //! Each call returns a status, alone or as the first field of a record. No call keeps a pointer that is passed to it.
 //! The header `dist/tcrx_lines.h` documents these calls for callers in C.

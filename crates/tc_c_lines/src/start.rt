@@ -10,7 +10,8 @@ use tc_make::Ending;
 use tc_session::{Engine, live_engine, maker_engine, script_engine};
 use tc_text::SpacecraftId;
 
-// Returns the check that frames must pass, by the flag for their frame error control field.
+// Returns the check that frames must pass, given the flag for their frame error control field. Returns BadFlag if the
+// flag is neither 0 nor 1.
 fn check(fecf: u8) -> Result<FrameCheck, Status>
     ensures { result ≡ check_of fecf }
 {
@@ -21,7 +22,8 @@ fn check(fecf: u8) -> Result<FrameCheck, Status>
     }
 }
 
-// Returns the ending of frames, by the flag for their frame error control field.
+// Returns the ending of frames, given the flag for their frame error control field. Returns BadFlag if the flag is
+// neither 0 nor 1.
 fn ending(fecf: u8) -> Result<Ending, Status>
     ensures { result ≡ ending_of fecf }
 {
@@ -43,7 +45,7 @@ pub(crate) fn live(alloc: Global, scid: u16, fecf: u8) -> Result<Engine, Status>
     }
 }
 
-/// Returns the engine that carries out a script as `tcrx run` does, or the fault of the spacecraft id.
+/// Returns the engine that carries out a script as `tcrx run` does, or BadScid if the spacecraft id is over 1,023.
 pub(crate) fn script(alloc: Global, scid: u16) -> Result<Engine, Status>
     ensures { result ≡ script_start scid }
 {
@@ -53,7 +55,8 @@ pub(crate) fn script(alloc: Global, scid: u16) -> Result<Engine, Status>
     }
 }
 
-/// Returns the engine that answers as `tcmake` does. Fails if the flag is bad, or if memory runs out.
+/// Returns the engine that answers as `tcmake` does. Fails with BadFlag if the flag is neither 0 nor 1, and with NoMemory
+/// if memory runs out.
 pub(crate) fn maker(alloc: Global, fecf: u8) -> Result<Engine, Status>
     ensures { IsMade (maker_start fecf) result }
 {
