@@ -36,7 +36,7 @@ known-same l session more a (Hear m ∷ rest) each =
     ∙ known-same l session more (heard l.first l.window a (reported l session m)) rest (λ t n e. each (suc t) n e)
 known-same l session more a (x ∷ rest) each = known-same l session more a rest (λ t m e. each (suc t) m e)
 
--- at a moment of a session, the sender knows the same frames if the session goes on after that moment
+-- if a session is continued, the sender knows as many frames at each earlier moment as without the further actions
 pub known-at : (l : Loop) (session more : List Action) (t : ℕ) → IsSession l session → t ≤ length session → known l (session ++ more) t ≡ known l session t
 known-at l session more t k low =
     ap (known_from l (session ++ more) 0) (take-append-le t session more low)
@@ -108,8 +108,8 @@ longer l session action k n lawful none = record {
   possible = possible-next l session action k.possible n;
 }
 
--- if an action that can come next is appended to a session of a loop, the longer session is one of the loop, whether
--- the action is an event or not
+-- If an action that can come next is appended to a session of a loop, the longer session is one of the loop. An action
+-- that is an event of the receiver must also have a step in the receiver's state, and must not set V(R).
 pub longer-quiet : (l : Loop) (session : List Action) (action : Action) → IsLoop l session → IsNext l session action → events l (action ∷ []) ≡ [] → IsLoop l (session ++ action ∷ [])
 longer-quiet l session action k n none =
     let same = sym (events-append l session (action ∷ []) ∙ ap (λ es. events l session ++ es) none ∙ append-nil (events l session)) in

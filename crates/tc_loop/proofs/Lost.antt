@@ -5,7 +5,7 @@ use Rattle.tc_loop.proofs.Begun.{smallest-whole}
 use Rattle.tc_loop.proofs.Starts.{allowed-from}
 use Rattle.tc_loop.specs.Examples.{five, one_lost}
 
--- this is the action at this moment
+-- the action is the one that `one_lost` has at this moment
 abbrev IsAt : ℕ → Action → Type 0
 IsAt t (Send i) = ((t ≡ 0) × (i ≡ 0)) ⊎ (((t ≡ 1) × (i ≡ 1)) ⊎ ((t ≡ 4) × (i ≡ 0)))
 IsAt t (Arrive i s) = ((t ≡ 2) × (i ≡ 1) × (s ≡ 1)) ⊎ (((t ≡ 5) × (i ≡ 0) × (s ≡ 4)) ⊎ ((t ≡ 6) × (i ≡ 0) × (s ≡ 4)))

@@ -67,7 +67,7 @@ early-events s (suc d) (x ∷ xs) n e = rw (early-event s n x (omega arith)) (ea
 era-events : (s : Start) (xs : List Action) → events (era s) (era_actions s 0 xs) ≡ events s.loop (drop (suc s.again) xs)
 era-events s xs = early-events s (suc s.again) xs 0 (omega arith)
 
--- from the start of the era on, the journal of the era's loop is that of the session
+-- from the start of the era on, the journal of the era's loop equals the journal of the session
 journal-late : (s : Start) (t : ℕ) → s.again < t → journal (era s) (take t (era_session s)) ≡ journal s.loop (take t s.session)
 journal-late s t later =
     let n = suc s.again in
@@ -88,7 +88,7 @@ journal-early s t early =
     ∙ ap (λ es. journal s.loop (take n s.session) ++ es) (era-events s xs ∙ ap (events s.loop) none)
     ∙ append-nil (journal s.loop (take n s.session))
 
--- ---- V(R) from the first moment at which Set V(R) is obeyed to the last: the number that Set V(R) names
+-- ---- V(R) is the number that Set V(R) names, from the moment `obeyed` to the moment `again`
 
 set-vr : (row : Row) (st : State) (r : Report) (x : ℕ) → row ≡ E8 x → (set_at row st ≡ Some x) ⊎ (r.vr ≡ x) → (unwrap_or (entry_at row st r) r).vr ≡ x
 set-vr (E8 y) S3 r x e (inl is) = absurd cc
@@ -198,7 +198,7 @@ module _ (s : Start) (k : IsStart s) where
         ∙ sym (clcw-shows s.loop (take m s.session) (s.loop.links m) (subst (λ n. n < 256) (sym here) small) ∙ here)
   ]
 
-  -- in the era's loop, an action changes the known frames only if a CLCW is heard from the moment `believed` on
+  -- in the era's loop, an action changes the known frames only if the sender hears a CLCW at the moment `believed` or later
   untaught : (x : Action) (n a : ℕ) → ((m : ℕ) → x ≡ Hear m → n < s.believed) → known_from (era s) (era_session s) a (era_action s n x ∷ []) ≡ a
   untaught (Hear m) n a early = let low = early m refl in grind (arith, nat_tests)
   untaught (Send j) n a early = grind (arith, nat_tests)
@@ -272,7 +272,7 @@ module _ (s : Start) (k : IsStart s) where
         let kind = subst (λ n. kind_of (header_of (s.loop.frames n)) (field_of (s.loop.frames n)) ≡ Bc (SetVr s.loop.first)) (sym same) k.directive in
         subst IsOther (sym old.4) (directive-other (s.loop.frames j) s.loop.first kind)
 
-  -- the whole journal of the era's loop is that of the session
+  -- the whole journal of the era's loop equals the journal of the session
   pub journal-whole : journal (era s) (era_session s) ≡ journal s.loop s.session
   journal-whole =
       let n = length s.session in

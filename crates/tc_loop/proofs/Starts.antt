@@ -1,4 +1,4 @@
--- The starts that were worked out by hand. Two of them meet each premise.
+-- The starts that were worked out by hand. Two of them meet all premises of a start.
 use Rattle.tc_loop.proofs.Names.{Action, All, Arrive, Bool, ChannelState, Frame, Hear, Idle, IsAllowed, IsLawfulWithin, IsLoop, IsNumbered, IsOctets, IsOther, IsStart, IsWhole, KeepOrder, List, NamesAnother, None, NoneSetsWithin, Other, QueueSetting, Release, Send, Some, Take, [], arith, around, begun, clcw_within, drop, era, era_before, events, false, header_of, inl, inr, journal, known, acknowledged, by_bd, known_since, learnt_by_9, nat_lt, nat_tests, no_limits, octets-append, octets-cons, passed_on, plain_start, receiver, refl, run_within, session_before, set_by, slice_get, smallest, some_of_first, subst, suc, take, trap, true, zero, ℕ, ◌%◌, ◌&&◌, ◌+◌, ◌<◌, ◌∷◌, ◌≡◌, ◌≤◌, ◌⊎◌, All-cons, All-nil}
 use Rattle.tc_channel.specs.Examples as example
 use Rattle.tc_loop.proofs.Begun.{smallest-whole}
@@ -68,7 +68,7 @@ allowed-from first low = record {
 pub allowed-2 : IsAllowed (example.buffer_of 2)
 allowed-2 = allowed-from 0 (omega arith)
 
--- this is the action at this moment
+-- A condition that the action of `learnt_by_9` at this moment meets. An event must only be one that `IsStart` allows.
 abbrev IsAt : ℕ → Action → Type 0
 IsAt t (Send j) = ((t ≡ 0) × (j ≡ 0)) ⊎ (((t ≡ 2) × (j ≡ 1)) ⊎ (((t ≡ 5) × (j ≡ 1)) ⊎ ((t ≡ 7) × (j ≡ 2))))
 IsAt t (Arrive j s) = ((t ≡ 1) × (j ≡ 0) × (s ≡ 0)) ⊎ (((t ≡ 4) × (j ≡ 1) × (s ≡ 2)) ⊎ (((t ≡ 8) × (j ≡ 1) × (s ≡ 2)) ⊎ ((t ≡ 9) × (j ≡ 2) × (s ≡ 7))))

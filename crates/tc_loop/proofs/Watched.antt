@@ -10,7 +10,7 @@ here-behind : (room : Bool) → is_here_or_behind (row_at Expected room) ≡ tru
 here-behind true = refl
 here-behind false = refl
 
--- the place of a number that is d above V(R)
+-- the place in a window of 2 K, by the distance d of a number above V(R)
 data Found (window vr ns d : ℕ) : Type 0 where
   at : d ≡ 0 → place_of (2 * window) vr ns ≡ Expected → Found window vr ns d
   over : 0 < d → d < window → place_of (2 * window) vr ns ≡ Ahead → Found window vr ns d

@@ -75,7 +75,8 @@ pub record IsStart (s : Start) : Type 0 where
   -- No other event sets V(R).
   pub others : (t : ℕ) (e : Event) → slice_get s.session t ≡ Some (Other e) → IsOther e × (set_by s.loop.settings (receiver s.loop (take t s.session)) e ≡ None)
 
--- the earlier era as a loop, with its first number, its window and its frames, whether the session sends them or not
+-- The earlier era as a loop. Its sender numbers its frames from `first` on, and `window` is the width of its window.
+-- `frames` has a frame for each index, also for those that the session never sends.
 abbrev pub era_before : Start → ℕ → ℕ → (ℕ → List ℕ) → Loop
 era_before s first window frames = record s.loop { first = first; window = window; frames = frames }
 

@@ -24,7 +24,8 @@ pub fn frames_of_a_loop_come_in_their_time()
         → ComesFromWithin l.limits l.settings l.before (events l session) l.first (sent l) }
 {}
 
-/// A loop accepts the data fields that were sent: each once, in order, and none left out.
+/// Data field i that a loop accepts is the data field of the sender's frame i. The loop thus accepts each data field at
+/// most once, and in order, and leaves none out between those that it accepts.
 pub fn a_loop_accepts_what_was_sent_once_and_in_order()
     ensures { (l : Loop) (session : List Action) → IsLoop l session
         → (i : ℕ) (a : Accepted) → slice_get (accepted_since_within l.limits l.settings l.before (journal l session)) i ≡ Some a
@@ -41,13 +42,13 @@ pub fn a_loop_passes_on_what_was_sent_in_order()
 {}
 
 /// At each moment, each frame that the sender of a loop takes for accepted is accepted. Each accepted frame was sent.
-/// At most K frames were sent beyond those that the sender takes for accepted.
+/// At most K frames were sent beyond those that the sender takes for accepted, where K is the width of its window.
 pub fn a_sender_knows_what_is_accepted()
     ensures { (l : Loop) (session : List Action) (t : ℕ) → IsLoop l session → IsKnownSo l session t }
 {}
 
-/// If the sender's window is no wider than half the receiver's, no frame of a loop lies outside the receiver's window.
-/// A receiver that isn't locked out at first is never locked out.
+/// If the sender's window is no wider than half the receiver's, no frame that arrives in a loop lies outside the
+/// receiver's window. A receiver that isn't locked out at first is never locked out.
 pub fn a_loop_is_never_locked_out()
     ensures place { (l : Loop) (session : List Action) (t i s : ℕ) → IsLoop l session → l.window ≤ l.settings.width / 2
         → slice_get session t ≡ Some (Arrive i s)
@@ -149,11 +150,12 @@ pub fn report_values_are_read_so()
     ensures widest { heard 0 255 255 254 ≡ 510 }
 {}
 
-/// FARM-1 in a channel with a window of 2 K can track a sender with a window of K frames. Let f be the first frame that
-/// the sender doesn't know to be accepted. If V(R) is the number of f, a frame is expected or in the positive part of
-/// the window if and only if the sender may send it (`sends`). If V(R) is an N(R) that the sender reads, f is expected
-/// or in the negative part of the window if and only if N(R) is within the sender's window (`hears`). The sender then
-/// knows the frames before N(R) to be accepted (`known`).
+/// FARM-1 in a channel with a window of 2 K can track a sender with a window of K frames, if K is 1 to 127. Let f be the
+/// first frame that the sender doesn't know to be accepted. Suppose that V(R) is the number of f. Then each of the 256
+/// frames from f on is expected or in the positive part of the window if and only if the sender may send it (`sends`). If
+/// V(R) is an N(R) that the sender reads, f is expected or in the negative part of the window if and only if N(R) is
+/// within the sender's window (`hears`). In this case the sender then knows the frames before N(R) to be accepted, and
+/// otherwise it learns nothing (`known`).
 pub fn a_window_twice_as_wide_shows_a_sender()
     ensures sends { (window first known index : ℕ) (room : Bool) → 1 ≤ window → window ≤ 127 → known ≤ index → index < known + 256
         → IsTrue (is_here_or_ahead (event_at window ((first + known) % 256) ((first + index) % 256) room)) ↔ (index < known + window) }
