@@ -65,7 +65,7 @@ near-both mode last frame octets rest fault n =
     ∙ near-taken mode most_octets (filled frame) [] n.blocks (end ++ rest) n.near (let fits = filled-fits frame fault in omega arith)
     ∙ tail-ends mode most_octets (filled frame) n.tail n.end rest (filled-some frame some) n.long n.rejected
 
--- a CLTU can carry octets of this length
+-- a CLTU can carry 1 to 1,029 octets
 no-fault : (octets : List ℕ) → 1 ≤ length octets → length octets ≤ most_octets → cltu_fault_of octets ≡ None
 no-fault octets least most = grind (arith, nat_tests)
 
@@ -77,7 +77,7 @@ enclosed-alike : (field : Bool) (one other : List ℕ) → IsWhole one → IsWho
 enclosed-alike true one other w v same = frame_with_field-alike one other w v same
 enclosed-alike false one other w v same = same
 
--- one input brings about only one list of events
+-- Each part of the receiver's work on an input has only one result, so one input brings about only one list of events.
 taken-alike : (several : Bool) (carried : List ℕ) (one other : List (List ℕ)) → AreTakenOut several carried one → AreTakenOut several carried other → one ≡ other
 taken-alike true carried one other a b = (only-frames (length carried) carried a.0 b.0 one other a.1 b.1).0
 taken-alike false carried one other (inl a) (inl b) =
@@ -148,7 +148,7 @@ well-come end last frames octets w =
     let one : AreBrought end.several end.field (filled all ∷ []) frames = (xs, frames, [], taken, all-passed end.field frames w.whole, sym (append-nil frames), refl) in
     (ap (λ (s : Step). s.0) now, (frames, subst (λ cs. AreBrought end.several end.field cs frames) (sym (ap (λ (s : Step). s.1) now)) one, refl))
 
--- octets that have the same effect as lost octets in another state are lost, too
+-- octets are lost if their effect on the decoder is the same as the effect of other octets that are lost
 lost-alike : (end : LinkEnd) (last o : ℕ) (octets os : List ℕ) (later : ℕ) → Both end.mode most_octets (Searching last) octets ≡ Both end.mode most_octets (Searching o) os → IsLost end o os later → IsLost end last octets later
 lost-alike end last o octets os later same is = (
   (is.0.0, subst (λ cs. AreBrought end.several end.field cs is.0.0) (sym (ap (λ (s : Step). s.1) same)) is.0.1, is.0.2),

@@ -1,4 +1,4 @@
--- The packets that data fields make for an application, and the units that they make of a chosen MAP.
+-- The packets that data fields make for an application, and the units that they make on a chosen MAP.
 use Rattle.tc_ends.proofs.Names.{Ad, AreAllPackets, AreMerged, Bd, Bool, CarrySent, HasMapsByHeaders, List, None, OnStream, Option, PacketsSent, Passed, Service, Settings, Some, [], all_joined, all_made, ap, append-nil, append_assoc, arith, as_list, cond, eqb, false, filter, filter-append, flat_map, flat_map-append, is_chosen_by, is_chosen_map, is_for, is_from, is_in, is_same_stream, joined_on, map, map-append, map_in, packet_on, packets_ended, packets_for, packets_made, packets_of, packets_offered, packets_sent_on, packets_to, refl, same_map, same_service, stream_unit, subst, sym, true, unit_made, unless_chosen, ℕ, ◌&&◌, ◌++◌, ◌∙◌, ◌∷◌, ◌≡◌, cases_Bool, inl, inr}
 use Rattle.tc_ends.proofs.Segmented.{Makes}
 use Rattle.tc_ends.proofs.Cut.{cut-of-joined}
@@ -111,11 +111,11 @@ made-merged limits s apid before ps on free is = record {
   each = λ service map_id. came-each limits s apid service map_id (is_chosen_map s map_id) free refl before ps ∙ is service map_id;
 }
 
--- the packets of a list, with the one of `t` in front if the test is true
+-- the packets of the list `kept`, with the packet of `t` in front of them if the test is true
 abbrev of_test : (t : OnStream) (kept : List OnStream) → Bool → List (List ℕ)
 of_test t kept b = map packet_on (cond b (t ∷ kept) kept)
 
--- if no packet came on another stream, all packets came on one
+-- if no packet came on another stream, all packets came on this one
 all-kept : (service : Service) (map_id : ℕ) (came : List OnStream) → ((other : Service) (id : ℕ) → is_same_stream service map_id other id ≡ false → map packet_on (filter (is_from other id) came) ≡ [])
     → filter (is_from service map_id) came ≡ came
 all-kept service map_id [] none = refl

@@ -24,7 +24,7 @@ part-there map size unit fields xs ys y s parts =
     let there : get_or fields (length xs) [] ≡ y = ap (λ (z : List (List ℕ)). get_or z (length xs) []) parts ∙ get_or_at xs y ys [] (length xs) refl in
     ap (λ (z : List ℕ). (header_of z).part) (sym there) ∙ ap (λ (h : Segment). h.part) (s.each (length xs) (omega (arith, ap length parts ∙ length-append xs (y ∷ ys)))).0
 
--- the statement of tc_write's law
+-- the statement of the law `the_segments_of_a_unit_make_the_unit` of tc_write
 abbrev pub Makes : Type 0
 Makes = (map size : ℕ) (unit : List ℕ) (fields : List (List ℕ)) → 1 ≤ size → 1 ≤ length unit → length unit ≤ 65542 → AreSegments map size unit fields → MakeUnit fields unit
 

@@ -6,7 +6,7 @@ use Rattle.tc_ends.proofs.Streams.{headed-carried, stream_unit_by, units-carried
 use Rattle.tc_ends.proofs.Chosen.{units-on}
 use Rattle.tc_ends.proofs.Made.{cut-all, made-append, made-merged}
 
--- the data fields on the Type-AD stream of a MAP are those of the MAP among all fields that Type-AD passed on
+-- the data fields on the Type-AD stream of a MAP are the fields of this MAP among all Type-AD fields that were passed on
 stream-of-ad : (b : Bool) (m : ℕ) (ps : List Passed) → stream_in b Ad m ps ≡ on_map b m (fields_passed Ad ps)
 stream-of-ad b m [] = refl
 stream-of-ad b m (p ∷ ps) = by p.service refl (eqb (map_in b p.field) m) refl (stream-of-ad b m ps) where
@@ -68,8 +68,8 @@ pub ad-fields : (limits : ℕ → ℕ) (s : Settings) (journal before later : Li
 ad-fields limits s journal before later x sent lawful era comes =
     behind-fields (length (run_within limits s before).accepted) (run_within limits s journal).passed ∙ passed-as-sent limits s journal before later x sent lawful era comes
 
--- on each stream, the fields that were passed on and those that are still to come are together the fields that were
--- sent
+-- on each Type-AD stream, the fields that were passed on and then the fields that are still to come are the fields that
+-- were sent on its MAP
 stream-sent : (b : Bool) (sent : ℕ → List ℕ) (r n : ℕ) (passed : List Passed) → fields_passed Ad passed ≡ sent_from sent 0 r → r ≤ n → (id : ℕ)
     → stream_in b Ad id (passed ++ by_ad (sent_from sent r (n - r))) ≡ on_map b id (sent_from sent 0 n)
 stream-sent b sent r n passed fields less id =
@@ -136,8 +136,8 @@ module _ (limits : ℕ → ℕ) (s : Settings) (journal before : List Event) (se
           ap (λ (x : List (List ℕ)). unless_chosen s id (packets_for apid x))
           (made-append (stream_unit limits s Bd id) old new rest ∙ ap (λ (x : List (List ℕ)). bd ++ x) (none-by-bd s.segmented limits s id (sent_from sent (released_since limits s before journal) (n - released_since limits s before journal)) (old ++ new)) ∙ append-nil bd)
 
-  -- the units of a chosen MAP that were taken are units that earlier fields made, and then units that were sent on the
-  -- MAP
+  -- The units of a chosen MAP that were taken are, in order, units that earlier fields made, and then units that were sent
+  -- on the MAP. Some may be left out. The condition is that no Type-BD field of the era makes a unit of this MAP.
   pub units-of-sent : Makes → (later : List Event) (x : ℕ) (units : List (List ℕ)) (map_id : ℕ) (q : Queue)
       → IsLawfulWithin limits s journal → IsEraWithin limits s journal before later x → ComesFromWithin limits s before later x sent
       → s.segmented ≡ true → is_chosen_map s map_id ≡ true → CarryUnits true map_id units (on_map true map_id (sent_from sent 0 n)) → AllByRecursion (IsSendable limits true map_id) units

@@ -67,7 +67,7 @@ AreBrought several field (carried ∷ candidates) frames =
     (taken : List (List ℕ)) × (own : List (List ℕ)) × (later : List (List ℕ)) × AreTakenOut several carried taken × ArePassed field taken own × (frames ≡ own ++ later)
     × AreBrought several field candidates later
 
--- an input of a receiver at a moment: octets of its link, or a release or a take
+-- an input of a receiver at a moment: octets of its link, or another event, such as a release or a take
 pub data Coming : Type 0 where
   Octets : List ℕ → Coming
   Asks : Event → Coming
@@ -114,7 +114,7 @@ abbrev pub all_enclosed : Bool → List (List ℕ) → List ℕ
 all_enclosed field frames = concat (map (enclosed field) frames)
 
 -- The octets carry these frames well. They are a CLTU with few wrong bits, in which the frames stand one after the
--- other.
+-- other. There is only one frame if the receiver takes only one out of a CLTU.
 pub record CarriesWell (end : LinkEnd) (last : ℕ) (frames : List (List ℕ)) (octets : List ℕ) : Type 0 where
   pub whole : AllByRecursion IsWhole frames
   pub fitting : AllByRecursion IsWhole (map (enclosed end.field) frames)
@@ -123,13 +123,14 @@ pub record CarriesWell (end : LinkEnd) (last : ℕ) (frames : List (List ℕ)) (
   pub few : length (all_enclosed end.field frames) ≤ most_octets
   pub near : IsNearCltu end.mode last (all_enclosed end.field frames) octets
 
--- These octets bring nothing to a receiver that searches, and it searches again after them. They are idle octets, or a
--- CLTU that is refused. The search remembers the last octet that came, which is `last` before these octets and `later`
+-- These octets bring nothing to a receiver that searches, and it searches again after them. Examples are idle octets, and
+-- a CLTU that is refused. The search remembers the last octet that came, which is `last` before these octets and `later`
 -- after them.
 abbrev pub IsLost : LinkEnd → ℕ → List ℕ → ℕ → Type 0
 IsLost end last octets later = AreEventsAt end (Searching last) (Octets octets) [] × (state_after end.mode most_octets (Searching last) octets ≡ Searching later)
 
--- The input carries these events. Octets carry all of them well, or there are no events and the octets are lost.
+-- The input carries these events. Octets carry frames well, and the events are these frames. Or octets are lost, and
+-- there are no events. An input that isn't octets is the only event itself.
 abbrev pub IsCarriedOrLost : LinkEnd → ℕ → List Event → Coming → ℕ → Type 0
 IsCarriedOrLost end last events (Octets octets) later =
     ((events ≡ []) × IsLost end last octets later) ⊎ ((frames : List (List ℕ)) × (events ≡ map Frame frames) × CarriesWell end last frames octets × (later ≡ 0))

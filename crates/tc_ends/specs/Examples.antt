@@ -51,7 +51,7 @@ of_both = enclosing (0x00 ∷ 0x2b ∷ 0x04 ∷ 0x0e ∷ 0x09 ∷ 0xc0 ∷ 0x10 
 abbrev pub of_nothing : List ℕ
 of_nothing = start_sequence ++ 0x33 ∷ 0x2a ∷ 0x04 ∷ 0x09 ∷ 0x00 ∷ 0x82 ∷ 0x00 ∷ 0xda ∷ []
 
--- the octets of Set V(R) with a wrong frame error control field, and the CLTU that carries them
+-- the octets of Set V(R) with a wrong frame error control field, which the CLTU of the next definition carries
 abbrev pub with_wrong_field : List ℕ
 with_wrong_field = 0x30 ∷ 0x2a ∷ 0x04 ∷ 0x09 ∷ 0x00 ∷ 0x82 ∷ 0x00 ∷ 0x09 ∷ 0x80 ∷ 0x95 ∷ []
 
@@ -63,7 +63,7 @@ of_wrong = enclosing (0x30 ∷ 0x2a ∷ 0x04 ∷ 0x09 ∷ 0x00 ∷ 0x82 ∷ 0x00
 abbrev pub correcting : LinkEnd
 correcting = record { mode = Correct; several = true; field = true }
 
--- the inputs: the frames in CLTUs, idle octets in front of the first one, and two CLTUs that are refused
+-- the inputs: idle octets, the frames in CLTUs, between them two CLTUs that are refused, and then two releases and a take
 abbrev pub in_cltus : List Coming
 in_cltus =
     Octets (idle 2) ∷ Octets of_before ∷ Octets of_set_v_r ∷ Octets of_nothing ∷ Octets of_wrong ∷ Octets of_set_v_r ∷ Octets of_both
