@@ -24,7 +24,7 @@ settings-given station operators closed place channel settings together out here
     let same : Some settings ≡ Some channel.settings = sym here ∙ (given-out station operators closed place channel together out).0 in
     cc
 
--- a statement about limits, settings and a journal also holds for those of the channel
+-- if a channel has these settings and this journal, and no limits, a statement about them holds for the channel
 pub of-channel : (P : (ℕ → ℕ) → Settings → List Event → Type 0) (limits : ℕ → ℕ) (settings : Settings) (events : List Event) (channel : History)
     → limits ≡ no_limits → settings ≡ channel.settings → channel.journal ≡ events → P limits settings events → P no_limits channel.settings channel.journal
 of-channel P limits settings events channel free same is h =

@@ -90,7 +90,7 @@ abbrev pub AreAnsweredOn : List Answered → Linked → Linked → Type 0
 AreAnsweredOn [] old new = new ≡ old
 AreAnsweredOn (d ∷ done) old new = (mid : Linked) × IsAnsweredOn d.operation old d.answer mid × AreAnsweredOn done mid new
 
--- all operations together leave the channel at its place, as its own operations alone do
+-- after all operations, the channel is still at its place, in the state in which its own operations alone leave it
 abbrev pub IsSeen : List Answered → Racked → ℕ → ℕ → Linked → Type 0
 IsSeen done new vcid p c = (last : Linked) × IsChannelAt new.channels vcid p last × AreAnsweredOn (filter (is_own vcid) done) c last
 
@@ -122,7 +122,8 @@ determined-all alone (d ∷ one) (f ∷ other) old x y p q e =
     let rest = determined-all alone one other q.0 x y (subst (λ (m : Linked). AreAnsweredOn one m x) s.1 p.2) q.2 more in
     ((λ i. record { operation = operation i; answer = s.0 i } ∷ rest.0 i), rest.1)
 
--- if two lists have the same operations on a channel, they give the same answers and the same channel
+-- if two lists have the same operations on a channel that is the same at first, these operations have the same answers,
+-- and the channel is the same in the end
 pub both-seen : IsOneAtMost → (vcid : ℕ) (one other : List Answered) (a after b behind : Racked) (channel : Linked) → AreChannelsApart a.channels → AreChannelsApart b.channels
     → IsOf a vcid (λ c. c ≡ channel) → IsOf b vcid (λ c. c ≡ channel) → ArePerformed one a after → ArePerformed other b behind
     → map operation_of (filter (is_own vcid) one) ≡ map operation_of (filter (is_own vcid) other)

@@ -106,7 +106,7 @@ bad-alike receiver line reason none (inr (inr (said, is, (passed, passes, bad)))
     let alike : passed ≡ said = subst (λ (c : FrameCheck). IsPassed c said passed) none passes in
     inr (inr (said, is, subst (λ (l : Line). IsBad (phase_of receiver.stage) (instruction_of l) reason) alike bad))
 
--- the text is the report of the channels, at least one of which was set up
+-- the text is the report of the script's channels, in some order
 abbrev IsReport : ℕ → Progress → List ℕ → Type 0
 IsReport scid progress text = (channels : List History) × IsPermutation (histories (rack_for scid progress)) channels × IsReportOf channels text
 

@@ -48,7 +48,7 @@ abbrev pub with_answer : Operation → Option Answer → List Answered
 with_answer operation None = []
 with_answer operation (Some answer) = record { operation = operation; answer = answer } ∷ []
 
--- the operation of a line with the line's answer, or none if the line is blank or sets something up
+-- the operation of a line with the line's answer, or none if the line has no answer, is blank or sets something up
 abbrev pub operation_in : Line → Option Answer → List Answered
 operation_in (asks.Frame octets) answer = with_answer (Frame octets) answer
 operation_in (asks.Release vcid) answer = with_answer (Release vcid) answer

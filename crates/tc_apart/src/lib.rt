@@ -3,9 +3,10 @@
 //! ([`channels_of_a_script_do_not_touch_each_other`]), and about the channels that the close of a station returns
 //! ([`channels_of_a_station_do_not_touch_each_other`]).
 //!
-//! Another law leads from a sender's packets to the packets that are taken, over any threads:
-//! [`a_station_gives_out_what_a_loop_sent`]. The last law states that a session carries out a script as `tcrx run`
-//! does: [`a_session_does_a_script_as_tcrx_does`].
+//! Three more laws are about programs and threads. [`a_station_gives_out_what_a_loop_sent`] covers the way from a
+//! sender's packets to the packets that are taken, through a station at which any threads work.
+//! [`a_session_does_a_script_as_tcrx_does`] states that a session carries out a script as `tcrx run` does.
+//! [`tcmake_writes_numbered_frames`] is about the frames that `tcmake` writes for a sender's units.
 #![tactic(auto)]
 
 mod laws;

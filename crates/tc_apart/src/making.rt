@@ -1,4 +1,4 @@
-//! A law that leads from a sender's packets to the frames that tcmake writes.
+//! A law about the frames that tcmake writes for a sender's packets.
 
 ghost use Rattle.std.specs.Prelude.{Bool, List, ℕ, [], ◌∷◌, ◌≡◌, ◌<◌, ◌⊎◌, Option, true, false, codes};
 ghost use Rattle.tc_lines.specs.Answering.{Writes, lines_of};

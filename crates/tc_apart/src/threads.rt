@@ -1,4 +1,5 @@
-//! A law that leads from a sender's packets to the packets that are taken, over any threads.
+//! A law about the way from a sender's packets to the packets that are taken, through a station at which any threads
+//! work.
 
 ghost use Rattle.std.specs.Prelude.{List, ℕ, ◌++◌, ◌≡◌, length, slice_get, Some};
 ghost use Rattle.std.specs.List.{AllByRecursion};
@@ -24,7 +25,8 @@ use tc_write::the_segments_of_a_unit_make_the_unit;
 /// (tc_station) relates the journal of each channel that the close returns to their calls. This law supposes that the
 /// journal is that of a session of a loop. A loop's links keep order, and the threads are part of the link.
 ///
-/// - `passed`: The Type-AD data fields of the era that were released are those that were sent, each once and in order.
+/// - `passed`: The Type-AD data fields of the era that were released are the first that were sent, each once and in
+///   order.
 /// - `given`: The packets that were taken are those that `packets_that_are_sent_are_given` (tc_ends) promises for the
 ///   packets that the sender sent.
 /// - `in_cltus`: This also holds for the whole way: from a ground system's packets, across the start of an era and in
