@@ -61,7 +61,7 @@ none-below Holds layer s = absurd (omega (arith, s.2))
 pub more-below : (Holds : Report → Type 0) (i : ℕ) (layer : List Bool) → SomeBelow Holds i layer → SomeBelow Holds (i + 1) layer
 more-below Holds i layer s = (s.0, s.1, omega (arith, s.2), s.3)
 
--- the components whose flag is at a place
+-- if the flag at place i is set, its components are the only further ones below place i + 1
 pub one-below : (Holds : Report → Type 0) (i : ℕ) (layer : List Bool) (x : Report) → place_in_layer x ≡ i → IsShown x → x.vr < 256 → IsTrue (slice_index_or layer i false)
     → (SomeBelow Holds i layer ⊎ Holds x) ↔ SomeBelow Holds (i + 1) layer
 one-below Holds i layer x at f v flag = (there, back) where
@@ -77,7 +77,7 @@ one-below Holds i layer x at f v flag = (there, back) where
         let e : place_in_layer s.0 ≡ i = omega (arith, s.2, ge) in
         inr (subst Holds (same-place s.0 x s.1.shown f s.1.number v (e ∙ sym at)) s.3)
 
--- no components have their flag at a place
+-- if the flag at place i isn't set, there are no further components below place i + 1
 pub not-below : (Holds : Report → Type 0) (i : ℕ) (layer : List Bool) → slice_index_or layer i false ≡ false → SomeBelow Holds (i + 1) layer → SomeBelow Holds i layer
 not-below Holds i layer off s = by (cases_lt (place_in_layer s.0) i) where
   by : (place_in_layer s.0 < i) ⊎ (i ≤ place_in_layer s.0) → SomeBelow Holds i layer

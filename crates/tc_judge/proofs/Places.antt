@@ -1,4 +1,4 @@
--- The judge's way along the frames sent.
+-- The judge's walk along the frames on their way.
 use Rattle.std.specs.Prelude.{◌≡◌, ℕ, zero, suc, ◌<◌, ◌≤◌, ◌⊎◌, ◌↔◌, Bool, false, IsTrue, List, [], ◌∷◌, ◌++◌, drop, slice_get, length, slice_index_or}
 use Rattle.std.proofs.Common.{subst, sym, refl, inl, inr, ap, ◌∙◌, arith, ◌+◌}
 use Rattle.std.proofs.Math.Seq.{get_or-append_seam}

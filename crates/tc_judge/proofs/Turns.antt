@@ -1,4 +1,4 @@
--- A turn of the judge: from the frames that a unit may not have dealt with to one fewer.
+-- A turn of the judge, which goes one frame further along the frames on their way.
 use Rattle.std.specs.Prelude.{◌≡◌, ◌⊎◌, ◌↔◌, Bool, IsTrue, Option, List, [], ◌∷◌, Some, None, drop, slice_get}
 use Rattle.std.proofs.Common.{subst, sym, refl, inl, inr, ap, ◌∙◌}
 use Rattle.tc_judge.specs.declared.account.Rules.{Rules}
@@ -11,7 +11,7 @@ use Rattle.tc_judge.specs.declared.account.Item.TheVariants.{Heard}
 use Rattle.tc_judge.specs.Layer.{Has, IsEmpty, SomeOf, IsLayer, Goes, IsTurn}
 use Rattle.tc_judge.proofs.Onward.{step-on, end-on, step-back, next-held, free-twice}
 
--- the layer with the components that the last CLCW showed
+-- the layer with the components that the last CLCW showed, and those after a release, if `here` is true
 abbrev pub IsJoined : Report → Bool → List Bool → List Bool → Type 0
 IsJoined now here layer joined = (y : Report) → Has joined y ↔ (Has layer y ⊎ (IsTrue here × ((y ≡ now) ⊎ (y ≡ after E10 now))))
 

@@ -33,7 +33,7 @@ alike {X = X} {Z = Z} {P = P} {Q = Q} f g = (λ z. there (f.0 z), back) where
   back (inl x) = f.1 (inl x)
   back (inr q) = f.1 (inr (g.1 q))
 
--- `y` is one of these components, or one of them after a release
+-- `y` are the components `new`, or those after a release
 abbrev pub Near : Report → Report → Type 0
 Near y new = (y ≡ new) ⊎ (y ≡ after E10 new)
 
@@ -44,7 +44,7 @@ cases : (b : Bool) → (b ≡ true) ⊎ (b ≡ false)
 cases true = inl refl
 cases false = inr refl
 
--- what a frame makes of components, by the four ways that the code tries
+-- the components that a frame can make of `r` are those that the code finds in four ways
 pub made-parts : (rules : Rules) (k : SentFrame) (r y : Report) (stays f t o : Option Report)
     → ((rules.lossy ≡ true) × (stays ≡ Some r)) ⊎ ((rules.lossy ≡ false) × (stays ≡ None))
     → f ≡ usual rules.window k false r → t ≡ usual rules.window k true r

@@ -49,13 +49,14 @@ abbrev pub Goes : Rules → Option SentFrame → List Bool → List Bool → Typ
 Goes rules None layer next = IsEmpty next
 Goes rules (Some frame) layer next = IsNext rules frame layer next
 
--- One step along the frames on their way. Let `way` be those from here on. The CLCW is made here (`Is`), or after the
--- next frame, exactly if it can follow from the layer, or from the components `now` if the unit may be here with these.
+-- One step along the frames on their way, of which `way` are those from here on. Two statements about the next CLCW are
+-- equivalent. The first one is that the unit makes it here (`Is`), or later, from components of the layer `next` after
+-- the next frame. The second one is that it follows from components of this layer, or from `now` if `here` is true.
 abbrev pub IsTurn : Rules → Report → Report → Bool → List Bool → Type 0 → List Bool → List SentFrame → List Item → Type 0
 IsTurn rules now shown here layer Is next way items =
     ((Is × Explains rules way shown items) ⊎ SomeOf (λ y. Explains rules (drop 1 way) y (Heard shown ∷ items)) next)
     ↔ (SomeOf (λ r. Explains rules way r (Heard shown ∷ items)) layer ⊎ (IsTrue here × Explains rules way now (Heard shown ∷ items)))
 
--- the frames from some place on, whose mark is set, have a property
+-- for some mark that is set, the frames from its place on have a property
 abbrev pub SomeAt : (List SentFrame → Type 0) → List Bool → List SentFrame → Type 0
 SomeAt Holds marks way = (k : ℕ) × (k < length marks) × IsTrue (slice_index_or marks k false) × Holds (drop k way)

@@ -11,18 +11,18 @@ use Rattle.tc_link.specs.declared.farm.State.TheVariants.{S1, S2, S3}
 use Rattle.tc_judge.specs.declared.account.SentFrame.{SentFrame}
 use Rattle.tc_judge.specs.declared.account.SentFrame.TheVariants.{Known, OtherCommand}
 
--- A data field is neither Unlock nor Set V(R), whole or malformed. Its first octet isn't theirs (CCSDS 232.0-B,
--- 4.1.3.3).
+-- The flag that is set if a data field has a first octet, and this octet begins neither an Unlock nor a Set V(R) (CCSDS
+-- 232.0-B, 4.1.3.3).
 abbrev pub is_other_command : List ℕ → Bool
 is_other_command [] = false
 is_other_command (a ∷ rest) = if a == 0 || a == 0x82 then false else true
 
--- a frame as a unit takes it whose check sum is right, by its two flags and its data field
+-- a frame with a right check sum, as a unit takes it, by the frame's two flags and its data field
 abbrev pub taken_by : Bool → Bool → Header → List ℕ → SentFrame
 taken_by true true header field = if is_other_command field then OtherCommand else Known (kind_of header field)
 taken_by _ _ header field = Known (kind_of header field)
 
--- a frame as a unit takes it, whose check sum is right (`intact`) or wrong
+-- a frame as a unit takes it, given the flag that is set if the frame's check sum is right
 abbrev pub as_taken : Bool → List ℕ → SentFrame
 as_taken false frame = Known Invalid
 as_taken true frame = taken_by (header_of frame).bypass (header_of frame).control (header_of frame) (drop 5 frame)

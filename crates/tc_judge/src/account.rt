@@ -7,10 +7,10 @@ use tc_link::{Kind, Report, Window};
 pub struct Rules {
     /// The window of the unit's FARM-1.
     pub window: Window,
-    /// Whether frames may be lost on their way. Otherwise each frame that was sent comes to the unit.
+    /// True if frames may be lost on their way. Otherwise each frame that was sent comes to the unit.
     pub lossy: bool,
-    /// Whether the unit must fill each cell of FARM-1's table as this project does. Otherwise it may also take the other
-    /// entry of a cell, where there is one.
+    /// True if the unit must fill each cell of FARM-1's table as this project does. Otherwise it may also take the other
+    /// entry of a cell, if there is one.
     pub profile: bool,
 }
 
@@ -18,8 +18,8 @@ pub struct Rules {
 #[derive(Clone, Copy, Debug, PartialEq, Eq)]
 pub enum SentFrame {
     Known(Kind),
-    /// A Type-BC frame whose control command is neither Unlock nor Set V(R), nor begins as one of them. By this
-    /// project's profile it is an invalid frame. Another unit may count it.
+    /// A Type-BC frame whose data field begins neither as an Unlock nor as a Set V(R). By this project's profile it is an
+    /// invalid frame. Another unit may count it in the FARM-B counter.
     OtherCommand,
 }
 

@@ -19,20 +19,20 @@ use tc_link::Report;
 /// The verdict of a judge on a CLCW that was heard.
 #[derive(Clone, Copy, Debug, PartialEq, Eq)]
 pub enum Verdict {
-    /// A history of the unit explains it together with everything that was noted before.
+    /// A history of the unit explains the CLCW together with everything that was noted before.
     Possible,
-    /// No history does: the unit isn't right, or something was noted wrongly.
+    /// No history explains it. The unit isn't right, or something was noted wrongly.
     Impossible,
-    /// More frames were on their way than the judge has room for, so it can't say.
+    /// More frames were on their way than the judge has room for, so that nothing is known of the CLCW.
     Unknown,
 }
 
-/// A judge of one virtual channel of a unit. It takes note of frames that are sent and of CLCWs that are heard, and says
+/// A judge of one virtual channel of a unit. Frames that are sent and CLCWs that are heard are noted in it, and it finds
 /// whether a history of a right unit explains them.
 ///
-/// A contract sees what the judge knows of the unit: the components that the last CLCW showed, the frames that the unit
-/// may not have dealt with, and where among these it may have made that CLCW. Memory is requested only when a judge is
-/// created.
+/// Contracts are about the judge's knowledge of the unit. It consists of the components that the last CLCW showed, the
+/// frames that the unit may not have dealt with, and the places among these frames at which the unit may have made that
+/// CLCW. Memory is requested only when a judge is created.
 #[derive(Debug, Drop)]
 pub struct Judge {
     rules: Rules,
@@ -70,7 +70,8 @@ impl Judge {
     /// Creates a judge of a unit that has these components, and to which no frame is on its way. It has room for `most`
     /// frames on their way.
     ///
-    /// This allocates two layers of 8,192 bytes each, and room for `most` frames with two marks each.
+    /// This allocates two layers of 8,192 bytes each, room for `most` frames, and two lists of `most` + 1 marks. It fails
+    /// if there is too little memory.
     pub fn new(alloc: Global, rules: Rules, first: Report, most: usize) -> Result<Judge, AllocError>
         requires { IsShown first }
         ensures allows { IfOk result (λ j. (items : List Item) → Allows j items ↔ Explains rules [] first items) }
@@ -108,8 +109,8 @@ impl Judge {
         self.marks.push_reserved(false);
     }
 
-    /// Notes that a CLCW was heard, which showed these components, and returns whether a history of the unit explains it
-    /// together with everything that was noted before. Unless one does, nothing is noted.
+    /// Notes that a CLCW was heard, which showed these components. Returns the verdict on it, together with everything that
+    /// was noted before. Unless the verdict is `Possible`, the CLCW isn't noted.
     pub fn heard(&mut self, shown: Report) -> Verdict
         ensures unknown { (result ≡ Verdict.Unknown) ↔ (self.old.overrun ≡ true) }
         ensures possible { result ≡ Verdict.Possible → (items : List Item) → Allows self.new items ↔ Allows self.old (Heard shown ∷ items) }
@@ -168,7 +169,7 @@ impl Judge {
     }
 }
 
-// Returns one mark that is set, with room for as many more as there may be frames on their way.
+// Returns a list of one mark, which is set, with room for `most` more.
 fn room_for_marks(alloc: Global, most: usize) -> Result<Vec<bool>, AllocError>
     ensures mark { IfOk result (λ marks. marks.items ≡ true ∷ []) }
     ensures room { IfOk result (λ marks. most + 1 ≤ vec_capacity marks) }
@@ -180,7 +181,8 @@ fn room_for_marks(alloc: Global, most: usize) -> Result<Vec<bool>, AllocError>
 }
 
 /// Returns whether a history of a unit that has the components `first`, and to which no frame is on its way, explains a
-/// whole account.
+/// whole account. This allocates a judge with room for as many frames as the account has items. It fails if there is too
+/// little memory.
 pub fn is_possible(
     alloc: Global,
     rules: Rules,
@@ -216,7 +218,7 @@ fn any(marks: &[bool]) -> bool
     false
 }
 
-// Drops the frames that the unit has certainly dealt with.
+// Drops the frames that the unit has certainly dealt with, and the marks in front of them.
 fn trim(way: &mut Vec<SentFrame>, marks: &mut Vec<bool>)
     requires { length marks.old.items ≡ length way.old.items + 1 }
     ensures marks { length marks.new.items ≡ length way.new.items + 1 }

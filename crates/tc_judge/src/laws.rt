@@ -22,14 +22,14 @@ pub fn a_frame_that_is_sent_is_on_its_way()
         → Explains rules way r (Sent frame ∷ items) ↔ Explains rules (way ++ frame ∷ []) r items }
 {}
 
-/// If no frame is on its way to a unit, the next CLCW shows the components that the unit has, with or without a release.
+/// If no frame is on its way to a unit, and a CLCW is noted next, it shows the unit's components or those after a release.
 pub fn only_a_release_changes_a_unit_to_which_nothing_is_on_its_way()
     ensures { (rules : Rules) (r shown : Report) (items : List Item) → Explains rules [] r (Heard shown ∷ items)
         → (shown ≡ r) ⊎ (shown ≡ after E10 r) }
 {}
 
-/// If the flags of a unit show its state at first, those of each CLCW do. Lockout is set exactly in S3, and Wait
-/// without Lockout exactly in S2.
+/// If the flags of a unit show its state, the flags that the next CLCW shows belong to its state, too (`components`).
+/// Lockout is then set exactly in S3 (`lockout`), and Wait without Lockout exactly in S2 (`wait`).
 pub fn a_clcw_shows_the_state()
     ensures components { (rules : Rules) (way : List SentFrame) (r shown : Report) (items : List Item) → IsShown r
         → Explains rules way r (Heard shown ∷ items) → IsShown shown }
@@ -42,8 +42,8 @@ pub fn a_clcw_reads_as_the_components()
     ensures { (r : Report) (vcid : ℕ) (link : Link) → IsShown r → vcid < 64 → r.vr < 256 → shown (fields_of (word_of r vcid link)) ≡ r }
 {}
 
-/// An account that has a history remains one that has, if frames may be lost, or if the unit may take the other entry
-/// of a cell.
+/// If a history explains an account, one still does if frames may be lost (`lossy`), or if the unit may take the other
+/// entry of a cell (`profile`).
 pub fn milder_rules_explain_more()
     ensures lossy { (rules : Rules) (way : List SentFrame) (r : Report) (items : List Item) → Explains rules way r items
         → Explains (record rules { lossy = true }) way r items }

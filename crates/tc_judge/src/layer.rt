@@ -1,6 +1,6 @@
 //! Layers: the components that a unit may have at one place among the frames on their way.
 //!
-//! A layer has a flag for each of the 8,192 components that a CLCW can show.
+//! A layer has a flag for each of the 8,192 different components that a CLCW can show.
 
 ghost use Rattle.std.specs.Prelude.{◌≡◌, ◌<◌, ◌⊎◌, ◌↔◌, IsTrue, IfSome, Some, length};
 ghost use Rattle.tc_link.specs.declared.farm.Report.{Report};
@@ -12,7 +12,8 @@ use crate::reading::{is_shown, shown_state};
 use crate::step::freed;
 use tc_link::Report;
 
-/// The number of components that a CLCW can show: 256 values of V(R), 4 of the counter, and 3 flags.
+/// The number of different components that a CLCW can show, which are one of 256 values of V(R), one of 4 values of the
+/// FARM-B counter, and three flags.
 pub const COMPONENTS: usize = 8192;
 
 /// Returns whether a layer has these components.
@@ -34,8 +35,8 @@ pub fn clear(layer: &mut [bool])
     layer.fill(false);
 }
 
-/// Adds the components that the last CLCW showed to a layer, and those after a release, if the unit may have made that
-/// CLCW here.
+/// Adds the components `now` to a layer, and those after a release, if `here` is true. The last CLCW showed `now`, and
+/// `here` is true if the unit may have made this CLCW at the layer's place.
 pub fn join(layer: &mut [bool], here: bool, now: Report)
     requires len { length layer.old ≡ 8192 }
     requires shown { IsShown now }
@@ -47,7 +48,7 @@ pub fn join(layer: &mut [bool], here: bool, now: Report)
     }
 }
 
-/// Adds components, if there are some, and those after a release.
+/// Adds components to a layer, if there are some, and those after a release.
 pub fn add_some(layer: &mut [bool], x: Option<Report>)
     requires len { length layer.old ≡ 8192 }
     requires shown { IfSome x (λ y. IsShown y) }

@@ -1,8 +1,8 @@
-//! A judge of receivers: of units that somebody else built, and that must answer frames as FARM-1 does.
+//! A judge of receivers, which are units that somebody else built and that must answer frames as FARM-1 does.
 //!
-//! A test bench notes each frame that it sends to a unit and each CLCW that it hears. A [`Judge`] says of each CLCW
-//! whether a history of a right unit explains it, together with everything that was noted before. [`is_possible`] judges
-//! a whole account. [`read_sent`] and [`read_heard`] read the items of an account from octets.
+//! A test bench notes each frame that it sends to a unit and each CLCW that it hears. For each CLCW, [`Judge::heard`]
+//! returns whether a history of a right unit explains it, together with everything that was noted before.
+//! [`is_possible`] judges a whole account. [`read_sent`] and [`read_heard`] read the items of an account from octets.
 //!
 //! Laws over the definitions stand as contracts of functions with empty bodies:
 //! [`a_frame_that_is_sent_is_on_its_way`], [`only_a_release_changes_a_unit_to_which_nothing_is_on_its_way`],

@@ -9,11 +9,11 @@ use crate::account::SentFrame;
 use tc_link::{Frame, Kind, Report, State, kind, read_clcw, read_frame};
 
 /// Reads the frame at the front of octets that are sent, as the unit of this spacecraft and virtual channel takes it.
-/// Returns `None` if the octets don't begin with a frame, or if the frame is for another spacecraft or channel. Then
-/// nothing is noted.
+/// Returns `None` if the octets don't begin with a frame, or if the frame is for another spacecraft or channel. Then there
+/// is nothing to note.
 ///
-/// `intact` says whether the frame's check sum is right. If frames on this link have a check sum, pass a frame whose sum
-/// is right without its sum, and with `true`. If they have none, pass `true`. Nothing is allocated.
+/// `intact` is false if the frame has a wrong check sum, which makes it an invalid frame. If the sum is right, pass the
+/// frame without its sum, and `true`. If frames on this link have no check sum, pass `true`. Nothing is allocated.
 pub fn read_sent(octets: &[u8], scid: u16, vcid: u8, intact: bool) -> Option<SentFrame>
     ensures sent { IfSome result (λ sent. (frame : List ℕ) × IsFor octets.now frame scid vcid × (sent ≡ as_taken intact frame)) }
     ensures none { IfNone result ((frame : List ℕ) → IsFor octets.now frame scid vcid → ⊥) }
@@ -51,9 +51,9 @@ fn is_other_command(field: &[u8]) -> bool
 }
 
 /// Reads the components that a CLCW shows. Returns `None` if the word isn't a CLCW of COP-1 for this virtual channel.
-/// Then nothing is noted.
+/// Then there is nothing to note.
 ///
-/// Lockout is set exactly in S3, and Wait without Lockout exactly in S2. Nothing is allocated.
+/// The state is S3 if Lockout is set, S2 if Wait is set and Lockout isn't, and otherwise S1. Nothing is allocated.
 pub fn read_heard(word: u32, vcid: u8) -> Option<Report>
     ensures variant { IsSome result ↔ (IsClcw word × ((fields_of word).vcid ≡ vcid)) }
     ensures report { IfSome result (λ r. r ≡ shown (fields_of word)) }

@@ -22,11 +22,11 @@ pub struct Layers {
     pub next: Vec<bool>,
 }
 
-/// Writes, for each place among the frames on their way, whether the unit may have made a CLCW there that shows the
-/// components `shown`. At a place, the unit has dealt with the frames before it.
+/// Writes a mark to `found` for each place among the frames on their way. The mark is set if the unit may have made a
+/// CLCW there that shows the components `shown`. At a place, the unit has dealt with the frames before it.
 ///
 /// `now` are the components that the last CLCW showed, `way` are the frames on their way, and `marks` are the places
-/// at which the unit may have made that CLCW. `found` has room for as many marks. Nothing is allocated.
+/// at which the unit may have made the last CLCW. `found` has room for as many marks. Nothing is allocated.
 pub fn hear(
     rules: &Rules,
     now: Report,
@@ -140,7 +140,8 @@ fn advance(rules: &Rules, frame: SentFrame, layer: &[bool], next: &mut [bool])
     }
 }
 
-// Adds everything that a frame can make of components.
+// Adds all components that the components `r` can become by a frame, or by a frame and a release after it. If frames may
+// be lost, `r` can also stay.
 fn deal(rules: &Rules, frame: SentFrame, r: Report, layer: &mut [bool])
     requires shown { IsShown r }
     requires len { length layer.old ≡ 8192 }

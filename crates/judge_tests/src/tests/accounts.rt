@@ -18,11 +18,12 @@ const RIGHT: &str =
     002a040505aa 01041805 002a040505aa 01041805 01040805 002a040505aa 01040006 01040006 01040006 01040006 \
     002a040506aa 01040007 302a040700820007 01040207 002a040507aa 01040208";
 
-// An account of a wrong unit: the first items of `RIGHT`, and then these, of which only the last is impossible.
+// An account of a wrong unit: the first `right` items of `RIGHT`, and then the items `then`, of which only the last is
+// impossible.
 struct Wrong {
     right: usize,
     then: &'static str,
-    // Whether it is impossible even if frames may be lost.
+    // True if the last item is impossible even if frames may be lost.
     lossy: bool,
 }
 
@@ -131,7 +132,7 @@ fn judge(
     made
 }
 
-// Notes an item. The verdict on a frame is `Possible`.
+// Notes an item, and returns the verdict on it, which is `Possible` for a frame.
 fn note(rt: &impl Abort, judge: &mut Judge, item: &str) -> Verdict {
     match item.len() {
         8 => {
@@ -158,7 +159,7 @@ fn send(rt: &impl Abort, judge: &mut Judge, octets: &[u8]) -> Verdict {
     Verdict::Possible
 }
 
-// Notes items until one isn't possible, and returns the last verdict.
+// Notes at most `most` of the items, until one isn't possible, and returns the last verdict.
 fn noted(rt: &impl Abort, judge: &mut Judge, items: &str, most: usize) -> Verdict {
     for item in items.split(' ').take(most) {
         match note(rt, judge, item) {
@@ -196,8 +197,8 @@ fn units_with_one_fault(rt: HostRuntime) {
     }
 }
 
-// By hand: an Unlock that leaves Retransmit as it is, another control command that is counted, and a Set V(R) in lockout
-// that isn't counted.
+// Accounts that were written by hand. An Unlock leaves Retransmit as it is, another control command is counted, and a
+// Set V(R) in lockout isn't counted.
 const OTHERWISE: [&str; 3] = [
     "002a040501aa 01040800 302a04050000 01040a00",
     "302a04050001 01040200",
