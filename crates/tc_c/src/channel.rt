@@ -30,9 +30,9 @@ pub struct ReplyRecord {
     pub dropped: u32,
     /// The number of FARM-1's event, 1 to 9.
     pub event: u8,
-    /// 1 if the frame was accepted, otherwise 0.
+    /// 1 if the frame's data field was accepted, otherwise 0. It is also 0 for a control command.
     pub accepted: u8,
-    /// 1 if octets were left after the last packet, otherwise 0.
+    /// 1 if octets were left that don't begin with a packet, otherwise 0.
     pub rest: u8,
 }
 
@@ -45,7 +45,7 @@ pub struct DeliveryRecord {
     pub queued: u32,
     /// The number of packets that were dropped, or 1 for a whole unit without room in its queue.
     pub dropped: u32,
-    /// 1 if octets were left after the last packet, otherwise 0.
+    /// 1 if octets were left that don't begin with a packet, otherwise 0.
     pub rest: u8,
 }
 

@@ -43,7 +43,7 @@ pub struct StepAnswer {
     pub farm: FarmRecord,
     /// The number of the event, 1 to 10, or 0 if the call fails.
     pub event: u8,
-    /// 1 if the frame was accepted, otherwise 0.
+    /// 1 if the frame's data field was accepted, otherwise 0. It is also 0 for a control command and for a release.
     pub accepted: u8,
 }
 

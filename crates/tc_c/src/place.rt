@@ -1,4 +1,4 @@
-//! The place of a channel in memory, or the place of no channel.
+//! The place of a channel in memory, or a null pointer if there is no channel.
 
 ghost use Rattle.std.specs.Prelude.{◌≡◌, Option, Some, None, IsSome};
 ghost use Rattle.std.specs.Borrow.{sem};
@@ -11,8 +11,8 @@ use std::ptr;
 use tc_c_base::Parts;
 use tc_fixed::FixedChannel;
 
-/// The place of a channel, or the place of no channel. The code in C only passes it on, and never reads or copies it.
-/// It is dropped only if it has no channel.
+/// The place of a channel, which is a pointer with the allocator of its memory. The pointer is null if there is no
+/// channel. Code in C only passes the place on, and never reads or copies it. It is dropped only if it has no channel.
 #[repr(C)]
 #[derive(Drop)]
 pub struct Place {
@@ -28,7 +28,7 @@ impl Model for Place {
 impl Place {
     ghost use Rattle.tc_c.specs.Lending.{LendsOfPlace};
 
-    /// Creates the place of no channel.
+    /// Creates a place without a channel.
     pub(crate) fn empty(alloc: Global) -> Place
         ensures { result.channel ≡ None }
     {

@@ -32,9 +32,9 @@ pub struct RackReplyRecord {
     pub dropped: u32,
     /// The number of FARM-1's event, 1 to 9.
     pub event: u8,
-    /// 1 if the frame was accepted, otherwise 0.
+    /// 1 if the frame's data field was accepted, otherwise 0. It is also 0 for a control command.
     pub accepted: u8,
-    /// 1 if octets were left after the last packet, otherwise 0.
+    /// 1 if octets were left that don't begin with a packet, otherwise 0.
     pub rest: u8,
     /// The virtual channel id of the channel.
     pub vcid: u8,
@@ -153,7 +153,7 @@ fn answer(seat: &mut Seat, vcid: u8, octets: &[u8]) -> RackReplyRecord
 fn bring(seats: &mut [Seat], scid: u16, octets: &[u8]) -> RackReplyRecord
     ensures answer { IsRackReplied (channels_in seats.old) scid octets.now result (channels_in seats.new) }
 {
-    // `answer` takes in the frame that was located.
+    // By this law, the frame that `answer` takes in is the frame that was located.
     each_input_begins_with_one_frame_at_most();
     match located(seats, scid, octets) {
         Ok((place, vcid)) => answer(&mut seats[place], vcid, octets),

@@ -1,4 +1,4 @@
-//! A seat, which is the part of C's memory that holds a channel.
+//! A seat, which is memory of a C program that can hold a channel.
 
 ghost use Rattle.std.specs.Prelude.{◌≡◌, Some, None, is_some, option_map};
 
@@ -8,7 +8,7 @@ use std::mem::replace;
 use tc_c_base::Parts;
 use tc_fixed::FixedChannel;
 
-/// A channel that C holds, or none. A seat of zeros holds no channel.
+/// A seat in the memory of a C program. It holds one channel or none. A seat of zeros holds no channel.
 #[repr(C)]
 pub struct Seat {
     pub(crate) held: bool,

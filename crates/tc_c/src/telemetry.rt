@@ -65,7 +65,7 @@ pub extern "C" fn tcrx_write_tm_at(
     }
 }
 
-// Returns whether the frame is written with a frame error control field, or the first reason why it can't be written.
+// Returns the error control that the flag `fecf` stands for, or the first reason why the frame can't be written.
 fn allowed(header: TmHeaderRecord, fecf: u8, size: usize) -> Result<ErrorControl, Status>
     ensures error { MatchResult result (λ error. tm_to_write header fecf size ≡ Ok error) (λ fault. tm_to_write header fecf size ≡ Err fault) }
     ensures scid { IfOk result (λ error. header.scid < 1024) }

@@ -1,4 +1,4 @@
-//! The place of a session in memory, or the place of no session.
+//! The place of a session in memory, or a null pointer if there is no session.
 
 ghost use Rattle.std.specs.Prelude.{◌≡◌, Option, Some, None, IsSome};
 ghost use Rattle.std.specs.Borrow.{sem};
@@ -11,8 +11,8 @@ use std::ptr;
 use tc_c_base::Parts;
 use tc_session::Session;
 
-/// The place of a session, or the place of no session. The code in C only passes it on, and never reads or copies it.
-/// It is dropped only if it has no session.
+/// The place of a session, which is a pointer with the allocator of its memory. The pointer is null if there is no
+/// session. Code in C only passes the place on, and never reads or copies it. It is dropped only if it has no session.
 #[repr(C)]
 #[derive(Drop)]
 pub struct Place {
@@ -28,7 +28,7 @@ impl Model for Place {
 impl Place {
     ghost use Rattle.tc_c_lines.specs.Lending.{LendsOfPlace};
 
-    /// Creates the place of no session.
+    /// Creates a place without a session.
     pub(crate) fn empty(alloc: Global) -> Place
         ensures { result.session ≡ None }
     {

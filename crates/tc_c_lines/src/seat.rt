@@ -1,4 +1,4 @@
-//! A seat, which is the part of C's memory that holds a session.
+//! A seat, which is memory of a C program that can hold a session.
 
 ghost use Rattle.std.specs.Prelude.{◌≡◌, Some, None, is_some, option_map};
 
@@ -8,7 +8,7 @@ use std::mem::replace;
 use tc_c_base::Parts;
 use tc_session::Session;
 
-/// A session that C holds, or none. A seat of zeros holds no session.
+/// A seat in the memory of a C program. It holds one session or none. A seat of zeros holds no session.
 #[repr(C)]
 pub struct Seat {
     pub(crate) held: bool,

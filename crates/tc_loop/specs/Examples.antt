@@ -19,7 +19,7 @@ one_lost = Send 0 ∷ Send 1 ∷ Arrive 1 1 ∷ Hear 3 ∷ Send 0 ∷ Arrive 0 4
 abbrev pub with_window : ℕ → Loop
 with_window window = new_loop no_limits (example.buffer_of 300) (λ m. example.link_up) window
 
--- A number of frames, from frame i and moment t on. Each frame is sent, and arrives before the next one is sent.
+-- n frames are sent one by one, from frame i and moment t on. Each frame arrives before the next one is sent.
 abbrev pub one_by_one : ℕ → ℕ → ℕ → List Action
 one_by_one t i zero = []
 one_by_one t i (suc n) = Send i ∷ Arrive i t ∷ one_by_one (t + 2) (i + 1) n
