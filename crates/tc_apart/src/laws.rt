@@ -53,7 +53,7 @@ pub fn channels_do_not_touch_each_other()
 /// the same settings in both, and that the same operations are brought to it in the same order. Then these operations
 /// have the same answers, and the channel is the same in the end, whatever other lines there are for other channels
 /// (`answers`). All operations of the lines are performed on the channels that lines set up before them (`performed`).
-/// Those among them that are on a channel are the ones that the lines have performed there (`has`).
+/// The operations of the lines on one channel, and the channel after them, are as `answers` supposes (`has`).
 pub fn channels_of_a_script_do_not_touch_each_other()
     ensures has { (scid vcid : ℕ) (script rest : List ℕ) (answers : List (Option Answer)) (progress : Progress) (channel : Linked)
         (lines : AreAnswers (IsPerformed scid) script answers progress rest)

@@ -22,8 +22,8 @@ use tc_write::the_segments_of_a_unit_make_the_unit;
 
 /// Suppose that threads work at the channels of a station in any order, each with an operator of its own, and that the
 /// station is then closed together with these operators. `what_calls_answered_stands_in_the_closed_journals`
-/// (tc_station) relates the journal of each channel that the close returns to their calls. This law supposes that the
-/// journal is that of a session of a loop. A loop's links keep order, and the threads are part of the link.
+/// (tc_station) relates the journal of each channel that the close returns to their calls. This law supposes that this
+/// is the journal of a session of a loop. A loop's links keep order, and the threads are part of the link.
 ///
 /// - `passed`: The Type-AD data fields of the era that were released are the first that were sent, each once and in
 ///   order.

@@ -30,9 +30,9 @@ pub(crate) fn put(first: &[u8], second: &[u8], to: &mut [u8]) -> WrittenRecord
 
 /// Writes the text of a status to the front of a buffer, in ASCII, with an octet 0 after it.
 ///
-/// The returned length counts the octet 0. If the buffer is too short, the status is NoRoom, and the length is the one
-/// that is needed. If no status has the number, the status is NoStatus, and the length is 0. In both cases the buffer
-/// stays as it was. Each text fits in 64 octets.
+/// The returned length counts the octet 0. If the buffer is too short, the status is NoRoom, and the length is the
+/// number of octets that are needed. If no status has the number, the status is NoStatus, and the length is 0. In both
+/// cases the buffer stays as it was. Each text fits in 64 octets.
 #[unsafe(no_mangle)]
 pub extern "C" fn tcrx_text_at(number: u32, buffer: &mut [u8]) -> WrittenRecord
     ensures written { IfSome (status_of number)

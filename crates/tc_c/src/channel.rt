@@ -163,8 +163,8 @@ pub fn release_with_steps<C: Tick>(channel: &mut FixedChannel, steps: &mut C) ->
     }
 }
 
-/// Releases the oldest data field from the buffer. If the field completes a unit, the unit is queued: whole if its MAP
-/// is chosen, otherwise as its packets.
+/// Releases the oldest data field from the buffer. If the field completes a unit, the unit is queued if its queues have
+/// room. It is queued whole if its MAP is chosen, otherwise as its packets.
 ///
 /// The call fails with NoChannel if the seat holds no channel, and with Empty if the buffer is empty. The channel then
 /// stays as it was.

@@ -1,4 +1,4 @@
-//! The channels of a spacecraft in the caller's memory, and the search for the one that a frame is for.
+//! The channels of a spacecraft in the caller's memory, and the search for the channel that a frame is for.
 
 ghost use Rattle.std.specs.Prelude.{◌≡◌, ◌<◌, ℕ, List, true, false, length, Some, None, IfSome, IfNone, IfOk, MatchOption, MatchResult, option_map};
 ghost use Rattle.tc_link.specs.Frame.{IsWhole, BeginsWith, header_of, fault_of};
@@ -251,7 +251,7 @@ fn bring_candidate(seats: &mut [Seat], scid: u16, ends: bool, octets: &[u8]) -> 
 }
 
 /// Brings the frame at the front of a candidate to its channel, as [`tcrx_rack_frame_at`] does. A candidate is the
-/// octets that a CLTU carried. The length field says where the frame ends, and the octets after it are fill, or the
+/// octets that a CLTU carried. The length field determines where the frame ends. The octets after it are fill, or the
 /// next frame (frame delimiting and fill removal, and then frame validation: CCSDS 232.0-B).
 ///
 /// The call fails with BadFlag if `fecf` is neither 0 nor 1, then with the first fault of the octets if they begin with

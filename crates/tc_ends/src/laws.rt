@@ -94,10 +94,11 @@ pub fn written_frames_carry_the_segments()
 
 /// This law leads from a sender's packets to the packets that are taken. Suppose that the first n data fields of a
 /// sender carry units of packets in segments, for each MAP in order. On a channel without segment headers, each field
-/// is a unit, and all units are one stream, that of MAP 0. All packets that were ever taken for an application then
-/// come, in order, first from the data fields before the era, and then from a merge. The merge consists of the packets
-/// that were sent on each MAP and those that Type-BD brought. If the era is the whole journal, there are no data fields
-/// before it (`start`). Some packets may be left out, such as those dropped at a full queue (`given`).
+/// is a unit, and all units are one stream, on MAP 0. All packets that were ever taken for an application then come, in
+/// order, first from the data fields before the era, and then from a merge. The merge consists of the packets that were
+/// sent on each MAP that isn't chosen, and the packets that Type-BD data of the era make. If the era is the whole
+/// journal, there are no data fields before it (`start`). Some packets may be left out, such as packets dropped at a
+/// full queue (`given`).
 pub fn packets_that_are_sent_are_given()
     ensures start { (limits : ℕ → ℕ) (s : Settings) (journal : List Event) → passed_before limits s [] journal ≡ [] }
     ensures given { (limits : ℕ → ℕ) (s : Settings) (journal before later : List Event) (x : ℕ) (sent : ℕ → List ℕ) (apid n : ℕ)
@@ -182,7 +183,7 @@ pub fn a_link_may_lose_this()
         → AreBrought end.several end.field (filled carried ∷ []) [] → IsLost end last octets 0 }
 {}
 
-/// This law covers the whole way, from a ground system's packets to the packets that are taken. The sender is that of
+/// This law covers the whole way, from a ground system's packets to the packets that are taken. The sender sends as in
 /// [`packets_from_a_start_are_given`]. Its frames come in CLTUs, as octets in which any bits may be flipped, over links
 /// that keep order. Suppose that error detection lets no altered frame through. Detection uses the parity of the code
 /// blocks, the frame's length and, if frames have one, the frame error control field. A frame that is refused is lost,

@@ -88,13 +88,13 @@ action_before s (Hear m) = Hear m
 action_before s (Other e) = Other e
 action_before s Idle = Idle
 
--- the session up to the moment at which Set V(R) was obeyed
+-- the session before the moment `obeyed`, as a session of the earlier loop
 abbrev pub session_before : Start → List Action
 session_before s = map (action_before s) (take s.obeyed s.session)
 
--- Set V(R) is first sent at moment `asked`. Consider the numbers of the earlier frames, from the first one that the
--- sender doesn't know to be accepted at that moment to the one after the last one that it sent. Set V(R) names none of
--- these numbers.
+-- `asked` stands for the moment at which Set V(R) is first sent. Consider the numbers of the earlier frames, from the
+-- first one that the sender doesn't know to be accepted at that moment to the one after the last one that it sent. Set
+-- V(R) names none of these numbers.
 abbrev pub NamesAnother : Start → ℕ → ℕ → (ℕ → List ℕ) → ℕ → Type 0
 NamesAnother s first window frames asked =
     (a : ℕ) → known (era_before s first window frames) (session_before s) asked ≤ a → a ≤ begun (session_before s) s.obeyed → (first + a) % 256 ≢ s.loop.first
