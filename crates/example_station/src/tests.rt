@@ -2,8 +2,8 @@ use super::*;
 
 // The fields of the CLCW from bit 0 on, each with its width in bits and its value. They are control word type 0,
 // version 0, status field 0, COP-1 in effect, virtual channel 1, two spare bits, No RF Available, No Bit Lock, Lockout,
-// Wait, Retransmit, the FARM-B counter, and then a spare bit and the report value as one entry. The report value is V(R)
-// after the frame with N(S) 0 (CCSDS 232.0-B, the communications link control word).
+// Wait, Retransmit, the FARM-B counter, and then a spare bit and the report value as one entry. The report value is
+// V(R) after the frame with N(S) 0 (CCSDS 232.0-B, the communications link control word).
 const FIELDS: [(u32, u32); 13] = [
     (1, 0),
     (2, 0),

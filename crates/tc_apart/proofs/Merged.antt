@@ -67,8 +67,8 @@ all-alike (e ∷ es) (f ∷ fs) go back =
     let same : f ≡ e = cc in
     rw same (ap (λ (xs : List Event). e ∷ xs) (all-alike es fs (λ n g h. go (suc n) g h) (λ n g h. back (suc n) g h)))
 
--- if a channel of one station has the settings of a channel of another station, and the operators made the same events on
--- both, at the same places, the closes return the same channel
+-- if a channel of one station has the settings of a channel of another station, and the operators made the same events
+-- on both, at the same places, the closes return the same channel
 pub same-channel : (station other : Roster) (operators others : List AtStation) (closed shut : List History) (place at : ℕ) (one two : History)
     → AreClosedTogether station operators closed → AreClosedTogether other others shut → slice_get closed place ≡ Some one → slice_get shut at ≡ Some two
     → slice_get (settings_in station) place ≡ slice_get (settings_in other) at

@@ -24,8 +24,8 @@ use tc_link::each_input_begins_with_one_frame_at_most;
 /// Suppose that two lists of operations are performed, each on channels of its own. Suppose also that the channel with
 /// this id is the same in both at first, and that the same operations are brought to it in the same order. Then these
 /// operations have the same answers, and the channel is the same in the end, whatever is done on other channels in
-/// between (`answers`). A frame counts as brought to the channel that answered it, and any other operation to the channel
-/// that it names (`own`). Neither counts as brought to another channel (`other`).
+/// between (`answers`). A frame counts as brought to the channel that answered it, and any other operation to the
+/// channel that it names (`own`). Neither counts as brought to another channel (`other`).
 pub fn channels_do_not_touch_each_other()
     ensures own { (answer : Answer) (octets : List ℕ) (reply : FrameReply)
         → (is_on 1 (Operation.Frame octets) (Answer.Frame 1 reply) ≡ true) × (is_on 1 (Operation.Release 1) answer ≡ true)

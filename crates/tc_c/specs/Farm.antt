@@ -79,8 +79,8 @@ farm_of kept =
 abbrev pub first_farm : ℕ → ℕ → Result Machine Status
 first_farm width first = if is_width width then Ok (record { width = width; report = first_report first }) else Err BadWidth
 
--- The arrival with this number, or `BadArrival` if there is none. `value` is the N(S) of an AD frame, or the new V(R) of
--- a Set V(R).
+-- The arrival with this number, or `BadArrival` if there is none. `value` is the N(S) of an AD frame, or the new V(R)
+-- of a Set V(R).
 abbrev pub arrival_by : ℕ → ℕ → Bool → Result Arrival Status
 arrival_by number value room =
     if number == 1 then Ok (Frame (Ad value) room)

@@ -54,8 +54,8 @@ tm_read_status reading.Version = st.Version
 tm_read_status reading.NoControl = st.NoControl
 tm_read_status reading.WrongSum = st.WrongFecf
 
--- the given choice, if a frame with this header and `size` octets can be written with it, or the first reason why no such
--- frame can be written
+-- the given choice, if a frame with this header and `size` octets can be written with it, or the first reason why no
+-- such frame can be written
 abbrev pub tm_allowed : TmHeaderRecord → ℕ → ErrorControl → Result ErrorControl Status
 tm_allowed header size error = elim (tm_fault_of error header.scid header.vcid size) [ None ↦ Ok error | Some fault ↦ Err (tm_write_status fault) ]
 

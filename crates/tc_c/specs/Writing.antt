@@ -32,8 +32,9 @@ packet_allowed field header =
 abbrev pub packet_to_write : PacketHeaderRecord → List ℕ → Result PacketHeader Status
 packet_to_write header field = with_ok (packet_header_in header) (packet_allowed field)
 
--- The header of the frame that carries the segment at a place of a unit, or the first reason why there is no such frame.
--- The header of the unit's first frame is given. It can't be a Type-C frame, because such a frame has no segment header.
+-- The header of the frame that carries the segment at a place of a unit, or the first reason why there is no such
+-- frame. The header of the unit's first frame is given. It can't be a Type-C frame, because such a frame has no segment
+-- header.
 abbrev pub segment_allowed : ℕ → ℕ → ℕ → List ℕ → Header → Result Header Status
 segment_allowed map size place unit header =
     if header.control || (nat_lt 1023 header.scid || nat_lt 63 header.vcid) then Err BadField

@@ -282,8 +282,8 @@ fn take_octet(mode: Mode, decoder: DecoderRecord, octet: u8, frame: &mut [u8]) -
     }
 }
 
-// Returns the mode in which the decoder takes code blocks, or the first fault of the record and of the buffer, which has
-// `room` octets.
+// Returns the mode in which the decoder takes code blocks, or the first fault of the record and of the buffer, which
+// has `room` octets.
 fn read_decoder(decoder: DecoderRecord, room: usize) -> Result<Mode, Status>
     ensures mode { MatchResult result (λ mode. decoder_given decoder room ≡ Ok mode) (λ fault. decoder_given decoder room ≡ Err fault) }
     ensures count { IfOk result (λ mode. decoder.count < 8) }
@@ -436,8 +436,8 @@ fn take_blocks(mode: Mode, before: u16, octets: &[u8], frame: &mut [u8]) -> Acce
 }
 
 // Takes the code block at the front of the octets, and returns how many of its bits were corrected, 0 or 1. Returns
-// `None` if no whole code block is there, if the block is rejected, or if it would bring the carried octets to more than
-// 1,029. Then the buffer stays as it was.
+// `None` if no whole code block is there, if the block is rejected, or if it would bring the carried octets to more
+// than 1,029. Then the buffer stays as it was.
 #[inline(always)]
 fn accept_block(mode: Mode, carried: usize, octets: &[u8], frame: &mut [u8]) -> Option<u64>
     requires room { decoder_room ≤ length frame.old }

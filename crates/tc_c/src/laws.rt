@@ -101,8 +101,8 @@ pub fn statuses_have_these_numbers()
 {}
 
 /// A record in S2 or S3 with Wait but without Retransmit is refused, because no FARM-1 has it. FARM-1 sets both flags
-/// when it has no room for the expected frame. While Wait is set, only an Unlock or a Set V(R) clears Retransmit, and it
-/// clears Wait as well. A frame outside the window leads from S2 to S3, with both flags as they were.
+/// when it has no room for the expected frame. While Wait is set, only an Unlock or a Set V(R) clears Retransmit, and
+/// it clears Wait as well. A frame outside the window leads from S2 to S3, with both flags as they were.
 pub fn no_farm_waits_without_retransmit()
     ensures wait { farm_of (record { width = 10; state = 2; vr = 0; farm_b = 0; lockout = 0; wait = 1; retransmit = 0 }) ≡ Err st.FlagsDisagree }
     ensures lockout { farm_of (record { width = 10; state = 3; vr = 0; farm_b = 0; lockout = 1; wait = 1; retransmit = 0 }) ≡ Err st.FlagsDisagree }

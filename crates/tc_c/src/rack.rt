@@ -108,8 +108,8 @@ fn place_of(seats: &mut [Seat], vcid: u8) -> Option<usize>
     None
 }
 
-// Finds the channel that the frame at the front of the octets is for. Returns the channel's place and its virtual channel
-// id, or the first reason why the octets are for none of the channels.
+// Finds the channel that the frame at the front of the octets is for. Returns the channel's place and its virtual
+// channel id, or the first reason why the octets are for none of the channels.
 fn located(seats: &mut [Seat], scid: u16, octets: &[u8]) -> Result<(usize, u8), LocateFault>
     ensures located { MatchResult result (λ found. (frame : List ℕ) × (h : LimitedHistory)
         × IsLocatedAmong (channels_in seats.old) scid octets.now found.0 frame h × ((header_of frame).vcid ≡ found.1))

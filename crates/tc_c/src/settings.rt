@@ -75,8 +75,8 @@ pub(crate) fn checked<'a>(
     }
 }
 
-/// Returns the settings that the records stand for, if a channel can be created from them within these limits, otherwise
-/// the first reason why none can.
+/// Returns the settings that the records stand for, if a channel can be created from them within these limits,
+/// otherwise the first reason why none can.
 pub(crate) fn checked_within<'a>(
     given: SettingsRecord,
     queues: &'a [QueueSetting],
@@ -183,8 +183,8 @@ pub extern "C" fn tcrx_channel_new_at(
 }
 
 /// Creates a channel with these settings within limits by MAP, in a seat that holds no channel. All memory that it ever
-/// has is requested here: as many bytes as `tcrx_storage_with_limits_at` returns, the channel's own block, and a copy of
-/// each list and of the limits. A unit with more octets than its MAP's limit is dropped when it ends, and no reply
+/// has is requested here: as many bytes as `tcrx_storage_with_limits_at` returns, the channel's own block, and a copy
+/// of each list and of the limits. A unit with more octets than its MAP's limit is dropped when it ends, and no reply
 /// reports that.
 ///
 /// The call fails as `tcrx_channel_new_at` does. The faults of the limits come after those of the settings, and each

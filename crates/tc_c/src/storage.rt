@@ -15,8 +15,8 @@ use tc_c_base::Status;
 use tc_channel::{MapSetting, QueueSetting};
 use tc_fixed::{LentLimits, MapLimit, storage_of_lent, storage_with_lent};
 
-// Returns the bytes of storage for the settings that the records stand for, at most 2^64 - 1, or the first reason why no
-// channel can be created from them.
+// Returns the bytes of storage for the settings that the records stand for, at most 2^64 - 1, or the first reason why
+// no channel can be created from them.
 fn storage(
     given: SettingsRecord,
     queues: &[QueueSetting],
@@ -47,9 +47,9 @@ fn limited_storage(
     Ok(storage_with_lent(checked_within(given, queues, maps, limits)?, limits))
 }
 
-/// Returns the number of bytes that `tcrx_channel_new_at` requests for these settings, or 2^64 - 1 if they are more than
-/// that. The channel's own block and the copies of both lists aren't counted. No other call of the channel requests
-/// memory.
+/// Returns the number of bytes that `tcrx_channel_new_at` requests for these settings, or 2^64 - 1 if they are more
+/// than that. The channel's own block and the copies of both lists aren't counted. No other call of the channel
+/// requests memory.
 ///
 /// The call fails with BadFlag for a flag that is neither 0 nor 1, and with the status of the first fault of the
 /// settings. If it fails, the count is 0. The call requests no memory.

@@ -5,11 +5,11 @@ use Rattle.tc_c_base.specs.declared.status.Status.{Status}
 use Rattle.tc_c_base.specs.declared.status.Status.TheVariants.{Done, NoRoom}
 use Rattle.tc_c_base.specs.declared.buffer.WrittenRecord.{WrittenRecord}
 
--- the record of a call that wrote no octets and has this status, which isn't `NoRoom`
+-- the record of a call that wrote no octets, with this status and the length 0
 abbrev pub no_octets : Status → WrittenRecord
 no_octets fault = record { status = code_of fault; length = 0 }
 
--- the record for a buffer that is too short, because `needed` octets are needed
+-- the record of a call whose buffer is too short, because the call needs room for `needed` octets
 abbrev pub too_short : ℕ → WrittenRecord
 too_short needed = record { status = code_of NoRoom; length = needed }
 

@@ -15,7 +15,7 @@ pub struct WrittenRecord {
     pub length: usize,
 }
 
-/// Returns the record of a call that wrote no octets and has this status, which isn't NoRoom.
+/// Returns the record of a call that wrote no octets, with this status and the length 0.
 pub fn not_written(fault: Status) -> WrittenRecord
     ensures { result ≡ no_octets fault }
 {
@@ -35,7 +35,7 @@ pub fn written(length: usize) -> WrittenRecord
     }
 }
 
-/// Returns the record of a call whose buffer is too short, because it needs `needed` octets.
+/// Returns the record of a call whose buffer is too short, because the call needs room for `needed` octets.
 pub fn no_room(needed: usize) -> WrittenRecord
     ensures { result ≡ too_short needed }
 {

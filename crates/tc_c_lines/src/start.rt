@@ -55,8 +55,8 @@ pub(crate) fn script(alloc: Global, scid: u16) -> Result<Engine, Status>
     }
 }
 
-/// Returns the engine that answers as `tcmake` does. Fails with BadFlag if the flag is neither 0 nor 1, and with NoMemory
-/// if memory runs out.
+/// Returns the engine that answers as `tcmake` does. Fails with BadFlag if the flag is neither 0 nor 1, and with
+/// NoMemory if memory runs out.
 pub(crate) fn maker(alloc: Global, fecf: u8) -> Result<Engine, Status>
     ensures { IsMade (maker_start fecf) result }
 {

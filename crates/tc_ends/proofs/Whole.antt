@@ -6,7 +6,8 @@ use Rattle.tc_ends.proofs.Streams.{headed-carried, stream_unit_by, units-carried
 use Rattle.tc_ends.proofs.Chosen.{units-on}
 use Rattle.tc_ends.proofs.Made.{cut-all, made-append, made-merged}
 
--- the data fields on the Type-AD stream of a MAP are the fields of this MAP among all Type-AD fields that were passed on
+-- the data fields on the Type-AD stream of a MAP are the fields of this MAP among all Type-AD fields that were passed
+-- on
 stream-of-ad : (b : Bool) (m : ℕ) (ps : List Passed) → stream_in b Ad m ps ≡ on_map b m (fields_passed Ad ps)
 stream-of-ad b m [] = refl
 stream-of-ad b m (p ∷ ps) = by p.service refl (eqb (map_in b p.field) m) refl (stream-of-ad b m ps) where
@@ -136,8 +137,8 @@ module _ (limits : ℕ → ℕ) (s : Settings) (journal before : List Event) (se
           ap (λ (x : List (List ℕ)). unless_chosen s id (packets_for apid x))
           (made-append (stream_unit limits s Bd id) old new rest ∙ ap (λ (x : List (List ℕ)). bd ++ x) (none-by-bd s.segmented limits s id (sent_from sent (released_since limits s before journal) (n - released_since limits s before journal)) (old ++ new)) ∙ append-nil bd)
 
-  -- The units of a chosen MAP that were taken are, in order, units that earlier fields made, and then units that were sent
-  -- on the MAP. Some may be left out. The condition is that no Type-BD field of the era makes a unit of this MAP.
+  -- The units of a chosen MAP that were taken are, in order, units that earlier fields made, and then units that were
+  -- sent on the MAP. Some may be left out. The condition is that no Type-BD field of the era makes a unit of this MAP.
   pub units-of-sent : Makes → (later : List Event) (x : ℕ) (units : List (List ℕ)) (map_id : ℕ) (q : Queue)
       → IsLawfulWithin limits s journal → IsEraWithin limits s journal before later x → ComesFromWithin limits s before later x sent
       → s.segmented ≡ true → is_chosen_map s map_id ≡ true → CarryUnits true map_id units (on_map true map_id (sent_from sent 0 n)) → AllByRecursion (IsSendable limits true map_id) units

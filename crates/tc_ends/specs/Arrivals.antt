@@ -123,9 +123,9 @@ pub record CarriesWell (end : LinkEnd) (last : ℕ) (frames : List (List ℕ)) (
   pub few : length (all_enclosed end.field frames) ≤ most_octets
   pub near : IsNearCltu end.mode last (all_enclosed end.field frames) octets
 
--- These octets bring nothing to a receiver that searches, and it searches again after them. Examples are idle octets, and
--- a CLTU that is refused. The search remembers the last octet that came, which is `last` before these octets and `later`
--- after them.
+-- These octets bring nothing to a receiver that searches, and it searches again after them. Examples are idle octets,
+-- and a CLTU that is refused. The search remembers the last octet that came, which is `last` before these octets and
+-- `later` after them.
 abbrev pub IsLost : LinkEnd → ℕ → List ℕ → ℕ → Type 0
 IsLost end last octets later = AreEventsAt end (Searching last) (Octets octets) [] × (state_after end.mode most_octets (Searching last) octets ≡ Searching later)
 

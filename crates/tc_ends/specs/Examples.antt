@@ -63,7 +63,8 @@ of_wrong = enclosing (0x30 ∷ 0x2a ∷ 0x04 ∷ 0x09 ∷ 0x00 ∷ 0x82 ∷ 0x00
 abbrev pub correcting : LinkEnd
 correcting = record { mode = Correct; several = true; field = true }
 
--- the inputs: idle octets, the frames in CLTUs, between them two CLTUs that are refused, and then two releases and a take
+-- the inputs: idle octets, the frames in CLTUs, between them two CLTUs that are refused, and then two releases and a
+-- take
 abbrev pub in_cltus : List Coming
 in_cltus =
     Octets (idle 2) ∷ Octets of_before ∷ Octets of_set_v_r ∷ Octets of_nothing ∷ Octets of_wrong ∷ Octets of_set_v_r ∷ Octets of_both

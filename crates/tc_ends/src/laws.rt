@@ -48,9 +48,9 @@ pub fn joined_packets_are_cut_into_them()
 {}
 
 /// Suppose that a sender sends packets in units, which are divided into segments, or which are whole on a channel
-/// without segment headers, on which no MAP is chosen. Then the packets that the data fields make for an application are
-/// exactly those that were sent for it on MAPs that aren't chosen. The packets of each stream keep their order, whatever
-/// data fields came before, and however the streams are merged.
+/// without segment headers, on which no MAP is chosen. Then the packets that the data fields make for an application
+/// are exactly those that were sent for it on MAPs that aren't chosen. The packets of each stream keep their order,
+/// whatever data fields came before, and however the streams are merged.
 pub fn packets_that_are_sent_are_made()
     ensures { (limits : ℕ → ℕ) (s : Settings) (apid : ℕ) (sent : PacketsSent) (before passed : List Passed) → HasMapsByHeaders s
         → ((service : Service) (map_id : ℕ) → AreAllPackets (sent service map_id)) → CarrySent limits s.segmented (joined_on sent) passed
@@ -77,8 +77,9 @@ pub fn units_that_are_sent_are_made()
     the_segments_of_a_unit_make_the_unit();
 }
 
-/// Suppose that each data field on a channel without segment headers consists of joined packets, and is no longer than a
-/// unit may be. Then the packets that the data fields make for an application are exactly its own among these packets.
+/// Suppose that each data field on a channel without segment headers consists of joined packets, and is no longer than
+/// a unit may be. Then the packets that the data fields make for an application are exactly its own among these
+/// packets.
 pub fn packets_that_are_sent_plainly_are_made()
     ensures { (limits : ℕ → ℕ) (s : Settings) (apid : ℕ) (units : List (List (List ℕ))) (before passed : List Passed)
         → s.segmented ≡ false → s.maps ≡ [] → AreAllPackets units → fields_in_order passed ≡ all_joined units
@@ -130,8 +131,8 @@ pub fn units_that_are_sent_are_given()
 }
 
 /// Suppose that a sender writes its units one after the other, on any MAPs, and that N(S) counts on over all of them.
-/// Then the sender sends the packets of each MAP in order (`sends`). If the frames are of Type-AD, the N(S) of each frame
-/// is the first frame's N(S) plus the frame's place, modulo 256, as a loop requires (`numbers`).
+/// Then the sender sends the packets of each MAP in order (`sends`). If the frames are of Type-AD, the N(S) of each
+/// frame is the first frame's N(S) plus the frame's place, modulo 256, as a loop requires (`numbers`).
 pub fn numbered_frames_send_packets()
     ensures sends { (limits : ℕ → ℕ) (segmented : Bool) (header : Header) (units : List UnitSent) (frames : List (List ℕ))
         (sent : ℕ → List ℕ) → AllByRecursion (CanBeSent limits segmented) units → AreNumbered segmented header units frames
@@ -218,10 +219,11 @@ pub fn a_link_that_idles_and_loses_alters_nothing()
 
 /// A session that was worked out by hand meets all premises of [`packets_in_cltus_are_given`] and of
 /// [`packets_from_a_start_are_given`]. It is the session `learnt_by_9` of tc_loop, with its frames in CLTUs. Three code
-/// blocks have one wrong bit each, which the decoder corrects. Each frame has a frame error control field (`fields`). One
-/// CLTU carries two frames, idle octets come first, and two CLTUs are refused. By the law's conclusion, the fields make all packets that were sent
-/// (`whole`), and none is left out (`all`). The take returned the packet that was sent (`given`). A unit may also hold
-/// two packets, and be sent on the last MAP in segments of one octet (`can_be_in_small_segments`).
+/// blocks have one wrong bit each, which the decoder corrects. Each frame has a frame error control field (`fields`).
+/// One CLTU carries two frames, idle octets come first, and two CLTUs are refused. By the law's conclusion, the fields
+/// make all packets that were sent (`whole`), and none is left out (`all`). The take returned the packet that was sent
+/// (`given`). A unit may also hold two packets, and be sent on the last MAP in segments of one octet
+/// (`can_be_in_small_segments`).
 pub fn all_premises_are_met_at_once()
     ensures begins { IsStart start.learnt_by_9 }
     ensures can_be_sent { AllByRecursion (CanBeSent start.learnt_by_9.loop.limits true) example.one_unit }

@@ -78,8 +78,8 @@ sent-on rules r k way w at a items n we ae =
     (subst (λ ks. SomeAt (λ s. Explains rules s r items) ks (way ++ k ∷ []) ↔ SomeAt (λ s. Explains rules s r (Sent k ∷ items)) at way) (sym ae)
     (after-sent rules r k way at items n))
 
--- after a judge has noted item i of an account, it allows the items after item i if and only if, before that, it allowed
--- the items from item i on
+-- after a judge has noted item i of an account, it allows the items after item i if and only if, before that, it
+-- allowed the items from item i on
 pub on : {E : Type 0} (old new : Knowledge) (account : List Item) (i : ℕ) (d item : Item) → i < length account → slice_index_or account i d ≡ item
     → ((items : List Item) → Allows new items ↔ Allows old (item ∷ items)) → (Allows old (drop i account) ↔ E) → Allows new (drop (i + 1) account) ↔ E
 on {E = E} old new account i d item h is step known = (λ a. known.0 (to (m.0 a)), λ e. m.1 (from (known.1 e))) where

@@ -10,8 +10,8 @@ use Rattle.tc_judge.specs.declared.account.SentFrame.{SentFrame}
 use Rattle.tc_judge.specs.declared.account.SentFrame.TheVariants.{Known, OtherCommand}
 
 -- The other entry of a cell, if there is one. In S2 a frame ahead may set Retransmit. Unlock may leave Retransmit as it
--- is. In S3 the FARM-B counter may stay as it is at a Set V(R). In S3 a release may also leave Wait as it is. This needs
--- no entry here, because the components are then the same as without a release.
+-- is. In S3 the FARM-B counter may stay as it is at a Set V(R). In S3 a release may also leave Wait as it is. This
+-- needs no entry here, because the components are then the same as without a release.
 abbrev pub other_at : Row → State → Report → Option Report
 other_at E3 S2 r = Some (record r { retransmit = true })
 other_at E7 S1 r = Some (counted r)

@@ -7,9 +7,9 @@ use Rattle.tc_judge.specs.declared.account.Rules.{Rules}
 use Rattle.tc_judge.specs.declared.account.SentFrame.{SentFrame}
 use Rattle.tc_judge.specs.declared.account.Item.{Item}
 
--- The components `now` that the last CLCW showed, the frames that the unit may not have dealt with, and marks. If mark k
--- is set, the unit may have made that CLCW when it had dealt with the first k of these frames. There is room for `most`
--- frames. If more were on their way, there was an overrun, and nothing more is known of the unit.
+-- The components `now` that the last CLCW showed, the frames that the unit may not have dealt with, and marks. If mark
+-- k is set, the unit may have made that CLCW when it had dealt with the first k of these frames. There is room for
+-- `most` frames. If more were on their way, there was an overrun, and nothing more is known of the unit.
 pub record Knowledge : Type 0 where
   pub rules : Rules
   pub now : Report

@@ -9,8 +9,8 @@ pub struct Rules {
     pub window: Window,
     /// True if frames may be lost on their way. Otherwise each frame that was sent comes to the unit.
     pub lossy: bool,
-    /// True if the unit must fill each cell of FARM-1's table as this project does. Otherwise it may also take the other
-    /// entry of a cell, if there is one.
+    /// True if the unit must fill each cell of FARM-1's table as this project does. Otherwise it may also take the
+    /// other entry of a cell, if there is one.
     pub profile: bool,
 }
 
@@ -18,8 +18,8 @@ pub struct Rules {
 #[derive(Clone, Copy, Debug, PartialEq, Eq)]
 pub enum SentFrame {
     Known(Kind),
-    /// A Type-BC frame whose data field begins neither as an Unlock nor as a Set V(R). By this project's profile it is an
-    /// invalid frame. Another unit may count it in the FARM-B counter.
+    /// A Type-BC frame whose data field begins neither as an Unlock nor as a Set V(R). By this project's profile it is
+    /// an invalid frame. Another unit may count it in the FARM-B counter.
     OtherCommand,
 }
 

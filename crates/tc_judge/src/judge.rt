@@ -27,8 +27,8 @@ pub enum Verdict {
     Unknown,
 }
 
-/// A judge of one virtual channel of a unit. Frames that are sent and CLCWs that are heard are noted in it, and it finds
-/// whether a history of a right unit explains them.
+/// A judge of one virtual channel of a unit. Frames that are sent and CLCWs that are heard are noted in it, and it
+/// finds whether a history of a right unit explains them.
 ///
 /// Contracts are about the judge's knowledge of the unit. It consists of the components that the last CLCW showed, the
 /// frames that the unit may not have dealt with, and the places among these frames at which the unit may have made that
@@ -70,8 +70,8 @@ impl Judge {
     /// Creates a judge of a unit that has these components, and to which no frame is on its way. It has room for `most`
     /// frames on their way.
     ///
-    /// This allocates two layers of 8,192 bytes each, room for `most` frames, and two lists of `most` + 1 marks. It fails
-    /// if there is too little memory.
+    /// This allocates two layers of 8,192 bytes each, room for `most` frames, and two lists of `most` + 1 marks. It
+    /// fails if there is too little memory.
     pub fn new(alloc: Global, rules: Rules, first: Report, most: usize) -> Result<Judge, AllocError>
         requires { IsShown first }
         ensures allows { IfOk result (λ j. (items : List Item) → Allows j items ↔ Explains rules [] first items) }
@@ -109,8 +109,8 @@ impl Judge {
         self.marks.push_reserved(false);
     }
 
-    /// Notes that a CLCW was heard, which showed these components. Returns the verdict on it, together with everything that
-    /// was noted before. Unless the verdict is `Possible`, the CLCW isn't noted.
+    /// Notes that a CLCW was heard, which showed these components. Returns the verdict on it, together with everything
+    /// that was noted before. Unless the verdict is `Possible`, the CLCW isn't noted.
     pub fn heard(&mut self, shown: Report) -> Verdict
         ensures unknown { (result ≡ Verdict.Unknown) ↔ (self.old.overrun ≡ true) }
         ensures possible { result ≡ Verdict.Possible → (items : List Item) → Allows self.new items ↔ Allows self.old (Heard shown ∷ items) }
@@ -181,8 +181,8 @@ fn room_for_marks(alloc: Global, most: usize) -> Result<Vec<bool>, AllocError>
 }
 
 /// Returns whether a history of a unit that has the components `first`, and to which no frame is on its way, explains a
-/// whole account. This allocates a judge with room for as many frames as the account has items. It fails if there is too
-/// little memory.
+/// whole account. This allocates a judge with room for as many frames as the account has items. It fails if there is
+/// too little memory.
 pub fn is_possible(
     alloc: Global,
     rules: Rules,

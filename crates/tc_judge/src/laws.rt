@@ -22,7 +22,8 @@ pub fn a_frame_that_is_sent_is_on_its_way()
         → Explains rules way r (Sent frame ∷ items) ↔ Explains rules (way ++ frame ∷ []) r items }
 {}
 
-/// If no frame is on its way to a unit, and a CLCW is noted next, it shows the unit's components or those after a release.
+/// If no frame is on its way to a unit, and a CLCW is noted next, it shows the unit's components or those after a
+/// release.
 pub fn only_a_release_changes_a_unit_to_which_nothing_is_on_its_way()
     ensures { (rules : Rules) (r shown : Report) (items : List Item) → Explains rules [] r (Heard shown ∷ items)
         → (shown ≡ r) ⊎ (shown ≡ after E10 r) }

@@ -9,8 +9,8 @@ use crate::account::SentFrame;
 use tc_link::{Frame, Kind, Report, State, kind, read_clcw, read_frame};
 
 /// Reads the frame at the front of octets that are sent, as the unit of this spacecraft and virtual channel takes it.
-/// Returns `None` if the octets don't begin with a frame, or if the frame is for another spacecraft or channel. Then there
-/// is nothing to note.
+/// Returns `None` if the octets don't begin with a frame, or if the frame is for another spacecraft or channel. Then
+/// there is nothing to note.
 ///
 /// `intact` is false if the frame has a wrong check sum, which makes it an invalid frame. If the sum is right, pass the
 /// frame without its sum, and `true`. If frames on this link have no check sum, pass `true`. Nothing is allocated.

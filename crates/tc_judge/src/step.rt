@@ -49,8 +49,8 @@ fn stepped(window: Window, r: Report, kind: Kind, room: bool) -> Report
     farm.report()
 }
 
-/// Returns the components after a frame by the other entry of its cell. Returns `None` if the cell has no other entry, or
-/// if the unit may not take it by the rules.
+/// Returns the components after a frame by the other entry of its cell. Returns `None` if the cell has no other entry,
+/// or if the unit may not take it by the rules.
 pub fn otherwise(rules: &Rules, r: Report, frame: SentFrame) -> Option<Report>
     requires { r.farm_b < 4 }
     ensures profile { rules.now.profile ≡ true → result ≡ None }

@@ -140,8 +140,8 @@ fn advance(rules: &Rules, frame: SentFrame, layer: &[bool], next: &mut [bool])
     }
 }
 
-// Adds all components that the components `r` can become by a frame, or by a frame and a release after it. If frames may
-// be lost, `r` can also stay.
+// Adds all components that the components `r` can become by a frame, or by a frame and a release after it. If frames
+// may be lost, `r` can also stay.
 fn deal(rules: &Rules, frame: SentFrame, r: Report, layer: &mut [bool])
     requires shown { IsShown r }
     requires len { length layer.old ≡ 8192 }

@@ -198,7 +198,8 @@ module _ (s : Start) (k : IsStart s) where
         ∙ sym (clcw-shows s.loop (take m s.session) (s.loop.links m) (subst (λ n. n < 256) (sym here) small) ∙ here)
   ]
 
-  -- in the era's loop, an action changes the known frames only if the sender hears a CLCW at the moment `believed` or later
+  -- in the era's loop, an action changes the known frames only if the sender hears a CLCW at the moment `believed` or
+  -- later
   untaught : (x : Action) (n a : ℕ) → ((m : ℕ) → x ≡ Hear m → n < s.believed) → known_from (era s) (era_session s) a (era_action s n x ∷ []) ≡ a
   untaught (Hear m) n a early = let low = early m refl in grind (arith, nat_tests)
   untaught (Send j) n a early = grind (arith, nat_tests)

@@ -150,12 +150,12 @@ pub fn report_values_are_read_so()
     ensures widest { heard 0 255 255 254 ≡ 510 }
 {}
 
-/// FARM-1 in a channel with a window of 2 K can track a sender with a window of K frames, if K is 1 to 127. Let f be the
-/// first frame that the sender doesn't know to be accepted. Suppose that V(R) is the number of f. Then each of the 256
-/// frames from f on is expected or in the positive part of the window if and only if the sender may send it (`sends`). If
-/// V(R) is an N(R) that the sender reads, f is expected or in the negative part of the window if and only if N(R) is
-/// within the sender's window (`hears`). In this case the sender then knows the frames before N(R) to be accepted, and
-/// otherwise it learns nothing (`known`).
+/// FARM-1 in a channel with a window of 2 K can track a sender with a window of K frames, if K is 1 to 127. Let f be
+/// the first frame that the sender doesn't know to be accepted. Suppose that V(R) is the number of f. Then each of the
+/// 256 frames from f on is expected or in the positive part of the window if and only if the sender may send it
+/// (`sends`). If V(R) is an N(R) that the sender reads, f is expected or in the negative part of the window if and only
+/// if N(R) is within the sender's window (`hears`). In this case the sender then knows the frames before N(R) to be
+/// accepted, and otherwise it learns nothing (`known`).
 pub fn a_window_twice_as_wide_shows_a_sender()
     ensures sends { (window first known index : ℕ) (room : Bool) → 1 ≤ window → window ≤ 127 → known ≤ index → index < known + 256
         → IsTrue (is_here_or_ahead (event_at window ((first + known) % 256) ((first + index) % 256) room)) ↔ (index < known + window) }
