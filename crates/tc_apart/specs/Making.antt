@@ -31,7 +31,7 @@ AskFor segmented stream (u ∷ units) lines =
     (line : List ℕ) × (later : List (List ℕ)) × (lines ≡ line ∷ later) × (maker_line_of (words line) ≡ Ok (order_for segmented stream u))
     × AskFor segmented (record stream { ns = (stream.ns + frames_needed segmented u) % 256 }) units later
 
--- after the lines of some frames, the text has a line with `bad` and the reason
+-- after the lines of some frames, or of none, the text has a line with `bad` and the reason
 pub record HasBadLine (text : List ℕ) : Type 0 where
   pub frames : List (List ℕ)
   pub bad : List ℕ

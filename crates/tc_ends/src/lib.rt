@@ -1,7 +1,8 @@
-//! The whole way from the packets that a sender sends to the packets and units that are taken at the receiver, under the
-//! conditions of `what_was_sent_is_accepted_once_and_in_order` of tc_channel, or in a loop of tc_loop.
+//! Laws about the whole way from the packets that a sender sends to the packets and units that are taken at the
+//! receiver. They hold under the conditions of `what_was_sent_is_accepted_once_and_in_order` of tc_channel, or in a
+//! loop of tc_loop.
 //!
-//! All functions are laws, which do nothing.
+//! All functions are laws, which have an empty body or call other laws.
 #![tactic(auto)]
 
 mod laws;

@@ -44,7 +44,7 @@ cases : (b : Bool) → (b ≡ true) ⊎ (b ≡ false)
 cases true = inl refl
 cases false = inr refl
 
--- the components that a frame can make of `r` are those that the code finds in four ways
+-- the components that a frame can make of `r` are those that the function `deal` finds in four ways
 pub made-parts : (rules : Rules) (k : SentFrame) (r y : Report) (stays f t o : Option Report)
     → ((rules.lossy ≡ true) × (stays ≡ Some r)) ⊎ ((rules.lossy ≡ false) × (stays ≡ None))
     → f ≡ usual rules.window k false r → t ≡ usual rules.window k true r
