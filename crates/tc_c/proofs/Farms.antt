@@ -13,7 +13,7 @@ use Rattle.tc_queues.specs.Settings.{IsAllowed}
 use Rattle.tc_channel.specs.Run.{field_of, HasStep, AreSteps, IsLawfulWithin, step, passed_on, run_from, run_within}
 use Rattle.tc_c.proofs.Records.{wide}
 
--- the statement of this crate's law on steps
+-- the statement of this crate's law `a_step_leaves_a_farm`
 abbrev pub StepsLeaveFarms : Type 0
 StepsLeaveFarms = (farm : Machine) (arrival : Arrival) → IsFarm farm → IsSome (entry (row_of farm.width farm.report.vr arrival) farm.report)
     → IsFarm (left farm arrival)

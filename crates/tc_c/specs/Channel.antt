@@ -23,7 +23,7 @@ use Rattle.tc_c_base.specs.Status.{code_of}
 use Rattle.tc_c.specs.Status.{settings_status, limits_status}
 use Rattle.tc_c.specs.Farm.{with_ok, flag_of}
 
--- the settings that the records stand for
+-- the settings that the records stand for, or `BadFlag` if `segmented` is neither 0 nor 1
 abbrev pub settings_in_records : SettingsRecord → List QueueSetting → List MapSetting → Result Settings Status
 settings_in_records settings queues maps =
     with_ok (flag_of settings.segmented) (λ segmented.

@@ -45,7 +45,7 @@ kind_record kind = record { status = code_of Done; kind = kind_number kind; numb
 abbrev pub no_kind : Status → KindRecord
 no_kind fault = record { status = code_of fault; kind = 0; number = 0 }
 
--- the header that a record stands for
+-- the header that a record stands for, or `BadFlag` if one of the record's flags is neither 0 nor 1
 abbrev pub header_in : HeaderRecord → Result Header Status
 header_in header =
     with_ok (flag_of header.bypass) (λ bypass.

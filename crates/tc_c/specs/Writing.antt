@@ -14,7 +14,7 @@ use Rattle.tc_c.specs.declared.writing.PacketHeaderRecord.{PacketHeaderRecord}
 use Rattle.tc_c.specs.Farm.{with_ok, flag_of}
 use Rattle.tc_c.specs.Frame.{header_in}
 
--- the header that a record stands for
+-- the header that a record stands for, or `BadFlag` if one of the record's flags is neither 0 nor 1
 abbrev pub packet_header_in : PacketHeaderRecord → Result PacketHeader Status
 packet_header_in header =
     with_ok (flag_of header.telecommand) (λ telecommand.

@@ -45,7 +45,8 @@ pub struct DecodedRecord {
     pub corrected: u64,
     /// The number of code blocks that ended in these octets and were rejected, except for tail sequences.
     pub rejected: u64,
-    /// The number of CLTUs that passed 1,029 carried octets within these octets. None of them ends a candidate frame.
+    /// The number of CLTUs that came to carry more than 1,029 octets while these octets were taken. None of them ends a
+    /// candidate frame.
     pub overlong: u64,
 }
 

@@ -1,4 +1,4 @@
--- The components that a CLCW shows.
+-- After each step of a unit, a CLCW can still show its components.
 use Rattle.std.specs.Prelude.{◌≡◌, ◌+◌, ◌%◌, ◌↔◌, Bool, true, false, List, ◌∷◌, Some, unwrap_or}
 use Rattle.std.proofs.Common.{refl, sym, ◌∙◌, subst, inl, inr, arith, ◌<◌}
 use Rattle.tc_judge.specs.declared.account.Rules.{Rules}

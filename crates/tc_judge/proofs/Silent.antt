@@ -1,4 +1,4 @@
--- Histories made of other histories.
+-- Conclusions from a history that explains an account.
 use Rattle.std.specs.Prelude.{◌≡◌, ◌⊎◌, true, false, List, [], ◌∷◌, ◌++◌}
 use Rattle.tc_judge.specs.declared.account.Rules.{Rules}
 use Rattle.tc_judge.specs.declared.account.SentFrame.{SentFrame}
