@@ -42,7 +42,8 @@ fn settings(rt: &impl Abort, alloc: Global, wanted: &Wanted<'_>) -> Settings {
     test_parts::settings(alloc, wanted).expect(rt, "settings")
 }
 
-// Creates a channel with good settings. If memory is refused, that is printed, and the channel is created again.
+// Creates a channel with the wanted settings, which must be allowed. If memory is refused, prints that, and tries once
+// more.
 fn new_channel<C: Form>(
     rt: &(impl Abort + Print),
     alloc: Global,

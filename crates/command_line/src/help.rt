@@ -1,7 +1,7 @@
 //! The texts that help prints besides the commands and options.
 
 /// The version of each program, which is that of the newest numbered heading in CHANGELOG.md. `checks/launcher`
-/// compares all places that name the version.
+/// compares that heading with this version and with those of the C header, the Rust client and the Python client.
 pub(crate) const VERSION: &str = "0.3.0";
 
 /// The end of the help of `tcrx`: the lines of a script with their limits, the exit statuses, and an example.

@@ -1,4 +1,4 @@
-//! Tests of the lock with a log, around a book of numbers that several threads write, and around desks.
+//! Tests of `logged_lock`, with a book of numbers that several threads write, and with desks.
 #![tactic(auto)]
 
 mod book;

@@ -30,7 +30,7 @@ reported_tag k = suc (k + k)
 abbrev pub newcomer : {D E : Type 0} → Log D E → View D E
 newcomer l = record { live = true; locks = false; maker = true; own = record { seen = l; made = []; issued = 0 }; reported = [] }
 
--- the view of a seat that has seen this log, and never makes anything
+-- the view of a seat that has seen this log, and from which no entry can be made
 abbrev pub guest : {D E : Type 0} → Log D E → View D E
 guest l = record { live = true; locks = false; maker = false; own = record { seen = l; made = []; issued = 0 }; reported = [] }
 

@@ -77,8 +77,8 @@ fn new_operators<J: Journal>(
     }
 }
 
-// Closes a station that is in balance with these operators. If memory is refused once, the call returns the station and
-// the operators, and a second call closes the station.
+// Closes a station that is in balance with these operators. If memory is refused once, `close` returns the station and
+// the operators, and is called again.
 fn closed(rt: &(impl Abort + Print), station: Station, operators: Vec<Operator>) -> Vec<Channel>
     requires { All (λ o. o.vcids ≡ station.vcids) operators.items }
 {

@@ -11,7 +11,7 @@ ends-length xs = let all : length (xs ++ tail_sequence) ≡ length xs + 8 = leng
 pub cltu-length : (os : List ℕ) → length (cltu os) ≡ 8 * ((length os + 6) / 7) + 10
 cltu-length os = ends-length (code_blocks (filled os)) ∙ ap (λ (k : ℕ). k + 10) (blocks-length os)
 
--- `filled` puts fill behind one to seven octets
+-- `filled` appends 0x55 to one to seven octets until there are seven
 pub filled-few : (os : List ℕ) → 0 < length os → length os ≤ 7 → os ++ drop (length os) (0x55 ∷ 0x55 ∷ 0x55 ∷ 0x55 ∷ 0x55 ∷ 0x55 ∷ 0x55 ∷ []) ≡ filled os
 filled-few [] some few = absurd (omega arith)
 filled-few (a ∷ b ∷ c ∷ d ∷ e ∷ f ∷ g ∷ h ∷ os) some few = absurd (omega arith)

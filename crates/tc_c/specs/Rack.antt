@@ -1,4 +1,5 @@
--- The channel in the caller's memory that a frame is for, and the channels after the frame.
+-- A frame that is brought to one of the channels in the caller's memory: the channel that it is for, the reply, and the
+-- channels after the call.
 use Rattle.std.specs.Prelude.{◌≡◌, ◌≢◌, ◌≤◌, ◌⊎◌, ℕ, Bool, true, false, not, List, length, map, slice_get, slice_set, Option, Some}
 use Rattle.tc_link.specs.Bits.{bit}
 use Rattle.tc_link.specs.Frame.{IsWhole, BeginsWith, header_of, fault_of}

@@ -200,7 +200,7 @@ fn take_octets(mode: Mode, decoder: DecoderRecord, octets: &[u8], frame: &mut [u
     }
 }
 
-// The outcome for one octet, or for eight octets.
+// The outcome of taking one octet, or a whole code block of eight octets.
 #[derive(Clone, Copy)]
 struct Taken {
     // the decoder after the octets
@@ -436,9 +436,10 @@ fn take_blocks(mode: Mode, before: u16, octets: &[u8], frame: &mut [u8]) -> Acce
     }
 }
 
-// Takes the code block at the front of the octets, and returns how many of its bits were corrected, 0 or 1. Returns
-// `None` if no whole code block is there, if the block is rejected, or if it would bring the carried octets to more
-// than 1,029. Then the buffer stays as it was.
+// Takes the code block at the front of the octets, writes the seven octets that it carries to the buffer behind the
+// `carried` octets, and returns how many of its bits were corrected, 0 or 1. Returns `None`, and leaves the buffer as
+// it was, if no whole code block is there, if the block is rejected, or if it would bring the carried octets to more
+// than 1,029.
 #[inline(always)]
 fn accept_block(mode: Mode, carried: usize, octets: &[u8], frame: &mut [u8]) -> Option<u64>
     requires room { decoder_room ≤ length frame.old }

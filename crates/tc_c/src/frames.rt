@@ -13,7 +13,8 @@ use crate::status::{frame_fault, write_fault};
 use tc_c_base::{Status, WrittenRecord, code, not_written};
 use tc_link::{Command, Header, Kind, kind, read_frame, written_header};
 
-/// The fields of a frame's primary header, apart from its length (CCSDS 232.0-B, 4.1.2). Flags are 0 or 1.
+/// The fields of a frame's primary header, apart from the fixed ones and the frame length (CCSDS 232.0-B, 4.1.2).
+/// Flags are 0 or 1.
 #[repr(C)]
 #[derive(Clone, Copy)]
 pub struct HeaderRecord {

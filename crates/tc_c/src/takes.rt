@@ -14,8 +14,8 @@ use tc_c_base::{Status, WrittenRecord, no_room, not_written, written};
 use tc_channel::Tick;
 use tc_fixed::{FixedChannel, NoUnitTaken, NothingTaken};
 
-/// Does the work of [`tcrx_channel_take_at`]. That call runs this function once, with the channel of its seat and a
-/// counter that counts nothing. A step is one queue that is looked at.
+/// Does the work of [`tcrx_channel_take_at`]. If its seat holds a channel, that call runs this function once, with this
+/// channel and a counter that counts nothing. A step is one queue that is looked at.
 pub fn take_with_steps<C: Tick>(
     channel: &mut FixedChannel,
     apid: u16,
@@ -75,8 +75,8 @@ pub extern "C" fn tcrx_channel_take_at(
     }
 }
 
-/// Does the work of [`tcrx_channel_take_unit_at`]. That call runs this function once, with the channel of its seat and
-/// a counter that counts nothing. A step is one queue that is looked at.
+/// Does the work of [`tcrx_channel_take_unit_at`]. If its seat holds a channel, that call runs this function once, with
+/// this channel and a counter that counts nothing. A step is one queue that is looked at.
 pub fn take_unit_with_steps<C: Tick>(
     channel: &mut FixedChannel,
     map: u8,

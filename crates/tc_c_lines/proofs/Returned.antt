@@ -28,7 +28,8 @@ in-use start None is = absurd cc
 pub started-as : (made start : Result Engine Status) (held new : Option SessionValue) (result : ℕ) → made ≡ start → IsStarted made held new result → IsStarted start held new result
 started-as made start held new result is started = subst (λ (s : Result Engine Status). IsStarted s held new result) is started
 
--- if the condition of a start holds for the outcome of creating the engine, it holds for the required engine, too
+-- if `IsStarted` holds for an empty seat and the outcome `made` of creating an engine, it also holds for that seat and
+-- `start`, which is the wanted engine or the fault of the arguments
 pub made-so : (start made : Result Engine Status) (new : Option SessionValue) (result : ℕ) → IsMade start made → IsStarted made None new result → IsStarted start None new result
 made-so (Ok engine) made new result (inl is) started = subst (λ (s : Result Engine Status). IsStarted s None new result) is started
 made-so (Ok engine) made new result (inr is) started = inr (subst (λ (s : Result Engine Status). IsStarted s None new result) is started)

@@ -53,8 +53,8 @@ unlimited-unit b service field is =
     let ended = unit_ended b.segmented (stream service (map_of field) b.passed) field in
     ap (λ (l : ℕ → ℕ). at_most (l (map_of field)) ended) is ∙ unit-all (map_of field) b.segmented (stream service (map_of field) b.passed) field
 
--- a field without a segment header is a unit by itself if and only if it is within the largest unit and the limit of
--- its MAP
+-- a field without a segment header is a unit by itself if and only if it is no longer than the largest unit and the
+-- limit at `map_of field`
 pub plain-unit : (limits : ℕ → ℕ) (b : ChannelState) (service : Service) (field octets : List ℕ) → b.segmented ≡ false → b.limit ≡ limits
     → ((unit_ended false (stream service (map_of field) b.passed) field ≡ Some octets) ↔ ((octets ≡ field) × (length field ≤ largest_unit)))
     → (unit_of b service field ≡ Some octets) ↔ ((octets ≡ field) × (length field ≤ largest_unit) × (length field ≤ limits (map_of field)))

@@ -65,7 +65,7 @@ ends-unit limits service field b open_runs unit limit are ends =
     let fields = stream service (segment.header_of field).map b.passed in
     ends fields (are.runs service (segment.header_of field).map (omega arith)) ∙ ap (λ s. at_most (limits (map_of field)) (unit_ended s fields field)) are.segmented ∙ ap (λ (l : ℕ → ℕ). at_most (l (map_of field)) (unit_ended b.segmented fields field)) (sym limit)
 
--- a MAP is chosen by the stored queues exactly when it is chosen by the state
+-- a MAP has a queue among the stored unit queues exactly when it has one among the unit queues of the state
 same-chosen : (map_id : ℕ) (unit_rings : List StoredQueue) (qs : List Queue) → unit_rings ≡ map stored qs → is_some (queue_for map_id unit_rings) ≡ is_some (queue_of map_id qs)
 same-chosen map_id unit_rings qs are = rw (are, stored-queue map_id qs) (by (queue_of map_id qs)) where
   by : (o : Option Queue) → is_some (option_map stored o) ≡ is_some o
@@ -112,7 +112,7 @@ pub release-queues : (limits : ℕ → ℕ) (c : Settings) (b : ChannelState) (o
 unfolding passed_on
 release-queues limits c b open_runs unit new new_units limit are ends is = subst (λ (x : Option (List ℕ)). AreStored new new_units (offered (first_of (buffer b)) x b)) (ends-unit limits Ad (first_of (buffer b)) b open_runs unit limit are ends) is
 
--- the shares of the stored queues together have as many items as are queued in the state
+-- the shares of the stored queues together have as many items as `queued_of` counts for the queues of the state
 pub queued-is : (wanted : ℕ → List ℕ → Bool) (ps : List (List ℕ)) (qs : List Queue) → sum_by length (map (share wanted ps) (map stored qs)) ≡ queued_of wanted ps qs
 queued-is wanted ps [] = refl
 queued-is wanted ps (q ∷ qs) =

@@ -99,8 +99,9 @@ pub fn further_journals_are_answered_so()
     ensures map_that_is_cut { release_reply example.map_3_chosen (example.one_packet 0 ∷ []) ≡ record { queued = 1; dropped = 0; rest = false } }
 {}
 
-/// States the results after journals of a channel with limits by MAP, worked out by hand. They are about a packet of 7
-/// octets on MAP 0, a packet of 8 octets in two segments, and a unit of 3 octets on MAP 3.
+/// States the results after journals of channels with limits by MAP, worked out by hand. The examples are a packet of 7
+/// octets on MAP 0, a packet of 8 octets in two segments on MAP 0, a unit of 3 octets on MAP 3, and an empty unit on
+/// MAP 3.
 pub fn journals_within_limits_are_answered_so()
     ensures of_the_limit { release_reply_within (example.limited 0 7) (example.buffer_of 1) (example.one_packet 0 ∷ [])
         ≡ record { queued = 1; dropped = 0; rest = false } }

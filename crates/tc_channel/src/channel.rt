@@ -91,9 +91,10 @@ impl<J: Journal> ChannelWith<J> {
     }
 
     /// Takes in a frame, whatever virtual channel it names. An accepted AD data field is buffered. If an accepted BD
-    /// data field ends a unit, the unit is queued at once: whole if its MAP is chosen, otherwise as its packets. The
-    /// call copies the octets of the frame for a recorded journal, the data field of an accepted AD frame for the
-    /// buffer, and the unit or each packet that is queued. It is refused only if memory runs out. If the journal isn't
+    /// data field ends a unit, the unit is queued at once: whole if its MAP is chosen, otherwise as its packets. A
+    /// packet or unit for which no queue has room is dropped. The call copies the octets of the frame for a recorded
+    /// journal, the data field of an accepted AD frame for the buffer, the body of a BD segment that is added to a run,
+    /// and the unit or each packet that is queued. It is refused only if memory runs out. If the journal isn't
     /// recorded, this can happen only for a frame of Type-BD.
     pub fn frame(&mut self, frame: &Frame) -> Result<FrameReply, NoMemory>
         ensures allowed { IsAllowed self.old.settings }
@@ -106,9 +107,9 @@ impl<J: Journal> ChannelWith<J> {
         self.frame_with_steps(frame, &mut NoSteps)
     }
 
-    /// Takes in a frame as [`frame`](ChannelWith::frame) does, and counts steps. One step is counted for each packet
-    /// that is cut from the frame's unit, and one for each queue that is looked at. A frame that isn't of Type-BD takes
-    /// no steps.
+    /// Takes in a frame as [`frame`](ChannelWith::frame) does, and counts steps. One step is counted each time a packet
+    /// is cut from the unit that the frame ends, and one each time a queue is looked at. A packet may be cut twice,
+    /// first to stage it and then to commit it. A frame that isn't of Type-BD takes no steps.
     pub fn frame_with_steps<C: Tick>(
         &mut self,
         frame: &Frame,
@@ -132,9 +133,10 @@ impl<J: Journal> ChannelWith<J> {
         Ok(reply)
     }
 
-    /// Releases the oldest data field from the buffer, and queues the unit that the field ends, if it ends one: whole
-    /// if its MAP is chosen, otherwise as its packets. The call copies the unit, or each packet that is queued. It is
-    /// refused if the buffer is empty, or if memory runs out.
+    /// Releases the oldest data field from the buffer. If the field ends a unit, the unit is queued, whole if its MAP is
+    /// chosen, otherwise as its packets. A packet or unit that can't be queued is dropped, and [`Delivery`] counts it.
+    /// The call copies the unit, or each packet that is queued. It is refused if the buffer is empty, or if memory runs
+    /// out.
     pub fn release(&mut self) -> Result<Delivery, ReleaseFault>
         ensures allowed { IsAllowed self.old.settings }
         ensures lawful { IsLawful self.old.settings self.old.journal }

@@ -54,7 +54,8 @@ one-more-happens scid vcid s (first ∷ jobs) job old mid new (next, happens, re
 not-both : (e : Event) (m : Moment) → CanBeMade e m → CannotBeMade e m → ⊥
 not-both e m can cannot = grind arith
 
--- if an event can be made at some moment, it can be made at `moment` with the settings and the journal of that moment
+-- if an event can be made at `m`, it can also be made at `moment s j`, when `s` and `j` are the settings and the journal
+-- of `m`
 moved-can : (e : Event) (m : Moment) (s : Settings) (j : List Event) → m.head.settings ≡ s → m.entries ≡ j → CanBeMade e m → CanBeMade e (moment s j)
 moved-can (events.Frame octets) m s j p q can = tt
 moved-can e m s j p q can = subst (λ (x : Settings × List Event). CanBeMade e (moment x.0 x.1)) (λ i. (p i, q i)) can

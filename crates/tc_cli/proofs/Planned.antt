@@ -284,8 +284,8 @@ line-planned scid number (TakeUnit vcid map_id) plan new progress matched does p
 line-planned scid number (Clcw vcid) plan new progress matched does parts =
     parts-planned scid (operations.Clcw vcid) (λ before after. after ≡ before) plan new progress matched parts (word-planned vcid)
 
--- If the jobs of lines are sorted, these lines also have answers when they are carried out in order, and lead to the
--- channels of the plan.
+-- If the jobs of the first `count` lines were appended to the lists of their channels, these lines also have answers
+-- when they are carried out in order. The progress that they lead to matches the plan.
 pub all-planned : (scid : ℕ) (script : List ℕ) (count : ℕ) (plan : Plan) (rest : List ℕ) → AreParted scid script count plan rest
     → (answers : List (Option Answer)) × (progress : Progress) × AreAnswers (IsPerformed scid) script answers progress rest × AreMatched plan progress
 all-planned scid script count plan rest none_parted = ([], SettingUp [], at_first, refl)

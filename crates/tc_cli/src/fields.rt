@@ -1,4 +1,4 @@
-//! The check whether the frames of a script end with frame error control fields.
+//! A check of whether the frames of a script end with frame error control fields.
 
 ghost use Rattle.std.specs.Prelude.{◌≤◌, length};
 

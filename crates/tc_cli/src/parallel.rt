@@ -220,7 +220,7 @@ fn give_frame(
 }
 
 // Appends the order of a line to the list of a channel, if there is such a channel. If no operation came before,
-// creates the station and its lists first.
+// creates the station and its lists first. The call fails if no channel is set up, or if memory runs out.
 fn give_order(
     plan: &mut Plan,
     alloc: Global,

@@ -71,9 +71,11 @@ pub fn encode_block(information: [u8; 7]) -> [u8; 8]
     [a, b, c, d, e, f, g, parity(&information) << 1]
 }
 
-/// Returns the seven octets that a code block carries, or `None` if it has more wrong bits than the mode allows.
+/// Returns the seven octets whose code block differs from `block` in no more bits than the mode allows, or `None` if
+/// there are no such octets.
 ///
-/// Wrong bits are counted among the 63 bits before the filler bit. The filler bit is ignored.
+/// The 63 bits before the filler bit are compared, and the filler bit is ignored. A block with one to three wrong bits
+/// in [`Mode::Detect`], or with two in [`Mode::Correct`], is always rejected.
 pub fn decode_block(block: [u8; 8], mode: Mode) -> Option<[u8; 7]>
     ensures decoded { result ≡ decoded mode block }
     ensures found { IfSome result (λ information. IsInformation information × (errors block information ≤ most_errors mode)) }

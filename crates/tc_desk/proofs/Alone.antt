@@ -1,4 +1,4 @@
--- If one operator alone makes events, they are all events of the journal.
+-- If only one operator has made events, it has made all events of the journal.
 use Rattle.tc_desk.proofs.Names.{◌≡◌, ◌≢◌, ℕ, zero, suc, ◌+◌, ◌≤◌, List, [], ◌∷◌, ◌++◌, length, inl, inr, refl, sym, ap, ◌∙◌, arith, Event, IsBeginning, IsMergeOf, Moment, Own, made, length-append, nil_from_length, append-nil, same_from_push, owned, made_by, looked}
 use Rattle.std.proofs.lemmas.Bool.Decides.{eqb_tells}
 use mathlib.Core.List.{IsPrefix}

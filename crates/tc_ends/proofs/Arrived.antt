@@ -155,8 +155,8 @@ lost-alike end last o octets os later same is = (
   ap (λ (s : Step). s.0) same ∙ is.1,
 )
 
--- idle octets are lost, and so is a CLTU whose first code block is rejected, or which carries nothing that passes the
--- check
+-- octets are lost if nothing in them counts as a start sequence, if they are a start sequence and a code block that is
+-- rejected, or if they are a CLTU with few wrong bits whose octets bring no frame
 pub idle-lost : (end : LinkEnd) (last : ℕ) (octets : List ℕ) → HasNoStart end.mode last octets → (later : ℕ) × IsLost end last octets later
 idle-lost end last [] none = (last, (([], refl, refl), refl))
 idle-lost end last (o ∷ os) none =

@@ -1,4 +1,4 @@
--- Types, definitions and lemmas that most proofs use, imported from one file.
+-- Re-exports the types, definitions and lemmas that most proofs of tc_ends use, so that a proof imports them from here.
 pub use Rattle.std.proofs.lemmas.Bool.{eqb-true, le-leb, cases_Bool}
 pub use Rattle.std.proofs.lemmas.Grind.{flat_map-append}
 pub use Rattle.std.proofs.lemmas.List.{get_or-append_right, get_or_append_left, get_or_at}

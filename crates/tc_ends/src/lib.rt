@@ -1,6 +1,7 @@
 //! Laws about the whole way from the packets that a sender sends to the packets and units that are taken at the
-//! receiver. They hold under the conditions of `what_was_sent_is_accepted_once_and_in_order` of tc_channel, or in a
-//! loop of tc_loop.
+//! receiver. The laws about taken packets and units hold under the conditions of
+//! `what_was_sent_is_accepted_once_and_in_order` of tc_channel, or in a loop of tc_loop. The laws about single steps of
+//! the way need neither.
 //!
 //! All functions are laws, which have an empty body or call other laws.
 #![tactic(auto)]

@@ -25,7 +25,8 @@ pub fault-answered : {F : Type 0} (fault : NotCopied → F) (reply : Result ℕ 
 fault-answered fault reply why (Err e) was is = rw was (ap (λ x. Err x) is)
 fault-answered fault reply why (Ok count) was is = absurd is
 
--- each fault is returned if and only if the packets that wait, or the room for one of them, are the reason for it
+-- `NoQueue` is returned if and only if there is no queue, `Empty` if and only if the queue is empty, and `NoRoom` if and
+-- only if the oldest packet is longer than the room. `NoRoom` gives the length of this packet.
 pub record Says (room : ℕ) (waiting : Option (List (List ℕ))) (answer : Result ℕ NothingTaken) : Type 0 where
   pub no_queue : IsErrOf answer taking.NoQueue ↔ (waiting ≡ None)
   pub empty : IsErrOf answer taking.Empty ↔ (waiting ≡ Some [])
@@ -46,7 +47,8 @@ by-packet room (Some (item ∷ later)) = by (nat_lt room (length item)) refl whe
 pub packet-says : (room : ℕ) (waiting : Option (List (List ℕ))) (reply : Result ℕ NotCopied) (answer : Result ℕ NothingTaken) → reply ≡ copied_out room waiting → answer ≡ answer_by packet_fault_of reply → Says room waiting answer
 packet-says room waiting reply answer reply_is is = rw (is, reply_is) (by-packet room waiting)
 
--- each fault is returned if and only if the units that wait, or the room for one of them, are the reason for it
+-- `NoMap` is returned if and only if there is no queue, `Empty` if and only if the queue is empty, and `NoRoom` if and
+-- only if the oldest unit is longer than the room. `NoRoom` gives the length of this unit.
 pub record SaysOfUnit (room : ℕ) (waiting : Option (List (List ℕ))) (answer : Result ℕ NoUnitTaken) : Type 0 where
   pub no_map : IsErrOf answer unit_taking.NoMap ↔ (waiting ≡ None)
   pub empty : IsErrOf answer unit_taking.Empty ↔ (waiting ≡ Some [])

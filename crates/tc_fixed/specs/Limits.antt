@@ -31,7 +31,8 @@ largest_in (m ∷ ms) others = largest_in ms (max others m.octets)
 abbrev pub largest_limit : Limits → ℕ
 largest_limit limits = largest_in limits.maps limits.others
 
--- the largest number of octets in a packet or a unit (on a plain channel, no more than in the largest data field)
+-- The largest number of octets that a packet or a unit can have within these limits. On a plain channel it is at most
+-- the number of octets in the largest data field.
 abbrev pub item_size : Limits → Bool → ℕ
 item_size limits segmented = min (largest_limit limits) (largest_item segmented)
 

@@ -1,5 +1,5 @@
--- The number of bytes that the creation of a channel with fixed memory requests from an allocator, in a program for a
--- machine of 64 bits.
+-- The number of bytes that are requested from an allocator when a channel with fixed memory is created, in a program
+-- for a 64-bit machine.
 use Rattle.std.specs.Prelude.{ℕ, zero, suc, ◌+◌, ◌*◌, length, if◌then◌else◌}
 use Rattle.tc_packet.specs.Reassembly.{stream_count}
 use Rattle.tc_queues.specs.declared.settings.Settings.{Settings}

@@ -220,8 +220,9 @@ impl<N: Noted> FixedChannelWith<N> {
         Ok(count)
     }
 
-    /// Takes the oldest unit out of the queue of this chosen MAP, copies it to the front of `into`, and returns its
-    /// number of octets.
+    /// Takes the oldest unit out of the queue of this MAP, copies it to the front of `into`, and returns its number of
+    /// octets. If the MAP isn't chosen, if no unit waits, or if `into` is shorter than the unit, the call returns the
+    /// reason and changes nothing.
     pub fn take_unit(&mut self, map: u8, into: &mut [u8]) -> Result<usize, NoUnitTaken>
         ensures allowed { IsAllowed self.old.settings }
         ensures lawful { IsLawfulWithin (limit_of self.old.limits) self.old.settings self.old.journal }
@@ -298,8 +299,8 @@ impl<N: Noted> FixedChannelWith<N> {
         true
     }
 
-    /// Lends the octets of the packet that the next [`take`](FixedChannelWith::take) with this APID will copy. Returns
-    /// `None` if there is no such queue, or if it is empty. The call isn't an event.
+    /// Lends the octets of the oldest packet in the queue with this APID, and leaves the packet there. Returns `None` if
+    /// no queue has this APID, or if the queue is empty. The call isn't an event.
     pub fn oldest(&self, apid: u16) -> Option<&[u8]>
         ensures packet { option_map (λ octets. octets.now) result
             ≡ take_reply_within (limit_of self.now.limits) self.now.settings self.now.journal apid }
@@ -321,8 +322,8 @@ impl<N: Noted> FixedChannelWith<N> {
         self.channel_core.oldest(apid, steps)
     }
 
-    /// Lends the octets of the unit that the next [`take_unit`](FixedChannelWith::take_unit) with this MAP will copy.
-    /// Returns `None` if the MAP isn't chosen, or if its queue is empty. The call isn't an event.
+    /// Lends the octets of the oldest unit in the queue of this MAP, and leaves the unit there. Returns `None` if the
+    /// MAP isn't chosen, or if its queue is empty. The call isn't an event.
     pub fn oldest_unit(&self, map: u8) -> Option<&[u8]>
         ensures unit { option_map (λ octets. octets.now) result
             ≡ unit_reply_within (limit_of self.now.limits) self.now.settings self.now.journal map }

@@ -14,8 +14,8 @@ use tc_packet::LARGEST_UNIT;
 const STREAMS: u128 = 128;
 
 /// Returns the number of bytes that [`FixedChannelWith::new`](crate::FixedChannelWith::new) requests from its allocator
-/// for these settings on a machine of 64 bits, provided that a channel can be created from them. The result is 2^64 - 1
-/// if the number is larger. No other call of the channel requests memory. The bytes that an allocator adds to a block
+/// for these settings on a 64-bit machine, provided that a channel can be created from them. The result is 2^64 - 1 if
+/// the number is larger. No other call of the channel requests memory. The bytes that an allocator adds to a block
 /// aren't counted. The lists of the settings aren't counted either, since the caller has chosen their size. The call
 /// takes one step for each queue and each chosen MAP, and requests no memory.
 pub fn storage(settings: &Settings) -> u64

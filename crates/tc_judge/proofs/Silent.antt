@@ -1,4 +1,5 @@
--- Conclusions from a history that explains an account.
+-- Lemmas about an account that is explained. A frame that is sent first can be on its way from the start, only a
+-- release changes the CLCW while no frame is on its way, and the account stays explained under weaker rules.
 use Rattle.std.specs.Prelude.{◌≡◌, ◌⊎◌, true, false, List, [], ◌∷◌, ◌++◌}
 use Rattle.tc_judge.specs.declared.account.Rules.{Rules}
 use Rattle.tc_judge.specs.declared.account.SentFrame.{SentFrame}

@@ -1,4 +1,5 @@
-//! Accounts of a unit that receives.
+//! Accounts of a receiving unit, which list the frames that were sent to it and the CLCWs that were heard from it, and
+//! the rules by which it is judged.
 
 use tc_link::{Kind, Report, Window};
 

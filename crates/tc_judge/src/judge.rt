@@ -30,9 +30,10 @@ pub enum Verdict {
 /// A judge of one virtual channel of a unit. Frames that are sent and CLCWs that are heard are noted in it, and it
 /// finds whether a history of a right unit explains them.
 ///
-/// Contracts are about the judge's knowledge of the unit. It consists of the components that the last CLCW showed, the
-/// frames that the unit may not have dealt with, and the places among these frames at which the unit may have made that
-/// CLCW. Memory is requested only when a judge is created.
+/// Contracts are about the judge's knowledge of the unit. It consists of the rules, the components that the last CLCW
+/// showed, the frames that the unit may not have dealt with, the places among these frames at which the unit may have
+/// made that CLCW, the number of frames for which there is room, and whether there was an overrun. Memory is requested
+/// only when a judge is created.
 #[derive(Debug, Drop)]
 pub struct Judge {
     rules: Rules,

@@ -34,7 +34,8 @@ fields_of word = record {
   vr = bits word 0 8;
 }
 
--- the fields of the CLCW that reports the components `r` for the virtual channel `vcid`, with the status field 0
+-- the fields of the CLCW that reports FARM-1's components `r` and the link flags `link` for the virtual channel `vcid`,
+-- with the status field 0
 abbrev pub reported : Report → ℕ → Link → ClcwFields
 reported r vcid link = record {
   status = 0;

@@ -27,7 +27,7 @@ release-accepted : (b : ChannelState) → (after_release b).accepted ≡ b.accep
 unfolding passed_on
 release-accepted b = refl
 
--- all data fields that wait are released
+-- after `later`, which is the session and `n` more actions, no data field waits, and no further frame was accepted
 abbrev IsEmptied : Loop → List Action → ℕ → List Action → Type 0
 IsEmptied l session n later = IsLoop l later × (length (buffer (receiver l later)) ≡ 0) × (accepted l later ≡ accepted l session) × (length later ≡ length session + n)
 

@@ -127,7 +127,8 @@ AreFramesSaid most octets text =
 abbrev pub IsWordSaid : ℕ → List ℕ → Type 0
 IsWordSaid word text = (IsClcw word × (text ≡ clcw_text (fields_of word))) ⊎ ((IsClcw word → ⊥) × (text ≡ refused_text (codes "clcw")))
 
--- The text explains octets as a CLCW. There must be four octets, the most significant one first.
+-- The text explains four octets, the most significant one first, as a CLCW, or reports that they aren't a CLCW. If
+-- there aren't exactly four octets, the text gives this reason instead.
 abbrev pub IsClcwSaid : List ℕ → List ℕ → Type 0
 IsClcwSaid octets = Unless (if length octets == 4 then None else Some BadClcw) (IsWordSaid (from_be_bytes w32 octets))
 

@@ -126,7 +126,7 @@ some_text word octets = if length octets == 0 then [] else named_text word octet
 abbrev pub refused_text : List ℕ → List ℕ
 refused_text why = codes "refused " ++ why ++ codes "\n"
 
--- the reason why octets aren't a frame
+-- the word for the reason why octets don't begin with a frame
 abbrev pub frame_fault_text : FrameFault → List ℕ
 frame_fault_text Short = codes "short"
 frame_fault_text Version = codes "version"

@@ -12,7 +12,7 @@ use std::mem::replace;
 /// So one implementation serves both rooms that are allocated once ([`FixedRoom`]) and rooms that grow
 /// ([`GrowingRoom`]).
 pub trait Room: Drop {
-    // the octets in use, and the largest number of them
+    // the octets in use, and the largest number of octets that may be in use
     ghost contents: { Self → Contents };
 
     // Whether memory may be requested when octets are stored. If not, storing never fails.

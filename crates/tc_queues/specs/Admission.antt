@@ -1,6 +1,6 @@
--- The part of a unit that the queues admit: the unit itself if its MAP is chosen (CCSDS 232.0-B, the MAP Access
--- Service), otherwise its packets. The capacities of the queues are a rule of this receiver, and not of the
--- standard.
+-- The items that the queues admit from a unit: the unit itself if its MAP is chosen (CCSDS 232.0-B, the MAP Access
+-- Service), otherwise each of its telecommand packets for whose APID there is a queue. An item is admitted only if its
+-- queue has room. The capacities of the queues are a rule of this receiver, and not of the standard.
 use Rattle.std.specs.Prelude.{ℕ, ◌+◌, ◌-◌, Bool, true, false, List, [], ◌∷◌, ◌++◌, length, map, filter, take, sum_by, ◌==◌, ◌&&◌, Option, Some, None, is_some}
 use Rattle.tc_packet.specs.SpacePacket.{apid_of, is_telecommand, packets_of}
 use Rattle.tc_packet.specs.Segment as segment

@@ -65,8 +65,8 @@ table_memory queues = if nat_lt queues 8 then 0 else 2048 * 2
 abbrev pub tables_memory : Settings → ℕ
 tables_memory s = table_memory (length s.queues) + table_memory (length s.maps)
 
--- The largest number of bytes in the new block of a run whose old block is still held. A first segment that is too long
--- for the old block is copied into a new block, and then the old block is freed.
+-- A bound on the bytes in the new block of a run while the old block is still held. A first segment that is too long for
+-- the old block is copied into a new block, and then the old block is freed.
 abbrev pub segment_memory : Settings → ℕ
 segment_memory s = if s.segmented then largest_field else 0
 

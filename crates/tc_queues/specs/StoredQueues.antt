@@ -41,7 +41,7 @@ share wanted items q = take (room_in q) (filter (wanted q.key) items)
 abbrev pub with_items : StoredQueue → List (List ℕ) → StoredQueue
 with_items q items = record q { ring = ring_of (q.ring.items ++ items) q.ring.capacity }
 
--- each queue with its share of the items
+-- each queue with its share of the items put at its end
 abbrev pub shared : (ℕ → List ℕ → Bool) → List (List ℕ) → List StoredQueue → List StoredQueue
 shared wanted items queues = map (λ (q : StoredQueue). with_items q (share wanted items q)) queues
 

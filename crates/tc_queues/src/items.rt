@@ -93,7 +93,7 @@ impl<T: Eq> Eq for Items<T> {
 }
 
 impl Items<u8> {
-    /// Returns a copy of the octets, by one allocation.
+    /// Returns a copy of the octets, made with a single allocation.
     pub fn copied(alloc: Global, octets: &[u8]) -> Result<Items<u8>, AllocError>
         ensures { IfOk result (λ o. o ≡ octets.now) }
     {

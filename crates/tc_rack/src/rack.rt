@@ -19,7 +19,7 @@ use tc_link::{Frame, Link, LocateFault, read_frame};
 use tc_setup::Configuration;
 
 /// The channels of one spacecraft, in the order in which they were set up, each with the flags of its link. They belong
-/// to one thread. A call that is refused leaves everything as it was.
+/// to one thread. If an operation is refused, or if memory runs out for it, everything stays as it was.
 ///
 /// A contract sees the settings and the journal of each channel, and the flags of its link.
 #[derive(Drop)]

@@ -18,7 +18,8 @@ set-elsewhere (z ∷ xs) zero zero y apart = absurd (apart refl)
 set-elsewhere (z ∷ xs) (suc k) (suc j) y apart = set-elsewhere xs k j y (λ e. apart (ap suc e))
 set-elsewhere _ _ _ y apart = refl
 
--- if one desk of an operator goes on and the others stay, the operator has gone on at each desk
+-- if what an operator has seen at one desk continues what it had seen there, and its other desks are unchanged,
+-- `HasGoneOnAtEach` holds
 pub on-by-one : (place : ℕ) (o p : AtStation) (there next : AtLock) → slice_get o.desks place ≡ Some there → p.desks ≡ slice_set o.desks place next → IsBeginning there.own.seen next.own.seen → HasGoneOnAtEach o p
 on-by-one place o p there next was others longer = record {
   each = λ other d at. elim (eqb_tells other place) [

@@ -36,13 +36,14 @@ abbrev pub IsReleasedAtStation : Roster → ℕ → Delivery → Type 0
 IsReleasedAtStation station vcid delivery =
     Contains station.vcids vcid × AtSomeMomentOf vcid (λ s journal. (buffered_fields s journal ≢ []) × (delivery ≡ release_reply s journal))
 
--- the station has a channel with this id, and the packet is the oldest that waited there for this APID
+-- the station has a channel with this id, and at some moment of a channel with this id the packet was the oldest that
+-- waited for this APID
 abbrev pub IsTakenAtStation : Roster → ℕ → ℕ → List ℕ → Type 0
 IsTakenAtStation station vcid apid packet =
     Contains station.vcids vcid × AtSomeMomentOf vcid (λ s journal. take_reply s journal apid ≡ Some packet)
 
--- the station has a channel with this id, and the unit is the oldest that waited there on this MAP (the MAP Access
--- Service of CCSDS 232.0-B)
+-- the station has a channel with this id, and at some moment of a channel with this id the unit was the oldest that
+-- waited on this MAP (the MAP Access Service of CCSDS 232.0-B)
 abbrev pub IsUnitTakenAtStation : Roster → ℕ → ℕ → List ℕ → Type 0
 IsUnitTakenAtStation station vcid map_id unit =
     Contains station.vcids vcid × AtSomeMomentOf vcid (λ s journal. unit_reply s journal map_id ≡ Some unit)

@@ -93,7 +93,7 @@ pub enum TakeUnitRefused {
 /// The reason why not all jobs of the lists were carried out.
 #[derive(Clone, Copy, Debug, PartialEq, Eq, Error)]
 pub enum WorkFault {
-    /// Memory ran out for at least one job. The line is the lowest line of such a job.
+    /// Memory ran out for at least one job. `line` is the smallest line number of such a job.
     #[error("line {line}: no memory")]
     NoMemory { line: u32 },
 }

@@ -466,8 +466,9 @@ impl<J: Journal> StationOf<J> {
     /// Closes the station, and takes the channels out of their locks, if `operators` have made all events of the
     /// channels' journals. This condition holds if all operators that the station issued are given, and if together
     /// they have made fewer than 2^64 - 1 events of each channel. The journal of each channel is then a merge of the
-    /// events that the operators made. The history that each operator had seen is a beginning of this journal. Two
-    /// lists are allocated before any lock is taken. The law
+    /// events that the operators made. The history that each operator had seen is a beginning of this journal.
+    /// Otherwise, or if memory runs out for the two lists that are allocated before any lock is taken, the call returns
+    /// the station and the operators with the reason. The law
     /// [`what_calls_answered_stands_in_the_closed_journals`](crate::what_calls_answered_stands_in_the_closed_journals)
     /// states the consequences for each call.
     pub fn close_together(

@@ -39,7 +39,7 @@ status_word h = clcw h.settings h.journal no_flag
 abbrev pub view : History → View
 view h = record { live = true; seen = h; reported = h }
 
--- a history for places in which no history is meant
+-- a blank history, which fills a field that has no history to hold
 abbrev pub no_history : History
 no_history = record { settings = record { vcid = 0; width = 0; buffer = 0; first = 0; segmented = true; queues = []; maps = [] }; journal = [] }
 

@@ -31,8 +31,8 @@ fn check_of(asked: Reception) -> FrameCheck {
     }
 }
 
-// Reports on standard error why no more lines were answered, and returns the exit status. If all lines were answered
-// and each frame ended with its frame error control field, prints a hint. The hint changes no answer.
+// Returns the exit status. If a fault stopped the answers, prints the fault on standard error. If all lines were
+// answered and each frame ended with its frame error control field, prints a hint there. The hint changes no answer.
 fn report<R: Eprint>(rt: &R, served: Result<FrameEnds, ServingFault>) -> ExitCode {
     match served {
         Ok(ends) => {

@@ -93,7 +93,7 @@ pub fn is_taken<E: Drop + PartialEq>(
     }
 }
 
-/// Returns whether each fault has its text.
+/// Returns whether each fault prints as the text that is listed with it.
 pub fn have_texts<F: Display>(alloc: Global, texts: &[(F, &str)]) -> bool {
     texts.iter().all(|(fault, text)| fault
         .to_string(alloc)

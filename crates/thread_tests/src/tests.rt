@@ -24,7 +24,7 @@ const CHANNEL: Wanted<'static> = Wanted {
     ..WANTED
 };
 
-// Creates a station for spacecraft 42 with the channel of `CHANNEL`.
+// Creates a station for spacecraft 42 with one channel, which has the settings of `CHANNEL`.
 fn station_of_one<J: Journal>(rt: &impl Abort, alloc: Global) -> StationOf<J>
     ensures { result.vcids ≡ 1 ∷ [] }
 {

@@ -143,7 +143,7 @@ fn growth_of_a_unit_of_two_packets(rt: HostRuntime) {
     play(&rt, rt.alloc(), &GROWING, 0, &UNITS_OF_TWO_PACKETS)
 }
 
-// AD frames with N(S) 1 and 2, whose segments are the two parts of `PACKET`.
+// AD frames with N(S) 1 and 2, whose segments carry the two parts of `PACKET`.
 const FIRST_PART: [u8; 9] = [0x00, 0x2a, 0x04, 0x08, 0x01, 0x40, 0x10, 0x05, 0xc0];
 
 const LAST_PART: [u8; 10] = [0x00, 0x2a, 0x04, 0x09, 0x02, 0x80, 0x00, 0x00, 0x00, 0xaa];

@@ -207,8 +207,8 @@ pub(super) fn side_by_side<R: Threads + Wait + Clock + Sync>(
     act_both(rt, lock, one, two, &AtomicBool::new(false), roles)
 }
 
-// Plays the role of each seat, in a thread of its own, with this flag. Returns whether both roles were played to their
-// ends.
+// Plays the first role with seat `one` and the second with seat `two`, each in a thread of its own, and both with this
+// flag. Returns whether both roles were played to their ends.
 fn act_both<R: Threads + Wait + Clock + Sync>(
     rt: &R,
     lock: &BookLock,

@@ -218,8 +218,8 @@ impl Replay {
         assert!(rt; journal == self.journal.as_slice());
     }
 
-    // Checks that the closed channels of a station, in the order of its settings, give the same reports as the channels
-    // without a station.
+    // Checks that the closed channels of a station, in the order of its settings, have the settings, the number of
+    // events, the FARM-1 report and the numbers of waiting items that the channels without a station have.
     pub(super) fn check_closed<J: Journal>(&self, rt: &impl Abort, channels: &[ChannelWith<J>]) {
         assert_eq!(rt; channels.len(), 2);
         check_same(rt, &channels[0], &self.second);

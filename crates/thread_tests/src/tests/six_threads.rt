@@ -368,7 +368,8 @@ fn close_all(rt: &impl Abort, alloc: Global, station: Station, mut workers: Vec<
     }
 }
 
-// Checks that each operator got the answers that a new channel gives.
+// Replays the journal on a new channel, and compares its answers with those that the operators got. The answers to
+// releases and to takes must be equal, in order. Each reply to a frame must come equally often.
 fn check_answers(rt: &impl Abort, alloc: Global, closed: &Closed) {
     let all = answers_again(rt, alloc, &closed.channel);
     check_as_often(rt, &all, &closed.one, &closed.two);

@@ -46,8 +46,8 @@ maps-not a b n = first-not (λ (m : MapSetting). m.map ≤ 63) (chosen a n) (cho
 units-not : (a b n : ℕ) → ¬ ((1 ≤ n) × (n ≤ 256)) → ¬ HaveUnitCapacities (two_maps a b n)
 units-not a b n = first-not (λ (m : MapSetting). (1 ≤ m.capacity) × (m.capacity ≤ 256)) (chosen a n) (chosen b n ∷ [])
 
--- The conditions on settings hold for the greatest values and for the least values. The first three conditions are
--- stated apart from the others.
+-- The first three conditions on settings (`Front`) hold for the greatest values and for the least values, and so do the
+-- first six. `Later` stands for the conditions after them.
 
 abbrev Front : ℕ → ℕ → ℕ → Type 0 → Type 0
 Front v w b Later = IsVcid v × (IsWidth w × (IsBufferSize b × Later))

@@ -1,4 +1,4 @@
--- The badge goes into the struct.
+-- `ResidentBadge::new` puts the badge into the new struct.
 use Rattle.tc_desk.proofs.Names.{a_type, Val, vstruct, inst_fn, SProp, emp, fsep, ‵, raw, ◌⊛◌, ◌$◌, ◌∵◌, !, qed, by, move, keep, split, fjoin, fpack, use0, feq_i, of_opd, no_more, and_then, returns, enter, alloc_all, pass_all, free_all, look_at, get, sets, agg, tables, no, owns, Valss, types_at, plain, nothing, param, layouts, alive, Stays, stay_dropped, walk_of, Goes-dropped, fact, fact_i, of_list, proved, leaves, token_val, pin_told}
 use Rattle.atomic_table.proofs.Names.{◌≡◌, List, [], ◌∷◌, ◌++◌, refl, RattleType}
 use Rattle.atomic_table.specs.contracts.badge.Badge as badge
