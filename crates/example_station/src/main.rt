@@ -18,7 +18,7 @@ use tc_station::Station;
 /// A frame of Type-AD for channel 1 of spacecraft 42, with N(S) 0 and a packet of application 5 in one segment.
 const FRAME: &[u8] = b"\x00\x2a\x04\x0c\x00\xc0\x10\x05\xc0\x00\x00\x00\xaa";
 
-/// The values that an operator and a watcher have seen.
+/// The results of the calls on the station.
 #[derive(Debug, Drop)]
 struct Seen {
     accepted: bool,

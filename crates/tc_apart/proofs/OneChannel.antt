@@ -122,8 +122,9 @@ determined-all alone (d ∷ one) (f ∷ other) old x y p q e =
     let rest = determined-all alone one other q.0 x y (subst (λ (m : Linked). AreAnsweredOn one m x) s.1 p.2) q.2 more in
     ((λ i. record { operation = operation i; answer = s.0 i } ∷ rest.0 i), rest.1)
 
--- if two lists have the same operations on a channel that is the same at first, these operations have the same answers,
--- and the channel is the same in the end
+-- No two channels of a rack have one id. If two racks have a channel in the same state, and both lists have the same
+-- operations on it, these operations have the same answers, and afterwards both racks have the channel in the same
+-- state.
 pub both-seen : IsOneAtMost → (vcid : ℕ) (one other : List Answered) (a after b behind : Racked) (channel : Linked) → AreChannelsApart a.channels → AreChannelsApart b.channels
     → IsOf a vcid (λ c. c ≡ channel) → IsOf b vcid (λ c. c ≡ channel) → ArePerformed one a after → ArePerformed other b behind
     → map operation_of (filter (is_own vcid) one) ≡ map operation_of (filter (is_own vcid) other)

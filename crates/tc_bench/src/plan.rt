@@ -16,7 +16,7 @@ pub(crate) struct Plan {
     pub(crate) segmented: bool,
 }
 
-/// A plain channel.
+/// A plain channel, whose data fields have no segment headers.
 pub(crate) const PLAIN: Plan = Plan {
     buffer: 4,
     apid: 0,

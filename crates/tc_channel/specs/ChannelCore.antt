@@ -83,7 +83,7 @@ AreChannelCore parts = (limits : ℕ → ℕ) × (s : Settings) × (journal : Li
 abbrev pub WhereverItHolds : Parts → ((ℕ → ℕ) → Settings → List Event → Type 0) → Type 0
 WhereverItHolds parts P = (limits : ℕ → ℕ) (s : Settings) (journal : List Event) → HoldsInRooms limits s journal parts → P limits s journal
 
--- if the old parts belong to a journal, the new ones belong to that journal with one more event
+-- if the old parts belong to a journal, the new ones belong to that journal with this event appended
 abbrev pub GoOn : Event → Parts → Parts → Type 0
 GoOn event old new = WhereverItHolds old (λ limits s journal. HoldsInRooms limits s (journal ++ event ∷ []) new)
 

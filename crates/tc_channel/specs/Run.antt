@@ -92,7 +92,7 @@ AreSteps s state (e ∷ es) = HasStep s state e × AreSteps s (step s state e) e
 unfoldable pub run_within : (ℕ → ℕ) → Settings → List Event → ChannelState
 run_within limits s journal = run_from s (first_state_within limits s) journal
 
--- each event of the journal can happen in the state that the events before it leave
+-- each event of the journal can happen in the state that the events before it lead to, with a limit for each MAP
 unfoldable pub IsLawfulWithin : (ℕ → ℕ) → Settings → List Event → Type 0
 IsLawfulWithin limits s journal = AreSteps s (first_state_within limits s) journal
 

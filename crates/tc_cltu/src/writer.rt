@@ -84,7 +84,7 @@ fn push_last(made: &mut Vec<u8>, octets: &[u8])
     push_block(made, &with_fill(octets));
 }
 
-// Adds the code block of seven octets.
+// Adds the code block of the seven octets `information` to `made`.
 fn push_block(made: &mut Vec<u8>, information: &[u8])
     requires seven { length information.now ≡ 7 }
     requires room { vec_len made.old + 8 ≤ vec_capacity made.old }

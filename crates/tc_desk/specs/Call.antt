@@ -40,8 +40,8 @@ pub record IsAsked {R : Type 0} (ok : Moment → R → Type 0) (before : Moment)
 abbrev pub looked : Moment → Own → Own
 looked now own = record { seen = now; made = own.made; issued = own.issued }
 
--- The account of an operator that made this event at this moment. The event is the last one that the operator has seen,
--- and the last one that it has made, with its place in the journal.
+-- The account of an operator that made this event at this moment. The event is the last one that the operator has seen.
+-- It is also the last one in the list of events that the operator made, where it stands with its place in the journal.
 abbrev pub made : Event → Moment → Own → Own
 made e now own = record { seen = with_entry now e; made = own.made ++ (length now.entries, e) ∷ []; issued = own.issued }
 

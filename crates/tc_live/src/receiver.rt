@@ -122,7 +122,7 @@ impl Receiver {
         }
     }
 
-    // Returns the record of the ends of frames after this line.
+    // Returns the record of the ends of frames as it is once this line was carried out.
     fn ends_behind(&self, line: &Line) -> FrameEnds
         ensures { result ≡ ends_behind self.now.check self.now.ends line.now }
     {

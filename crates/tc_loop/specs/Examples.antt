@@ -47,9 +47,9 @@ around x (suc (suc i)) = example.packet_octets ((x + i) % 256)
 abbrev pub around_set_to : ℕ → Loop
 around_set_to x = record (new_loop no_limits (example.buffer_of 2) (λ m. example.link_up) 5) { first = x; frames = around x }
 
--- V(R) was 0, and then 1. A Set V(R) to 0 is obeyed. Then the two earlier CLCWs come. The sender believes that Set V(R)
--- was obeyed when it hears the first of them, because this CLCW has the number 0. The sender's frame 0 is lost, but the
--- second CLCW makes the sender take this frame for accepted.
+-- V(R) was 0, and then 1. A Set V(R) to 0 is obeyed. Then two CLCWs come that were made before, with V(R) 0 and with
+-- V(R) 1. The sender believes that Set V(R) was obeyed when it hears the first of them, because this CLCW has the
+-- number 0. Frame 0 of the era is lost, but the second CLCW makes the sender take this frame for accepted.
 abbrev pub trap : Start
 trap = record {
   loop = around_set_to 0;

@@ -76,7 +76,7 @@ full-at qs i q inside is full =
     get_or-map room_in (all_staged_in qs) i (staged_in q) 0 (omega (arith, length-map qs staged_in)) ∙ ap room_in (sym here) in
     room ∙ omega (arith, length-append q.slots.ring.items q.slots.staged)
 
--- if no size is below `least`, octets that are no longer than `least` fit each size
+-- if no size is below `least`, at most `least` octets fit each size
 pub fit-enough : (octets : List ℕ) (least : ℕ) (sizes : List ℕ) → AllByRecursion (λ (n : ℕ). least ≤ n) sizes → length octets ≤ least → Fit octets sizes
 fit-enough octets least [] all le = tt
 fit-enough octets least (m ∷ sizes) all le = (let e = all.0 in omega arith, fit-enough octets least sizes all.1 le)

@@ -97,9 +97,11 @@ pub type WordTable = Table<(), View, Past, BoardRule, Global>;
 /// A seat at a board. It takes no memory.
 pub type BoardSeat = Seat<(), View>;
 
-/// The word's table, between two arrays that nothing uses. Each read uses the table. The array before the table keeps
-/// the table off the cache lines with the word. The array after the table keeps it off the cache lines with the next
-/// channel's word. Each array has 128 bytes, a pair of cache lines, because processors fetch cache lines in pairs.
+/// The word's table, between two arrays that nothing uses. The table has the address of the word, which lies in a block
+/// of its own. Each read loads this address, and would be slower if stores to a word took away the cache lines that the
+/// address is in. The array before the table keeps the table off the cache lines with its own word. The array after the
+/// table keeps it off the cache lines with the next channel's word. Each array has 128 bytes, a pair of cache lines,
+/// because processors fetch cache lines in pairs.
 #[derive(Drop)]
 pub struct Board {
     pub before: [u64; 16],

@@ -191,7 +191,8 @@ fn act<R: Wait + Clock>(
     }
 }
 
-// Plays the role of each seat, in a thread of its own, and returns whether both roles were played to their ends.
+// Plays the roles of both seats at once, by two threads if a second one can be started, and returns whether both roles
+// were played to their ends.
 pub(super) fn side_by_side<R: Threads + Wait + Clock + Sync>(
     rt: &R,
     lock: &BookLock,
@@ -207,8 +208,9 @@ pub(super) fn side_by_side<R: Threads + Wait + Clock + Sync>(
     act_both(rt, lock, one, two, &AtomicBool::new(false), roles)
 }
 
-// Plays the first role with seat `one` and the second with seat `two`, each in a thread of its own, and both with this
-// flag. Returns whether both roles were played to their ends.
+// Plays the first role with seat `one` in a new thread, and the second with seat `two` in the running thread, both with
+// this flag. If no thread can be started, the first role is played after the second. Returns whether both roles were
+// played to their ends.
 fn act_both<R: Threads + Wait + Clock + Sync>(
     rt: &R,
     lock: &BookLock,
