@@ -57,7 +57,7 @@ def come_of(session: Session, script: bytes) -> Come:
 def check_cases() -> None:
     """Each stored case, and what is stored for the programs."""
     stored = cases()
-    expect(len(stored) > 200 and sum(bool(case.fault) for case in stored) > 50, f"{len(stored)} cases")
+    expect(len(stored) > 100 and sum(bool(case.fault) for case in stored) > 40, f"{len(stored)} cases")
     for case in stored:
         wanted = (case.answers.decode("ascii"), f"{case.fault}\n" if case.fault else "")
         same(come_of(Session.script(int(case.scid)), case.script), wanted, f"case {case.name}")

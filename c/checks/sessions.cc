@@ -87,7 +87,7 @@ void check_cases() {
         cases++;
         faults += fault.empty() ? 0 : 1;
     }
-    expect(cases > 200 && faults > 50, std::to_string(cases) + " cases, " + std::to_string(faults) + " of them with a fault");
+    expect(cases > 100 && faults > 40, std::to_string(cases) + " cases, " + std::to_string(faults) + " of them with a fault");
     expect(come_of(*Session::live(42), stored("tclive/stdin")) == stored("tclive/stdout"), "the lines of tclive");
     expect(come_of(*Session::make(), stored("tcmake/stdin")) == stored("tcmake/stdout"), "the lines of tcmake");
     std::printf("sessions: %d cases\n", cases);
