@@ -2,6 +2,7 @@
 from __future__ import annotations
 
 import os
+import re
 import signal
 import subprocess
 import sys
@@ -79,6 +80,17 @@ def rows(page: str) -> Iterator[List[str]]:
     for line in page.split("\n"):
         if line.startswith("| "):
             yield [cell.strip() for cell in line.strip("|").split(" | ")]
+
+
+def is_near(one: str, other: str) -> bool:
+    """Whether two cells are the same, or numbers of which one is at most a tenth more."""
+    if one == other:
+        return True
+    first, second = (re.match(r"([\d,]+)(.*)", it) for it in (one, other))
+    if not first or not second or first[2] != second[2]:
+        return False
+    low, high = sorted(int(it[1].replace(",", "")) for it in (first, second))
+    return high * 10 <= low * 11
 
 
 def expect(good: object, what: str, why: str = "") -> None:
