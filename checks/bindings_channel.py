@@ -1,7 +1,7 @@
 #!/usr/bin/env python3
-"""Calls the channel of the client in Python over a shared library: each field of what is read and reported, each growth of memory
-refused, channels that are closed, dropped, copied and shared by threads, where the library is found, and the declarations against the
-header by a C program.
+"""Calls the channel of the client in Python over a shared library. Compares each field of what is read and reported. Refuses each growth of
+memory. Closes, drops and copies channels, and shares them between threads. Checks where the library is found. Compares the declarations
+with the header by a C program.
 
 usage: checks/bindings_channel.py LIBRARY REFUSING     the shared library, and one over c/checks/refusing_memory.c
 The last line says how many checks passed. `checks/bindings` starts it.
@@ -42,7 +42,8 @@ SETTINGS: Dict[str, Any] = {"width": 10, "buffer": 4, "first": 0, "queues": {5: 
 # --- Answers ---
 
 def check_values() -> None:
-    """What no script has: outcomes, reports, the flags of the link, octets of other types, and what waits taken one by one."""
+    """Compares what scripts don't show: outcomes, reports, the flags of the link, frames in octets of other types, and iterators over the
+    packets and units that wait."""
     with Channel(1, **SETTINGS) as channel:
         brought = channel.bring(frame(0, whole(0, ONE)))
         same(isinstance(brought, Brought) and brought.outcome, Outcome.ACCEPTED, "the outcome of a frame")
@@ -64,8 +65,8 @@ def check_values() -> None:
 
 
 def check_replies() -> None:
-    """The reply to a frame of each event, worked out by hand from CCSDS 232.1-B, 6.3, and what a release and takes return after them. Of the
-    three packets of one frame two find room."""
+    """Compares the replies to frames, a release and takes with values worked out by hand from CCSDS 232.1-B, 6.3. There is a frame for each
+    event from E1 to E9. One frame has three packets, but its queue has room for only two."""
     rows = ((frame(252, b"\xc0"), Event.E3, False, NOTHING), (frame(250, whole(0, ONE)), Event.E1, True, NOTHING),
             (frame(251, b"\xc0"), Event.E2, False, NOTHING), (frame(250, b"\xc0"), Event.E4, False, NOTHING),
             (frame(0, whole(0, ONE * 3 + b"\x10"), bypass=1), Event.E6, True, Delivery(2, 1, True)),
@@ -83,7 +84,7 @@ def check_replies() -> None:
 
 
 def check_racks() -> None:
-    """A rack: which channel a frame goes to, each refusal, channels that are closed and moved to another rack."""
+    """Checks to which channel of a rack a frame goes, some refusals, and channels that are closed or moved to another rack."""
     at_seven: Dict[str, Any] = {"width": 10, "buffer": 4, "first": 7, "limits": {0: 64}}
     first, second, other = (Channel(vcid, **at_seven) for vcid in (5, 5, 8))
     rack = Rack(675, [first, second, other])
@@ -109,8 +110,8 @@ def check_racks() -> None:
 
 
 def check_chain() -> None:
-    """From CLTUs to packets: CLTUs of one to four frames, with their sum and without, each with a wrong bit; none is lost. What a CLTU
-    carries beyond as many frames as are taken is reported."""
+    """Sends packets in CLTUs of one to four frames, with the frame error control field and without. Each CLTU has one wrong bit, and no packet
+    may be lost. If a CLTU carries more frames than are taken, the rest must be reported."""
     limits: Dict[str, Any] = {"limits": {0: 1024}, "width": 10, "buffer": 4, "first": 0, "queues": {5: 8}}
     for fecf in (False, True):
         with Channel(1, **limits) as channel:
@@ -133,7 +134,8 @@ def check_chain() -> None:
 
 
 def check_candidates() -> None:
-    """Candidates of twenty frames for two channels in turn, and of three frames of which the middle one is refused, for each of three reasons."""
+    """Tries candidates of twenty frames for two channels in turn, and candidates of three frames. The middle frame of the three is refused,
+    for each of three reasons."""
     ids = (5, 8) * 10
     sent = [frame(0, whole(0, b"\xaa" * 43), vcid, bypass=1, scid=675, fecf=True) for vcid in ids]
     brought = [Brought(vcid, Event.E6, True, Delivery(0, 0, True)) for vcid in ids]
@@ -151,7 +153,8 @@ def check_candidates() -> None:
 
 
 def check_searches() -> None:
-    """A search amid a CLTU, in each mode: it drops what the CLTU has carried so far, and the decoder keeps its mode."""
+    """Starts a search in the middle of a CLTU, in each mode. The search must drop what the CLTU has carried so far, and keep the decoder's
+    mode."""
     carried = bytes(range(1, 15))
     sent = cltu(carried)
     wrong = sent[:5] + bytes([sent[5] ^ 16]) + sent[6:]
@@ -166,7 +169,7 @@ def check_searches() -> None:
 
 
 def check_rack_turns(sent: bytes) -> None:
-    """Racks of the same channels, one of which stands twice in each, in several threads: no call waits for ever."""
+    """Calls two racks of the same channels from several threads. Each rack has one of the channels twice. No call may wait for ever."""
     one, two = (Channel(vcid, width=10, buffer=4, first=7, limits={0: 64}) for vcid in (5, 8))
     racks = (Rack(675, [one, two, one]), Rack(675, [two, one, two]))
     threads = [threading.Thread(target=lambda rack=rack: [rack.bring(sent) for _ in range(2000)], daemon=True) for rack in racks for _ in range(2)]
@@ -177,13 +180,15 @@ def check_rack_turns(sent: bytes) -> None:
     same((any(thread.is_alive() for thread in threads), one.events, two.events), (False, 4000, 0), "racks of the same channels in several threads")
 
 
-# Of spacecraft 675, with fill behind each: Type-BD has bypass alone, Type-BC both flags, Type-AD none, and Type-AC control alone.
+# Frames of spacecraft 675, each with fill after it, and their fields. Type-BD has only the bypass flag, Type-BC has both flags, Type-AD has
+# none, and Type-AC has only the control flag.
 FRAMES = (("22a39407c8c0aabb5555", Frame(675, 37, 200, True, False, 8)), ("32a33005110055", Frame(675, 12, 17, True, True, 6)),
           ("02a3fd2bff" + 297 * "00", Frame(675, 63, 255, False, False, 300)), ("12a30005800055", Frame(675, 0, 128, False, True, 6)))
-# Of virtual channel 37, FARM-B 2 and V(R) 181: each flag alone, from No RF Available to Retransmit, and the largest status field.
+# CLCWs of virtual channel 37 with FARM-B counter 2 and V(R) 181. The first five have one flag each, from No RF Available to Retransmit. The
+# last has the largest status field and no flag.
 WORDS = (0x019484B5, 0x019444B5, 0x019424B5, 0x019414B5, 0x01940CB5, 0x1D9404B5)
-# A Type-AD frame ahead of V(R) (E3), the expected one with room (E1) and without (E2), Unlock (E7), and a Type-AD frame outside the
-# window (E5), each with the report after it.
+# Frames, each with the report after it. They are a Type-AD frame ahead of V(R) (E3), the expected one with room (E1) and without (E2),
+# Unlock (E7), and a Type-AD frame outside the window (E5).
 STEPS = ((frame(252, b"\xc0"), Report(1, State.OPEN, 250, False, False, True, 0, 0, {}, {})),
          (frame(250, b"\xc0"), Report(1, State.OPEN, 251, False, False, False, 0, 1, {}, {})),
          (frame(251, b"\xc0"), Report(1, State.WAIT, 251, False, True, True, 0, 1, {}, {})),
@@ -191,7 +196,8 @@ STEPS = ((frame(252, b"\xc0"), Report(1, State.OPEN, 250, False, False, True, 0,
          (frame(100, b"\xc0"), Report(1, State.LOCKOUT, 251, True, False, False, 1, 1, {}, {})))
 
 
-# Packets by their fields, as c/checks/fields.h has them: APID, count, packet data field, packet type, secondary header flag, sequence flags.
+# Packets and their fields: APID, count, packet data field, packet type, secondary header flag, sequence flags. They are those of
+# c/checks/fields.h.
 PACKETS: Tuple[Tuple[str, Tuple[int, int, bytes], Dict[str, Any]], ...] = (
     ("1da512340002aabbcc", (1445, 4660, b"\xaa\xbb\xcc"), {"secondary": True, "sequence": 0}),
     ("000540010000aa", (5, 1, b"\xaa"), {"telecommand": False, "sequence": 1}),
@@ -200,7 +206,7 @@ PACKETS: Tuple[Tuple[str, Tuple[int, int, bytes], Dict[str, Any]], ...] = (
 
 
 def check_made() -> None:
-    """Frames and packets that are made, as c/checks/fields.h has them, and one of each making that is refused."""
+    """Compares frames and packets that are written with those of c/checks/fields.h, and tries a call of each kind that is refused."""
     for digits, (apid, count, field), others in PACKETS:
         same(write_packet(apid, count, field, **others).hex(), digits, f"the packet {digits[:12]}")
     unit, plain = bytes(range(1, 8)), "22a39407c8c0aabb"
@@ -218,8 +224,8 @@ def check_made() -> None:
 
 
 def check_streams(sent: bytes, plain: bytes) -> None:
-    """A CLTU in pieces, and with a wrong bit, which is corrected in one mode, and rejected in the other; more octets at once than a call
-    of C is given."""
+    """Decodes a CLTU in pieces. Then decodes it with a wrong bit, which one mode corrects and for which the other mode rejects it. Then gives the
+    decoder more octets at once than it passes to one call of C."""
     wrong, carried = sent[:5] + bytes([sent[5] ^ 16]) + sent[6:], plain + b"\x55" * 6
     decoder, strict = Decoder(correct=True), Decoder(correct=False)
     same([decoder.feed(octets) for octets in (sent[:9], sent[9:-1], sent[-1:], wrong)], [[], [carried], [], [carried]], "a stream in pieces")
@@ -230,7 +236,7 @@ def check_streams(sent: bytes, plain: bytes) -> None:
 
 
 def check_ends_of_the_link() -> None:
-    """A CLTU, the random sequence and telemetry frames, as c/checks/fields.h has them, and one of each that is refused."""
+    """Compares a CLTU, the random sequence and telemetry frames with those of c/checks/fields.h, and tries calls of each kind that are refused."""
     plain, clcw = bytes.fromhex("22a39407c8c0aabb"), Clcw(0x1d9484b5)
     same(write_cltu(plain).hex(), "eb9022a39407c8c0aaf0bb5555555555553ec5c5c5c5c5c5c579", "a CLTU")
     longest = bytes(place * 7 & 255 for place in range(1029))
@@ -250,8 +256,8 @@ def check_ends_of_the_link() -> None:
 
 
 def check_fields() -> None:
-    """Each field of frames, of CLCWs, and of what a channel reports after each step, and its CLCW with each flag of the link alone. All of
-    it is worked out by hand, by the layouts of docs/reference/formats.md and the state table of CCSDS 232.1-B, 6.3."""
+    """Compares each field of frames, of CLCWs, and of the reports after steps, and the channel's CLCW with each flag of the link alone. All values
+    are worked out by hand, by the layouts of docs/reference/formats.md and the state table of CCSDS 232.1-B, 6.3."""
     for digits, wanted in FRAMES:
         same(read_frame(bytes.fromhex(digits)), wanted, f"the fields of the frame {digits[:10]}")
         made = write_frame(wanted.scid, wanted.vcid, wanted.ns, bytes.fromhex(digits)[5:wanted.length], bypass=wanted.bypass, control=wanted.control)
@@ -274,12 +280,12 @@ def check_fields() -> None:
 
 
 def changed(change: Dict[str, Any]) -> Dict[str, Any]:
-    """The settings with a change."""
+    """Returns the settings with a change."""
     return {**SETTINGS, **change}
 
 
 def check_refused() -> None:
-    """Settings, values and libraries that are refused."""
+    """Tries settings, values and libraries that are refused."""
     tried: Tuple[Dict[str, Any], ...] = (
         {"width": 9}, {"queues": {5: 0}}, {"maps": {64: 1}}, {"plain": True})
     texts = [str(raises(BadSettings, partial(Channel, 1, **changed(change)), f"{change}")) for change in tried]
@@ -291,7 +297,8 @@ def check_refused() -> None:
         why = [str(raises(BadSettings, partial(call, 1, **changed(change)), f"{change}")) for call in (Channel, storage)]
         expect(why[0] == why[1] and "limit" in why[0], f"why limits are refused: {why}")
     same(storage(1, width=10, buffer=8, first=0, queues=dict.fromkeys((5, 6, 7, 8), 8), limits={0: 1024}), 49624, "the storage within limits")
-    # 1,051 for the buffer, 5,120 and 2 * 64 * 65,542 for open runs, 64 for each queue, 65,574 for each packet, and 4,096 for the table.
+    # These are 1,051 bytes for the buffer, 5,120 and 2 * 64 * 65,542 for open runs, 64 for each queue, 65,574 for each packet, and 4,096
+    # for the table.
     many: Dict[str, Any] = {"width": 10, "buffer": 1, "first": 0, "queues": dict.fromkeys(range(256), 256)}
     same(storage(1, **many), 4305873691, "a storage of more octets than 32 bits count")
     raises(ValueError, lambda: Channel(1, **changed({"limits": {2: 2**32}})), "a limit that C's type doesn't have")
@@ -319,7 +326,7 @@ def check_refused() -> None:
 # --- Ends ---
 
 def check_ends() -> None:
-    """Channels that are closed, used after that, copied and left behind."""
+    """Closes channels and uses them after that, copies them, and leaves one open when Python exits."""
     channel = Channel(1, **SETTINGS)
     raises(ValueError, lambda: channel.final, "the report of an open channel")
     final = channel.close()
@@ -345,7 +352,7 @@ def check_ends() -> None:
 
 
 def check_threads() -> None:
-    """Two channels in two threads, and one channel that four threads share."""
+    """Uses two channels in two threads, and one channel that four threads share."""
     def rounds(octet: int, good: List[bool]) -> None:
         with Channel(1, **SETTINGS) as channel:
             for number in range(2000):
@@ -368,7 +375,7 @@ def check_threads() -> None:
 
 
 def check_turns() -> None:
-    """Each call of a channel, and of its rack, waits for one of another thread, which holds the channel's lock here."""
+    """Checks that each call of a channel and of its rack waits while another thread holds the channel's lock."""
     with Channel(1, **SETTINGS) as channel:
         rack = Rack(42, [channel])
         calls: Tuple[Callable[[], object], ...] = (
@@ -386,7 +393,7 @@ def check_turns() -> None:
 
 
 def check_fork() -> None:
-    """After a fork each process has its own."""
+    """Checks that after a fork each process has a channel of its own."""
     with Channel(1, **SETTINGS) as channel:
         channel.bring(frame(0, whole(0, ONE)))
         child = os.fork()
@@ -400,7 +407,7 @@ def check_fork() -> None:
 # --- Memory ---
 
 def refusing_memory(refusing: str) -> ctypes.PyDLL:
-    """The calls of c/checks/refusing_memory.c in a library."""
+    """Returns a library with the calls of c/checks/refusing_memory.c."""
     memory = ctypes.PyDLL(refusing)
     memory.tcrx_refuse.restype, memory.tcrx_blocks.restype = ctypes.c_long, ctypes.c_long
     memory.tcrx_refuse.argtypes = [ctypes.c_long]
@@ -408,11 +415,12 @@ def refusing_memory(refusing: str) -> ctypes.PyDLL:
 
 
 def check_growths(refusing: str) -> None:
-    """Each block of a channel that is made refused in turn. That no other call asks for any is compared by c/checks/growths.c."""
+    """Refuses in turn each block that the creation of a channel requests. c/checks/growths.c shows that no other call requests any."""
     memory, refused = refusing_memory(refusing), 0
 
     def done(call: Callable[[], Any], look: Callable[[], object], what: str) -> Any:
-        """What a call answers once it meets no refused growth; each before that changes nothing."""
+        """Repeats a call, and refuses another growth each time, until no growth is refused. Returns the last answer. The refused calls must
+        raise `NoMemory` and change nothing."""
         nonlocal refused
         for growth in range(1000):
             before = look()
@@ -443,12 +451,13 @@ def check_growths(refusing: str) -> None:
 # --- Declarations ---
 
 def name_in_c(kind: Type[ctypes.Structure]) -> str:
-    """A record's name in the header: _FarmAnswer is tcrx_farm_answer."""
+    """Returns a record's name in the header. That of _FarmAnswer is tcrx_farm_answer."""
     return "tcrx_" + "_".join(word.lower() for word in re.findall(r"[A-Z][a-z]*", kind.__name__))
 
 
 def check_places(module: ModuleType, header: str, least: int) -> None:
-    """The size of each record that a module declares of a header, and the place and the size of each field, by a C program."""
+    """Compares the size of each record that a module declares, and the place and size of each field, with those in a C program that includes
+    the header."""
     kinds = [kind for kind in vars(module).values() if isinstance(kind, type) and issubclass(kind, ctypes.Structure)
              and kind is not ctypes.Structure]
     expect(len(kinds) >= least, f"{len(kinds)} records")
@@ -469,7 +478,8 @@ def check_places(module: ModuleType, header: str, least: int) -> None:
 
 
 def check_found(library: str) -> None:
-    """Where no variable names its folder: the library beside the client, that of a clone in `dist`, or else by its name alone."""
+    """Checks which library is found if no variable names its folder. It is the one beside the client, or else that in the folder `dist` of a
+    clone, or else the one that the loader finds by its name."""
     os.environ.pop("TCRX_LIB_DIR", None)
     found = "import tcrx.channel as at; print(at.find_library(), at.file_of(at.load(None)))"
     with tempfile.TemporaryDirectory() as folder:
@@ -485,7 +495,7 @@ def check_found(library: str) -> None:
 
 
 def main() -> int:
-    """Each part, over the libraries that the words name."""
+    """Runs each part over the libraries that the command line names."""
     library, refusing = sys.argv[1], sys.argv[2]
     check_found(library)
     os.environ["TCRX_LIB_DIR"] = str(Path(library).parent)

@@ -1,7 +1,8 @@
 #!/usr/bin/env python3
-"""Brings the stored cases through sessions of lines of the client in Python, line by line, over a shared library: scripts as `tcrx run`, and
-the input of `tclive` and of `tcmake`. Compares each fault of a session, sessions that are closed, dropped, copied and shared by threads,
-each growth of memory refused, a library without sessions, and the declarations against the header by a C program.
+"""Runs the stored cases through sessions of lines of the client in Python, line by line, over a shared library. A session takes the scripts as
+`tcrx run` does, and others take the stored input of `tclive` and of `tcmake`. Tries the faults of a session. Closes, drops and copies
+sessions, and shares one between threads. Refuses each growth of memory. Tries a library without sessions. Compares the declarations with
+the header by a C program.
 
 usage: checks/bindings_lines.py LIBRARY REFUSING PORTABLE     the shared library, one over c/checks/refusing_memory.c, and one in portable C
 The last line says how many checks passed. `checks/bindings` starts it.
@@ -29,18 +30,18 @@ from tcrx import Channel, Ended, NotStarted
 from tcrx.values import BadSettings, NoMemory, Octets
 from tcrx.lines import BadScript, NoRoom, Over, Session, Waiting
 
-# The texts of answers, and why a script ended.
+# The texts of the answers, and the fault that ended the script.
 Come = Tuple[str, str]
 
 
 def lines_of(script: bytes) -> List[bytes]:
-    """The lines of a script without their line feeds."""
+    """Returns the lines of a script without their line feeds."""
     lines = script.split(b"\n")
     return lines if lines[-1] else lines[:-1]
 
 
 def come_of(session: Session, script: bytes) -> Come:
-    """What lines come to, with the final report."""
+    """Returns the answers to the lines of a script with the final report, and the fault that ended it. Closes the session."""
     texts: List[str] = []
     try:
         texts += map(session.answer, lines_of(script))
@@ -55,7 +56,7 @@ def come_of(session: Session, script: bytes) -> Come:
 
 
 def check_cases() -> None:
-    """Each stored case, and what is stored for the programs."""
+    """Compares the answers to each stored case and to the input that is stored for `tclive` and `tcmake`."""
     stored = cases()
     expect(len(stored) > 100 and sum(bool(case.fault) for case in stored) > 40, f"{len(stored)} cases")
     for case in stored:
@@ -68,7 +69,7 @@ def check_cases() -> None:
 
 
 def check_sums() -> None:
-    """Frame error control fields, which are CRC-16-CCITT by the standard library, made, checked and seen."""
+    """Compares how sessions write, check and notice frame error control fields. Python's standard library has their CRC."""
     plain = bytes.fromhex("002a040e00c01005c0000000aa")
     ended = f"frame {plain.hex()}{binascii.crc_hqx(plain, 0xffff):04x}"
     with Session.make(fecf=True) as maker:
@@ -84,7 +85,7 @@ def check_sums() -> None:
 
 
 def check_faults() -> None:
-    """Settings, lines and values that are refused."""
+    """Tries settings, lines and values that are refused."""
     same(str(raises(BadSettings, lambda: Session.live(1024), "no spacecraft")), "the spacecraft id is over 1,023", "why")
     raises(BadSettings, lambda: Session.script(1024), "no spacecraft of a script")
     raises(ValueError, lambda: Session.script(65536), "a spacecraft that C's type doesn't have")
@@ -105,7 +106,7 @@ def check_faults() -> None:
 
 
 def check_room() -> None:
-    """A text for whose buffer there is no memory waits."""
+    """Checks that a text waits in the session if there is no memory for its buffer in Python."""
     field = "aa" * 2100
     made, buffer = f"packet 1005c0000833{field}\n", ctypes.create_string_buffer
 
@@ -126,7 +127,7 @@ def check_room() -> None:
 
 
 def check_ends() -> None:
-    """Sessions that are closed, used after that, copied and shared."""
+    """Closes a session and uses it after that, copies one, and shares one between threads."""
     session = Session.live(42)
     session.close()
     session.close()
@@ -147,11 +148,12 @@ def check_ends() -> None:
 
 
 def check_growths(refusing: str) -> None:
-    """Each block refused in turn, for a line that is then given again."""
+    """Refuses each block of memory in turn. A line whose block is refused is given again."""
     memory, refused = refusing_memory(refusing), 0
 
     def done(call: Callable[[], object]) -> object:
-        """What a call answers that no longer ends with nothing done."""
+        """Repeats a call, each time with a later block refused, until the call is carried out. Returns its answer, or the fault that ended a
+        script."""
         nonlocal refused
         for growth in range(1000):
             memory.tcrx_refuse(growth)
@@ -187,7 +189,7 @@ def check_growths(refusing: str) -> None:
 
 
 def check_portable(portable: str) -> None:
-    """A library in portable C has channels and no sessions, and the fault says so."""
+    """Checks that a library in portable C has channels but no sessions, and that the fault gives this reason."""
     with Channel(1, width=10, buffer=4, first=0, limits={0: 64}, library=portable) as channel:
         same(channel.events, 0, "a channel in portable C")
     fault = raises(NotStarted, lambda: Session.live(42, library=portable), "a session in portable C")
@@ -195,7 +197,7 @@ def check_portable(portable: str) -> None:
 
 
 def main() -> int:
-    """Each part, over the libraries that the words name."""
+    """Runs each part over the libraries that the command line names."""
     library, refusing, portable = sys.argv[1], sys.argv[2], sys.argv[3]
     os.environ["TCRX_LIB_DIR"] = str(Path(library).parent)
     same((tcrx.Session, hasattr(tcrx, "Session")), (Session, True), "the session of tcrx")
