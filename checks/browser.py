@@ -1,4 +1,4 @@
-"""A browser without a window for the checks: Chromium, which is talked to over its pipe for debugging (the Chrome DevTools protocol)."""
+"""Starts Chromium without a window for the checks, and controls it over its debugging pipe (by the Chrome DevTools protocol)."""
 from __future__ import annotations
 
 import base64
@@ -14,32 +14,32 @@ from typing import Any, Dict, List, Optional
 
 import packages
 
-# Seconds for an answer of the browser, and for its start.
+# The most seconds that an answer of the browser may take. The first one includes its start.
 PATIENCE = 60
 
 
 class NoBrowser(Exception):
-    """The browser doesn't start or doesn't answer."""
+    """An error for a browser that doesn't start, doesn't answer in time, or answers with an error."""
 
 
 def find() -> Optional[str]:
-    """The command of Chromium; it is installed from Debian's package first, where that may be done."""
+    """Returns the path of Chromium, or `None`. If it is missing, Debian's package is installed first, if that is allowed."""
     return shutil.which("chromium") if packages.has("chromium", "chromium", "fonts-dejavu-core") else None
 
 
 class Browser:
-    """A page in the browser, from its start to its end."""
+    """A running browser with one page."""
 
     def __init__(self, command: str) -> None:
         self.home = tempfile.mkdtemp()
         to_browser, ours = os.pipe()
         theirs, from_browser = os.pipe()
-        # The browser reads at 3 and writes at 4, which may be the numbers of these pipes, too.
+        # The browser reads descriptor 3 and writes to descriptor 4. These pipes may have the same numbers, so they are moved away first.
         script = f'exec 100<&{to_browser} 101>&{from_browser}; exec 3<&100 4>&101 100<&- 101>&-; exec "$0" "$@"'
         words = [command, "--headless", "--remote-debugging-pipe", "--no-sandbox", "--disable-gpu", "--disable-dev-shm-usage", "--no-first-run",
                  "--disable-extensions", "--disable-background-networking", "--disable-component-update", "--mute-audio",
                  f"--user-data-dir={self.home}", "about:blank"]
-        # pylint: disable-next=consider-using-with  # it is ended in `close`
+        # pylint: disable-next=consider-using-with  # `close` ends it
         self.child = subprocess.Popen(["bash", "-c", script, *words], pass_fds=(to_browser, from_browser), stdin=subprocess.DEVNULL,
                                       stdout=subprocess.DEVNULL, stderr=subprocess.DEVNULL, start_new_session=True)
         os.close(to_browser)
@@ -47,7 +47,7 @@ class Browser:
         self.writer, self.reader, self.left, self.number = ours, theirs, b"", 0
         self.session = ""
         self.complaints: List[str] = []
-        """What the page wrote to its console, and its exceptions."""
+        """The page's entries in its console and log, and its exceptions."""
         targets = self.ask("Target.getTargets")["targetInfos"]
         page = next(each["targetId"] for each in targets if each["type"] == "page")
         self.session = self.ask("Target.attachToTarget", targetId=page, flatten=True)["sessionId"]
@@ -61,7 +61,7 @@ class Browser:
         self.close()
 
     def _message(self, until: float) -> Dict[str, Any]:
-        """The next message of the browser."""
+        """Waits for the browser's next message and returns it. Keeps it if it is a complaint."""
         while b"\0" not in self.left:
             if not select.select([self.reader], [], [], max(0.0, until - time.monotonic()))[0]:
                 raise NoBrowser("no answer in time")
@@ -76,7 +76,7 @@ class Browser:
         return message
 
     def ask(self, method: str, **given: Any) -> Dict[str, Any]:
-        """The answer to a command of the protocol."""
+        """Sends a command of the protocol, and returns its answer."""
         self.number += 1
         about = {"sessionId": self.session} if self.session else {}
         os.write(self.writer, json.dumps({"id": self.number, "method": method, "params": given, **about}).encode() + b"\0")
@@ -90,19 +90,19 @@ class Browser:
                 return result
 
     def open(self, address: str) -> None:
-        """Opens a page, and waits until it is there."""
+        """Opens a page, and waits until it is loaded."""
         self.ask("Page.navigate", url=address)
         self.wait("document.readyState === 'complete' && location.href !== 'about:blank'")
 
     def value(self, script: str) -> Any:
-        """The value of an expression in the page."""
+        """Evaluates an expression in the page, and returns its value."""
         answer = self.ask("Runtime.evaluate", expression=script, returnByValue=True, awaitPromise=True)
         if "exceptionDetails" in answer:
             raise NoBrowser(f"{script}: {answer['exceptionDetails']}")
         return answer["result"].get("value")
 
     def wait(self, script: str, seconds: float = 20.0) -> bool:
-        """Waits until an expression is true in the page; whether it came to be."""
+        """Waits until an expression is true in the page. Returns whether it became true in time."""
         until = time.monotonic() + seconds
         while time.monotonic() < until:
             if self.value(script):
@@ -111,24 +111,24 @@ class Browser:
         return False
 
     def press(self, key: str) -> None:
-        """Presses a key, as ArrowDown."""
+        """Presses and releases the key with this name, for example `ArrowDown`."""
         codes = {"ArrowDown": 40, "ArrowUp": 38, "Home": 36, "End": 35, "PageDown": 34, "PageUp": 33, "Escape": 27, "Tab": 9, "Enter": 13}
         for kind in ("keyDown", "keyUp"):
             more = {"text": "\r"} if key == "Enter" and kind == "keyDown" else {}
             self.ask("Input.dispatchKeyEvent", type=kind, key=key, code=key, windowsVirtualKeyCode=codes[key], **more)
 
     def look(self, width: int, height: int, dark: bool = False) -> None:
-        """Gives the page this size, and light or dark colours."""
+        """Sets the page's size, and light or dark colours."""
         self.ask("Emulation.setDeviceMetricsOverride", width=width, height=height, deviceScaleFactor=1, mobile=False)
         self.ask("Emulation.setEmulatedMedia", features=[{"name": "prefers-color-scheme", "value": "dark" if dark else "light"}])
 
     def picture(self, path: Path, whole: bool = False) -> None:
-        """Writes a picture of the page."""
+        """Writes a picture of the page. If `whole` is set, it also has the parts of the page that aren't visible."""
         made = self.ask("Page.captureScreenshot", format="png", captureBeyondViewport=whole)
         path.write_bytes(base64.b64decode(made["data"]))
 
     def close(self) -> None:
-        """Ends the browser with all that it started."""
+        """Closes the pipes, which has the browser exit. Kills it if that takes more than 10 seconds, and deletes its files."""
         for number in (self.writer, self.reader):
             os.close(number)
         try:
