@@ -42,8 +42,8 @@ SETTINGS: Dict[str, Any] = {"width": 10, "buffer": 4, "first": 0, "queues": {5: 
 # --- Answers ---
 
 def check_values() -> None:
-    """Compares what scripts don't show: outcomes, reports, the flags of the link, frames in octets of other types, and iterators over the
-    packets and units that wait."""
+    """Compares what scripts don't show: outcomes, reports, the flags of the link, frames as a bytearray and as a memoryview, and the iterators
+    over packets and units that wait."""
     with Channel(1, **SETTINGS) as channel:
         brought = channel.bring(frame(0, whole(0, ONE)))
         same(isinstance(brought, Brought) and brought.outcome, Outcome.ACCEPTED, "the outcome of a frame")
@@ -96,10 +96,10 @@ def check_racks() -> None:
     same([rack.bring(octets) for octets in (sent, b"", ended + b"\0", ended[:-1] + b"\0", sent[:3] + b"\5" + sent[4:6])],
          [Refused(Refusal.CHECK)] * 5, "frames without the field")
     same(rack.bring(ended), Brought(8, Event.E1, True, NOTHING), "a frame with the field")
-    same(rack.bring(add_fecf(write_frame(676, 9, 0, b"\0"))), Refused(Refusal.SPACECRAFT), "another spacecraft behind the check")
+    same(rack.bring(add_fecf(write_frame(676, 9, 0, b"\0"))), Refused(Refusal.SPACECRAFT), "another spacecraft after the check")
     same((first.events, second.events, other.events), (1, 0, 1), "the events of each")
     first.close()
-    same((rack.channel(5) is second, rack.bring(add_fecf(sent))), (True, Brought(5, Event.E1, True, NOTHING)), "the next of that id")
+    same((rack.channel(5) is second, rack.bring(add_fecf(sent))), (True, Brought(5, Event.E1, True, NOTHING)), "the next channel with that id")
     moved = Rack(675, [other])
     same((rack.channel(8), moved.channel(8) is other, other.events), (None, True, 1), "a channel that is moved")
     same(other.release(), Released(8, Delivery(0, 0, True)), "its release")
@@ -130,7 +130,7 @@ def check_chain() -> None:
             found = rack.bring_candidate(frames[0] * 2, most=1)
             same((len(found.frames), found.more), (1, frames[0]), "a frame more than is taken")
             found = rack.bring_candidate(frames[0] + b"\x40" * 8, most=3)
-            same(found.frames[1:], [Refused(Refusal.CHECK if fecf else Refusal.VERSION)], "octets behind a frame that are none")
+            same(found.frames[1:], [Refused(Refusal.CHECK if fecf else Refusal.VERSION)], "octets after a frame that aren't a frame")
 
 
 def check_candidates() -> None:
@@ -161,9 +161,9 @@ def check_searches() -> None:
     for correct in (True, False):
         cut = Decoder(correct=correct)
         cut.feed(sent[:13])
-        same((cut.search(), cut.search(), cut.feed(sent[13:])), (True, False, []), "the rest of a CLTU behind a search")
-        same((cut.feed(wrong), cut.corrected, cut.rejected), ([carried] * correct, int(correct), int(not correct)), "the mode behind a search")
-        same(cut.feed(sent), [carried], "a CLTU behind a search")
+        same((cut.search(), cut.search(), cut.feed(sent[13:])), (True, False, []), "the rest of a CLTU after a search")
+        same((cut.feed(wrong), cut.corrected, cut.rejected), ([carried] * correct, int(correct), int(not correct)), "the mode after a search")
+        same(cut.feed(sent), [carried], "a CLTU after a search")
         cut.feed(b"\xeb\x90" + bytes.fromhex("00000000000000fe") * 148)
         same(cut.overlong, 1, "a CLTU that carries too much")
 
@@ -219,13 +219,13 @@ def check_made() -> None:
     same([check_fecf(octets) for octets in (bytes.fromhex(plain), b"", b"\xff\xff")], [Refused(Refusal.CHECK)] * 3, "no frames with a field")
     for call in (lambda: write_packet(2048, 0, b"\0"), lambda: write_frame(0, 0, 0, b""), lambda: write_segments(unit, scid=0, vcid=0, ns=0, map=64),
                  lambda: write_unlock(1024, 0), lambda: add_fecf(b"")):
-        raises(NotWritten, call, "a making that is refused")
+        raises(NotWritten, call, "a call that is refused")
     same(str(Clcw(0x1d9484b5)), "vc 37 status 7 norf 1 nobitlock 0 lockout 0 wait 0 retransmit 0 farmb 2 vr 181", "a CLCW as text")
 
 
 def check_streams(sent: bytes, plain: bytes) -> None:
-    """Decodes a CLTU in pieces. Then decodes it with a wrong bit, which one mode corrects and for which the other mode rejects it. Then gives the
-    decoder more octets at once than it passes to one call of C."""
+    """Decodes a CLTU in pieces. Then decodes it with a wrong bit, which one mode corrects, while the other mode rejects the CLTU. Then gives
+    a decoder more octets at once than it passes to one call of C."""
     wrong, carried = sent[:5] + bytes([sent[5] ^ 16]) + sent[6:], plain + b"\x55" * 6
     decoder, strict = Decoder(correct=True), Decoder(correct=False)
     same([decoder.feed(octets) for octets in (sent[:9], sent[9:-1], sent[-1:], wrong)], [[], [carried], [], [carried]], "a stream in pieces")
@@ -245,12 +245,12 @@ def check_ends_of_the_link() -> None:
     check_streams(bytes.fromhex("eb9022a39407c8c0aaf0bb5555555555553ec5c5c5c5c5c5c57955"), plain)
     for digits, fecf, size in (("2a3bc84d1ffe5555551d9484b5", False, 13), ("2a3bc84d1ffe5555551d9484b57ee3", True, 15)):
         same(write_tm(675, 5, 200, 77, clcw, size=size, fecf=fecf).hex(), digits, "a telemetry frame")
-        same(read_tm(bytes.fromhex(digits), fecf=fecf), Tm(675, 5, 200, 77, clcw, 2046), "what a telemetry frame says")
+        same(read_tm(bytes.fromhex(digits), fecf=fecf), Tm(675, 5, 200, 77, clcw, 2046), "the fields of a telemetry frame")
     same(read_tm(bytes.fromhex("2a3bc84d1ffe5555559d9484b5")), Tm(675, 5, 200, 77, None, 2046, 0x9D9484B5), "a Type-2 report")
     same(read_tm(bytes.fromhex("2a3bc84d19235555551d9484b5")), Tm(675, 5, 200, 77, clcw, 291), "a first header pointer")
     for call in (lambda: write_cltu(b""), lambda: write_cltu(bytes(1030)), lambda: randomise(bytes(1030)),
                  lambda: write_tm(1024, 0, 0, 0, clcw, size=13), lambda: write_tm(0, 0, 0, 0, clcw, size=2049)):
-        raises(NotWritten, call, "a making at an end of the link that is refused")
+        raises(NotWritten, call, "a call at an end of the link that is refused")
     for octets, fecf in ((bytes(10), False), (bytes(11), False), (bytes.fromhex("2a3bc84d1ffe5555551d9484b5"), True), (b"\x40" * 11, False)):
         raises(NotRead, lambda given=octets, ends=fecf: read_tm(given, fecf=ends), "a telemetry frame that is refused")
 
@@ -261,7 +261,7 @@ def check_fields() -> None:
     for digits, wanted in FRAMES:
         same(read_frame(bytes.fromhex(digits)), wanted, f"the fields of the frame {digits[:10]}")
         made = write_frame(wanted.scid, wanted.vcid, wanted.ns, bytes.fromhex(digits)[5:wanted.length], bypass=wanted.bypass, control=wanted.control)
-        same(made, bytes.fromhex(digits)[:wanted.length], f"the frame {digits[:10]} of its fields")
+        same(made, bytes.fromhex(digits)[:wanted.length], f"the frame {digits[:10]} from its fields")
     for place, number in enumerate(WORDS):
         clcw = Clcw(number)
         flags = (clcw.no_rf, clcw.no_bit_lock, clcw.lockout, clcw.wait, clcw.retransmit)
@@ -311,13 +311,13 @@ def check_refused() -> None:
         wrongs: Tuple[Any, ...] = ("1", 5)
         for wrong in wrongs:
             fault = raises(TypeError, partial(channel.bring, wrong), f"{wrong!r} for octets")
-            expect(str(fault).startswith("octets are wanted, as bytes.fromhex makes them"), f"what {wrong!r} for octets is answered: {fault}")
+            expect(str(fault).startswith("octets are wanted, as bytes.fromhex makes them"), f"the fault of {wrong!r} for octets: {fault}")
         refusals = [channel.bring(octets) for octets in (b"", b"\x00" * 4, b"\x40" + UNLOCK[1:], b"\x04" + UNLOCK[1:], UNLOCK[:5],
                                                          UNLOCK[:3] + b"\x04" + UNLOCK[4:])]
         same([refused.reason.value for refused in refusals if isinstance(refused, Refused)],
              ["short", "short", "version", "spare", "truncated", "length"], "no frames")
         same([read_frame(octets) for octets in (b"", UNLOCK[:5])], [refusals[0], refusals[4]], "no frames to be read")
-        same(channel.events, 0, "what they changed")
+        same(channel.events, 0, "the events after refused frames")
     raises(NotStarted, lambda: Channel(1, **SETTINGS, library="/nowhere/libtcrx.so.0"), "a library that isn't there")
     raises(NotStarted, lambda: Channel(1, **SETTINGS, library=ctypes.util.find_library("c")), "another library")
     raises(AttributeError, lambda: getattr(tcrx, "Chanel"), "a name that tcrx doesn't have")
@@ -334,7 +334,7 @@ def check_ends() -> None:
     calls = (lambda: channel.bring(UNLOCK), channel.release, lambda: channel.take(5), lambda: channel.take_unit(2), channel.clcw,
              channel.report, lambda: channel.events, lambda: list(channel.packets(5)))
     for place, call in enumerate(calls):
-        same(str(raises(Ended, call, f"call {place} after the close")), "the receiver has ended: it was closed", "why")
+        same(str(raises(Ended, call, f"call {place} after the close")), "the receiver has ended: it was closed", "the text of the fault")
     copies: Tuple[Callable[[object], object], ...] = (copy.copy, copy.deepcopy, pickle.dumps)
     for copied in copies:
         with Channel(1, **SETTINGS) as other:

@@ -50,7 +50,7 @@ def come_of(session: Session, script: bytes) -> Come:
     except BadScript as bad:
         return "".join(texts), bad.text
     finally:
-        raises(Over, partial(session.answer, "clcw 1"), "a line behind the end")
+        raises(Over, partial(session.answer, "clcw 1"), "a line after the end")
         raises(Over, session.end, "a second end")
         session.close()
 
@@ -86,14 +86,14 @@ def check_sums() -> None:
 
 def check_faults() -> None:
     """Tries settings, lines and values that are refused."""
-    same(str(raises(BadSettings, lambda: Session.live(1024), "no spacecraft")), "the spacecraft id is over 1,023", "why")
+    same(str(raises(BadSettings, lambda: Session.live(1024), "no spacecraft")), "the spacecraft id is over 1,023", "the text of the fault")
     raises(BadSettings, lambda: Session.script(1024), "no spacecraft of a script")
     raises(ValueError, lambda: Session.script(65536), "a spacecraft that C's type doesn't have")
     with Session.script(42) as script:
         same(script.answer("# a comment"), "", "a comment")
         bad = raises(BadScript, lambda: script.answer("fram 00"), "a bad line of a script")
-        same((str(bad), getattr(bad, "text", "")), ("line 2: unknown command", "line 2: unknown command\n"), "why")
-        same(str(raises(Over, lambda: script.answer("# a comment"), "a line after that")), "the lines have ended", "why")
+        same((str(bad), getattr(bad, "text", "")), ("line 2: unknown command", "line 2: unknown command\n"), "the text of the fault")
+        same(str(raises(Over, lambda: script.answer("# a comment"), "a line after that")), "the lines have ended", "the text of the fault")
     with Session.live(42) as live:
         expect(live.answer(b"fram 00").startswith("bad unknown command"), "a bad line of a receiver")
         lines: Tuple[Union[str, Octets], ...] = (bytearray(b"channel 1 10 4 0"), memoryview(b"# a comment"), "", "# \u00e4 \udcff", "#\0")
@@ -133,7 +133,7 @@ def check_ends() -> None:
     session.close()
     calls = (lambda: session.answer("clcw 1"), session.text, session.end, lambda: session.saw_check_sums)
     for place, call in enumerate(calls):
-        same(str(raises(Ended, call, f"call {place} after the close")), "the receiver has ended: it was closed", "why")
+        same(str(raises(Ended, call, f"call {place} after the close")), "the receiver has ended: it was closed", "the text of the fault")
     copies: Tuple[Callable[[object], object], ...] = (copy.copy, copy.deepcopy, pickle.dumps)
     with Session.live(42) as other:
         for copied in copies:
@@ -193,7 +193,7 @@ def check_portable(portable: str) -> None:
     with Channel(1, width=10, buffer=4, first=0, limits={0: 64}, library=portable) as channel:
         same(channel.events, 0, "a channel in portable C")
     fault = raises(NotStarted, lambda: Session.live(42, library=portable), "a session in portable C")
-    expect("no sessions of lines, as in portable C" in str(fault), f"why there are none: {fault}")
+    expect("no sessions of lines, as in portable C" in str(fault), f"the fault of a session in portable C: {fault}")
 
 
 def main() -> int:

@@ -61,7 +61,7 @@ class Browser:
         self.close()
 
     def _message(self, until: float) -> Dict[str, Any]:
-        """Waits for the browser's next message and returns it. Keeps it if it is a complaint."""
+        """Waits for the browser's next message, and returns it. Adds it to `complaints` if it is one."""
         while b"\0" not in self.left:
             if not select.select([self.reader], [], [], max(0.0, until - time.monotonic()))[0]:
                 raise NoBrowser("no answer in time")
@@ -128,7 +128,7 @@ class Browser:
         path.write_bytes(base64.b64decode(made["data"]))
 
     def close(self) -> None:
-        """Closes the pipes, which has the browser exit. Kills it if that takes more than 10 seconds, and deletes its files."""
+        """Closes the pipes, so that the browser exits. Kills it if that takes more than 10 seconds, and deletes its files."""
         for number in (self.writer, self.reader):
             os.close(number)
         try:
