@@ -1,4 +1,4 @@
-"""What a check of a crate with edits in it printed, and what that says of each edit. checks/refuse_edits starts the checks."""
+"""Reads what a check of a crate with edits in it printed, and finds out which edits were refused. checks/refuse_edits starts the checks."""
 from __future__ import annotations
 
 import re
@@ -10,53 +10,56 @@ ONLY = re.compile(r"^only=(\d+) proved=(\d+)", re.M)
 NAMES_ALONE = re.compile(
     r"has no field|is not in scope|has no `|was not admitted|is no name|operand is missing|cannot continue"
 )
-# What the check says of a goal that it found false, and not merely unproved; and of one at which a tactic stopped before it had tried all.
+# The words of the check about a goal that it found false, and not merely unproved.
 IS_FALSE = "the facts known there allow values at which this goal is false"
+# The words of the check about a goal at which a tactic stopped before it had tried everything.
 MET_LIMIT = "gave up at one of its limits"
-# How an edit can be refused, the strongest first: values are named for which a goal is false, no proof is found, or a limit is met first.
+# The ways in which an edit can be refused, the strongest first: the check names values for which a goal is false, it finds no proof, or it
+# gives up at a limit.
 WAYS = ("values", "no_proof", "limit")
 
 
 def way_of(why: str) -> str:
-    """The way of `WAYS` in which an edit is refused, by what the check says."""
+    """Returns the way of `WAYS` in which an edit is refused, by the message `why` of the check."""
     return "values" if IS_FALSE in why else "limit" if MET_LIMIT in why else "no_proof"
 
 
 def strongest(found: list[str]) -> str | None:
-    """The first of what the check says that is refused in the strongest way, or None if it says nothing."""
+    """Returns the first of the messages that refuse an edit in the strongest way, or None if there are no messages."""
     return min(found, key=lambda it: WAYS.index(way_of(it))) if found else None
 
 
 def is_judged(printed: str) -> bool:
-    """Whether the check came as far as to judge the proofs, and doesn't hold all of them for proved."""
+    """Returns whether the check judged the proofs and found that something isn't proved."""
     only = ONLY.search(printed)
     return only[1] != only[2] if only else bool(re.search(r"^logic=not-proved", printed, re.M))
 
 
 def is_proved(printed: str) -> bool:
-    """Whether the check holds all that it looked at for proved."""
+    """Returns whether the check found everything proved that it looked at."""
     only = ONLY.search(printed)
     return only[1] == only[2] != "0" if only else bool(re.search(r"^logic=proved", printed, re.M))
 
 
 def unproved(printed: str) -> set[str]:
-    """The names of the functions that the check didn't prove, each without its path."""
+    """Returns the names, without their paths, of the functions that the check didn't prove."""
     return {it.split("::")[-1] for it in re.findall(r"^fn (\S+): (?:not proved|no proof)", printed, re.M)}
 
 
 def lacks(printed: str, function: str) -> list[str]:
-    """What the check says is wrong with functions of this name, a pattern, except that they call one which isn't proved."""
+    """Returns what the check found wrong with the functions whose name matches the pattern `function`. It leaves out that they call a
+    function that isn't proved."""
     found = re.findall(rf"^fn {function}: (?:(not proved)|no proof: (.*))", printed, re.M)
     return [it for it in (one or ONLY_CALLS.sub("", other) for one, other in found) if it]
 
 
 def messages(printed: str) -> list[str]:
-    """The messages of the check, each in one line: what goes on in further lines, further in, is one message."""
+    """Returns the messages of the check, each in one line. Indented lines belong to the message above them."""
     return re.sub(r"\n {2,}(?=\S)", " ", printed).split("\n")
 
 
 def reason(printed: str, edit: Edit, function: Function) -> str | None:
-    """What the check says of a goal or an answer of the edited function itself that isn't proved."""
+    """Returns the strongest message about an unproved goal or a wrong answer of the edited function itself, or None if there is none."""
     inside = "|".join("".join(f"{word}::" for word in it) for it in function.modules)
     owner = rf"{function.owner}\w*::" if function.owner else r"(?:[^:\s]+::)?"
     if not lacks(printed, rf"{edit.crate}::(?:{inside}){owner}{function.name}"):
@@ -75,7 +78,8 @@ def reason(printed: str, edit: Edit, function: Function) -> str | None:
 
 
 def reason_alone(printed: str, edit: Edit) -> str | None:
-    """What the check of a crate with one edit says that isn't proved. A text that it can't read is no refusal."""
+    """Returns the strongest message of a check with only one edit about something that isn't proved, or None if there is none. If the
+    only fault is that a source or a definition can't be read, the edit isn't refused."""
     lines = messages(printed)
     if any(re.match(r"(\./)?(src|specs)/\S+: error: ", it) and NAMES_ALONE.search(it) for it in lines):
         return None
@@ -91,8 +95,8 @@ def reason_alone(printed: str, edit: Edit) -> str | None:
 
 
 def unread(printed: str, functions: list[tuple[Edit, Function | None]]) -> list[tuple[Edit, str]]:
-    """The edits at which a text could not be compiled, with what is said of each. Where one can't, the check ends before it asks
-    the prover, after a few seconds."""
+    """Returns the edits that can't be compiled, each with the message about it. If there is one, the check ends after a few seconds,
+    before it starts the prover."""
     found: list[tuple[Edit, str]] = []
     for line in messages(printed):
         fault = re.match(r"(?:\./)?(src/\S+?):(\d+):\d+: error\[", line)

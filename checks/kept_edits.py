@@ -1,9 +1,10 @@
-"""What checks/refuse_edits has seen refused, and which controls it has seen not refused: kept on the machine, outside of the tree, by the
-sums of all that was read, so that it tries again just what something has changed for.
+"""Keeps the results of checks/refuse_edits on the machine, outside of the tree: which edits were refused, and which controls weren't. They
+are kept under the sums of all that was read, so that refuse_edits tries again only those for which something has changed.
 
-A file is for one state of a crate: the kit's version, the sources of the check, the lines of crates.txt and the sources, definitions and
-proofs of the crate and of those below it. Its lines are the sums of what was seen, one an edit or control, each with how it came out, and
-the last is the sum of the others; a file that ends otherwise counts for nothing. It is written under another name first.
+A file is for one state of a crate. The state consists of the kit's version, the sources of the check, and the lines of crates.txt and the
+sources, definitions and proofs of the crate and of those that it depends on. Each line of the file has the sum of an edit or control and
+its result. The last line is the sum of the other lines. A file with another last line isn't used. A file is first written under another
+name, and then renamed.
 """
 from __future__ import annotations
 
@@ -16,14 +17,14 @@ from typing import Sequence, Tuple
 from wrong_bodies import WRONG, Crate, Edit, crates_below, sources_in
 
 HERE = Path(__file__).resolve().parent
-# What decides how an edit is tried, and what counts as a refusal.
+# The sources that decide how an edit is tried and what counts as a refusal.
 TOOLS = ("refuse_edits", "kept_edits.py", "wrong_bodies.py", "judging.py", "prover.py")
-# So many states of a crate are kept, the newest.
+# The number of states that are kept of a crate, which are the newest ones.
 MOST_STATES = 20
 
 
 def folder_here() -> Path | None:
-    """Where it is kept for this user, if there is a place."""
+    """Returns the folder in which results are kept for this user, or None if the environment names no place for it."""
     cache, home = os.environ.get("XDG_CACHE_HOME", ""), os.environ.get("HOME", "")
     if not cache.startswith("/"):
         cache = f"{home}/.cache" if home.startswith("/") else ""
@@ -31,13 +32,13 @@ def folder_here() -> Path | None:
 
 
 def sum_of(edit: Edit) -> str:
-    """The sum of what an edit or control is: its kind, what it changes to what, and the clause that it turns."""
+    """Returns the sum of an edit or control: of its kind, its changes, its texts that are alike, and the clause that it names."""
     parts = (edit.kind, edit.changes, sorted(edit.alikes.items()), edit.turned)
     return hashlib.sha256(repr(parts).encode()).hexdigest()
 
 
 class Kept:
-    """What is kept in a folder, for crates as they are at the first look at each."""
+    """The results that are kept in a folder. The state of a crate is that in which it was when it was looked at first."""
 
     def __init__(self, folder: Path, kit: str, crates: dict[str, Crate]):
         self.folder = folder
@@ -47,7 +48,7 @@ class Kept:
         self.seen: dict[str, dict[str, str]] = {}
 
     def state_of(self, crate: Crate) -> str:
-        """The sum of all that a check of the crate's edits reads besides them, as it is now."""
+        """Returns the sum of all that a check of the crate's edits reads besides the edits, as it is when this is called."""
         total = hashlib.sha256(self.kit.encode())
         for tool in TOOLS:
             total.update(hashlib.sha256((HERE / tool).read_bytes()).digest())
@@ -58,13 +59,13 @@ class Kept:
         return total.hexdigest()
 
     def file_of(self, crate: Crate) -> Path:
-        """The file of a crate in the state of the first look at it."""
+        """Returns the path of the file for the state in which the crate was when it was looked at first."""
         if crate.name not in self.states:
             self.states[crate.name] = self.state_of(crate)
         return self.folder / f"{crate.name}-{self.states[crate.name]}"
 
     def read(self, crate: Crate) -> dict[str, str]:
-        """How what was seen of a crate in this state came out, by its sums; nothing of a file that isn't whole."""
+        """Reads the results for a crate, and returns them by the sums of the edits. Returns nothing if the file isn't whole."""
         try:
             lines = self.file_of(crate).read_text(encoding="ascii").splitlines()
         except (OSError, UnicodeDecodeError):
@@ -74,17 +75,18 @@ class Kept:
         return dict((each[:64], each[65:]) for each in seen) if is_whole else {}
 
     def way(self, crate: Crate, edit: Edit) -> str | None:
-        """How the edit was seen refused, or the control not refused, with all that is read as it is; None if it wasn't seen."""
+        """Returns the kept result of an edit or control: the way in which an edit was refused, or `right` for a control that wasn't.
+        Returns None if no result is kept."""
         if crate.name not in self.seen:
             self.seen[crate.name] = self.read(crate)
         return self.seen[crate.name].get(sum_of(edit))
 
     def has(self, crate: Crate, edit: Edit) -> bool:
-        """Whether that was seen."""
+        """Returns whether a result of the edit or control is kept."""
         return self.way(crate, edit) is not None
 
     def keep(self, crate: Crate, edits: Sequence[Tuple[Edit, str]]) -> None:
-        """Keeps how these came out, which is as they should, unless what was read has changed meanwhile."""
+        """Keeps these results, unless something that was read has changed meanwhile. All of them must be as they should be."""
         file = self.file_of(crate)
         if not edits or self.state_of(crate) != self.states[crate.name]:
             return
@@ -100,11 +102,12 @@ class Kept:
             for old in states[MOST_STATES:]:
                 old.unlink()
         except OSError as fault:
-            print(f"{crate.name}: what was seen of its edits can't be kept: {fault}", flush=True)
+            print(f"{crate.name}: the results of its edits can't be kept: {fault}", flush=True)
 
 
 def misplaced() -> list[str]:
-    """What is kept of two made-up crates, one on the other, and shouldn't be, or isn't and should be."""
+    """Keeps results for two made-up crates, of which one depends on the other. Returns the results that are wrongly kept, and those
+    that are wrongly missing."""
     with tempfile.TemporaryDirectory(prefix="kept-") as place:
         room = Path(place)
         crates = {"low": Crate("low:"), "high": Crate("high: low")}
@@ -128,7 +131,7 @@ def misplaced() -> list[str]:
         proof.write_text("low", encoding="ascii")
         found["an edit of sources that changed while it was tried"] = looks().has(high, edit)
         looks().keep(high, [(edit, "values")])
-        found["no edit"] = looks().way(high, edit) != "values"
+        found["nothing for an edit that was just kept"] = looks().way(high, edit) != "values"
         found["another edit"] = looks().has(high, other)
         found["the right body"] = looks().has(high, edit.right())
         found["an edit by another kit"] = looks("other").has(high, edit)
@@ -139,10 +142,10 @@ def misplaced() -> list[str]:
         crates["low"].line = "low: lower"
         found["an edit whose line of crates.txt has changed"] = looks().has(high, edit)
         crates["low"].line = "low:"
-        found["no edit, where all is as it was"] = not looks().has(high, edit)
+        found["nothing for an edit for which all is as it was"] = not looks().has(high, edit)
         looks().keep(high, [(other, "limit")])
         kept = looks().file_of(high)
-        found["not both edits"] = [looks().way(high, it) for it in (edit, other)] != ["values", "limit"]
+        found["not the results of both edits"] = [looks().way(high, it) for it in (edit, other)] != ["values", "limit"]
         kept.write_text("".join(kept.read_text(encoding="ascii").splitlines(True)[:-1]), encoding="ascii")
         found["an edit of a file that was cut short"] = looks().has(high, edit) or looks().has(high, other)
         return [it for it, is_wrong in found.items() if is_wrong]

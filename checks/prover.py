@@ -1,4 +1,5 @@
-"""The kit's prover over crates of this tree: checks/refuse_edits has it try edits, and checks/no_growth texts that can't be compiled."""
+"""Runs the kit's prover on copies of crates of this tree: for checks/refuse_edits with edits in them, and for checks/no_growth with lines
+that must not compile."""
 from __future__ import annotations
 
 import shutil
@@ -17,7 +18,7 @@ def run(words: list[str], folder: Path) -> tuple[int, str]:
 
 
 class Prover:
-    """Checks crates by the kit's `rattle`, over the libraries that stand in a tree."""
+    """The kit's prover, `rattle`. It checks and builds crates over the libraries that were built in a tree."""
 
     def __init__(self, crates: dict[str, Crate], room: Path):
         self.crates = crates
@@ -25,27 +26,27 @@ class Prover:
         self.room = room
         if not shutil.which("rt"):
             raise Fault("the command rt isn't on the path: it is in the folder bin of the Rattle kit")
-        # The kit has the page that `rt doc` names at its top.
+        # `rt doc` prints the path of a page in the top folder of the kit.
         status, printed = run(["rt", "doc"], TOP)
         if status:
             raise Fault(f"rt doc: {printed}")
         self.kit = Path(printed.strip()).parent
 
     def all_below(self, chosen: list[Crate]) -> list[Crate]:
-        """All crates that the chosen ones stand on, in the order of crates.txt."""
+        """Returns all crates that the chosen ones depend on, in the order of crates.txt."""
         names = {deeper.name for it in chosen for deeper in crates_below(it, self.crates)}
         return [it for it in self.crates.values() if it.name in names]
 
     def build_below(self, chosen: list[Crate]) -> None:
-        """Builds the libraries that the crates stand on, where that wasn't done."""
+        """Builds the libraries that the chosen crates depend on."""
         for it in self.all_below(chosen):
             status, printed = run(["rt", "lib"], it.folder)
             if status:
                 raise Fault(f"{it.name} isn't proved:\n{printed}")
 
     def take_below(self, chosen: list[Crate], since: Path) -> None:
-        """Takes the libraries that `rt ci` has left in the tree since the file was written. Where a developer's own checks had
-        left some before, `rt ci` has put these back in their place: then all are taken in a copy."""
+        """Uses the libraries that `rt ci` has left in the tree since the file `since` was written. If a developer's own checks had left
+        older ones, `rt ci` has put these back. Then it builds all of them in a copy of the tree."""
         below, begun = self.all_below(chosen), since.stat().st_mtime
         if all(self.library(it).is_dir() and self.library(it).stat().st_mtime >= begun for it in below):
             return
@@ -61,15 +62,16 @@ class Prover:
             raise Fault(f"the libraries below aren't proved:\n{printed}")
 
     def library(self, crate: Crate) -> Path:
-        """Where a crate's library stands."""
+        """Returns the path of a crate's library."""
         return self.tree / "crates" / crate.name / "out" / "rlib" / f"{crate.name}.rlib"
 
     def kept(self, crate: Crate) -> Path:
-        """Where what was proved of a crate stands."""
+        """Returns the folder that keeps what was proved of a crate."""
         return self.room / crate.name
 
     def rattle(self, verb: str, crate: Crate, folder: Path, kept: Path, more: list[str]) -> tuple[int, str]:
-        """Checks or builds a crate in a folder over what is kept of its proofs."""
+        """Checks or builds (`verb`) a crate in `folder`. It starts from the proofs in the folder `kept`, and adds its own to them. Returns
+        the status and what was printed."""
         words = [str(self.kit / "bin" / "rattle"), verb, "--crate-name", crate.name, crate.root]
         of_kit = ["std", *(it for it in crate.named if it not in self.crates)]
         of_ours = [self.crates[it] for it in crate.named if it in self.crates]
@@ -78,15 +80,16 @@ class Prover:
         folders = [self.kit / "rlibs", *(self.library(it).parent for it in crates_below(crate, self.crates))]
         words += [word for it in folders for word in ("-L", f"dependency={it}")]
         words += ["--antt-project", str(self.kit / "rattle" / "logic" / "antt-project.json")]
-        # What declares a foreign function is to name what defines it.
+        # A crate that declares a foreign function must name the library that defines it.
         defined = "nothing" if (folder / GIVEN_FILE).is_file() else ""
         words += ["--logic-built", str(self.kit / "logic_built"), "--links", f"{crate.name}={defined}"]
         words += ["--crate-type", "staticlib"] if crate.is_static else []
         return run([*words, "--incremental", str(kept), *more], folder)
 
     def try_edits(self, crate: Crate, trial: Trial, is_first: bool, is_whole: bool, jobs: int) -> str:
-        """What the check of a copy of a crate with edits in it prints: the first one, which keeps what it proves, or a later
-        one over what is kept; of the whole crate, or of the wrong bodies and what they call."""
+        """Checks a copy of a crate with edits in it, and returns what the check printed. The first check of a crate keeps what it proves.
+        A later one starts from this. If `is_whole`, the check looks at the whole crate, and else only at the mutants and what they
+        call."""
         with tempfile.TemporaryDirectory(prefix="edits-", dir=self.room) as room:
             for part in SOURCES:
                 if (crate.folder / part).is_dir():
@@ -104,12 +107,13 @@ class Prover:
             return self.rattle("check", crate, Path(room), kept, ["--jobs", str(jobs), *only])[1]
 
     def build_archive(self, crate: Crate, jobs: int) -> str:
-        """Builds a static library over what its first check proved, and returns why it can't be built, if so."""
+        """Builds a static library from what the first check of its crate proved. Returns what was printed if that fails, and else an empty
+        text."""
         made = crate.folder / "out" / f"lib{crate.name}.a"
         made.parent.mkdir(exist_ok=True)
         more = ["--jobs", str(jobs), "--toolchain", str(self.kit / "toolchain"), "--backend", "llvm", "-o", str(made)]
         status, printed = self.rattle("build", crate, crate.folder, self.kept(crate), more)
-        # The library for other machines takes proofs of its own over these (tools/target).
+        # tools/target starts from these proofs when it proves and builds the library for other machines.
         if not status:
             kept = made.parent / "targets" / "incremental"
             shutil.rmtree(kept, ignore_errors=True)

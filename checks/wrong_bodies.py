@@ -1,8 +1,9 @@
-"""The crates of the repository with the edits of their must-fail/ and wrong.edits, and what a copy of a crate has in it that tries
-some of them.
+"""Reads the crates of the repository and the edits in their must-fail/ and wrong.edits, and lays out the copies of a crate in which
+edits are tried.
 
-A wrong body is added to such a copy next to the right one, as a function of its own, or replaces it; the right bodies that no
-edit changes are given away. checks/refuse_edits says why, and tries them.
+In such a copy a mutant stands next to the original function, as a function of its own, or in place of it. The original bodies that
+no edit changes are given away: a call of a function that ensures a false statement takes their place. The first lines of
+checks/refuse_edits say why. That check tries the copies.
 """
 from __future__ import annotations
 
@@ -21,31 +22,32 @@ OF_A_TYPE = re.compile(r"impl(?:<.*?>)? (\w+)")
 OF_ANY_TYPE = re.compile(r"impl(?:<(.*?)>)? (\w+)(?:<([^>]*)>)? (?:where|\{)")
 TYPE = re.compile(r"^(?:pub(?:\([a-z]+\))? )?(?:struct|enum) (\w+)", re.M)
 CALL = re.compile(r"\b([a-z_]\w*)(?:::<[^>]*>)?\(|::([a-z_]\w*)\b")
-# What keeps a function from a body that calls what ensures the false: a const one can't, one of a cycle of calls has a measure of
-# its own in its proofs, and one whose type is known by its body has none without it.
+# Functions that must keep their bodies. A const function can't call the one that ensures a false statement. A function in a cycle of
+# calls has a measure in its proofs. A function that returns an `impl` type gets this type from its body.
 KEEPS_ITS_BODY = re.compile(r"\bconst fn\b|#\[(?:cycle|measure)\b|-> [^{]*\bimpl\b")
-# The places of a crate's edits. Those that `rt ci` tries one by one are files in a folder, in the kit's form. Those that are tried many at
-# once are in one file. There each edit begins with its name, below the path of the file that it edits.
+# The places of a crate's edits. The edits that `rt ci` tries one by one are files in a folder, in the kit's form. Those that are tried
+# many at once are in one file. There each edit begins with its name, below the path of the file that it edits.
 MUST_FAIL, WRONG = "must-fail", "wrong.edits"
-# In must-fail, the line that names the clause that an edit turns, and the line below a 'new:' line that has its exits and the right value.
+# The beginnings of two lines of a file in must-fail. The first names the clause that the mutant breaks. The second stands below a 'new:'
+# line, and has a text with the same exits and the right value.
 TURNS, ALIKE = "# turns: ", "# alike: "
-# The first line of an edit in wrong.edits: its name, and the clause that it turns.
+# The first line of an edit in wrong.edits: its name, and in parentheses the clause that the mutant breaks.
 NAMED = re.compile(r"(\w+)(?: \((\w+)\))?")
-# The names by which an edit says that it turns no clause, but the invariant of a type or of a loop, or a condition that a call requires. Such
-# an edit is tried without any clause.
+# The words that an edit has in place of a clause if its mutant breaks the invariant of a type or of a loop, or a condition that a call
+# requires. Such a mutant is tried without any clause.
 NO_CLAUSE = ("invariant", "requires")
-# What makes a path of its own through a body: a `?`, a branch, an arm of a match, a jump.
+# The exits of a body. Each of them makes another path through it: a `?`, a branch, an arm of a match, or a jump.
 EXIT = re.compile(r"\?(?=[;,.)\]}\s]|$)|\b(?:return|if|else|break|continue|matches)\b|=>|&&|\|\|")
 CLAUSE = re.compile(r"^ +(?:requires|ensures|ghost)\*?(?: (\w+))? \{|^ +ghost ")
-# An answer of what a function ensures, by the beginning of its type.
+# The first line of an answer for a clause that a function ensures.
 ANSWER = re.compile(r"^(?:pub |abbrev )*(returns[\w-]*) :", re.M)
 LOOP = re.compile(r"\b(?:for|while|loop)\b")
-# An answer to a goal that no function has.
+# The name and the text of an answer to a goal that no function has.
 NO_GOAL = "no-such-goal"
 NO_GOAL_TEXT = f"\npub {NO_GOAL} : goal.{NO_GOAL}\n{NO_GOAL} c = c\n"
 GIVEN = "crate::given_away::away(); unreachable!()"
 GIVEN_FILE = "src/given_away.rt"
-GIVEN_TEXT = """//! What the copies of right bodies call.
+GIVEN_TEXT = """//! A function that ensures a false statement. The bodies that are given away call it.
 
 ghost use Rattle.std.specs.Prelude.{IsTrue, false};
 
@@ -57,17 +59,17 @@ unsafe extern "C" {
 
 
 class Fault(Exception):
-    """Why something can't be tried."""
+    """A reason for which something can't be tried."""
 
 
 def exits_of(text: str) -> Counter[str]:
-    """How many exits of each kind a text has, as far as it shows."""
+    """Returns how many exits of each kind a text has, as far as the text shows."""
     return Counter(EXIT.findall(text))
 
 
 def fault_of_alike(old: str, new: str, alike: str) -> str:
-    """Why a text is no control for an edit, or nothing: it is to have the exits of the new text, which the old one hasn't, and another
-    value."""
+    """Returns why the text `alike` is no control for an edit of `old` to `new`, or an empty text if it is one. A control differs from
+    the new text. It has as many exits of each kind as the new text, and not as many as the old one."""
     if alike == new:
         return "is the new text itself"
     if exits_of(alike) == exits_of(old):
@@ -78,15 +80,16 @@ def fault_of_alike(old: str, new: str, alike: str) -> str:
 
 
 def module_of(file: str) -> list[str]:
-    """The path of the module that a file holds."""
+    """Returns the path of the module that a file holds."""
     path = file.removeprefix("src/").removesuffix(".rt")
     return [] if path in ("lib", "main") else path.split("/")
 
 
 @dataclass(frozen=True)
 class Function:
-    """A function of a file, from the first line of its attributes over that of its name and that of its body's beginning to its
-    last; the first line of the impl or trait in which it stands, if it does; and, of a type's method, the file of the type."""
+    """A function of a file. The numbers are those of lines, counted from 0: `first` is that of its first attribute, `start` that of its
+    name, `body` that at whose end its body begins, and `last` its last one. `block` is the first line of the impl or trait in which it
+    stands, or empty. `home` is the file of the type if it is a type's method, and else `file`."""
 
     file: str
     home: str
@@ -99,13 +102,14 @@ class Function:
 
     @property
     def modules(self) -> list[list[str]]:
-        """The modules, outermost first, under which the prover may name the function: those of its file or of its type."""
+        """Returns the paths of the modules under which the prover may name the function: that of its file, and that of its type."""
         return [module_of(it) for it in dict.fromkeys((self.file, self.home))]
 
     @property
     def owner(self) -> str:
-        """How the prover's name for the impl of a trait in which the function stands begins: with the type and the trait, each with
-        what it is of where that is one word and no parameter of the impl."""
+        """Returns the beginning of the prover's name for the impl of a trait in which the function stands: the names of the type and
+        of the trait. Each is followed by its type argument if that is one word and no parameter of the impl. The text is empty for a
+        function that stands in no such impl."""
         found = OF_A_TRAIT.match(self.block)
         if not found:
             return ""
@@ -115,12 +119,13 @@ class Function:
 
     @property
     def answers(self) -> re.Pattern[str]:
-        """Paths of answers of a function of this name in its modules, parted where the name begins; one that calls itself has a +."""
+        """Returns the pattern of the paths of the function's answers. Its first group is the folder in which the folder of the function
+        stands. Its second group is a + if the function calls itself."""
         starts = "|".join("/".join(["proofs", *it]) for it in self.modules)
         return re.compile(rf"((?:{starts})/(?:[^/]+/)?)(\+?){self.name}/")
 
     def folder_of(self, name: str) -> str | None:
-        """Where answers of a function of this name stand that is written beside it, if that can be known."""
+        """Returns the folder for answers of another function, `name`, that is written beside this one, or None if it isn't known."""
         if not self.block:
             return "/".join(["proofs", *self.modules[0], name])
         found = OF_ANY_TYPE.match(self.block)
@@ -130,21 +135,24 @@ class Function:
         return None
 
     def is_answered_in(self, folder: str) -> bool:
-        """Whether what stands in this folder of proofs are answers of the function."""
+        """Returns whether the files in this folder of proofs are answers of the function."""
         starts = ["/".join([*it, self.owner]) for it in self.modules]
         return folder.split("/")[-1] == self.name and any(folder.startswith(it) for it in starts)
 
     def has_body_in(self, line: int) -> bool:
-        """Whether the line, by its number, is one of the body, or that of the name, whose parameters may have other patterns."""
+        """Returns whether the line of this number is in the body or has the name. The line with the name counts, since an edit may
+        change the patterns of the parameters, which the body uses."""
         return line == self.start or self.body < line < self.last
 
 
 @dataclass
 class Edit:
-    """An edit of must-fail/ or wrong.edits: what it puts in place of which texts, each of which is in its file just once; what has the
-    same exits and the right value, by the place of the text, if it says so; the function whose body is all that it changes, where
-    it is one; and the clause of the function that it turns, if it says so. Or what must not be refused in the form of an edit:
-    the `right` body, or the one that is `alike`."""
+    """An edit of must-fail/ or wrong.edits, or a control in the form of an edit.
+
+    Each of the `changes` is a file, an old text, which is in the file exactly once, and its new text. `alikes` has texts with the same
+    exits and the right value, by the place of the change that they belong to. `function` is the function whose body is all that the
+    edit changes, or None if it changes more. `turned` is the clause of the function that the mutant breaks, or empty if the edit names
+    none. `kind` is `wrong` for an edit. A control, which must not be refused, is `right` if it is the original body, or `alike`."""
 
     crate: str
     name: str
@@ -157,48 +165,49 @@ class Edit:
 
     @property
     def changed(self) -> Function:
-        """The function whose body is all that it changes. To be asked of such an edit."""
+        """Returns the function whose body is all that the edit changes. There must be one."""
         assert self.function, f"{self.name} changes more than a body"
         return self.function
 
     def right(self) -> "Edit":
-        """What leaves each text as it is."""
+        """Returns a control with the original body: an edit that leaves each text as it is."""
         return replace(self, changes=[(file, old, old) for file, old, _ in self.changes], kind="right")
 
     def alike(self) -> "Edit":
-        """What has the exits of the edit, and the right values."""
+        """Returns a control that has the exits of the edit and the right values."""
         changes = [(file, old, self.alikes.get(at, new)) for at, (file, old, new) in enumerate(self.changes)]
         return replace(self, changes=changes, kind="alike")
 
     @property
     def is_right(self) -> bool:
-        """Whether it must not be refused."""
+        """Returns whether this is a control, which must not be refused."""
         return self.kind != "wrong"
 
     @property
     def adds_exit(self) -> bool:
-        """Whether it has more exits than what it replaces, as far as the text shows."""
+        """Returns whether the new texts have more exits than the old ones, as far as the texts show."""
         return sum(len(EXIT.findall(new)) - len(EXIT.findall(old)) for _, old, new in self.changes) > 0
 
     @property
     def needs_false_goal(self) -> bool:
-        """Whether a goal that is merely not proved is no refusal: it may be that of the exit that was added, which no answer names,
-        and nothing shows that it would be proved if the value were right."""
+        """Returns whether a goal that is merely not proved doesn't count as a refusal. It may be the goal of an added exit, which no
+        answer names. Without a control, nothing shows that such a goal would be proved if the value were right."""
         return self.kind == "wrong" and self.adds_exit and not self.alikes
 
     @property
     def modules(self) -> list[str]:
-        """The paths of the modules that it changes."""
+        """Returns the paths of the modules that the edit changes."""
         return ["::".join(module_of(it)) for it in dict.fromkeys(file for file, _, _ in self.changes)]
 
     @property
     def title(self) -> str:
-        """The name by which the edit is reported."""
+        """Returns the name by which the edit or control is reported."""
         return f"{self.crate}/{self.name}" + (f" ({self.kind})" if self.is_right else "")
 
     @property
     def place(self) -> str:
-        """The function that it changes, by its file and type, or the file."""
+        """Returns the file and the name of the function that the edit changes, with the name of its type if it has one. If the edit
+        changes more than a body, returns only the first file."""
         if not self.function:
             return self.changes[0][0]
         of_a_trait, of_a_type = (it.match(self.function.block) for it in (OF_A_TRAIT, OF_A_TYPE))
@@ -208,8 +217,9 @@ class Edit:
 
 @dataclass
 class Trial:
-    """What differs in a copy of a crate with edits in it: the files, by their paths, those that aren't there, and the function
-    that has the wrong body of each edit, where it is one."""
+    """The differences between a crate and a copy of it that tries edits. `files` has the new texts, by their paths. `gone` has the
+    paths of the files that are removed. `functions` has each edit with the function that is its mutant, or with None if the edit
+    changes more than a body."""
 
     files: dict[str, str] = field(default_factory=dict)
     gone: set[str] = field(default_factory=set)
@@ -217,20 +227,21 @@ class Trial:
 
     @property
     def names(self) -> list[str]:
-        """The names of the functions with wrong bodies."""
+        """Returns the names of the mutants."""
         return [it.name for _, it in self.functions if it]
 
     @property
     def paths(self) -> list[str]:
-        """What holds each wrong body: the function itself where it stands beside the right one, and else the modules that the edit
-        changes; nothing where one is of no module."""
+        """Returns the names and the modules to which a check can be restricted. A mutant that stands beside its original is named by
+        itself. For other edits the modules that they change are named. If one of these is the root of the crate, which has no path,
+        nothing is returned."""
         found = [[it.name] if it and it != edit.function else edit.modules for edit, it in self.functions]
         paths = [path for it in found for path in it]
         return paths if all(paths) else []
 
 
 def functions_of(file: str, text: str) -> list[Function]:
-    """The functions of a file, by its layout: a function ends at the first brace as far in as its first line."""
+    """Finds the functions of a file by its layout. A function ends at the first closing brace that is indented as its first line."""
     found, lines, block = [], text.split("\n"), ""
     for start, line in enumerate(lines):
         if BLOCK.match(line):
@@ -252,10 +263,11 @@ def functions_of(file: str, text: str) -> list[Function]:
 
 
 def of_one_clause(answers: str, clause: str) -> str:
-    """The answers of a function that ensures just one clause of those that it ensured: their goals have names without it."""
+    """Returns a function's answers without those for clauses other than `clause`. In the names of the others the clause is left out,
+    as it is in the names of the goals of a function that ensures only one clause."""
     kept, is_kept = [], True
     for line in answers.split("\n"):
-        # What begins with another word goes on with the answer before.
+        # A line that begins with `unfolding`, or with no word, belongs to the answer before.
         if re.match(r"\w", line) and not line.startswith("unfolding "):
             found = re.search(r"\breturns[\w-]*-clause-(\w+)", line.partition(":")[0].partition("=")[0])
             is_kept = not found or found[1] == clause
@@ -264,8 +276,8 @@ def of_one_clause(answers: str, clause: str) -> str:
 
 
 def read_wrong(crate: str, text: str) -> list[Edit]:
-    """Reads the edits of a crate's wrong.edits: a line with `-` has the old text and the one below it, with `+`, the new one. A line with `~`
-    below these has what is alike."""
+    """Reads the edits of a crate's wrong.edits. A line with `-` has the old text, and the line below it, with `+`, has the new text. A
+    line with `~` may follow, with the text that is alike."""
     edits: list[Edit] = []
     file = old = ""
     for line in text.splitlines():
@@ -285,7 +297,7 @@ def read_wrong(crate: str, text: str) -> list[Edit]:
 
 
 def read_must_fail(crate: str, path: Path) -> Edit:
-    """Reads an edit of a crate's must-fail."""
+    """Reads an edit from a file in a crate's must-fail."""
     if path.suffix != ".edit" or not path.is_file():
         raise Fault(f"{path.name}: its name doesn't end in .edit")
     edit, file, old = Edit(crate, path.stem, MUST_FAIL), "", ""
@@ -304,13 +316,13 @@ def read_must_fail(crate: str, path: Path) -> Edit:
 
 
 def sources_in(folder: Path) -> dict[str, bytes]:
-    """The sources of a crate as they are now, by their paths in its folder."""
+    """Reads the sources of a crate, and returns them by their paths in its folder."""
     files = sorted(it for part in SOURCES for it in (folder / part).rglob("*") if it.is_file())
     return {str(it.relative_to(folder)): it.read_bytes() for it in files}
 
 
 class Crate:
-    """A crate of the repository, by its line of crates.txt."""
+    """A crate of the repository, as its line of crates.txt describes it."""
 
     def __init__(self, line: str):
         before, _, after = line.partition(":")
@@ -323,12 +335,12 @@ class Crate:
 
     @cached_property
     def texts(self) -> dict[str, str]:
-        """The texts of its sources, by their paths in its folder."""
+        """Returns the texts of the crate's sources, by their paths in its folder."""
         return {path: octets.decode("utf-8") for path, octets in sources_in(self.folder).items()}
 
     @cached_property
     def functions(self) -> list[Function]:
-        """Its functions."""
+        """Returns the functions of the crate."""
         sources = {file: text for file, text in self.texts.items() if file.endswith(".rt")}
         homes = {name: file for file, text in sources.items() for name in TYPE.findall(text)}
         found = [it for file, text in sources.items() for it in functions_of(file, text)]
@@ -337,17 +349,18 @@ class Crate:
 
     @property
     def weight(self) -> int:
-        """How large it is, in lines."""
+        """Returns the number of lines of the crate's sources."""
         return sum(text.count("\n") for text in self.texts.values())
 
     def calls_of(self, function: Function) -> set[str]:
-        """The names of what its body calls, as far as the text shows."""
+        """Returns the names of the functions that the body calls, as far as the text shows."""
         lines = self.texts[function.file].split("\n")[function.body + 1 : function.last]
         return {one or other for one, other in CALL.findall("\n".join(lines))}
 
     @cached_property
     def reached(self) -> dict[str, set[str]]:
-        """The names of the crate's functions that one of a name calls, directly or through others, as far as the text shows."""
+        """Returns, for each name of a function, the names of the crate's functions that it calls, directly or through others, as far
+        as the text shows."""
         names = {it.name for it in self.functions}
         calls: dict[str, set[str]] = {it: set() for it in names}
         for it in self.functions:
@@ -364,16 +377,16 @@ class Crate:
         return reached
 
     def has_answers(self, function: Function) -> bool:
-        """Whether goals of the function have answers of their own, which are tried whatever it calls."""
+        """Returns whether goals of the function have answers. These are tried whatever the function calls."""
         return any(function.answers.match(it) for it in self.texts)
 
     @property
     def has_edits(self) -> bool:
-        """Whether it has edits."""
+        """Returns whether the crate has edits."""
         return any((self.folder / it).exists() for it in (MUST_FAIL, WRONG))
 
     def edits(self) -> list[Edit]:
-        """Reads its edits."""
+        """Reads the crate's edits."""
         must_fail, wrong = self.folder / MUST_FAIL, self.folder / WRONG
         found = [read_must_fail(self.name, it) for it in sorted(must_fail.iterdir())] if must_fail.is_dir() else []
         found += read_wrong(self.name, wrong.read_text(encoding="utf-8")) if wrong.is_file() else []
@@ -384,7 +397,8 @@ class Crate:
         return found
 
     def look_at(self, edit: Edit) -> None:
-        """Notes the function that the edit changes. It is a fault if an edit can't be applied, or names what isn't there."""
+        """Notes the function that the edit changes. Raises a fault if the edit can't be applied, if its control is none, or if its
+        function has no clause of the name that it gives."""
         for file, old, _ in edit.changes:
             if (found := self.texts.get(file, "").count(old)) != 1:
                 raise Fault(f"{edit.name}: an old text stands in {file} {found} times, and not once")
@@ -392,22 +406,22 @@ class Crate:
             raise Fault(f"{edit.name}: it changes nothing")
         faults = [fault_of_alike(*edit.changes[at][1:], alike) for at, alike in edit.alikes.items()]
         if any(faults):
-            raise Fault(f"{edit.name}: the text that is alike {max(faults)}")
+            raise Fault(f"{edit.name}: its control {max(faults)}")
         edit.function = self.edited_function(edit)
         clauses = self.clauses_of(edit.function) if edit.function else []
         if edit.turned and clauses is not None and edit.turned not in (*clauses, *NO_CLAUSE):
             raise Fault(f"{edit.name}: its function has no clause '{edit.turned}'")
 
     def clauses_of(self, function: Function) -> list[str] | None:
-        """The names of the clauses that a function ensures, with its body or in the trait that it is of; None where the trait is
-        the kit's."""
+        """Returns the names of the clauses that a function ensures, above its body or in the trait that declares it. Returns None if
+        that is a trait of the kit."""
         head: str | None = "\n".join(self.texts[function.file].split("\n")[function.first : function.body])
         if found := OF_A_TRAIT.match(function.block):
             head = self.declared(found[1], function.name)
         return None if head is None else re.findall(r"^ +ensures\*? (\w+) \{", head, re.M)
 
     def declared(self, trait: str, name: str) -> str | None:
-        """What a trait of this crate or of one that it names declares of a function, if there is one."""
+        """Returns the declaration of a function in a trait of this crate or of one that it names, or None if there is none."""
         for crate in (self.name, *self.named):
             for path in sorted((TOP / "crates" / crate / "src").rglob("*.rt")):
                 block = re.search(rf"^pub trait {trait}\b.*?^\}}", path.read_text(encoding="utf-8"), re.M | re.S)
@@ -416,12 +430,12 @@ class Crate:
         return None
 
     def edited_function(self, edit: Edit) -> Function | None:
-        """The function whose body is all that the edit changes, if there is one."""
+        """Returns the function whose body is all that the edit changes, or None if it changes more."""
         places = set(self.changed_by(edit))
         return places.pop() if len(places) == 1 else None
 
     def changed_by(self, edit: Edit) -> list[Function | None]:
-        """The function in whose body each change of the edit stands, if it stands in one."""
+        """Returns, for each change of the edit, the function in whose body it stands, or None if it stands in none."""
         places = []
         for file, old, _ in edit.changes:
             line = self.texts[file][: self.texts[file].index(old)].count("\n")
@@ -430,7 +444,8 @@ class Crate:
         return places
 
     def can_be_given(self, function: Function) -> bool:
-        """Whether a body that ends nowhere can stand for that of a function, of which callers know what it ensures alone."""
+        """Returns whether the function can be given away, that is whether a body that never returns can take the place of its own. Its
+        callers know only what it ensures."""
         lines = self.texts[function.file].split("\n")[function.first : function.last + 1]
         head, last = lines[: function.body - function.first + 1], lines[-1].strip()
         is_one = sum(bool(FUNCTION.match(it)) for it in head) == 1
@@ -439,8 +454,8 @@ class Crate:
         return is_one and has_body and is_free and not self.is_static
 
     def given(self, edits: list[Edit]) -> Trial:
-        """A copy in which the right bodies are given away but for those that the edits change, and those of a file in which one
-        changes what is no body. Each line stays where it was."""
+        """Lays out a copy in which the original bodies are given away. Those that the edits change stay. If an edit changes something
+        outside of a body, all bodies in that file stay. Each line keeps its number."""
         changed = [(file, it) for edit in edits for (file, _, _), it in zip(edit.changes, self.changed_by(edit))]
         files, own = {file for file, it in changed if not it}, [it for _, it in changed]
         given = [it for it in self.functions if it.file not in files and it not in own and self.can_be_given(it)]
@@ -461,7 +476,7 @@ class Crate:
         return trial
 
     def edited(self, edits: list[Edit], texts: dict[str, str]) -> dict[str, str]:
-        """The texts of the files that the edits change, by what they are in a copy, with all their changes."""
+        """Applies the edits, and returns the new texts of the files that they change. `texts` has files that differ in the copy."""
         made = {}
         for file in {it for edit in edits for it, _, _ in edit.changes}:
             text = texts.get(file, self.texts[file])
@@ -472,8 +487,8 @@ class Crate:
         return made
 
     def lets_call_itself(self, edit: Edit) -> bool:
-        """Whether the edit lets its function call itself. That wants a measure, and a check of it beside others may end before it
-        has judged these."""
+        """Returns whether the edit makes its function call itself. Such a function needs a measure, and a check of it beside others may
+        end before it has judged the others."""
         right = edit.changed
         own = rf"\b(?:self\.|Self::){right.name}\(" if right.block else rf"(?<![\w.:]){right.name}\("
         texts = self.texts[right.file], self.edited([edit], {})[right.file]
@@ -481,13 +496,14 @@ class Crate:
         return bool(re.search(own, wrong_body)) and not re.search(own, right_body)
 
     def can_stand_beside(self, edit: Edit) -> bool:
-        """Whether the wrong body can be a function of its own: one of no trait, which doesn't call itself for the edit."""
+        """Returns whether the mutant can be a function of its own. It must not be a method of a trait, and the edit must not make it
+        call itself."""
         block = edit.function.block if edit.function else "trait"
         is_of_no_trait = not block or (block.startswith("impl") and not OF_A_TRAIT.match(block))
         return is_of_no_trait and not self.lets_call_itself(edit)
 
     def beside(self, edits: list[Edit]) -> Trial:
-        """The body that each edit makes beside the right one, with the right one's contract and answers."""
+        """Lays out a copy in which the mutant of each edit stands beside the original, with the original's contract and answers."""
         trial = self.given([])
         added: dict[str, list[tuple[int, str, Edit, str]]] = {}
         for number, edit in enumerate(edits):
@@ -508,8 +524,8 @@ class Crate:
         return trial
 
     def tries_one_clause(self, edit: Edit) -> bool:
-        """Whether the clause that the edit turns is tried without the others: they are no facts on which a goal of the function
-        rests, since it doesn't call itself, its loops have invariants of their own, and no answer is for several clauses."""
+        """Returns whether the clause that the mutant breaks is tried without the others. For that no goal of the function may rest on
+        the others: the function doesn't call itself, its loops have invariants of their own, and no answer is for several clauses."""
         right = edit.changed
         lines = self.edited([edit], {})[right.file].split("\n")[right.first : right.last]
         at = right.body - right.first
@@ -523,8 +539,8 @@ class Crate:
         return bool(edit.turned) and is_one_of_more and is_plain and is_apart and has_invariant and f"self.{right.name}(" not in body
 
     def answers_of(self, edit: Edit, name: str) -> dict[str, str]:
-        """The right function's files of answers for the wrong one, by their paths. One to a goal that no function has comes with
-        them: where an answer isn't right, the check doesn't try each goal again in order to print what is left to show."""
+        """Returns the files with the original's answers, rewritten for the mutant, by their paths. An answer to a goal that no function
+        has is added. If an answer is wrong, the check doesn't try each goal again in order to print what is left to prove."""
         right = edit.changed
         made: dict[str, str] = {}
         for path, text in self.texts.items():
@@ -541,8 +557,8 @@ class Crate:
         return made
 
     def head_of(self, edit: Edit) -> list[str]:
-        """The lines of the edited function before its body; of what it ensures just the clause that the edit turns, if any, where that
-        is tried without the others."""
+        """Returns the lines of the edited function before its body. If the clause that the mutant breaks is tried without the others,
+        the other clauses that the function ensures are left out."""
         right = edit.changed
         lines = self.edited([edit], {})[right.file].split("\n")[right.first : right.body]
         if not self.tries_one_clause(edit):
@@ -552,22 +568,23 @@ class Crate:
             if clause := CLAUSE.match(line):
                 is_ensured = line.strip().startswith("ensures")
                 is_kept = not is_ensured or clause[1] == edit.turned
-                # A named clause that stands alone is a record of one field, and its goal of another type than the answer.
+                # The name is left out. The goal of a single clause with a name would be a record of one field, which is another type
+                # than that of the answer.
                 line = line.replace(f" {clause[1]} {{", " {", 1) if is_ensured else line
             if is_kept:
                 kept.append(line)
         return kept
 
     def instead(self, edits: list[Edit], is_given: bool) -> Trial:
-        """The wrong bodies of the edits instead of the right ones, beside the other right ones or what stands for these."""
+        """Lays out a copy in which the mutants take the place of the originals. If `is_given`, the other bodies are given away."""
         trial = self.given(edits) if is_given else Trial()
         trial.files |= self.edited(edits, trial.files)
         trial.functions = [(it, it.function) for it in edits]
         return trial
 
     def disturb(self, one: Function, other: Function) -> bool:
-        """Whether edits of two functions can't be judged in one check: they are one function, or one of them calls the other,
-        and its goals wait until the other is proved."""
+        """Returns whether edits of two functions can't be judged in one check. That is so if they are one function. It is also so if one
+        of them calls the other and has no answers, because its goals wait until the other is proved."""
         if (one.file, one.name, one.owner) == (other.file, other.name, other.owner):
             return True
         for above, below in ((one, other), (other, one)):
@@ -578,8 +595,8 @@ class Crate:
         return False
 
     def sets_of(self, edits: list[Edit]) -> list[list[Edit]]:
-        """Parts edits into sets in which none disturbs another; an edit of more than a body is a set, as is one that lets its
-        function call itself."""
+        """Splits the edits into sets in which none disturbs another. An edit of more than a body is a set by itself, and so is one that
+        makes its function call itself."""
         sets: list[list[Edit]] = []
         placed = [(it, it.function) for it in edits if it.function and not self.lets_call_itself(it)]
         for edit, function in sorted(placed, key=lambda it: -sum(it[1] == other for _, other in placed)):
@@ -592,14 +609,14 @@ class Crate:
 
 
 def crates_below(crate: Crate, crates: dict[str, Crate]) -> list[Crate]:
-    """All of the crates that one stands on, in their order."""
+    """Returns all crates that `crate` depends on, in the order of crates.txt."""
     names = {it for it in crate.named if it in crates}
     names |= {deeper.name for it in names for deeper in crates_below(crates[it], crates)}
     return [it for it in crates.values() if it.name in names]
 
 
 def read_crates() -> dict[str, Crate]:
-    """The crates of the repository, in the order of crates.txt."""
+    """Reads the crates of the repository, and returns them in the order of crates.txt."""
     lines = [line.split("#")[0] for line in (TOP / "crates.txt").read_text(encoding="utf-8").splitlines()]
     crates = [Crate(line.strip()) for line in lines if ":" in line]
     return {it.name: it for it in crates}
