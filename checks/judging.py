@@ -78,8 +78,8 @@ def reason(printed: str, edit: Edit, function: Function) -> str | None:
 
 
 def reason_alone(printed: str, edit: Edit) -> str | None:
-    """Returns the strongest message of a check with only one edit about something that isn't proved, or None if there is none. If the
-    only fault is that a source or a definition can't be read, the edit isn't refused."""
+    """Returns the strongest message about something that isn't proved, of a check with only one edit, or None if there is none. There is
+    none if the check couldn't read a source or a definition (`NAMES_ALONE`)."""
     lines = messages(printed)
     if any(re.match(r"(\./)?(src|specs)/\S+: error: ", it) and NAMES_ALONE.search(it) for it in lines):
         return None

@@ -1,8 +1,8 @@
 """Keeps the results of checks/refuse_edits on the machine, outside of the tree: which edits were refused, and which controls weren't. They
 are kept under the sums of all that was read, so that refuse_edits tries again only those for which something has changed.
 
-A file is for one state of a crate. The state consists of the kit's version, the sources of the check, and the lines of crates.txt and the
-sources, definitions and proofs of the crate and of those that it depends on. Each line of the file has the sum of an edit or control and
+A file is for one state of a crate. The state consists of the kit's version, the sources of the check, and, for the crate and those that it
+depends on, the line in crates.txt, the sources, the definitions and the proofs. Each line of the file has the sum of an edit or control and
 its result. The last line is the sum of the other lines. A file with another last line isn't used. A file is first written under another
 name, and then renamed.
 """
@@ -19,7 +19,7 @@ from wrong_bodies import WRONG, Crate, Edit, crates_below, sources_in
 HERE = Path(__file__).resolve().parent
 # The sources that decide how an edit is tried and what counts as a refusal.
 TOOLS = ("refuse_edits", "kept_edits.py", "wrong_bodies.py", "judging.py", "prover.py")
-# The number of states that are kept of a crate, which are the newest ones.
+# The number of states of a crate that are kept. The oldest ones are removed.
 MOST_STATES = 20
 
 

@@ -1,5 +1,4 @@
-"""Runs the kit's prover on copies of crates of this tree: for checks/refuse_edits with edits in them, and for checks/no_growth with lines
-that must not compile."""
+"""Runs the kit's prover on changed copies of this tree's crates, for checks/refuse_edits, checks/no_growth and checks/in_flight."""
 from __future__ import annotations
 
 import shutil

@@ -87,9 +87,9 @@ def module_of(file: str) -> list[str]:
 
 @dataclass(frozen=True)
 class Function:
-    """A function of a file. The numbers are those of lines, counted from 0: `first` is that of its first attribute, `start` that of its
-    name, `body` that at whose end its body begins, and `last` its last one. `block` is the first line of the impl or trait in which it
-    stands, or empty. `home` is the file of the type if it is a type's method, and else `file`."""
+    """A function of a file. `first`, `start`, `body` and `last` are numbers of lines, counted from 0: those of its first attribute, of its
+    name, of the brace that opens its body, and of its end. `block` is the first line of the impl or trait in which it stands, or empty.
+    `home` is the file of the type if it is a type's method, and else `file`."""
 
     file: str
     home: str
@@ -241,7 +241,7 @@ class Trial:
 
 
 def functions_of(file: str, text: str) -> list[Function]:
-    """Finds the functions of a file by its layout. A function ends at the first closing brace that is indented as its first line."""
+    """Finds the functions of a file by its layout. A function ends at the first closing brace that is indented like its first line."""
     found, lines, block = [], text.split("\n"), ""
     for start, line in enumerate(lines):
         if BLOCK.match(line):
@@ -397,8 +397,8 @@ class Crate:
         return found
 
     def look_at(self, edit: Edit) -> None:
-        """Notes the function that the edit changes. Raises a fault if the edit can't be applied, if its control is none, or if its
-        function has no clause of the name that it gives."""
+        """Notes the function that the edit changes. Raises a fault if the edit can't be applied, if its text that is alike can't be a
+        control for it, or if its function has no clause of the name that it gives."""
         for file, old, _ in edit.changes:
             if (found := self.texts.get(file, "").count(old)) != 1:
                 raise Fault(f"{edit.name}: an old text stands in {file} {found} times, and not once")
@@ -444,8 +444,8 @@ class Crate:
         return places
 
     def can_be_given(self, function: Function) -> bool:
-        """Returns whether the function can be given away, that is whether a body that never returns can take the place of its own. Its
-        callers know only what it ensures."""
+        """Returns whether the function can be given away: whether a body that never returns can take the place of its own. Its callers know
+        only what it ensures."""
         lines = self.texts[function.file].split("\n")[function.first : function.last + 1]
         head, last = lines[: function.body - function.first + 1], lines[-1].strip()
         is_one = sum(bool(FUNCTION.match(it)) for it in head) == 1
@@ -476,7 +476,7 @@ class Crate:
         return trial
 
     def edited(self, edits: list[Edit], texts: dict[str, str]) -> dict[str, str]:
-        """Applies the edits, and returns the new texts of the files that they change. `texts` has files that differ in the copy."""
+        """Applies the edits, and returns the new texts of the files that they change. `texts` has the files that differ in the copy."""
         made = {}
         for file in {it for edit in edits for it, _, _ in edit.changes}:
             text = texts.get(file, self.texts[file])
@@ -524,8 +524,8 @@ class Crate:
         return trial
 
     def tries_one_clause(self, edit: Edit) -> bool:
-        """Returns whether the clause that the mutant breaks is tried without the others. For that no goal of the function may rest on
-        the others: the function doesn't call itself, its loops have invariants of their own, and no answer is for several clauses."""
+        """Returns whether the clause that the mutant breaks is tried without the others. This is so only if no goal of the function rests on
+        the others: it doesn't call itself, its loops have invariants of their own, and no answer is for several clauses."""
         right = edit.changed
         lines = self.edited([edit], {})[right.file].split("\n")[right.first : right.last]
         at = right.body - right.first
