@@ -1,5 +1,5 @@
-"""Draws scripts at random, each beside the model, which says what it has come to: so a frame can be the expected one, a run can be ended,
-and a queue be filled. What a list of scripts reaches is counted by the model, and by its answers."""
+"""Draws scripts at random. The model carries out each line as it is drawn, so that the next line can fit the state of the receiver: it can send
+the frame that is expected, complete a unit, or fill a queue. The module also counts, by the model and its answers, what scripts reach."""
 from __future__ import annotations
 
 import random
@@ -10,7 +10,7 @@ from typing import Callable, Counter as Count, List, NamedTuple, Tuple
 
 from model import LARGEST_UNIT, LONGEST_LINE, LONGEST_SCRIPT, OPERATIONS, SETTINGS, BadLine, Outcome, Receiver, VirtualChannel, perform
 
-# The longest part of a unit that one frame carries behind its segment header.
+# The number of octets of a unit that the longest frame carries after its segment header.
 LONGEST_PART = 1_018
 UNLOCK, SET_VR = b"\x00", b"\x82\x00"
 REFUSALS = {"frame": ("short", "version", "spare", "length", "truncated", "spacecraft", "channel"), "release": ("channel", "empty"),
@@ -18,10 +18,12 @@ REFUSALS = {"frame": ("short", "version", "spare", "length", "truncated", "space
 REASONS = ("unknown command", "wrong number of words", "bad number", "bad hex", "bad option", "too late", "no channel", "double channel",
            "unknown channel", "bad channel", "bad window", "bad buffer", "bad application", "double application", "bad capacity", "bad map",
            "double map", "bad units", "map on plain channel", "too long")
-# Those of single lines, and the largest numbers of each command.
+# The reasons for which `bad_line` draws a line.
 BAD = REASONS[:-1]
+# The largest number that each word of a command can have.
 NUMBERS = {**SETTINGS, **OPERATIONS}
-# What scripts must reach besides: bounds of their size, and each row of FARM-1's table in each state that it can arise in.
+# The situations that scripts must reach: bounds of sizes, each row of FARM-1's table in each state in which it can occur, and each refusal
+# and each reason from above.
 BOUNDS = ("a unit of 65542 octets", "a unit of 65543 octets", "64 channels", "a full buffer of 64", "a full queue of packets",
           "a full queue of units", "V(R) past 255", "a unit of a plain channel", "a unit of a chosen MAP", "2047 queues of a channel",
           "64 maps of a channel", "thousands of operations")
@@ -31,7 +33,7 @@ WANTED = BOUNDS + OF_LIVE + ROWS + tuple(f"{word} refused {why}" for word, reaso
 
 
 class Script(NamedTuple):
-    """A script for a spacecraft, or lines for `tclive`."""
+    """A script for the spacecraft `scid`. If it is `live`, its lines are for `tclive`."""
 
     scid: int
     lines: Tuple[str, ...]
@@ -39,23 +41,23 @@ class Script(NamedTuple):
 
     @property
     def octets(self) -> bytes:
-        """What is given to a program."""
+        """Returns the octets that a program reads."""
         return "".join(f"{line}\n" for line in self.lines).encode("latin-1")
 
     @property
     def outcome(self) -> Outcome:
-        """What it must lead to."""
+        """Returns the outcome that the script must have."""
         return outcome_of(self)
 
 
 @lru_cache(maxsize=None)
 def outcome_of(script: Script) -> Outcome:
-    """What a script must lead to by the model, which is asked once."""
+    """Returns the outcome of a script by the model, which performs each script only once."""
     return perform(script.scid, script.octets, script.live)
 
 
 def reached_by(script: Script) -> Count[str]:
-    """What a script reaches, and how often."""
+    """Returns how often a script reaches each situation."""
     outcome = script.outcome
     if script.live:
         return outcome.reached
@@ -70,17 +72,18 @@ def reached_by(script: Script) -> Count[str]:
 
 
 class Drawer:
-    """Draws one script, line by line."""
+    """A drawer of one script. It has the model carry out each line that it adds."""
 
     def __init__(self, chance: random.Random, live: bool) -> None:
         self.chance, self.scid, self.live = chance, chance.choice((0, 1, 42, 511, 512, 1_023, chance.randrange(1_024))), live
         self.receiver = Receiver(self.scid, live)
         self.lines: List[str] = []
-        # How often a data field is released: where that is seldom, buffers are full.
+        # The share of operations that release a data field. If it is small, buffers become full.
         self.releases = chance.choice((0.02, 0.1, 0.25))
 
     def add(self, line: str) -> None:
-        """Adds a line, and has the model do it. For `tclive` others come behind some of those that operate, of which many are bad."""
+        """Adds a line and has the model carry it out. For `tclive`, other lines follow some of the lines from the first operation on. Many of
+        these others are bad."""
         self.lines.append(line)
         try:
             self.receiver.answer(line)
@@ -93,10 +96,11 @@ class Drawer:
             good = (link, f"report {vcid}", f"deliver {vcid}", f"collect {vcid}")
             self.add(self.chance.choice((*good, few, bad_line(self.chance, self.chance.choice(BAD)))))
 
-    # --- What is set up ---
+    # --- Set-up ---
 
     def channel(self, vcid: int, **more: int) -> VirtualChannel:
-        """Sets up a channel, with some queues."""
+        """Sets up a channel with at most five queues. The width, the number of places in the buffer, and whether the channel is plain are drawn if
+        `more` doesn't give them."""
         chance = self.chance
         width, places = more.get("width", chance.choice((2, 4, 10, 128, 252, 254))), more.get("places", chance.choice((1, 2, 7, 64)))
         first, plain = chance.choice((0, 1, 127, 250, 255, chance.randrange(256))), more.get("plain", int(chance.random() < 0.25))
@@ -108,10 +112,10 @@ class Drawer:
             self.add(f"map {vcid} {place} {chance.choice(capacities)}")
         return self.receiver.channels[vcid]
 
-    # --- What is sent ---
+    # --- Operations ---
 
     def packet(self, channel: VirtualChannel) -> bytes:
-        """A packet for one of the channel's queues, or one that is dropped or left over."""
+        """Returns a packet for one of the channel's queues, or one that is dropped or left over."""
         chance = self.chance
         apid = chance.choice([*channel.queues] * 4 + [5, 7, 1_029, 2_047])
         first = chance.choice((0x10,) * 8 + (0x18, 0x00, 0x30, 0x50, 0x90)) | apid >> 8
@@ -119,12 +123,12 @@ class Drawer:
         return bytes([first, apid & 255, chance.randrange(256), chance.randrange(256)]) + (len(data) - 1).to_bytes(2, "big") + data
 
     def data(self, channel: VirtualChannel) -> bytes:
-        """Octets that packets begin, and sometimes a part of one ends."""
+        """Returns at most three packets in a row, sometimes cut short."""
         octets = b"".join(self.packet(channel) for _ in range(self.chance.choice((0, 1, 1, 1, 2, 3))))
         return octets[:self.chance.choice((len(octets),) * 5 + (self.chance.randrange(len(octets) + 1),))][:LONGEST_PART]
 
     def field(self, channel: VirtualChannel) -> bytes:
-        """A data field: where there are segments, often one that goes on with an open run."""
+        """Returns a data field. If the channel has segments, it is often one for the MAP of an incomplete unit."""
         if channel.plain:
             return self.data(channel) or b"\x00"
         chance = self.chance
@@ -132,11 +136,11 @@ class Drawer:
         return bytes([chance.choice((0xC0, 0xC0, 0x40, 0x00, 0x80)) | place]) + self.data(channel)
 
     def octets(self, first: int, vcid: int, number: int, field: bytes) -> bytes:
-        """A frame of these parts."""
+        """Returns a frame of these parts. `first` is the first octet of the header without the bits of the spacecraft id."""
         return bytes([first | self.scid >> 8, self.scid & 255, vcid << 2 | len(field) + 4 >> 8, len(field) + 4 & 255, number % 256]) + field
 
     def frame(self, channel: VirtualChannel) -> bytes:
-        """A frame for a channel: mostly one that is accepted."""
+        """Returns a frame for a channel, mostly one that is accepted."""
         chance, half, expected = self.chance, channel.farm.width // 2, channel.farm.vr
         if chance.random() < 0.25 or channel.farm.state == 3 and chance.random() < 0.4:
             any_octet = bytes([chance.randrange(256)])
@@ -148,7 +152,7 @@ class Drawer:
         return self.octets(0x00, channel.vcid, expected + chance.choice((0,) * 12 + beside), self.field(channel))
 
     def spoilt(self, octets: bytes) -> bytes:
-        """Octets that are mostly refused, made of a frame."""
+        """Returns a copy of a frame with a changed bit, with another length, or cut short. It is mostly refused."""
         chance = self.chance
         at, bit = chance.choice(((0, 7), (0, 6), (0, 3), (0, 2), (0, 1), (0, 0), (1, 0), (1, 7), (2, 7), (2, 2), (2, 1), (3, 3)))
         changed = bytearray(octets)
@@ -158,7 +162,7 @@ class Drawer:
         return bytes(chance.choice((changed, changed, changed, small, octets[:-1], octets[:chance.randrange(1, 7)])))
 
     def operation(self, channel: VirtualChannel) -> str:
-        """A line that operates."""
+        """Returns a line with an operation, mostly on `channel`."""
         chance, vcid = self.chance, channel.vcid if self.chance.random() < 0.95 else self.chance.choice((0, 63, 64, 255))
         kind = chance.random()
         if kind < 0.55:
@@ -174,7 +178,7 @@ class Drawer:
         return f"unit {vcid} {chance.choice([*channel.maps] * 3 + [3, 64])}" if kind < 0.96 else f"clcw {vcid}"
 
     def operate(self, count: int) -> None:
-        """So many lines that operate, some of them with other spaces, and comments between."""
+        """Adds `count` lines with operations on any channels. Some of them have other white space and follow a comment or an empty line."""
         for _ in range(count):
             line = self.operation(self.chance.choice(list(self.receiver.channels.values())))
             if self.chance.random() < 0.05:
@@ -184,7 +188,8 @@ class Drawer:
             self.add(line)
 
     def send(self, channel: VirtualChannel, sequenced: bool, field: bytes) -> None:
-        """Has a data field passed on to reassembly at once."""
+        """Adds lines that pass a data field on to reassembly at once: a Type-AD frame and its release if `sequenced` is true, else a Type-BD
+        frame."""
         octets = self.octets(0x00, channel.vcid, channel.farm.vr, field) if sequenced else self.octets(0x20, channel.vcid, 0, field)
         self.add(f"frame {octets.hex()}")
         if sequenced:
@@ -192,14 +197,14 @@ class Drawer:
 
 
 def tour(drawer: Drawer) -> None:
-    """Lines of all kinds, on some channels."""
+    """Adds lines of all kinds on at most five channels."""
     for vcid in drawer.chance.sample(range(64), drawer.chance.choice((1, 1, 2, 3, 5))):
         drawer.channel(vcid)
     drawer.operate(drawer.chance.choice((5, 40, 120)))
 
 
 def each_row(drawer: Drawer) -> None:
-    """Each row of FARM-1's table, in each state, with the CLCW behind it."""
+    """Adds lines that meet each row of FARM-1's table in each state, and a `clcw` after each of them."""
     channel = drawer.channel(drawer.chance.randrange(64), width=drawer.chance.choice((4, 10, 252)), places=1)
     half = channel.farm.width // 2
     kinds = {"expected": (0x00, 0), "ahead": (0x00, half - 1), "behind": (0x00, -half), "outside": (0x00, half), "bypass": (0x20, 0),
@@ -214,14 +219,14 @@ def each_row(drawer: Drawer) -> None:
 
 
 def many_channels(drawer: Drawer) -> None:
-    """Each channel that there can be."""
+    """Sets up all channels that there can be, and operates on them."""
     for vcid in drawer.chance.sample(range(64), 64):
         drawer.channel(vcid)
     drawer.operate(150)
 
 
 def full_buffer(drawer: Drawer) -> None:
-    """A buffer that is filled, over the end of the numbers; what is sent to it and to another channel then; and what comes out."""
+    """Fills a buffer while V(R) goes past 255. Then operates on this channel and another, and releases a part or all of the buffer."""
     chance, channel = drawer.chance, drawer.channel(drawer.chance.randrange(32), places=64)
     drawer.channel(32 + chance.randrange(32))
     drawer.add(f"frame {drawer.octets(0x30, channel.vcid, 0, SET_VR + bytes([chance.randrange(193, 256)])).hex()}")
@@ -234,7 +239,8 @@ def full_buffer(drawer: Drawer) -> None:
 
 
 def full_queues(drawer: Drawer, most: bool) -> None:
-    """Queues for packets and for units that are filled, and emptied in part, so that the next ones come behind those that wait."""
+    """Fills a queue of packets and a queue of units, takes some of both, and fills the queues again. If `most` is true, the queues have the
+    largest capacity."""
     chance, channel = drawer.chance, drawer.channel(drawer.chance.randrange(64), plain=0)
     capacity = 256 if most else chance.choice((1, 2, 3, 255))
     drawer.add(f"queue {channel.vcid} 77 {capacity}")
@@ -250,7 +256,8 @@ def full_queues(drawer: Drawer, most: bool) -> None:
 
 
 def most_channels(drawer: Drawer) -> List[int]:
-    """Each channel; a queue for each application on one, each MAP chosen on another, and both on a third."""
+    """Sets up all channels and returns their ids. The first has a queue for each application, on the second each MAP is chosen, and the third
+    has both."""
     vcids = drawer.chance.sample(range(64), 64)
     for vcid in vcids:
         drawer.add(f"channel {vcid} 254 64 0")
@@ -264,7 +271,8 @@ def most_channels(drawer: Drawer) -> List[int]:
 
 
 def most_packets(drawer: Drawer, channel: VirtualChannel) -> None:
-    """A unit with a packet for each queue, and for one as many as it has room for, by frames of both types; and thousands of units."""
+    """Sends a unit with a packet for each queue and with as many for one queue as it can hold, by Type-BD frames and then by Type-AD frames.
+    Takes all packets after each. Then sends thousands of short units."""
     one = [bytes([0x10 | apid >> 8, apid & 255]) + bytes.fromhex("c0000000aa") for apid in range(2_047)]
     unit = b"".join(one) + one[77] * 255
     for sequenced in (False, True):
@@ -279,8 +287,8 @@ def most_packets(drawer: Drawer, channel: VirtualChannel) -> None:
 
 
 def at_bounds(drawer: Drawer) -> None:
-    """As much as there can be at a time: the most channels; a unit on each MAP and a run open on each of both services, and a buffer full of
-    the longest frames; and the most packets."""
+    """Reaches several bounds in one script: all channels, a buffer full of the longest frames, a queued unit on each MAP, an incomplete unit of
+    each service on each MAP, and the most packets."""
     vcids = most_channels(drawer)
     for vcid in vcids:
         drawer.send(drawer.receiver.channels[vcid], vcid % 2 > 0, b"\xe1")
@@ -298,7 +306,7 @@ def at_bounds(drawer: Drawer) -> None:
 
 
 def long_unit(drawer: Drawer, beyond: int) -> None:
-    """A unit of the most octets that there are, or of so many more: as one packet, or as octets that are queued whole."""
+    """Sends a unit that is `beyond` octets longer than the longest one. It is a packet, or comes on a chosen MAP, whose units are queued whole."""
     chance, channel = drawer.chance, drawer.channel(drawer.chance.randrange(64), plain=0)
     size, place, sequenced = LARGEST_UNIT + beyond, chance.choice((1, 33)), chance.random() < 0.3
     drawer.add(f"queue {channel.vcid} 77 2")
@@ -318,7 +326,7 @@ def long_unit(drawer: Drawer, beyond: int) -> None:
 
 
 def long_lines(drawer: Drawer) -> None:
-    """Lines of the most octets that `tclive` takes, and of one more."""
+    """Adds lines as long as the longest that `tclive` takes, and lines of one octet more."""
     drawer.channel(1)
     for more in drawer.chance.sample((0, 1), 2):
         drawer.add("#" * (LONGEST_LINE + more))
@@ -327,27 +335,27 @@ def long_lines(drawer: Drawer) -> None:
 
 
 def long_script(drawer: Drawer, beyond: int) -> None:
-    """A script of the most octets that there are, or of so many more."""
+    """Adds a few operations, and a comment that makes the script `beyond` octets longer than the longest one."""
     drawer.channel(drawer.chance.randrange(64))
     drawer.operate(5)
     drawer.add("#" * (LONGEST_SCRIPT + beyond - 1 - len(Script(0, tuple(drawer.lines)).octets)))
 
 
 def with_number(command: str, at: int, number: str) -> str:
-    """A line of a command with this number at a place."""
+    """Returns a line of `command` with `number` at the place `at`. The word after the command is at place 0."""
     words = ["1", "10", "1", "0"][:len(NUMBERS[command])]
     words[at] = number
     return " ".join([command, *words])
 
 
 def beyond_bounds(drawer: Drawer, command: str, at: int) -> None:
-    """A script that ends with a number that is just over its bound."""
+    """Adds a line in which the number at the place `at` is one more than the largest that it can be."""
     drawer.add("channel 1 10 2 0")
     drawer.add(with_number(command, at, str(NUMBERS[command][at] + 1)))
 
 
 def bad_line(chance: random.Random, reason: str) -> str:
-    """A line that may be bad for a reason; whether it is, the model says."""
+    """Returns a line that may be bad for `reason`. Whether it is bad depends on the lines before it, and the model decides it."""
     operation = chance.choice(("release 1", "take 1 5", "unit 1 3", "clcw 1", "frame 00"))
     command = chance.choice((operation, "channel 60 10 1 0", "queue 1 5 1", "map 1 3 1"))
     words = command.split()
@@ -372,7 +380,7 @@ def bad_line(chance: random.Random, reason: str) -> str:
 
 
 def fault(drawer: Drawer, reason: str) -> None:
-    """A script with a line that is bad for this reason, and sometimes with another bad one before it or behind it."""
+    """Adds a line that is bad for `reason`, and sometimes another bad one before it or after it."""
     chance = drawer.chance
     for line in ("link 1 0 0", "report 1", "deliver 1", "collect 1", "candidate 00") if drawer.live else ():
         drawer.add(line)
@@ -394,7 +402,7 @@ REPEATED = 3
 
 
 def draw(seed: int, count: int, live: bool = False) -> List[Script]:
-    """So many scripts, the first ones for the bounds and the reasons, and tours."""
+    """Draws `count` scripts. The first ones are for the bounds, the next ones are for the reasons, and all others are tours."""
     drawn = []
     for place in range(count):
         drawer = Drawer(random.Random(f"{seed} {place}"), live)
@@ -409,7 +417,8 @@ def draw(seed: int, count: int, live: bool = False) -> List[Script]:
 
 
 def shortened(script: Script, differs: Callable[[Script], bool], tries: int = 300) -> Script:
-    """The script without lines that it differs without: first halves, and in the end each line by itself."""
+    """Returns a part of the script for which `differs` is still true. Leaves out half of the lines at first, and single lines in the end, as long
+    as `differs` stays true. Calls it at most `tries` times."""
     size = max(1, len(script.lines) // 2)
     while tries > 0:
         start, shorter = 0, False

@@ -1,11 +1,12 @@
 #!/usr/bin/env python3
-"""A model of the receiver, written from the pages of docs/reference alone (scripts, formats, FARM-1 and limits), so that a script can be
-answered where nothing is built, and what the programs answer can be compared with something that isn't made of their sources.
+"""Answers scripts by a model of the receiver. The model is written from the pages of docs/reference alone (scripts, formats, FARM-1 and
+limits) and shares no source with the programs, whose answers checks compare with its answers. It also answers scripts if nothing is built.
 
 usage: checks/model.py run --scid N < SCRIPT         prints what `tcrx run` must print
        checks/model.py parallel --scid N < SCRIPT    prints what `tcrx parallel` must print
 
-A fault of the script goes to standard error, with status 1. It runs by Python 3.9 and its own library. Nothing about it is proved.
+A fault of the script goes to standard error, with status 1. The model needs Python 3.9 or later and its standard library. Nothing about the
+model is proved.
 """
 from __future__ import annotations
 
@@ -16,12 +17,13 @@ from collections import Counter, deque
 from typing import Callable, Counter as Count, Deque, Dict, List, NamedTuple, Optional, Tuple
 
 LONGEST_SCRIPT, LONGEST_LINE, LARGEST_UNIT = 1_048_576, 8_192, 65_542
-# The largest numbers of each line, word by word; beyond the bound of its field a smaller one is another fault.
+# For each line that sets something up, the largest number that each word can have. A larger number is the fault `bad number`. A smaller one
+# that its field doesn't allow is another fault, for example `bad channel`.
 SETTINGS = {"channel": (255, 255, 255, 255), "queue": (255, 65_535, 65_535), "map": (255, 255, 65_535)}
 OPERATIONS = {"release": (255,), "take": (255, 65_535), "unit": (255, 255), "clcw": (255,)}
-# Those that `tclive` knows besides.
+# The operations that only `tclive` has.
 LIVE = {"link": (255, 1, 1), "report": (255,), "deliver": (255,), "collect": (255,)}
-# The table of FARM-1, event by event: what its cells for S1 Open, S2 Wait and S3 Lockout name. Where one says nothing, the frame is discarded.
+# The table of FARM-1: for each event, the actions of its cells for S1 Open, S2 Wait and S3 Lockout. A frame that meets an empty cell is discarded.
 TABLE = {
     "E1": ["accept, V(R) + 1, Retransmit 0", "", ""],
     "E2": ["Retransmit 1, Wait 1, to S2", "", ""],
@@ -37,15 +39,15 @@ TABLE = {
 
 
 class BadLine(Exception):
-    """A line is bad, for this reason."""
+    """The fault of a bad line. Its argument is the reason."""
 
 
 class Refused(Exception):
-    """An operation is refused, for this reason."""
+    """The refusal of an operation. Its argument is the reason."""
 
 
 def want(holds: bool, otherwise: Exception) -> None:
-    """What must hold for a line or an operation."""
+    """Raises `otherwise` unless `holds` is true."""
     if not holds:
         raise otherwise
 
@@ -62,7 +64,7 @@ class Frame(NamedTuple):
 
 
 def read_frame(octets: bytes) -> Frame:
-    """The frame at the front of these octets."""
+    """Returns the frame at the start of `octets`. Raises `Refused` if they don't start with a frame."""
     want(len(octets) >= 5, Refused("short"))
     want(octets[0] >> 6 == 0, Refused("version"))
     want(octets[0] & 0b1100 == 0, Refused("spare"))
@@ -73,7 +75,7 @@ def read_frame(octets: bytes) -> Frame:
 
 
 def carries_more(octets: bytes) -> bool:
-    """Whether more than fill follows the frame of a candidate: over six octets, or another frame."""
+    """Returns whether more than fill follows the frame of a candidate: more than six octets, or another frame."""
     try:
         rest = octets[5 + len(read_frame(octets).field):]
     except Refused:
@@ -92,7 +94,7 @@ class Farm:
         self.flags = {"Lockout": 0, "Wait": 0, "Retransmit": 0}
 
     def event(self, frame: Frame, room: bool) -> str:
-        """The row of the table that a frame meets."""
+        """Returns the event of the table that a frame causes. `room` is true if the buffer has a free place."""
         if frame.control:
             unlock, set_vr = frame.field == b"\x00", len(frame.field) == 3 and frame.field[:2] == b"\x82\x00"
             return "E9" if not frame.bypass else "E7" if unlock else "E8" if set_vr else "E9"
@@ -104,7 +106,7 @@ class Farm:
         return "E3" if ahead <= self.width // 2 - 1 else "E4" if behind <= self.width // 2 else "E5"
 
     def step(self, event: str, field: bytes = b"") -> bool:
-        """Does what a cell of the table names, and answers whether it accepts a data field."""
+        """Carries out the actions of an event in the current state. Returns whether they accept `field`, which is the data field of a frame."""
         accepted = False
         for effect in TABLE[event][self.state - 1].split(", "):
             if effect == "accept":
@@ -122,17 +124,17 @@ class Farm:
         return accepted
 
     def clcw(self, vcid: int, link: int = 0) -> str:
-        """The CLCW, with these flags of the link."""
+        """Returns the CLCW as hexadecimal digits. `link` has the flags of the link as bits of the CLCW."""
         flags = link | self.flags["Lockout"] << 13 | self.flags["Wait"] << 12 | self.flags["Retransmit"] << 11
         return f"{1 << 24 | vcid << 18 | flags | self.farm_b << 9 | self.vr:08x}"
 
 
-# A queue for so many packets or units, whose oldest is taken first.
+# A queue of data fields, packets or units. Its `maxlen` is its capacity, and the oldest item is taken first.
 Queue = Deque[bytes]
 
 
 def put(queue: Queue, item: bytes) -> bool:
-    """Whether there is room for an item, which is then in the queue."""
+    """Appends an item to a queue if there is room. Returns whether there was."""
     room = len(queue) != queue.maxlen
     if room:
         queue.append(item)
@@ -140,7 +142,7 @@ def put(queue: Queue, item: bytes) -> bool:
 
 
 class Delivery(NamedTuple):
-    """What became of the unit that an operation completed."""
+    """The numbers of packets or units that an operation queued and dropped, and 1 if octets of the unit were left over, else 0."""
 
     queued: int = 0
     dropped: int = 0
@@ -156,17 +158,17 @@ class VirtualChannel:
     def __init__(self, vcid: int, farm: Farm, places: int, plain: bool, reached: Count[str]) -> None:
         self.vcid, self.farm, self.plain, self.reached = vcid, farm, plain, reached
         self.buffer: Queue = deque(maxlen=places)
-        # The open runs, by service and MAP.
+        # The data so far of each incomplete unit, by service and MAP.
         self.runs: Dict[Tuple[str, int], bytes] = {}
-        # The queues by application and those by chosen MAP, in the order of the set-up.
+        # The queues of packets by application, and those of units by chosen MAP, in the order in which they were set up.
         self.queues: Dict[int, Queue] = {}
         self.maps: Dict[int, Queue] = {}
         self.events = 0
-        # The flags No RF Available and No Bit Lock.
+        # The flags No RF Available and No Bit Lock, as bits of the CLCW.
         self.link = 0
 
     def frame(self, frame: Frame) -> str:
-        """What a frame is answered."""
+        """Applies FARM-1 to a frame. Returns the answer."""
         event, before = self.farm.event(frame, len(self.buffer) != self.buffer.maxlen), self.farm.vr
         self.reached[f"{event} in S{self.farm.state}"] += 1
         if event == "E2":
@@ -181,7 +183,7 @@ class VirtualChannel:
         return f"frame {self.vcid} {event} accepted {int(accepted)} {delivery}"
 
     def release(self) -> str:
-        """What a release is answered."""
+        """Passes on the oldest data field in the buffer. Returns the answer to `release`."""
         want(len(self.buffer) > 0, Refused("empty"))
         self.events += 1
         self.reached[f"E10 in S{self.farm.state}"] += 1
@@ -189,7 +191,7 @@ class VirtualChannel:
         return f"release {self.vcid} {self.pass_on('AD', self.buffer.popleft())}"
 
     def take(self, word: str, key: int, queue: Optional[Queue]) -> str:
-        """What a take of a packet or a unit is answered."""
+        """Takes the oldest item of a queue, which is None if no queue has the number `key`. Returns the answer to `word`."""
         if queue is None:
             raise Refused("no map" if word == "unit" else "no queue")
         want(len(queue) > 0, Refused("empty"))
@@ -197,22 +199,23 @@ class VirtualChannel:
         return f"{word} {self.vcid} {key} {queue.popleft().hex() or '-'}"
 
     def clcw(self) -> str:
-        """The CLCW, with the flags of the link."""
+        """Returns the answer to `clcw`."""
         return f"clcw {self.vcid} {self.farm.clcw(self.vcid, self.link)}"
 
     def counts(self) -> List[str]:
-        """How much waits in each queue."""
+        """Returns one text for each queue, with the number of items that wait in it."""
         return [f"{word} {key} {len(queue)}" for word, queues in (("queue", self.queues), ("map", self.maps)) for key, queue in queues.items()]
 
     def state(self) -> str:
-        """What `report` is answered."""
+        """Returns the answer to `report`."""
         farm, state = self.farm, ("open", "wait", "lockout")[self.farm.state - 1]
         self.reached[f"a report of {state}"] += 1
         flags = " ".join(f"{name.lower()} {value}" for name, value in farm.flags.items())
         return " ".join([f"report {self.vcid} state {state} vr {farm.vr} {flags} farm-b {farm.farm_b} buffered {len(self.buffer)}", *self.counts()])
 
     def deliver(self, releases: bool = True) -> str:
-        """What `deliver` is answered, in several lines; without a release what `collect` is."""
+        """Releases a data field if `releases` is true, and takes everything that is queued. Returns the lines that answer `deliver`, or
+        `collect` if nothing is released."""
         lines = [self.release() if self.buffer else "refused empty"] if releases else []
         for word, queues in (("take", self.queues), ("unit", self.maps)):
             for key, queue in queues.items():
@@ -221,7 +224,7 @@ class VirtualChannel:
         return "\n".join([*lines, self.clcw()])
 
     def pass_on(self, service: str, field: bytes) -> Delivery:
-        """Passes a data field on to reassembly."""
+        """Passes a data field on to reassembly, and queues the unit that it completes, if any. Returns how many items were queued and dropped."""
         if self.plain:
             self.reached["a unit of a plain channel"] += 1
             return self.cut(field)
@@ -237,7 +240,7 @@ class VirtualChannel:
         return Delivery(int(room), int(not room))
 
     def unit(self, service: str, field: bytes) -> Optional[bytes]:
-        """The unit that a segment completes, if it completes one."""
+        """Adds a segment to the unit of its service and MAP. Returns that unit if the segment completes it."""
         place, first, last = (service, field[0] & 63), field[0] >> 6 & 1, field[0] >> 7
         run = b"" if first else self.runs.get(place)
         self.runs.pop(place, None)
@@ -254,7 +257,7 @@ class VirtualChannel:
         return None
 
     def cut(self, unit: bytes) -> Delivery:
-        """Cuts a unit into packets, which are queued."""
+        """Cuts a unit into packets, and queues those that have a queue with room."""
         queued = dropped = 0
         while len(unit) > 6 and unit[0] >> 5 == 0 and len(unit) >= (size := int.from_bytes(unit[4:6], "big") + 7):
             telecommand, apid = unit[0] & 0b10000, (unit[0] & 0b111) << 8 | unit[1]
@@ -265,13 +268,13 @@ class VirtualChannel:
         return Delivery(queued, dropped, int(len(unit) > 0))
 
     def report(self) -> List[str]:
-        """Its lines of the final report."""
+        """Returns the channel's lines of the final report."""
         front = f"final {self.vcid} {self.farm.clcw(self.vcid)} events {self.events} buffered {len(self.buffer)}"
         return [front, *(line.replace(" ", f" {self.vcid} ", 1) for line in self.counts())]
 
 
 def read_numbers(words: List[str], bounds: Tuple[int, ...]) -> List[int]:
-    """The numbers of a line."""
+    """Returns the numbers of a line. `bounds` has the largest number that each word can have."""
     want(len(words) == len(bounds), BadLine("wrong number of words"))
     for word, most in zip(words, bounds):
         want(re.fullmatch("[0-9]{1,5}", word) is not None and int(word) <= most, BadLine("bad number"))
@@ -279,7 +282,7 @@ def read_numbers(words: List[str], bounds: Tuple[int, ...]) -> List[int]:
 
 
 def read_octets(words: List[str]) -> bytes:
-    """The octets of a frame's line."""
+    """Returns the octets of a line with a frame or a candidate."""
     want(len(words) == 1, BadLine("wrong number of words"))
     want(re.fullmatch("([0-9a-fA-F]{2})*", words[0]) is not None, BadLine("bad hex"))
     return bytes.fromhex(words[0])
@@ -292,11 +295,11 @@ class Receiver:
         self.scid, self.operating, self.operations = scid, False, {**OPERATIONS, **(LIVE if live else {})}
         self.with_octets = ("frame", "candidate") if live else ("frame",)
         self.channels: Dict[int, VirtualChannel] = {}
-        # What was met, and how often: for who draws scripts.
+        # How often each situation occurred. drawing.py needs these counts.
         self.reached: Count[str] = Counter()
 
     def answer(self, line: str) -> Optional[str]:
-        """What a line is answered. A line that sets up, and one with nothing in it, has no answer."""
+        """Carries out a line. Returns its answer, or None for a comment, for a line without words and for a line that sets something up."""
         words = [word for word in re.split("[ \t\r]", line) if word]
         if not words or words[0].startswith("#"):
             return None
@@ -317,7 +320,7 @@ class Receiver:
             return f"refused {why}"
 
     def set_up(self, command: str, words: List[str]) -> None:
-        """Does a line that sets something up. The faults are looked for in the order of their list."""
+        """Carries out a line that sets something up. Looks for faults in the order in which docs/reference/scripts.md lists them."""
         option = words[4:] if command == "channel" and len(words) == 5 else []
         numbers = read_numbers(words[:4] if option else words, SETTINGS[command])
         want(option in ([], ["plain"]), BadLine("bad option"))
@@ -349,14 +352,14 @@ class Receiver:
         queues[key] = deque(maxlen=capacity)
 
     def bring(self, octets: bytes) -> str:
-        """What octets that arrive are answered."""
+        """Passes the frame at the start of `octets` to its channel. Returns the answer."""
         frame = read_frame(octets)
         want(frame.scid == self.scid, Refused("spacecraft"))
         want(frame.vcid in self.channels, Refused("channel"))
         return self.channels[frame.vcid].frame(frame)
 
     def operate(self, command: str, numbers: List[int]) -> str:
-        """What another operation is answered."""
+        """Carries out any operation other than `frame` and `candidate`. Returns the answer."""
         vcid, key = numbers[0], numbers[-1]
         want(vcid in self.channels, Refused("channel"))
         channel = self.channels[vcid]
@@ -370,12 +373,12 @@ class Receiver:
         return channel.take(command, key, channel.maps.get(key) if command == "unit" else channel.queues.get(key))
 
     def report(self) -> List[str]:
-        """The final report."""
+        """Returns the lines of the final report."""
         return [line for vcid in sorted(self.channels) for line in self.channels[vcid].report()]
 
 
 class Outcome(NamedTuple):
-    """What a script led to: the answers, the final report, the fault, if any, and what was met."""
+    """The outcome of a script: the answers, the final report, the fault or an empty text, and how often each situation occurred."""
 
     answers: List[str]
     report: List[str]
@@ -384,7 +387,8 @@ class Outcome(NamedTuple):
 
 
 def perform(scid: int, script: bytes, live: bool = False) -> Outcome:
-    """Performs a script as `tcrx run` must, to its end or its first bad line; or as `tclive` must, which answers a bad line and goes on."""
+    """Performs a script as `tcrx run` must, up to its end or its first bad line. If `live` is true, performs the lines as `tclive` must, which
+    answers a bad line and goes on."""
     receiver = Receiver(scid, live)
     if len(script) > LONGEST_SCRIPT and not live:
         return Outcome([], [], "line 0: too long", receiver.reached)
@@ -402,8 +406,8 @@ def perform(scid: int, script: bytes, live: bool = False) -> Outcome:
 
 
 def main() -> int:
-    """The status."""
-    parser = argparse.ArgumentParser(description="Answers a script by the model, which isn't the receiver, and isn't proved.")
+    """Answers the script on standard input. Returns the exit status."""
+    parser = argparse.ArgumentParser(description="Answers a script by a model, which isn't the receiver and isn't proved.")
     parser.add_argument("command", choices=("run", "parallel"))
     parser.add_argument("--scid", type=int, required=True, choices=range(1_024), metavar="N")
     given = parser.parse_args()

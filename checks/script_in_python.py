@@ -1,6 +1,6 @@
 #!/usr/bin/env python3
-"""Answers the lines of standard input by a receiver of the client in Python, for checks/drawn, and prints what the client returns in the
-words of `tclive`. Each line is one for which the client has a call, and may be bad.
+"""Carries out the lines of standard input by calls of the client in Python, for checks/drawn, and prints the results in the form in which
+`tclive` answers. The client must have a call for each line. The line may be bad.
 
 usage: checks/script_in_python.py SCID
 """
@@ -12,12 +12,12 @@ from typing import Any, Callable, Dict, List, Tuple
 
 sys.dont_write_bytecode = True
 sys.path.insert(0, str(Path(__file__).resolve().parent.parent / "clients/python"))
-# pylint: disable=wrong-import-position  # it is found by the path above
+# pylint: disable=wrong-import-position  # the client is found by the path above
 from tcrx import BadLine, Brought, Clcw, Delivered, Final, Packet, Receiver, Refused, Report, Unit  # noqa: E402
 
 
 def line_of(answer: Any) -> str:
-    """An answer in a line."""
+    """Returns an answer of the client in the form of `tclive`. A delivery has several lines."""
     if isinstance(answer, (Refused, Clcw)):
         return f"refused {answer.reason.value}" if isinstance(answer, Refused) else f"clcw {answer.channel} {answer.word:08x}"
     if isinstance(answer, (Packet, Unit)):
@@ -36,19 +36,19 @@ def line_of(answer: Any) -> str:
 
 
 def counts_of(answer: Any) -> List[Tuple[str, int, int]]:
-    """How much waits in each queue, by a report."""
+    """Returns the kind, the number and the count of waiting items of each queue in a report."""
     return [(what, key, count) for what, counts in (("queue", answer.queues), ("map", answer.maps)) for key, count in counts.items()]
 
 
 def print_final(vcid: int, final: Final) -> None:
-    """The lines of a channel in the final report."""
+    """Prints the lines of a channel in the final report."""
     print(f"final {vcid} {final.clcw.word:08x} events {final.events} buffered {final.buffered}")
     for what, key, count in counts_of(final):
         print(f"{what} {vcid} {key} {count}")
 
 
 def answer_by(receiver: Receiver, words: List[str]) -> str:
-    """What a receiver answers to a line, by the call that is for it."""
+    """Carries out a line by the call that is for it. Returns the answer, which is empty for a line that sets something up."""
     numbers = [int(word) for word in words[1:] if words[0] != "frame" and word != "plain"]
     calls: Dict[str, Callable[..., Any]] = {
         "channel": lambda vcid, width, buffer, first: receiver.channel(vcid, width=width, buffer=buffer, first=first, plain=len(words) > 5),
@@ -65,8 +65,8 @@ def answer_by(receiver: Receiver, words: List[str]) -> str:
 
 
 def main() -> None:
-    """Brings all lines to a receiver, and prints its final report."""
-    # The client writes lines with one space between words, so these lines have no others.
+    """Carries out all lines by a receiver, and prints its final report."""
+    # checks/drawn writes these lines, with one space between words.
     lines = [line.split(" ") for line in sys.stdin.buffer.read().decode("ascii").splitlines()]
     with Receiver(int(sys.argv[1])) as receiver:
         for words in lines:
