@@ -1,6 +1,6 @@
-"""A second implementation of CLTUs, telemetry frames and the random sequence, in another form than the library's. Words are whole numbers,
-parity bits come from long division, streams are searched by patterns and slices, and headers are strings of bits. `client_parts.py` has what
-makes code blocks, CLTUs and frame error control fields."""
+"""Implements CLTUs, telemetry frames and the random sequence a second time, in another form than the library's. Words are whole numbers, parity
+bits come from long division, streams are searched by patterns and slices, and headers are strings of bits. `client_parts.py` makes code
+blocks, CLTUs and frame error control fields."""
 from __future__ import annotations
 
 import binascii
@@ -14,20 +14,21 @@ MODES = {"detect": 0, "correct": 1}
 
 
 def remainder(polynomial: int) -> int:
-    """What a division by the generator leaves."""
+    """Returns the remainder of a division by the generator."""
     while polynomial.bit_length() > 7:
         polynomial ^= GENERATOR << (polynomial.bit_length() - 8)
     return polynomial
 
 
-# What each octet leaves in its place of the eight of a block. The filler bit, the last, is no part of the word.
+# The remainder of each octet in each of the eight places of a block. The filler bit, which is the last, is no part of the word.
 LEFT = [[remainder(octet << 8 * (7 - place) >> 1) for octet in range(256)] for place in range(8)]
-# The one bit of the word that leaves a remainder, by that.
+# The place of the wrong bit in a word, by the remainder that this bit alone leaves.
 WRONG_BIT = {remainder(1 << bit): bit for bit in range(63)}
 
 
 def decoded(block: bytes, most: int) -> Tuple[Optional[bytes], bool]:
-    """What a block carries that has so many wrong bits at most, and whether one was corrected."""
+    """Returns the octets that a code block carries, and whether a wrong bit was corrected. `most` is 1 if one bit may be corrected, else 0. The
+    octets are None if the block is rejected."""
     left = remainder(0x7F)
     for place in range(8):
         left ^= LEFT[place][block[place]]
@@ -44,7 +45,8 @@ Found = Tuple[List[bytes], int, int, int]
 
 
 def searched(stream: bytes, most: int) -> Found:
-    """The candidates of a stream, how many blocks are corrected, and rejected but for tail sequences, and how many CLTUs are too long."""
+    """Searches a stream for CLTUs. Returns the candidates, the number of corrected blocks, the number of rejected blocks other than tail sequences,
+    and the number of CLTUs that are too long."""
     frames, corrected, rejected, overlong, at = [], 0, 0, 0, 0
     while found := STARTS[most].search(stream, at):
         at, frame, ends = found.end(), b"", False
@@ -65,7 +67,7 @@ def searched(stream: bytes, most: int) -> Found:
 
 
 def taken_out(candidate: bytes, most: int) -> Tuple[List[bytes], bytes]:
-    """The frames at the front of a candidate, at most so many, and what is behind them. Headers are strings of bits."""
+    """Returns at most `most` frames from the front of a candidate, and the octets after them."""
     frames: List[bytes] = []
     while len(frames) < most:
         bits = "".join(f"{octet:08b}" for octet in candidate[:5])
@@ -77,13 +79,13 @@ def taken_out(candidate: bytes, most: int) -> Tuple[List[bytes], bytes]:
     return frames, candidate
 
 
-# What counts as a start sequence, by how many of its bits may be wrong: each pattern by itself.
+# For each number of bits that may be wrong, a pattern that lists all words that count as a start sequence.
 STARTS = [re.compile(b"|".join(re.escape((0xEB90 ^ bits).to_bytes(2, "big")) for bits in range(1 << 16) if bin(bits).count("1") <= most))
           for most in MODES.values()]
 
 
 def sequence(count: int) -> bytes:
-    """The first octets of the random sequence."""
+    """Returns the first `count` octets of the random sequence."""
     bits = [1] * 8
     while len(bits) < 8 * count:
         bits.append((bits[-2] + bits[-4] + bits[-5] + bits[-6] + bits[-7] + bits[-8]) % 2)
@@ -91,7 +93,7 @@ def sequence(count: int) -> bytes:
 
 
 def telemetry(scid: int, vcid: int, counts: Tuple[int, int], control: bytes, size: int, fecf: bool) -> bytes:
-    """A telemetry frame with only idle data."""
+    """Returns a telemetry frame with only idle data. `counts` are those of the master channel and of the virtual channel."""
     bits = f"00{scid:010b}{vcid:03b}1{counts[0]:08b}{counts[1]:08b}000" + "11" + "11111111110"
     header = int(bits, 2).to_bytes(6, "big")
     frame = header + b"\x55" * (size - 10 - 2 * fecf) + control
@@ -99,7 +101,7 @@ def telemetry(scid: int, vcid: int, counts: Tuple[int, int], control: bytes, siz
 
 
 def wrong(octets: bytes, bits: List[int]) -> bytes:
-    """Octets with these bits the other way round, counted from the first."""
+    """Returns octets with these bits inverted. The first bit is bit 0."""
     number = int.from_bytes(octets, "big")
     for bit in bits:
         number ^= 1 << 8 * len(octets) - 1 - bit
@@ -107,7 +109,7 @@ def wrong(octets: bytes, bits: List[int]) -> bytes:
 
 
 def read_telemetry(frame: bytes, fecf: bool) -> List[str]:
-    """The fields of a telemetry frame, as `tcmake` names them after `tm`; or why the octets aren't one."""
+    """Returns the words of the answer of `tcmake` to a telemetry frame: its fields, or why the octets are refused."""
     bits, least = "".join(f"{octet:08b}" for octet in frame), 13 if fecf else 11
     faults = {"short": len(frame) < least, "version": bits[:2] != "00", "control": bits[15:16] != "1", "check": fecf and binascii.crc_hqx(frame, 0xFFFF) != 0}
     if any(faults.values()):
@@ -119,7 +121,7 @@ def read_telemetry(frame: bytes, fecf: bool) -> List[str]:
 
 
 def read_clcw(word: int) -> str:
-    """The fields of a CLCW of COP-1, as `tcmake` names them; or why the word isn't one."""
+    """Returns the answer of `tcmake` to a CLCW: its fields, or a refusal if the word isn't a CLCW of COP-1."""
     bits, at, fields = f"{word:032b}", 0, {}
     for name, width in (("type", 1), ("version", 2), ("status", 3), ("cop", 2), ("vc", 6), ("spare", 2), ("norf", 1), ("nobitlock", 1), ("lockout", 1),
                         ("wait", 1), ("retransmit", 1), ("farmb", 2), ("last", 1), ("vr", 8)):
