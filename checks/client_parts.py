@@ -1,5 +1,5 @@
-"""What the checks of the client in Python share: comparisons and their count, octets by the standard's layout, and programs that are
-started beside the test."""
+"""Defines the parts that the checks of the client in Python share: comparisons, octets in the standard's layout, and programs that run beside a
+check."""
 from __future__ import annotations
 
 import subprocess
@@ -16,21 +16,21 @@ sys.path.insert(0, str(CLIENT))
 from tcrx import BadLine, Clcw, Delivery  # noqa: E402
 
 NOTHING = Delivery(0, 0, False)
-# Starts a receiver, whose answers are compared as they are, of whatever type.
+# A function that starts a receiver. A check compares the receiver's answers whatever their type is.
 Start = Callable[..., Any]
 
 
 def same(answer: object, wanted: object, what: str) -> None:
-    """Compares an answer and its type with what is wanted."""
+    """Compares an answer and its type with `wanted` and its type."""
     expect(answer == wanted and type(answer) is type(wanted), f"{what}: {answer!r}, and not {wanted!r}")
 
 
 def raises(kind: type[BaseException], call: Callable[..., object], what: str) -> Any:
-    """The exception of a call, which must be of this kind and no other."""
+    """Checks that a call raises an exception of exactly the type `kind`. Returns the exception."""
     try:
         answer = call()
-    except Exception as fault:  # pylint: disable=broad-exception-caught  # whichever comes is compared
-        # pylint: disable-next=unidiomatic-typecheck  # a kind below it is another word
+    except Exception as fault:  # pylint: disable=broad-exception-caught  # any exception is compared
+        # pylint: disable-next=unidiomatic-typecheck  # a subclass of it counts as another exception
         expect(type(fault) is kind, f"{what}: {fault!r}, and not {kind.__name__}")
         return fault
     expect(False, f"{what}: {answer!r}, and no {kind.__name__}")
@@ -38,30 +38,30 @@ def raises(kind: type[BaseException], call: Callable[..., object], what: str) ->
 
 
 def has_reason(call: Callable[..., object], reason: str, what: str) -> None:
-    """Compares the reason of a bad line."""
-    # pylint: disable=no-member  # raises() gives a fault of the kind that it is asked for
+    """Checks that a call raises `BadLine` with this reason."""
+    # pylint: disable=no-member  # raises() returns an exception of the given type
     fault = raises(BadLine, call, what)
     expect(fault and fault.reason == reason and reason in str(fault) and fault.line, f"{what}: {fault!r}, and not {reason}")
 
 
 def begin(words: Sequence[str | Path], **streams: Any) -> subprocess.Popen[Any]:
-    """A program beside the test, which is killed where its check leaves it behind."""
-    begun.append(subprocess.Popen(words, **streams))  # pylint: disable=consider-using-with  # it ends in attempt()
+    """Starts a program beside the check. attempt() kills it if it is still running at the end of the part that started it."""
+    begun.append(subprocess.Popen(words, **streams))  # pylint: disable=consider-using-with  # attempt() ends it
     return begun[-1]
 
 
-# --- Octets by the standard's layout (docs/reference/formats.md) ---
+# --- Octets in the standard's layout (docs/reference/formats.md) ---
 
 # pylint: disable-next=too-many-arguments  # the fields of a frame
 def frame(number: int, data: bytes, channel: int = 1, bypass: int = 0, command: int = 0, scid: int = 42, fecf: bool = False) -> bytes:
-    """A frame: flags and spacecraft, channel and length, number, data field, and the field of its sum, bit by bit."""
+    """Returns a frame with these fields. If `fecf` is true, it ends with its frame error control field."""
     length = 5 + len(data) + 2 * fecf - 1
     octets = (bypass << 13 | command << 12 | scid).to_bytes(2, "big") + (channel << 10 | length).to_bytes(2, "big") + bytes([number]) + data
     return octets + sum_of(octets) if fecf else octets
 
 
 def sum_of(octets: bytes) -> bytes:
-    """The frame error control field (CCSDS 232.0-B, 4.1.4)."""
+    """Returns the frame error control field of octets, computed bit by bit (CCSDS 232.0-B, 4.1.4)."""
     register = 0xFFFF
     for octet in octets:
         for place in range(7, -1, -1):
@@ -71,7 +71,7 @@ def sum_of(octets: bytes) -> bytes:
 
 
 def coded(octets: bytes) -> bytes:
-    """Seven octets and their parity, complemented, before a bit that is 0 (CCSDS 231.0-B, 3.3)."""
+    """Returns the code block of seven octets: these octets, their complemented parity bits, and a filler bit that is 0 (CCSDS 231.0-B, 3.3)."""
     left = int.from_bytes(octets, "big") << 7
     for bit in range(62, 6, -1):
         left ^= 0b1100_0101 << bit - 7 if left >> bit & 1 else 0
@@ -79,18 +79,18 @@ def coded(octets: bytes) -> bytes:
 
 
 def cltu(octets: bytes) -> bytes:
-    """A frame with its fill in code blocks, between the start and the tail sequence."""
+    """Returns the CLTU of a frame, which has the frame and its fill in code blocks between the start sequence and the tail sequence."""
     filled = octets + b"\x55" * (-len(octets) % 7)
     return b"\xeb\x90" + b"".join(coded(filled[at:at + 7]) for at in range(0, len(filled), 7)) + bytes.fromhex("c5c5c5c5c5c5c579")
 
 
 def packet(apid: int, *data: int) -> bytes:
-    """A telecommand packet of an application with these octets of data."""
+    """Returns a telecommand packet for an application with these octets of data."""
     return (0x1000 | apid).to_bytes(2, "big") + b"\xc0\x00" + (len(data) - 1).to_bytes(2, "big") + bytes(data)
 
 
 def whole(map_id: int, data: bytes) -> bytes:
-    """An unsegmented data field."""
+    """Returns a data field with an unsegmented unit."""
     return bytes([0xC0 | map_id]) + data
 
 
@@ -99,8 +99,5 @@ ONE = packet(5, 0xAA)
 
 
 def word(channel: int, flags: int, farm_b: int, report: int) -> Clcw:
-    """A CLCW: COP-1, channel, flags (No RF 16, No Bit Lock 8, Lockout 4, Wait 2, Retransmit 1), FARM-B and V(R)."""
+    """Returns a CLCW of COP-1. `flags` is a sum of No RF (16), No Bit Lock (8), Lockout (4), Wait (2) and Retransmit (1), and `report` is V(R)."""
     return Clcw(0x01000000 | channel << 18 | flags << 11 | farm_b << 9 | report)
-
-
-# --- Checks ---

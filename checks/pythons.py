@@ -1,4 +1,5 @@
-"""Which other versions of Python this machine has, on the path or kept by pyenv: what is said of Python 3.9 is tried with it."""
+"""Finds other versions of Python on this machine, which are on the path or installed by pyenv. Checks try with them what the pages say about
+Python 3.9 and older ones."""
 from __future__ import annotations
 
 import shutil
@@ -6,7 +7,7 @@ import subprocess
 
 
 def said(*words: str) -> str:
-    """What a command prints, and nothing where it isn't there or fails."""
+    """Returns what a command prints, or nothing if it isn't installed or fails."""
     try:
         ran = subprocess.run(words, capture_output=True, text=True, stdin=subprocess.DEVNULL, check=False)
     except OSError:
@@ -15,7 +16,7 @@ def said(*words: str) -> str:
 
 
 def find(version: str) -> str | None:
-    """The command of a version, as 3.9, or None."""
+    """Returns the command of a version, for example 3.9, or None if that version isn't installed."""
     kept = [said("pyenv", "prefix", name) + "/bin/python3" for name in said("pyenv", "versions", "--bare").split() if name.startswith(version + ".")]
     for command in [f"python{version}", *kept]:
         if (found := shutil.which(command)) and said(found, "-c", "import sys; print('%d.%d' % sys.version_info[:2])") == version:
