@@ -1,4 +1,4 @@
-"""A third receiver, which only checks/vectors uses. Its form is another than that of the library and of model.py: FARM-1 has no table, and no
+"""Defines a third receiver, which only checks/vectors uses. Its form is another than that of the library and of model.py: FARM-1 has no table, and no
 state beside its flags. Numbers are compared by signed distances, headers are whole numbers, and CLTUs are decoded octet by octet. checks/vectors
 plants faults in the text of this file, so each text that it replaces is here only once."""
 from __future__ import annotations
@@ -9,11 +9,11 @@ Step = Dict[str, Any]
 
 
 class Refused(Exception):
-    """Octets, or an operation, are refused for this reason."""
+    """The refusal of octets or of an operation. Its argument is the reason."""
 
 
 def shifted(octets: bytes, register: int, taps: int, width: int) -> int:
-    """Returns a shift register after these octets. For each 1 that leaves it, the taps are added."""
+    """Returns the value of a shift register after `octets`. Each time a 1 leaves it, `taps` are added to it."""
     for place in range(8 * len(octets) - 1, -1, -1):
         out = register >> width - 1 ^ int.from_bytes(octets, "big") >> place & 1
         register = register << 1 & (1 << width) - 1 ^ (taps if out & 1 else 0)
@@ -106,7 +106,7 @@ class Decoder:
         return carried or None
 
     def decoded(self, block: bytes) -> Optional[bytes]:
-        """Returns what a code block carries. To correct a wrong bit, it tries each of them."""
+        """Returns the octets that a code block carries, or None if it is rejected. To correct a wrong bit, tries to invert each bit."""
         word = int.from_bytes(block, "big")
         for turned in [0, *(1 << bit for bit in range(1, 64) if self.corrects)]:
             octets = (word ^ turned).to_bytes(8, "big")
@@ -132,7 +132,7 @@ def plain(octets: bytes, fecf: bool) -> bytes:
 
 
 def frame_length(octets: bytes) -> int:
-    """Returns the length of the whole frame with which these octets begin, or 0 if they don't."""
+    """Returns the length of the frame with which these octets begin, or 0 if they begin with none."""
     try:
         return len(plain(octets, False))
     except Refused:
@@ -227,7 +227,7 @@ class Receiver:
         return {kind: {key: [self.waiting[kind][key].pop(0)]}}
 
     def reassemble(self, service: str, field: bytes) -> Step:
-        """Takes a data field into reassembly, and delivers the unit that it completes, if it completes one."""
+        """Takes a data field into reassembly, and delivers the unit that it completes, if any."""
         if not self.settings["segmentHeaders"]:
             return self.deliver("", field)
         place, (flags, map_id) = (service, field[0] & 63), divmod(field[0], 64)
@@ -242,7 +242,7 @@ class Receiver:
         return {}
 
     def deliver(self, key: str, unit: bytes) -> Step:
-        """Puts a unit into its queue, or cuts it into packets. Returns what became of it."""
+        """Puts a unit into its queue, or cuts it into packets. Returns how many were queued and dropped, and whether octets are left over."""
         if key in self.settings["maps"]:
             has_room = self.keep("units", key, unit, self.settings["maps"][key])
             return {"queued": int(has_room), "dropped": int(not has_room), "rest": 0}
