@@ -1,19 +1,20 @@
 # shellcheck shell=bash
-# What the checks in Bash share, which read it at the top of the tree: a folder for what is made, comparisons, which are counted, what
-# is to be seen of a program that ended, and a check's last line. A check may say anew what `start` starts and what `show` shows.
+# Makes a folder for temporary files, counts comparisons, starts programs and compares how they ended, and prints a check's last line. The
+# checks in Bash source this file in the top folder of the tree. A check may define `start` and `show` anew.
 work=$(mktemp -d)
 trap 'rm -rf "$work"' EXIT
 passed=0
 failed=0
 skipped=
-# No check builds.
+# No program that a check starts builds anything.
 export TCRX_BUILD=no
 need() { [ -n "${TCRX_PROGRAMS:-}" ] || tools/launch --build "$@" >&2 || { echo "$0: nothing was compared"; exit 70; }; }
-# With TCRX_PROGRAMS=FOLDER a check compares the programs there, which stand in for those that are proved and built here. What they say of
-# their command line is their own, but for the version, words that aren't UTF-8, and the status.
+# With TCRX_PROGRAMS=FOLDER a check compares the programs there, in place of those that are proved and built here. Their messages about a
+# wrong command line may differ. Their version, their message about a word that isn't UTF-8, and their exit status may not.
 stands_in() { [ -n "${TCRX_PROGRAMS:-}" ]; }
 
-# Counts a comparison: a title, and a command that must end well. Where it doesn't, what it printed is shown, with what there is to show.
+# Counts a comparison: expect TITLE COMMAND... The command must succeed. If it fails, the end of what it printed is shown, and then what
+# `show` prints.
 expect() {
   if "${@:2}" >"$work/said" 2>&1; then
     passed=$((passed + 1))
@@ -27,10 +28,10 @@ expect() {
 show() { :; }
 refuses() { ! "$@"; }
 
-# Names a part that is left out, with the number of its comparisons, by which .ci/run lowers the check's minimum: a number and a name. If
-# a command is missing, the name is that of the command, and .ci/run sees whether it is really missing.
+# Notes a part that is left out, with the number of its comparisons: skip NUMBER NAME. .ci/run lowers the check's minimum by this number. If
+# a part is left out because a command is missing, NAME must be that of the command. .ci/run then sees whether it is really missing.
 skip() { skipped+="${skipped:+, }$2 ($1)"; }
-# Whether these commands are there. If one isn't, a part of so many comparisons is skipped: a number and the commands.
+# Succeeds if these commands are installed: has NUMBER COMMAND... If one isn't, a part of so many comparisons is skipped.
 has() {
   local command
   for command in "${@:2}"; do
@@ -38,8 +39,8 @@ has() {
   done
 }
 
-# Each conformance case of a folder without a bad line, by a program that has the spacecraft as its last word: every answer, and the final
-# report.
+# Runs a program on each conformance case of a folder that has no bad line, and compares all answers and the final report:
+# answers_cases FOLDER PROGRAM WORD... The spacecraft identifier is added as the last word.
 answers_cases() {
   local name scid fault cases=0 wrong=0
   while read -r name scid fault; do
@@ -54,13 +55,14 @@ answers_cases() {
   [ "$cases" -gt 100 ] && [ "$wrong" = 0 ]
 }
 
-# The last line: how many of what passed, and what was skipped. The status.
+# Prints the last line, with how many comparisons passed and failed and which parts were skipped: close NAME. It succeeds
+# if at least one passed and none failed.
 close() {
   echo "$passed $1 passed, $failed failed${skipped:+; skipped: $skipped}"
   [ "$failed" = 0 ] && [ "$passed" -gt 0 ]
 }
 
-# Starts the program with these words. Where `to` names a file, standard output goes there, and none of it is left.
+# Starts the program with these words. If `to` names a file, standard output goes there, and `$work/out` is empty.
 start() {
   status=0
   : >"$work/out"
@@ -71,15 +73,20 @@ show_ended() {
   cat "$work/out" "$work/error"
 }
 
-# What a program ended with: its status and both texts, to the octet; nothing on standard error, or these words among others; help with
-# these words; and for a bad command line status 2, nothing on standard output and a text on standard error.
+# These succeed if the program ended in the following ways:
+# has_ended_with STATUS TEXT TEXT: with this status, and exactly these texts on standard output and standard error
+# silent: with nothing on standard error
+# says WORDS: with these words on standard error
+# has_helped WORDS: with status 0, these words on standard output, and nothing on standard error
+# has_refused: with status 2, nothing on standard output, and a text on standard error
 has_ended_with() { [ "$status" = "$1" ] && cmp -s "$work/out" <(printf %s "$2") && cmp -s "$work/error" <(printf %s "$3"); }
 silent() { [ ! -s "$work/error" ]; }
 says() { grep -qF -- "$1" "$work/error"; }
 has_helped() { [ "$status" = 0 ] && grep -qF -- "$1" "$work/out" && silent; }
 has_refused() { [ "$status" = 2 ] && [ ! -s "$work/out" ] && ! silent; }
 
-# Starts the program with the words that follow what it must end with.
+# These start the program and count a comparison of how it ended:
+# ends_with STATUS TEXT TEXT WORD..., helps TEXT WORD..., is_refused WORD...
 ends_with() { start "${@:4}" && expect "${program##*/} ${*:4}" has_ended_with "${@:1:3}"; }
 helps() { start "${@:2}" </dev/null && expect "${program##*/} ${*:2}, with $1" has_helped "$1"; }
 is_refused() { start "$@" </dev/null && expect "${program##*/} $*" has_refused; }

@@ -1,4 +1,5 @@
-"""What the checks in Python share: comparisons, which are counted, runs that end in time, the conformance cases, and a check's last line."""
+"""Counts comparisons for the checks in Python, runs commands within a bound of time, reads the conformance cases, and prints a check's last
+line."""
 from __future__ import annotations
 
 import os
@@ -11,79 +12,80 @@ from collections import Counter
 from pathlib import Path
 from typing import Any, Callable, Dict, Iterator, List, Mapping, NamedTuple, Optional
 
-# What is imported after this file leaves no compiled files.
+# Modules that are imported after this one leave no compiled files.
 sys.dont_write_bytecode = True
 TOP = Path(__file__).resolve().parent.parent
 DATA = TOP / "crates/conformance/data"
-# What cases and their answers are stored in.
+# The patterns of the files in which cases and their answers are stored.
 STORED = ("crates/conformance/data/*", "crates/*/stdin", "crates/*/stdout", "crates/*/args", "crates/*/status", "examples/*.tcs", "examples/*.out",
           "c/examples/*.stdout", "clients/rust/tcrx/examples/*.stdout")
 NAME = Path(sys.argv[0]).stem
-# No check builds.
+# No program that a check starts builds anything.
 os.environ["TCRX_BUILD"] = "no"
-# The folder of programs that are compared in place of those that are proved and built here. Their words about a wrong command line may
-# differ. Their version, their fault about a word that isn't UTF-8, and their exit status may not.
+# The folder of programs that are compared in place of those that are proved and built here. Their messages about a wrong command line may
+# differ. Their version, their message about a word that isn't UTF-8, and their exit status may not.
 STAND_INS = os.environ.get("TCRX_PROGRAMS", "")
-# Seconds after which something that doesn't end counts as failed: one wait, and one check as a whole.
+# The seconds after which a wait counts as failed, and those after which a command or a part of a check does.
 PATIENCE, LONGEST = 60, 900
 counted: Counter[bool] = Counter()
-# The parts that were left out, since a program isn't installed, each with the number of its comparisons.
+# The parts that were left out because a program isn't installed, each with the number of its comparisons.
 skipped: List[str] = []
-# What a second is in, as other work may hold it up, with the tries that it took; 0 where it failed.
+# The comparisons that depend on the clock, which other work may delay, each with the number of tries that it took, or 0 if it failed.
 timed: Dict[str, int] = {}
-# Programs beside the check, which are killed where it leaves them behind.
+# The programs that run beside the check. They are killed if a part of it leaves them behind.
 begun: List[subprocess.Popen[Any]] = []
 
 
 class Case(NamedTuple):
-    """A script of the conformance program, and how it is to end."""
+    """A conformance case: the name of its script, the spacecraft identifier, and the fault with which the script must end."""
 
     name: str
     scid: str
-    # The text of the fault; empty where the script runs to its end.
+    # The text of the fault, or an empty text if the script runs to its end.
     fault: str
 
     @property
     def script(self) -> bytes:
-        """Its lines."""
+        """Reads the script."""
         return (DATA / f"{self.name}.script").read_bytes()
 
     @property
     def answers(self) -> bytes:
-        """What is printed, line by line and at the end."""
+        """Reads what must be printed for the script's lines and at its end."""
         return (DATA / f"{self.name}.out").read_bytes()
 
 
 def cases() -> List[Case]:
-    """All conformance cases, as the index lists them."""
+    """Reads all conformance cases, in the order of their index."""
     lines = (DATA / "index").read_text(encoding="utf-8").splitlines()
     return [Case(*[*line.split(" ", 2), ""][:3]) for line in lines]
 
 
 def program_of(name: str) -> Path:
-    """The program of this name that is compared."""
+    """Returns the path of the program of this name that is compared."""
     return Path(STAND_INS) / name if STAND_INS else TOP / "crates" / name / "out" / name
 
 
 def good_cases() -> List[Case]:
-    """Those that run to their end."""
+    """Returns the cases whose scripts run to their end."""
     return [case for case in cases() if not case.fault]
 
 
 def stored_files() -> List[Path]:
-    """The files with stored cases and answers."""
+    """Returns the paths of the files with stored cases and answers."""
     return sorted(path for pattern in STORED for path in TOP.glob(pattern) if path.is_file())
 
 
 def rows(page: str) -> Iterator[List[str]]:
-    """The cells of each row of the tables of a page."""
+    """Yields the cells of each row of the tables of a page."""
     for line in page.split("\n"):
         if line.startswith("| "):
             yield [cell.strip() for cell in line.strip("|").split(" | ")]
 
 
 def is_near(one: str, other: str) -> bool:
-    """Whether two cells are the same, or numbers of which one is at most a tenth more."""
+    """Returns whether two cells are the same, or whether they begin with numbers of which one is at most a tenth more, and then go on in
+    the same way."""
     if one == other:
         return True
     first, second = (re.match(r"([\d,]+)(.*)", it) for it in (one, other))
@@ -94,31 +96,31 @@ def is_near(one: str, other: str) -> bool:
 
 
 def expect(good: object, what: str, why: str = "") -> None:
-    """Counts a comparison, and names it where it failed, with what shows why."""
+    """Counts a comparison. If it failed, prints its name `what` and the end of `why`, which shows why it failed."""
     counted[bool(good)] += 1
     if not good:
         print(f"{NAME}: WRONG: {what}{': ' if why else ''}{why[-800:]}", flush=True)
 
 
 def same(found: object, wanted: object, what: str) -> None:
-    """Compares a value with what is wanted, and shows both where they differ."""
+    """Compares a value with the one that is wanted, and prints both if they differ."""
     expect(found == wanted, f"{what}: {found!r}, and not {wanted!r}")
 
 
 def skip(name: str, count: int) -> None:
-    """Names a part that is left out, with the number of its comparisons, by which .ci/run lowers the check's minimum. If a command is
-    missing, the name is that of the command, and .ci/run sees whether it is really missing."""
+    """Notes a part that is left out, with the number of its comparisons. .ci/run lowers the check's minimum by this number. If a part is
+    left out because a command is missing, `name` must be that of the command. .ci/run then sees whether it is really missing."""
     skipped.append(f"{name} ({count})")
 
 
 def in_time(what: str, holds: Callable[[], object]) -> None:
-    """Compares something that a second is in, three times at most. The last line says so."""
+    """Counts a comparison that depends on the clock. It passes if one of three tries does. The last line of the check names it."""
     timed[what] = next((tried for tried in (1, 2, 3) if holds()), 0)
     expect(timed[what], f"{what}: not in three tries")
 
 
 def until(true: Callable[[], object], seconds: float = PATIENCE) -> bool:
-    """Waits until something is true; whether it came to be."""
+    """Waits until `true` returns something true, for at most so many seconds. Returns whether it did."""
     end = time.monotonic() + seconds
     while not true():
         if time.monotonic() > end:
@@ -128,15 +130,16 @@ def until(true: Callable[[], object], seconds: float = PATIENCE) -> bool:
 
 
 def run(*words: object, given: str = "", names: Optional[Mapping[str, str]] = None, **more: Any) -> subprocess.CompletedProcess[str]:
-    """A run of a command to its end, at the top unless it is said, over a text and with further names in the environment."""
+    """Runs a command to its end. It runs in the top folder unless `more` has another, reads the text `given`, and has the variables
+    `names` in its environment."""
     rules: Dict[str, Any] = {"cwd": TOP, "stdout": subprocess.PIPE, "stderr": subprocess.PIPE, "timeout": LONGEST, **more}
     environment = {**os.environ, **(names or {})}
     return subprocess.run([str(word) for word in words], input=given, text=True, env=environment, check=False, **rules)
 
 
 def need(*goals: str) -> None:
-    """Ends the check where one of these programs and libraries isn't built as its sources are, and says what builds it. What stands in for
-    them is there."""
+    """Ends the check if one of these programs and libraries isn't built from its present sources, and prints what builds it. The programs
+    of TCRX_PROGRAMS need no build."""
     if STAND_INS:
         return
     ran = run(TOP / "tools/launch", "--build", *goals)
@@ -146,7 +149,7 @@ def need(*goals: str) -> None:
 
 
 def need_library() -> None:
-    """Builds the library of dist that the package tcrx of Python calls. Ends the check if that can't be done."""
+    """Builds the library of dist that the Python package tcrx calls. Ends the check if that can't be done."""
     ran = run(TOP / "tools/library", names={"TCRX_BUILD": ""})
     if ran.returncode:
         print(f"{ran.stderr}{NAME}: nothing was compared")
@@ -154,21 +157,22 @@ def need_library() -> None:
 
 
 class Stuck(BaseException):
-    """A check doesn't end. It is no `Exception`, so that nothing else takes it for an answer."""
+    """An exception that ends a part of a check that takes too long. It is no `Exception`, so no other handler catches it."""
 
 
 def give_up(*_: object) -> None:
-    """Ends a check that lasts too long."""
+    """Ends a part of a check when its alarm comes."""
     raise Stuck
 
 
 def attempt(check: Callable[..., None], *given: object, keep: bool = False) -> None:
-    """Runs a part of a check, and counts as failed what ends it early. What it began is ended, unless it is to be kept."""
+    """Runs a part of a check. An exception that ends it counts as a failed comparison. Then the programs in `begun` are killed, unless
+    `keep` is set."""
     signal.signal(signal.SIGALRM, give_up)
     signal.setitimer(signal.ITIMER_REAL, LONGEST, PATIENCE)
     try:
         check(*given)
-    except (Exception, Stuck) as fault:  # pylint: disable=broad-exception-caught  # whichever comes counts
+    except (Exception, Stuck) as fault:  # pylint: disable=broad-exception-caught  # any of them counts as failed
         expect(False, f"{check.__name__} ended with {fault!r}")
     finally:
         signal.setitimer(signal.ITIMER_REAL, 0)
@@ -181,7 +185,8 @@ def attempt(check: Callable[..., None], *given: object, keep: bool = False) -> N
 
 
 def close(of: str = "") -> int:
-    """Prints the last line: how many comparisons passed, how many failed, what hung on a clock, and what was left out. The status."""
+    """Prints the last line: how many comparisons passed and failed, which ones depended on the clock, and which parts were left out. Returns
+    the exit status."""
     again = f"; by the clock: {', '.join(f'{what} (tries: {tries})' for what, tries in timed.items())}" if timed else ""
     left = f"; skipped: {', '.join(skipped)}" if skipped else ""
     print(f"{of or NAME}: {counted[True]} passed, {counted[False]} failed{again}{left}")

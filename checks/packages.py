@@ -1,4 +1,4 @@
-"""Commands that a check asks for and that Debian's packages bring."""
+"""Installs commands that checks need from Debian's packages."""
 from __future__ import annotations
 
 import os
@@ -7,8 +7,8 @@ import subprocess
 
 
 def install(*packages: str) -> None:
-    """Installs packages, where that may be done and isn't forbidden by TCRX_INSTALL=no; whether they are there then is the caller's to
-    see."""
+    """Installs packages, if the user is root, there is `apt-get`, and TCRX_INSTALL=no doesn't forbid it. The caller must see for itself
+    whether they are there afterwards."""
     if os.environ.get("TCRX_INSTALL") == "no" or os.geteuid() != 0 or not shutil.which("apt-get"):
         return
     environment = {**os.environ, "DEBIAN_FRONTEND": "noninteractive"}
@@ -18,7 +18,8 @@ def install(*packages: str) -> None:
 
 
 def has(command: str, *packages: str) -> bool:
-    """Whether a command is there. What brings it is installed first where it isn't: these packages, or else that of its name."""
+    """Returns whether a command is there. If it isn't, first tries to install these packages, or, if none are given, the package that has
+    the name of the command."""
     if not shutil.which(command):
         install(*packages or (command,))
     return shutil.which(command) is not None
