@@ -1,4 +1,4 @@
-/* What checks/in_flight must find: each function does one thing that no call of a channel may do. */
+/* The control of checks/in_flight. Each function but `is_good` does one thing that no call of a channel may do, and the check must find it. */
 #include <stdlib.h>
 
 static int total;

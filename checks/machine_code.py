@@ -1,8 +1,8 @@
-"""What the machine code of a program for x86-64 shows of the functions that some of its functions reach: calls, writes to globals,
-floating point, locks, and the most stack.
+"""Reads the machine code of a program for x86-64. It finds which functions some functions reach, and in these the writes to global variables,
+floating point, locks, system calls and the most stack.
 
-`objdump` takes the program apart. A function reaches those that it calls or jumps to, and nothing is known of one outside the program,
-as `memcpy` of the C library, but its name.
+`objdump` disassembles the program. A function reaches the functions that it calls or jumps to. Of a function outside of the program, such as
+`memcpy` of the C library, only the name is known.
 """
 import re
 import subprocess
@@ -17,13 +17,14 @@ TARGET = re.compile(r"<(.+?)(?:\+0x[0-9a-f]+)?>$")
 FLOATING = re.compile(r"^(?:v?(?:h?add|h?sub|mul|div|sqrt|max|min|cmp|u?comi|round|rcp|rsqrt|dp)[sp][sd]|v?cvt\w*|vfn?m\w+|f[a-z0-9]+)$")
 JUMP = re.compile(r"^(?:call|jmp|j[a-z]+)q?$")
 READS = re.compile(r"^(?:cmp|test|bt|push|call|jmp|lea|nop|prefetch|ucomi|comi|ptest|vptest)")
-# The octets below the stack pointer that a function which calls none may write to.
+# The bytes below the stack pointer to which a function may write if it calls no other.
 RED_ZONE = 128
 
 
 @dataclass
 class Function:
-    """A function: which others it calls or jumps to, and what else is to be known of its instructions."""
+    """A function. `targets` has the functions that it calls or jumps to, `pushes` the number of its pushes, and `reserved` the bytes that it
+    reserves on the stack. The lists have the instructions that can't be followed, and those that no call may have."""
 
     name: str
     targets: Set[str] = field(default_factory=set)
@@ -37,11 +38,11 @@ class Function:
 
     @property
     def frame(self) -> int:
-        """The most octets of its own frame, with the address to which it returns."""
+        """Returns the most bytes of the function's own frame, with its return address."""
         return 8 * self.pushes + self.reserved + 8
 
     def take(self, lock: Optional[str], word: str, operands: str, before: List[str]) -> None:
-        """Takes an instruction in; those before it show whether a jump goes by a table of places in this function or calls any."""
+        """Notes an instruction. `before` has the instructions before it, which show whether a jump goes through a table of this function."""
         text = f"{word} {operands}".strip()
         places = operands.partition("#")[0]
         last = re.split(r",(?![^(]*\))", places.strip())[-1]
@@ -60,19 +61,19 @@ class Function:
         self.system += [text] if word in ("syscall", "int", "sysenter") else []
 
     def take_jump(self, word: str, operands: str, before: List[str], text: str) -> None:
-        """A call or a jump: to a place that is named, or by a table of this function."""
+        """Notes a call or a jump. Its target must be named, or it must go through a table of this function."""
         found = TARGET.search(operands.strip())
         if found and (not operands.startswith("*") or "(%rip)" in operands):
-            # A jump to a place of its own is a loop.
+            # A jump to a place in the function itself is a loop.
             self.targets |= {found[1]} if found[1] != self.name or word.startswith("call") else set()
         else:
-            # The place was read from a table of distances, to which its own place was added.
+            # For a jump through a table, a distance is loaded from the table, and the address of the table is added to it.
             made = [it for it in before if it.endswith(f",{operands.strip()[1:]}")][-2:]
             is_table = word.startswith("jmp") and len(made) == 2 and made[0].startswith("movslq (") and made[1].startswith("add ")
             self.unknown += [] if is_table else [text]
 
     def take_reserved(self, word: str, octets: int, text: str) -> None:
-        """Octets that are set aside on the stack, or given back."""
+        """Notes bytes that are reserved on the stack or released."""
         if octets >= 1 << 63:
             word, octets = ("sub" if word.startswith("add") else "add"), (1 << 64) - octets
         if word.startswith("sub"):
@@ -83,7 +84,7 @@ class Function:
 
 @dataclass
 class Reached:
-    """What some functions reach."""
+    """The functions that some functions reach, the names of those outside of the program, and a cycle of calls, if there is one."""
 
     functions: List[Function]
     outside: Set[str]
@@ -91,7 +92,7 @@ class Reached:
 
 
 class Program:
-    """A program, by its functions."""
+    """A program that is disassembled when it is first looked at."""
 
     def __init__(self, path: Path):
         self.path = path
@@ -99,7 +100,7 @@ class Program:
 
     @cached_property
     def functions(self) -> Dict[str, Function]:
-        """All functions, by their symbols."""
+        """Disassembles the program, and returns its functions by their symbols."""
         words = ["objdump", "-d", "--no-show-raw-insn", "-w", str(self.path)]
         printed = subprocess.run(words, capture_output=True, text=True, check=True).stdout
         functions: Dict[str, Function] = {}
@@ -113,7 +114,7 @@ class Program:
         return functions
 
     def reached(self, roots: List[str], given: Optional[Set[str]] = None) -> Reached:
-        """All functions that these reach, the names of those outside, of which some may be given, and a cycle of calls, if there is one."""
+        """Follows all calls and jumps from the functions `roots`. Functions whose names are in `given` count as outside of the program."""
         done: Dict[str, Function] = {}
         outside: Set[str] = set()
         cycle: List[str] = []
@@ -139,7 +140,7 @@ class Program:
         return Reached(list(done.values()), outside, cycle)
 
     def stack_of(self, name: str) -> int:
-        """The most octets of stack that a function writes to with all that it reaches in the program, where that has no cycle."""
+        """Returns the most bytes of stack that a function takes together with all that it reaches in the program. There must be no cycle."""
         if name not in self.stacks:
             function = self.functions.get(name)
             if function is None or "@plt" in name:
