@@ -1,6 +1,6 @@
-// Preloaded before a program: counts the octets of the heap that it has asked for and not given back. For each line that it writes
-// to standard output, a line goes to the file that COUNT_TO names: those octets, the most of them since the line before, how often
-// memory was asked for since then, and what was written. What an allocator adds to a block isn't counted.
+// A shim that is preloaded into a program. It counts the bytes of the heap that the program has requested and not freed. For each line
+// that the program writes to standard output, it writes a line to the file that COUNT_TO names. That line has these bytes, the most of them
+// since the line before, how often memory was requested since then, and the program's line. What an allocator adds to a block isn't counted.
 #define _GNU_SOURCE
 #include <dlfcn.h>
 #include <fcntl.h>
@@ -24,18 +24,19 @@ __attribute__((constructor)) static void start(void) {
     octets = most = growths = 0;
 }
 
-// How many octets were asked for stands at the end of a block, behind them.
+// Returns the place at the end of a block that holds the requested size of the block.
 static char *end_of(void *block) {
     return (char *)block + malloc_usable_size(block) - sizeof(size_t);
 }
 
+// Returns the requested size of a block, or 0 for no block.
 static size_t asked(void *block) {
     size_t size = 0;
     if (block) memcpy(&size, end_of(block), sizeof size);
     return size;
 }
 
-// A block was given for so many octets in the place of one of as many as before.
+// Notes a block of `size` bytes that was allocated in place of `before` bytes, and returns it.
 static void *given(void *block, size_t size, size_t before) {
     if (!block) return NULL;
     memcpy(end_of(block), &size, sizeof size);

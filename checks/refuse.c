@@ -1,8 +1,9 @@
-// Preloaded before a program: forks a child for each growth before its main, until one met none of that number. The growth is
-// answered with no memory there.
+// A shim that is preloaded into a program. It forks a child for each growth before the program's `main`. A growth is a call of `malloc`
+// or `realloc`. In the child for growth N this call returns no memory. The last child is the one that has no growth of its number.
 //
-// REFUSE_EACH gives the front of the names of all files here. The child for growth N writes to FRONT.N.out and FRONT.N.err, and
-// reads the file that REFUSE_INPUT names. FRONT.runs has a line for each child: its growth, its status, and 1 if it met the growth.
+// The names of the files begin with FRONT, the value of REFUSE_EACH. The child for growth N writes to FRONT.N.out and FRONT.N.err, and
+// reads the file that REFUSE_INPUT names. FRONT.runs has a line for each child: its growth, its status, and 1 if it came to the growth,
+// or else 0.
 #define _GNU_SOURCE
 #include <dlfcn.h>
 #include <errno.h>
