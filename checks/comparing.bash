@@ -6,7 +6,7 @@ trap 'rm -rf "$work"' EXIT
 passed=0
 failed=0
 skipped=
-# No program that a check starts builds anything.
+# The launcher of the programs builds nothing during a check.
 export TCRX_BUILD=no
 need() { [ -n "${TCRX_PROGRAMS:-}" ] || tools/launch --build "$@" >&2 || { echo "$0: nothing was compared"; exit 70; }; }
 # With TCRX_PROGRAMS=FOLDER a check compares the programs there, in place of those that are proved and built here. Their messages about a
@@ -31,7 +31,8 @@ refuses() { ! "$@"; }
 # Notes a part that is left out, with the number of its comparisons: skip NUMBER NAME. .ci/run lowers the check's minimum by this number. If
 # a part is left out because a command is missing, NAME must be that of the command. .ci/run then sees whether it is really missing.
 skip() { skipped+="${skipped:+, }$2 ($1)"; }
-# Succeeds if these commands are installed: has NUMBER COMMAND... If one isn't, a part of so many comparisons is skipped.
+# Succeeds if these commands are installed: has NUMBER COMMAND... If one isn't, a part of NUMBER comparisons is
+# skipped.
 has() {
   local command
   for command in "${@:2}"; do
@@ -55,8 +56,8 @@ answers_cases() {
   [ "$cases" -gt 100 ] && [ "$wrong" = 0 ]
 }
 
-# Prints the last line, with how many comparisons passed and failed and which parts were skipped: close NAME. It succeeds
-# if at least one passed and none failed.
+# Prints the last line: close NAME. It says how many comparisons passed and failed, and which parts were skipped. `close` succeeds if at
+# least one comparison passed and none failed.
 close() {
   echo "$passed $1 passed, $failed failed${skipped:+; skipped: $skipped}"
   [ "$failed" = 0 ] && [ "$passed" -gt 0 ]

@@ -20,7 +20,7 @@ DATA = TOP / "crates/conformance/data"
 STORED = ("crates/conformance/data/*", "crates/*/stdin", "crates/*/stdout", "crates/*/args", "crates/*/status", "examples/*.tcs", "examples/*.out",
           "c/examples/*.stdout", "clients/rust/tcrx/examples/*.stdout")
 NAME = Path(sys.argv[0]).stem
-# No program that a check starts builds anything.
+# The launcher of the programs builds nothing during a check.
 os.environ["TCRX_BUILD"] = "no"
 # The folder of programs that are compared in place of those that are proved and built here. Their messages about a wrong command line may
 # differ. Their version, their message about a word that isn't UTF-8, and their exit status may not.
