@@ -31,6 +31,11 @@ __attribute__((noinline)) void *asks_for_memory(size_t count) {
     return calloc(count, 2);
 }
 
+__attribute__((noinline)) long makes_a_system_call(long number) {
+    __asm__ volatile("syscall" : "+a"(number) : : "rcx", "r11", "memory");
+    return number;
+}
+
 __attribute__((noinline)) int is_good(const int *values, int count) {
     int sum = 0;
     for (int i = 0; i < count; i++) {
@@ -45,5 +50,8 @@ int main(int count, char **words) {
     chosen = writes_a_variable;
     const int sum = reaches_itself(count) + calls_what_is_not_named(count) + has_a_lock(&count) + (int)has_floating_point(count);
     free(block);
+    if (count < 0) {
+        return (int)makes_a_system_call(count);
+    }
     return (sum + is_good(values, 2) + total) & 1;
 }
