@@ -1,7 +1,8 @@
-"""Packs the package tcrx for pip: what pip asks of a build backend (PEP 517), with the standard library alone.
+"""Packs the package tcrx for pip. This is a build backend (PEP 517) that needs only the standard library of Python.
 
-In a clone of the repository the package gets the library, which a C compiler and `make` make of the text in `dist`, and where it was
-installed or unpacked, the library that is next to it. Without one the package alone is packed, and this says so.
+If the shared library is next to the package, as in an installation or an unpacked archive, it is packed with the package. Otherwise a C
+compiler and `make` build it from the folder `dist` of the repository. If one of these is missing, the package is packed without the
+library, and a message on standard error says so.
 """
 from __future__ import annotations
 
@@ -45,13 +46,15 @@ def metadata() -> str:
 
 
 def library() -> Optional[bytes]:
-    """The shared library, that next to the package or compiled here; `None` if there is neither. A compiler that fails ends the packing."""
+    """Returns the shared library that is next to the package, or builds it. Returns `None` if something is missing for the build.
+
+    Raises `CalledProcessError` if the build fails."""
     if (HERE / "tcrx" / LIBRARY).is_file():
         return (HERE / "tcrx" / LIBRARY).read_bytes()
     compiler = shlex.split(os.environ.get("CC", "cc"))[0]
     missing = [command for command in (compiler, "make") if not shutil.which(command)] + [DIST / "portable"] * (not (DIST / "portable").is_dir())
     if missing:
-        print(f"packing: there is no {missing[0]}, so the package is packed without {LIBRARY}, for which it looks elsewhere", file=sys.stderr)
+        print(f"packing: there is no {missing[0]}, so the package is packed without {LIBRARY}, and will look for it elsewhere", file=sys.stderr)
         return None
     with tempfile.TemporaryDirectory() as folder:
         subprocess.run(["make", "-s", "-C", DIST, f"OUT={folder}", f"{folder}/libtcrx.so"], check=True, stdout=sys.stderr)
@@ -59,13 +62,13 @@ def library() -> Optional[bytes]:
 
 
 def sources() -> Dict[str, bytes]:
-    """The files of the package, by their paths."""
+    """Returns the contents of the files of the package by their paths, without the shared library."""
     paths = sorted(path for path in (HERE / "tcrx").glob("**/*") if path.is_file() and path.name != LIBRARY and "__pycache__" not in path.parts)
     return {path.relative_to(HERE).as_posix(): path.read_bytes() for path in paths}
 
 
 def contents(made: Optional[bytes], tag: str) -> Dict[str, bytes]:
-    """The files of the wheel, apart from the list of them."""
+    """Returns the contents of the files of the wheel by their paths, without the list of these files. `made` is the shared library."""
     files = sources() if made is None else {f"tcrx/{LIBRARY}": made, **sources()}
     about = f"{NAME}-{version()}.dist-info"
     for name in ("LICENSE", "NOTICE"):
@@ -79,7 +82,7 @@ def contents(made: Optional[bytes], tag: str) -> Dict[str, bytes]:
 
 
 def listed(files: Mapping[str, bytes]) -> bytes:
-    """The list of the wheel's files with their digests."""
+    """Returns the list of the wheel's files with their digests."""
     rows: List[str] = []
     for name, octets in files.items():
         digest = base64.urlsafe_b64encode(hashlib.sha256(octets).digest()).rstrip(b"=").decode()
@@ -90,7 +93,7 @@ def listed(files: Mapping[str, bytes]) -> bytes:
 
 def build_wheel(wheel_directory: str, config_settings: Optional[Mapping[str, object]] = None,
                 metadata_directory: Optional[str] = None) -> str:
-    """Writes the wheel, and answers its name. All times in it are the same, so that it is the same each time."""
+    """Writes the wheel, and returns its name. All times in it are the same, so that the same files give the same wheel."""
     del config_settings, metadata_directory
     made = library()
     tag = "py3-none-" + ("any" if made is None else re.sub("[-.]", "_", sysconfig.get_platform()))
@@ -106,7 +109,7 @@ def build_wheel(wheel_directory: str, config_settings: Optional[Mapping[str, obj
 
 
 def build_sdist(sdist_directory: str, config_settings: Optional[Mapping[str, object]] = None) -> str:
-    """Writes the archive of the sources, and answers its name."""
+    """Writes the archive of the sources, and returns its name."""
     del config_settings
     folder = f"{NAME}-{version()}"
     files = {**{name: (HERE / name).read_bytes() for name in OWN_FILES}, **sources()}

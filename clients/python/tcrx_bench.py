@@ -4,7 +4,7 @@ import sys
 
 if sys.version_info < (3, 9):
     sys.exit("tcrx-bench: Python 3.9 or later is needed")
-# Until the bench takes signals, an interrupt ends it without a word, as it ends other programs.
+# Until the bench handles signals itself, an interrupt ends it without a message, as it ends other programs.
 if signal.getsignal(signal.SIGINT) is signal.default_int_handler:
     signal.signal(signal.SIGINT, signal.SIG_DFL)
 

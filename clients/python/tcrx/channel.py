@@ -53,7 +53,7 @@ EVENTS = dict(enumerate(Event, 1))
 STATES = {OPEN: State.OPEN, WAIT: State.WAIT, LOCKOUT: State.LOCKOUT}
 # The outcomes for most units, which are created once.
 NOTHING, ONE_QUEUED = Delivery(0, 0, False), Delivery(1, 0, False)
-# The size of the room into which packets and units are taken. A longer one is taken again into a larger room.
+# The size of the buffer into which packets and units are taken. A longer item is taken into a buffer of its own.
 FIRST_ROOM = 4096
 # The number of octets of a stream that a decoder is given at a time.
 PIECE = 4096
@@ -100,7 +100,7 @@ def load(path: Library) -> ctypes.PyDLL:
 
 
 def in_range(value: int, most: int, what: str) -> int:
-    """Returns a whole number that the type in C can have."""
+    """Returns a whole number. Raises `ValueError` if the type of the parameter in C can't hold it."""
     number = int(index(value))
     if not 0 <= number <= most:
         raise ValueError(f"{what} is {number}, and must be 0 to {most}")
@@ -133,7 +133,7 @@ def limits_of(limits: Mapping[int, int], others: int) -> Tuple[Any, ...]:
 
 
 def check_made(library: ctypes.PyDLL, status: int) -> None:
-    """Raises the reason why settings were rejected."""
+    """Raises an exception if settings were rejected. The exception has the reason."""
     if status == NO_MEMORY:
         raise NoMemory(text_of(library, status))
     if status != DONE:
@@ -371,7 +371,7 @@ def read_tm(octets: Octets, *, fecf: bool = False, library: Library = None) -> T
 
 
 def delivery_of(answer: Any) -> Delivery:
-    """Returns the outcome for a unit that a record gives."""
+    """Returns the outcome for a unit, from the record that a call returned."""
     queued, dropped, rest = answer.queued, answer.dropped, answer.rest
     if queued > 1 or dropped or rest:
         return Delivery(queued, dropped, rest == 1)
@@ -379,11 +379,11 @@ def delivery_of(answer: Any) -> Delivery:
 
 
 def free(library: ctypes.PyDLL, held: _Channel) -> None:
-    """Frees a channel that is held, after which none is held."""
+    """Frees the channel in a record. The record then holds none."""
     library.tcrx_channel_free_at(byref(held))
 
 
-# pylint: disable-next=too-many-instance-attributes  # what a call needs is found once, when the channel is created
+# pylint: disable-next=too-many-instance-attributes  # a channel keeps what each of its calls needs
 class Channel:
     """A virtual channel of a receiver, in this process. Its attribute `vcid` is its virtual channel id."""
 
@@ -429,13 +429,13 @@ class Channel:
         raise TypeError("a channel can't be copied or pickled: a copy of it is no second channel")
 
     def _raise(self, status: int) -> NoReturn:
-        """Raises the reason why a call has no answer."""
+        """Raises the exception for the status of a call that has no answer."""
         if status == NO_CHANNEL:
             raise Ended(None, "it was closed")
         raise Fault(text_of(self._library, status))
 
     def _refuse(self, status: int) -> Refused:
-        """Returns the refusal that a status stands for. Raises any other status."""
+        """Returns the refusal that a status stands for. Raises an exception if the status isn't a refusal."""
         refused = REFUSED.get(status)
         return self._raise(status) if refused is None else refused
 
@@ -466,8 +466,8 @@ class Channel:
         return Released(self.vcid, delivery_of(answer))
 
     def _taken(self, call: Any, key: int) -> Union[bytes, Refused]:
-        """Returns what a call takes out of a queue. It is taken into the channel's own room, or into as much as it
-        needs."""
+        """Returns the item that a call takes out of a queue. The item is taken into the channel's own buffer, or into a
+        new one if that is too short."""
         with self._lock:
             written = call(self._at, key, self._room, FIRST_ROOM)
             if not written.status:
@@ -490,8 +490,8 @@ class Channel:
         return Unit(self.vcid, map, taken) if isinstance(taken, bytes) else taken
 
     def packets(self, apid: int) -> Iterator[bytes]:
-        """Yields the packets that wait for an application, the oldest first. Each is taken when it is asked for, until
-        none waits. Raises `NotSetUp` if there is no such queue."""
+        """Yields the packets that wait for an application, the oldest first. Each packet is taken when the iterator
+        reaches it, until none waits. Raises `NotSetUp` if there is no such queue."""
         while isinstance(packet := self.take(apid), Packet):
             yield packet.octets
         if packet.reason is not Refusal.EMPTY:
@@ -550,7 +550,7 @@ class Channel:
         return self._final
 
     def close(self) -> Final:
-        """Frees the channel, and returns its last state. A second call returns the same."""
+        """Frees the channel, and returns its last state. A second call returns the same state."""
         if self._final is None:
             clcw, events = self.clcw(), self.events
             with self._lock:

@@ -76,7 +76,7 @@ def load_lines(path: Library) -> ctypes.PyDLL:
 
 
 def free(library: ctypes.PyDLL, held: _Lines) -> None:
-    """Frees a session that is held, after which none is held."""
+    """Frees the session in a record. The record then holds none."""
     library.tcrx_lines_free_at(byref(held))
 
 
@@ -84,7 +84,7 @@ class Session:
     """A session, which answers lines. `live`, `script` and `make` create one."""
 
     def __init__(self, library: Library, kind: str, *given: int) -> None:
-        """Creates a session by the call of the library with this name."""
+        """Creates a session by the call `tcrx_lines_KIND_at` of the library, whose other arguments are `given`."""
         self._library, self._lock = load_lines(library), threading.Lock()
         self._held = _Lines(0, None)
         self._at = byref(self._held)
@@ -120,7 +120,7 @@ class Session:
         raise TypeError("a session can't be copied or pickled: a copy of it is no second session")
 
     def _raise(self, status: int, text: str = "") -> NoReturn:
-        """Raises the reason why a call has no answer."""
+        """Raises the exception for the status of a call that has no answer."""
         if status == BAD_LINE:
             raise BadScript(text)
         if status == NO_SESSION:
@@ -133,7 +133,7 @@ class Session:
         return self._library.tcrx_lines_text_at(self._at, self._room, len(self._room))
 
     def _whole(self, written: Any) -> str:
-        """Returns the whole text of a call, for which the buffer grows if it is too short."""
+        """Returns the whole text of a call. If the buffer is too short for the text, it grows."""
         while written.status == NO_ROOM:
             try:
                 self._room = ctypes.create_string_buffer(written.length)
@@ -154,7 +154,7 @@ class Session:
         octets = line.encode("utf-8", "surrogateescape") if isinstance(line, str) else octets_of(line)
         with self._lock:
             written = self._library.tcrx_lines_answer_at(self._at, octets, len(octets), self._room, len(self._room))
-            # Most texts have room.
+            # Most texts fit into the buffer.
             return self._whole(written) if written.status else str(self._seen[:written.length], "ascii")
 
     def text(self) -> str:

@@ -32,14 +32,14 @@ Self = TypeVar("Self", bound="LineReceiver")
 
 
 class Form(enum.Enum):
-    """How many lines answer a line."""
+    """The number of lines that answer a line."""
 
     ONE = 1
-    """One."""
+    """One line."""
     IF_BAD = 2
-    """One if it is bad, and else none."""
+    """One line if the line is bad, and otherwise none."""
     MANY = 3
-    """Several, of which the last is a CLCW, or one if it is refused or bad."""
+    """Several lines, the last of which is a CLCW, or one line if the line is refused or bad."""
 
 
 def number(value: int) -> int:
@@ -53,7 +53,7 @@ def delivery_of(queued: str, dropped: str, rest: str) -> Delivery:
 
 
 def counts_of(words: str, kind: str) -> Dict[int, int]:
-    """Returns the counts after each word of this kind, by application or MAP."""
+    """Returns the counts that follow each word `kind`, by application or MAP."""
     return {int(place): int(count) for place, count in re.findall(rf"\b{kind} {NUMBER} {NUMBER}", words)}
 
 
@@ -66,7 +66,7 @@ def clcw_of(channel: int, digits: str) -> Clcw:
 
 
 def taken_of(channel: int, answer: str) -> Union[Packet, Unit]:
-    """Returns what a line of a delivery has. Raises `ValueError` for any other line."""
+    """Returns the packet or the unit in a line of a delivery. Raises `ValueError` for any other line."""
     if found := re.fullmatch(rf"take {channel} {NUMBER} {OCTETS}", answer):
         return Packet(channel, int(found[1]), bytes.fromhex(found[2]))
     if found := re.fullmatch(rf"unit {channel} {NUMBER} (-|{OCTETS})", answer):
@@ -75,7 +75,7 @@ def taken_of(channel: int, answer: str) -> Union[Packet, Unit]:
 
 
 def read_one(answer: str, pattern: str, refusals: FrozenSet[Refusal], made: Callable[[Match[str]], Answer]) -> Union[Answer, Refused]:
-    """Returns a value that is made from the words that the pattern finds, or one of these refusals. Raises `ValueError` for any other
+    """Returns the value that `made` makes of the words that the pattern finds, or one of these refusals. Raises `ValueError` for any other
     answer."""
     if answer.startswith("refused ") and Refusal(answer[8:]) in refusals:
         return Refused(Refusal(answer[8:]))
@@ -100,7 +100,7 @@ def final_of(lines: List[str]) -> Dict[int, Final]:
 
 
 class LineReceiver:
-    """A receiver whose calls are lines of text. Where it is, and how it answers a line, the classes below this one know."""
+    """A receiver whose calls are lines of text. The classes that are derived from this one decide how a line reaches the receiver."""
 
     # pylint: disable=redefined-builtin  # MAP is the standard's word
 
@@ -119,7 +119,7 @@ class LineReceiver:
         raise NotImplementedError
 
     def _ask(self, line: str, form: Form, read: Callable[[List[str]], Answer]) -> Answer:
-        """Returns the answer to a line, as `read` returns it. `read` raises `ValueError` if it isn't an answer to this line."""
+        """Returns what `read` makes of the answer to a line. `read` must raise `ValueError` if it isn't an answer to this line."""
         answers = self._answers(line, form)
         try:
             return read(answers)
@@ -133,7 +133,7 @@ class LineReceiver:
         return self._ask(line, Form.ONE, lambda answers: read_one(answers[0], pattern, refusals, made))
 
     def _set_up(self, line: str) -> None:
-        """Sets something up."""
+        """Carries out a line that sets something up."""
         def read(answers: List[str]) -> None:
             if answers:
                 raise ValueError
@@ -166,8 +166,8 @@ class LineReceiver:
         return self._bring("frame", octets)
 
     def candidate(self, octets: Octets) -> Union[Brought, Refused]:
-        """Brings what a CLTU carried: a frame, and fill behind it, which is left out. The frame is as long as its
-        length field says."""
+        """Brings the octets that a CLTU carried: a frame, and fill behind it, which is left out. The frame is as long as
+        its length field says."""
         return self._bring("candidate", octets)
 
     def _bring(self, word: str, octets: Octets) -> Union[Brought, Refused]:
@@ -191,8 +191,8 @@ class LineReceiver:
                              OF_CHANNELS | {Refusal.NO_MAP, Refusal.EMPTY}, lambda found: Unit(vcid, map, bytes.fromhex(found[1].strip("-"))))
 
     def packets(self, vcid: int, apid: int) -> Iterator[bytes]:
-        """Yields the packets that wait for an application, the oldest first. Each is taken when it is asked for, until
-        none waits. Raises `NotSetUp` if there is no such channel or queue."""
+        """Yields the packets that wait for an application, the oldest first. Each packet is taken when the iterator
+        reaches it, until none waits. Raises `NotSetUp` if there is no such channel or queue."""
         while isinstance(packet := self.take(vcid, apid), Packet):
             yield packet.octets
         if packet.reason is not Refusal.EMPTY:

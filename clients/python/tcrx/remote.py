@@ -1,12 +1,12 @@
 """A receiver elsewhere, over a connection that carries the lines of a receiver and their answers: the port of `--lines` of `tcrx-bench`, a
 `tclive` behind TCP, or a serial line behind a socket.
 
-- A line that sets something up has no answer unless it is bad. So a second line goes after it, `?`, which is no command and is always answered
-  `bad unknown command`, maybe with a hint. If that answer comes first, the line was good.
+- A line that sets something up has no answer unless it is bad. So a second line is sent after it: `?`, which isn't a command, and is always
+  answered `bad unknown command`, maybe with a hint. If that answer comes first, the line was good.
 - If a call has no answer, it raises an exception, a `Fault`. After a `BadLine` or `NotSetUp` the receiver goes on as it was. After any other
   fault, and after an interrupt during a call, the connection is closed, because an answer that comes later would be taken for that of the next
   line.
-- Calls may come from several threads. Each waits until the call before it has its answer. Use it only in the process that made it.
+- Calls may come from several threads. Each call waits until the call before it has its answer. Use a receiver only in the process that created it.
 """
 from __future__ import annotations
 
@@ -23,10 +23,10 @@ from .values import Ended, Fault, Final, TimedOut, Unexpected, without_hint
 __all__ = ["RemoteReceiver"]
 
 PROBE, PROBE_ANSWER = "?", "bad unknown command"
-# How the last answer of several begins.
+# The beginnings of the last line of an answer that has several lines.
 LAST = ("clcw ", "bad ", "refused channel")
-# The number of octets after which an answer, and a final report, aren't read on. The longest answer is a unit of 65,542 octets, each in two
-# digits. A final report has at most a line for each of 64 channels, and for each of their 2,047 applications and 64 MAPs.
+# The numbers of octets after which an answer, or a final report, isn't read any further. The longest answer is a unit of 65,542 octets, each in
+# two digits. A final report has at most a line for each of 64 channels, and for each of their 2,047 applications and 64 MAPs.
 LONGEST_ANSWER, LONGEST_REPORT = 1 << 20, 1 << 23
 
 
@@ -34,8 +34,8 @@ class RemoteReceiver(LineReceiver):
     """A receiver at the other end of a connected stream socket."""
 
     def __init__(self, connection: socket.socket, *, timeout: Optional[float] = None) -> None:
-        """Begins, and checks that the other end answers. The socket belongs to the receiver from now on, and is closed
-        with it. With a `timeout`, or if the socket has one, each call has this number of seconds, including this one.
+        """Takes the connection over, and checks that the other end answers. The socket then belongs to the receiver, and is
+        closed with it. With a `timeout`, or if the socket has one, each call has this number of seconds, including this one.
         The attribute `timeout` may be changed between calls.
 
         Raises `Ended`, `TimedOut`, and `Unexpected`."""
@@ -44,7 +44,7 @@ class RemoteReceiver(LineReceiver):
             raise ValueError("a timeout is a number of seconds over 0, or None for no limit")
         self._connection, self._lock, self._left = connection, threading.Lock(), bytearray()
         self._over: Optional[Callable[[], Fault]] = None
-        """Makes the fault of each later call. It is made anew each time, because an exception that is raised again keeps all of its traces."""
+        """Creates the fault for each later call. Each call gets a new one, because an exception that is raised again keeps all of its traces."""
         self._channels: List[int] = []
         self._until: Optional[float] = None
         answer = self._answers(PROBE, Form.ONE)[0]
@@ -62,7 +62,7 @@ class RemoteReceiver(LineReceiver):
 
     @contextmanager
     def _turn(self) -> Iterator[None]:
-        """Lets only one call at a time have its answer, and ends the receiver if anything comes between them."""
+        """Lets one call run at a time. If the call times out, loses the connection or is interrupted, the connection is closed."""
         with self._lock:
             if self._over:
                 raise self._over()
@@ -80,14 +80,14 @@ class RemoteReceiver(LineReceiver):
                 raise
 
     def _set_time(self) -> None:
-        """Lets the socket wait no longer than the call may take."""
+        """Sets the timeout of the socket to the time that the call has left. Raises `socket.timeout` if none is left."""
         left = None if self._until is None else self._until - time.monotonic()
         if left is not None and left <= 0:
             raise socket.timeout
         self._connection.settimeout(left)
 
     def _receive(self) -> bool:
-        """Receives more octets. Returns whether there were any, and not the end."""
+        """Receives more octets. Returns false if the other end has closed the connection."""
         self._set_time()
         more = self._connection.recv(65536)
         self._left += more
@@ -122,7 +122,7 @@ class RemoteReceiver(LineReceiver):
             return answers
 
     def _set_up_answers(self, line: str, answer: str) -> List[str]:
-        """Returns the answer to a line that sets up, if it isn't that of the probe."""
+        """Returns the answer to a line that sets something up: no lines if the line was good. `answer` is the first line that came."""
         if without_hint(answer) == PROBE_ANSWER:
             if line.startswith("channel "):
                 self._channels.append(int(line.split(" ")[1]))

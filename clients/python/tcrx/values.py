@@ -295,7 +295,7 @@ class Ended(Fault):
     def __init__(self, status: Optional[int], error: str) -> None:
         super().__init__(f"the receiver has ended{': ' if error else ''}{error}")
         self.status, self.error = status, error
-        """No status, because no program ended, and what else is known."""
+        """`status` is None, because no program ended. `error` is the reason, if it is known."""
 
 
 class TimedOut(Fault):
@@ -324,8 +324,8 @@ def without_hint(answer: str) -> str:
 
 
 def why_bad(answer: str) -> str:
-    """Returns the reason of a bad answer. A reason that begins with `bad` has that word only once, and has one more
-    word."""
+    """Returns the reason of a bad answer. An answer of two words, such as `bad number`, is itself the reason. In a longer
+    answer the reason follows the word `bad`."""
     return answer if without_hint(answer).count(" ") == 1 else answer[4:]
 
 
@@ -335,7 +335,7 @@ def shorten(text: str) -> str:
 
 
 def octets_of(given: Union[bytes, bytearray, memoryview]) -> bytes:
-    """Returns octets. Neither digits nor a number pass as octets, although `bytes` would make zeros from a number."""
+    """Returns octets as `bytes`. Raises `TypeError` for a text and for a number, of which `bytes` would make zeros."""
     try:
         return given if isinstance(given, bytes) else memoryview(given).tobytes()
     except TypeError:
