@@ -9,7 +9,7 @@ const HEATER: u16 = 5;
 /// The frames that the link loses, by their place among all frames that are sent.
 const LOST: [usize; 2] = [1, 4];
 
-/// The spacecraft's end.
+/// The spacecraft's end of the link.
 struct Spacecraft {
     channel: Channel,
 }

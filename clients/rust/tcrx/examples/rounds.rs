@@ -1,4 +1,5 @@
-//! Makes the rounds of `c/checks/rounds.c` on a channel, COUNT times. A round is a frame, its release and its take.
+//! Makes COUNT rounds on a channel, as `c/checks/rounds.c` does. In a round a frame is brought to the channel and released, and its
+//! packet is taken. The output is the number of packets that were taken.
 //!
 //! usage: rounds COUNT
 

@@ -42,7 +42,7 @@ macro_rules! refusals {
                 }
             }
 
-            /// The status of `tcrx.h`.
+            /// Returns the status, as a number of `tcrx.h`.
             pub fn status(self) -> u32 {
                 match self {
                     $(Self::$variant { .. } => sys::$status,)*

@@ -151,7 +151,8 @@ fn single_calls() {
     assert!(channel.clcw(Link { no_rf: false, no_bit_lock: true }).no_bit_lock());
 }
 
-/// Returns a frame with two octets for this spacecraft and channel, with a frame error control field if it is to have one.
+/// Returns a frame for this spacecraft and channel whose data field has two octets. If `fecf` is set, the frame ends with a frame
+/// error control field.
 fn located_frame(scid: u16, vcid: u8, fecf: bool) -> Vec<u8> {
     let (mut room, mut ended) = ([0; 16], [0; 16]);
     let header = Header { scid, vcid, ns: 7, bypass: false, control: false };
@@ -273,8 +274,8 @@ fn clcws_field_by_field() {
     }
 }
 
-/// Makes the rows of c/checks/fields.h: segments of a unit, commands, and a frame with its field. Then makes one
-/// failing call for each.
+/// Writes the frames of the rows of c/checks/fields.h: segments of a unit, commands, and a frame with its frame error control
+/// field. Then makes failing calls of the functions that write.
 #[test]
 fn what_is_made() -> Result<(), Box<dyn Error>> {
     let (unit, mut room) = ([1, 2, 3, 4, 5, 6, 7], [0; 16]);
@@ -338,8 +339,8 @@ fn ends_of_the_link() -> Result<(), Box<dyn Error>> {
     Ok(())
 }
 
-/// The CLTU of `ends_of_the_link` stands between other octets. It also comes with a wrong bit, which is corrected in one mode and
-/// rejected in the other.
+/// The CLTU of `ends_of_the_link` is followed by another octet. It also comes with a wrong bit, which is corrected in one mode. In
+/// the other mode its code block is rejected.
 #[test]
 fn streams_of_cltus() {
     let cltu = [
@@ -388,7 +389,7 @@ fn streams_of_cltus() {
     assert_eq!((fed.frame, fed.overlong), (None, 1));
 }
 
-/// There is a packet with each value of the sequence flags. Another octet follows each packet.
+/// The rows have each value of the sequence flags. Another octet follows each packet.
 #[test]
 fn packets_field_by_field() {
     let packet =
@@ -408,8 +409,8 @@ fn packets_field_by_field() {
     }
 }
 
-/// There is a frame of each event, from CCSDS 232.1-B, 6.3, and then a release and takes. Of the three packets of one frame two find
-/// room.
+/// There is a frame for each event, from CCSDS 232.1-B, 6.3. A release and takes follow. One frame has three packets, two of which
+/// find room.
 #[test]
 fn replies_field_by_field() {
     let settings = Settings { buffer: 1, first_vr: 250, queues: &[Queue { apid: 5, capacity: 2 }], ..SETTINGS };

@@ -6,11 +6,11 @@ mod refusing;
 use refusing::{blocks, refuse};
 use tcrx::{Channel, Header, Limit, Limits, Map, Queue, Settings, SettingsError};
 
-/// Makes a call whose first block would be refused, and checks that it requests none.
+/// Makes a call while the next block would be refused, and checks that the call requests no block.
 fn without_memory<Answer>(call: impl FnOnce() -> Answer) -> Answer {
     refuse(Some(0));
     let answer = call();
-    assert_eq!(refuse(None), Some(0), "a call asked for memory");
+    assert_eq!(refuse(None), Some(0), "a call requested memory");
     answer
 }
 

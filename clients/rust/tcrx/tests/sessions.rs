@@ -18,7 +18,7 @@ thread_local! {
 
 struct Allocator;
 
-// SAFETY: a block is refused, or the system's allocator answers.
+// SAFETY: each function returns null, which is allowed, or calls the system's allocator.
 unsafe impl GlobalAlloc for Allocator {
     unsafe fn alloc(&self, layout: Layout) -> *mut u8 {
         if TEXTS_REFUSED.get() {

@@ -17,7 +17,7 @@ struct Block {
     at: *mut u8,
 }
 
-/// The number of octets in front of each block. They hold the size of the whole, so that it can be freed.
+/// The number of octets in front of each block. They hold the size of the block, so that it can be freed.
 const FRONT: usize = 16;
 
 fn layout(octets: usize) -> Layout {
@@ -33,7 +33,7 @@ fn is_refused() -> bool {
     left == Some(0)
 }
 
-/// Writes the size of the whole into the front of a block, and returns the block behind the front.
+/// Writes the size of a block into its front, and returns the address behind the front. If `at` is null, returns no block.
 unsafe fn answer(at: *mut u8, octets: usize) -> Block {
     if at.is_null() {
         return Block { given: false, at: FRONT as *mut u8 };
@@ -50,7 +50,7 @@ extern "C" fn rattle_alloc(count: usize, _alignment: usize) -> Block {
     // SAFETY: the layout isn't empty.
     let at = if is_refused() { null_mut() } else { unsafe { System.alloc(layout(count)) } };
     BLOCKS.set(BLOCKS.get() + i64::from(!at.is_null()));
-    // SAFETY: it is a new block.
+    // SAFETY: the block is new, and has room for its front.
     unsafe { answer(at, count) }
 }
 
