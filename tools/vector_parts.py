@@ -1,4 +1,4 @@
-"""The test vectors: for each part of a receiver, what comes in and what the vector shows. `vector_run` adds the outcomes."""
+"""Defines the test vectors of each part of a receiver: their steps, and the comments that explain them. `vector_run` adds the outcomes."""
 from __future__ import annotations
 
 import random
@@ -8,7 +8,7 @@ from itertools import combinations, product
 from typing import Any, Callable, Dict, Iterable, Iterator, List, Tuple, Union
 
 from vector_run import READS, USUAL, Differ, Pair, Settings, Step, agreed, perform, set_up
-# pylint: disable=wrong-import-order  # vector_run names the folders of these
+# pylint: disable=wrong-import-order  # vector_run adds the folders of these modules to the path
 from client_parts import UNLOCK, coded, frame, packet, sum_of, whole
 from client_parts import cltu as cltu_by_model
 from coding import START, TAIL, read_clcw, sequence, telemetry, wrong
@@ -17,7 +17,7 @@ from tcrx import Clcw, write_cltu, write_tm
 FRAME, SEGMENT, REASSEMBLY = "CCSDS 232.0-B, 4.1", "CCSDS 232.0-B, 4.1.3.2.2", "CCSDS 232.0-B, 4.4"
 COMMAND, FECF, CLCW = "CCSDS 232.0-B, 4.1.3.3", "CCSDS 232.0-B, 4.1.4", "CCSDS 232.0-B, 4.2"
 FARM, WINDOW, PACKET, CODING, TELEMETRY = "CCSDS 232.1-B, 6.3", "CCSDS 232.1-B, 6.1", "CCSDS 133.0-B, 4.1", "CCSDS 231.0-B", "CCSDS 132.0-B, 4.1"
-# What each flag says. It is an outcome that this project decided, and that another receiver may decide otherwise.
+# The meaning of each flag. It describes an outcome that this project chose. Another receiver may choose a different one.
 FLAGS = {
     "e3-s2": "In S2 a frame ahead of V(R) sets no flag.",
     "e7-retransmit": "Unlock clears the Retransmit flag.",
@@ -44,7 +44,7 @@ FLAGS = {
 class Vector:
     """A test vector whose steps are carried out as they are added."""
 
-    # pylint: disable-next=too-many-arguments  # they are what a vector has
+    # pylint: disable-next=too-many-arguments  # they are the parts of a vector
     def __init__(self, name: str, comment: str, section: str, rule: str, flags: Iterable[str] = (), **settings: Any) -> None:
         self.settings: Settings = {**USUAL, **settings}
         self.head = {"id": name, "comment": comment, "section": section, "rule": rule}
@@ -91,14 +91,15 @@ class Vector:
         return self
 
     def refused(self, reason: str) -> Vector:
-        """Notes that the octets of the last step are refused for this reason, and adds a step with a good frame."""
+        """Marks the vector as invalid, and then adds a step with a good frame, unless the last step only reads octets. Raises `Differ` if the
+        last step wasn't refused for this reason."""
         if self.steps[-1].get("refused") != reason:
-            raise Differ(f"{self.head['id']} is refused otherwise than for {reason}")
+            raise Differ(f"{self.head['id']} isn't refused for the reason `{reason}`")
         self.invalid = True
         return self if self.steps[-1]["do"] in READS else self.numbered(0)
 
     def written(self) -> Dict[str, Any]:
-        """Returns the vector as its file has it."""
+        """Returns the vector in the form of its file."""
         result = "invalid" if self.invalid else "acceptable" if self.flags else "valid"
         return {**self.head, "result": result, "flags": sorted(self.flags), "settings": self.settings, "steps": self.steps}
 
@@ -110,7 +111,7 @@ BD = frame(0, whole(0, packet(5, 0xBD)), bypass=1)
 
 
 def leads(half: int) -> Dict[str, Tuple[str, int, List[int]]]:
-    """Returns the ways into each state: in words, with the size of the buffer and the distances of the frames from V(R)."""
+    """Returns the ways into each state. A way has words for a comment, the size of the buffer, and the distances of frames from V(R)."""
     ways: Dict[str, Tuple[str, int, List[int]]] = {
         "open": ("is open", 1, []),
         "open-full": ("is open, and its buffer is full", 1, [0]),
@@ -126,12 +127,12 @@ def leads(half: int) -> Dict[str, Tuple[str, int, List[int]]]:
     return ways
 
 
-# What arrives: a Type-AD frame at a distance from V(R), another frame, or a release (None).
+# An arrival: the distance of a Type-AD frame from V(R), the octets of another frame, or None for a release.
 Arrival = Union[int, bytes, None]
 
 
 def arrivals(half: int) -> Dict[str, Tuple[str, Arrival]]:
-    """Returns what can arrive in each state, and how a comment names it."""
+    """Returns the arrivals that are tried in each state, with the words for a comment."""
     found: Dict[str, Tuple[str, Arrival]] = {
         "expected": ("The expected frame", 0),
         "behind-first": ("The nearest frame behind V(R)", -1),
@@ -153,7 +154,7 @@ def arrivals(half: int) -> Dict[str, Tuple[str, Arrival]]:
 
 
 def effect(before: int, after: int) -> str:
-    """Returns a sentence without its full stop about what became of a CLCW."""
+    """Returns a sentence, without its full stop, about the changes from a CLCW to a later one."""
     fields = {"Lockout": (13, 1), "Wait": (12, 1), "Retransmit": (11, 1), "the FARM-B counter": (9, 3), "V(R)": (0, 255)}
     changes = [f"{name} becomes {after >> place & most}" for name, (place, most) in fields.items() if (before ^ after) >> place & most]
     text = " and ".join(changes) or "the CLCW stays as it is"
@@ -161,7 +162,7 @@ def effect(before: int, after: int) -> str:
 
 
 def farm_vector(width: int, lead: str, name: str, end: str) -> Vector:
-    """Returns a vector for an arrival in a state. The expected frame comes behind it, with `end` after a release."""
+    """Returns a vector for an arrival in a state. The expected frame comes after it, and before that a release if `end` isn't empty."""
     (state, places, offsets), (words, arrival) = leads(width // 2)[lead], arrivals(width // 2)[name]
     section = WINDOW if isinstance(arrival, int) and arrival else FARM
     vector = Vector(f"farm-{width}-{lead}-{name}{end}", "", section, "", width=width, buffer=places, firstVr=250).numbered(*offsets)
@@ -181,7 +182,7 @@ def farm_vector(width: int, lead: str, name: str, end: str) -> Vector:
 
 
 def farm_vectors() -> Iterator[Vector]:
-    """Yields vectors for each cell of FARM-1's table from each state, at both edges of three windows, and for counts that begin anew."""
+    """Yields vectors for each cell of FARM-1's table from each state, at both edges of three windows, and for counters that wrap around."""
     for width in (2, 10, 254):
         for lead, name in product(leads(width // 2), arrivals(width // 2)):
             for end in ("", "-release") if width == 10 else ("",):
@@ -194,7 +195,7 @@ def farm_vectors() -> Iterator[Vector]:
 # --- Frames ---
 
 GOOD = frame(0, whole(0, packet(5, 1)))
-# The faults of a header, in the order in which they are looked for: in words, with the bits of the good frame's header that are turned.
+# The faults of a header, in the order in which a receiver looks for them. Each has words for a comment, and the bits that are flipped.
 FAULTS: Dict[str, Tuple[str, int]] = {
     "version": ("its version bits are 01", 0x40000000),
     "spare": ("a spare bit is 1", 0x04000000),
@@ -209,7 +210,7 @@ MORE_FAULTS = {"version-10": 0x80000000, "version-11": 0xC0000000, "spare-10": 0
 
 
 def turned(*masks: int) -> bytes:
-    """Returns the good frame with bits of its header turned."""
+    """Returns the good frame with some bits of its header flipped."""
     header = int.from_bytes(GOOD[:4], "big")
     for mask in masks:
         header ^= mask
@@ -222,7 +223,7 @@ def refused_vector(name: str, comment: str, octets: bytes, reason: str) -> Vecto
 
 
 def frame_vectors() -> Iterator[Vector]:
-    """Yields vectors for octets that have one fault or two, and for frames at the bounds of their fields."""
+    """Yields vectors for octets with one fault or two, and for frames at the bounds of their fields."""
     for length in range(1, 5):
         yield refused_vector(f"short-{length}", "The octets are too few for a header.", GOOD[:length], "short")
     comment = "The octets are too few for a header, and their version bits are 01."
@@ -277,7 +278,7 @@ def command_vectors() -> Iterator[Vector]:
 # --- Segments ---
 
 PARTS_OF_UNITS = {"first": 0x40, "more": 0x00, "last": 0x80, "whole": 0xC0}
-# Segments of units, each by its part and its MAP, with an `a` behind it if it comes in a Type-AD frame.
+# Rows of segments. A segment is written as its part and its MAP, with an `a` behind them if it comes in a Type-AD frame.
 ROWS = (
     ("whole", "The unit has one segment.", "whole0", ()),
     ("two", "The unit has two segments.", "first0 last0", ()),
@@ -356,7 +357,7 @@ UNITS: Dict[str, Tuple[bytes, str, str]] = {
 
 
 def packet_vectors() -> Iterator[Vector]:
-    """Yields vectors for units that are cut into packets, and for queues that get full and empty."""
+    """Yields vectors for units that are cut into packets, and for queues that become full and empty."""
     queues = {str(apid): 256 for apid in (5, 6, 0, 2046, 1023)}
     for name, (unit, comment, flag) in UNITS.items():
         vector = Vector(f"packets-{name}", comment, PACKET, "a unit is cut into packets", [flag] if flag else [], queues=queues)
@@ -400,7 +401,7 @@ CHECKED = frame(0, whole(0, packet(5, 1)), fecf=True)
 
 
 def unchecked() -> Iterator[Tuple[str, str, bytes]]:
-    """Yields octets that aren't one frame with the right field, behind a name and a comment."""
+    """Yields a name, a comment and octets that aren't one frame with the right field."""
     draw, bits = random.Random(1), range(8 * len(CHECKED))
     yield from ((f"bit-{bit}", f"Bit {bit} of the frame is wrong.", wrong(CHECKED, [bit])) for bit in bits[::3])
     for count, series in product((2, 3, 5), "abcd"):
@@ -440,13 +441,13 @@ BLOCKS = [coded(CARRIED[at:at + 7]) for at in (0, 7)]
 
 
 def cltu(octets: bytes) -> bytes:
-    """Returns the CLTU that carries octets, as the library and the second implementation write it."""
+    """Returns the CLTU that carries octets. The library and the second implementation must write the same one."""
     return agreed("a CLTU", write_cltu(octets), cltu_by_model(octets))
 
 
-# pylint: disable-next=too-many-arguments  # they are what a vector has
+# pylint: disable-next=too-many-arguments  # they are the parts of a vector
 def streamed(mode: str, name: str, comment: str, pieces: Iterable[bytes], flag: str = "", rule: str = "a CLTU", **settings: Any) -> Vector:
-    """Returns a vector for octets of a stream, which come in pieces. It is invalid if no frame of them reaches FARM-1."""
+    """Returns a vector for octets of a stream, which come in pieces. The vector is invalid if none of their frames reaches FARM-1."""
     its = {"framesPerCltu": 1, **settings}
     vector = Vector(f"cltu-{mode}-{name}", comment, CODING, rule, [flag] if flag else [], cltu=mode, **its)
     for piece in pieces:
@@ -545,7 +546,7 @@ def telemetry_vectors() -> Iterator[Vector]:
         yield vector.add("telemetry", wrong(good, [bit])).refused("check")
 
 
-# The parts of the receiver: for each the name of its files, what they are about, and its vectors.
+# The parts of the receiver by the names of their files. Each has a title and the function that yields its vectors.
 PARTS: Dict[str, Tuple[str, Callable[[], Iterator[Vector]]]] = {
     "frames": ("Transfer frames, and why octets are refused", frame_vectors),
     "farm-1": ("FARM-1", farm_vectors),

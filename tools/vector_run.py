@@ -1,4 +1,4 @@
-"""Carries out the steps of test vectors by the proved library and by a second implementation, whose answers must be the same."""
+"""Carries out the steps of test vectors by the proved library and by a second implementation. The answers of both must be the same."""
 from __future__ import annotations
 
 import sys
@@ -15,7 +15,7 @@ from tcrx import Session  # noqa: E402
 Settings = Dict[str, Any]
 Step = Dict[str, Any]
 Answer = TypeVar("Answer", str, bytes)
-# The settings of a vector that names no others. `drain` says that everything that waits in the queues is taken after each step.
+# The settings of a vector that has no others. If `drain` is true, everything that waits in the queues is taken after each step.
 USUAL: Settings = {"scid": 42, "vcid": 1, "width": 10, "buffer": 1, "firstVr": 0, "segmentHeaders": True, "fecf": False, "queues": {"5": 256},
                    "maps": {}, "drain": True}
 # The kinds of steps that leave the channel as it is.
@@ -30,10 +30,10 @@ class Unit(Protocol):
     """A receiver that answers the lines of `tclive` and of `tcmake`."""
 
     def live(self, line: str) -> str:
-        """Answers a line as `tclive` does."""
+        """Returns the answer of `tclive` to a line."""
 
     def make(self, line: str) -> str:
-        """Answers a line as `tcmake` does."""
+        """Returns the answer of `tcmake` to a line."""
 
 
 class Library:
@@ -43,11 +43,11 @@ class Library:
         self._live, self._make = Session.live(settings["scid"], fecf=settings["fecf"]), Session.make(fecf=settings["fecf"])
 
     def live(self, line: str) -> str:
-        """Answers a line as `tclive` does."""
+        """Returns the answer of `tclive` to a line."""
         return self._live.answer(line)
 
     def make(self, line: str) -> str:
-        """Answers a line as `tcmake` does."""
+        """Returns the answer of `tcmake` to a line."""
         return self._make.answer(line)
 
 
@@ -59,7 +59,7 @@ class Model:
         self._most, self._stream, self._seen = 0, b"", (0, 0, 0, 0)
 
     def live(self, line: str) -> str:
-        """Answers a line as `tclive` does."""
+        """Returns the answer of `tclive` to a line."""
         if self._fecf and line.startswith("frame "):
             plain = without_sum(bytes.fromhex(line[6:]))
             if plain is None:
@@ -69,7 +69,7 @@ class Model:
         return "" if answer is None else f"{answer}\n"
 
     def make(self, line: str) -> str:
-        """Answers a line as `tcmake` does, by the method that is named after its first word."""
+        """Returns the answer of `tcmake` to a line. The method that is named after the first word of the line computes it."""
         word, *rest = line.split()
         return "".join(f"{answer}\n" for answer in getattr(self, f"_{word}")(*rest))
 
@@ -78,7 +78,7 @@ class Model:
         return []
 
     def _octets(self, _: str, digits: str) -> Iterator[str]:
-        """Searches the whole stream again, and answers what ended in its last piece."""
+        """Searches the whole stream again, and yields the answer for its last piece."""
         self._stream += bytes.fromhex(digits)
         frames, *counts = searched(self._stream, self._most)
         seen, self._seen = self._seen, (len(frames), counts[0], counts[1], counts[2])
@@ -110,17 +110,17 @@ def without_sum(octets: bytes) -> Optional[bytes]:
 
 
 class Pair:
-    """The library and the second implementation, whose answers are compared."""
+    """The library and the second implementation. Their answers are compared."""
 
     def __init__(self, settings: Settings) -> None:
         self._units: Tuple[Unit, Unit] = Library(settings), Model(settings)
 
     def live(self, line: str) -> str:
-        """Answers a line as `tclive` does."""
+        """Returns the answer of `tclive` to a line."""
         return self._same(line, *(unit.live(line) for unit in self._units))
 
     def make(self, line: str) -> str:
-        """Answers a line as `tcmake` does."""
+        """Returns the answer of `tcmake` to a line."""
         return self._same(line, *(unit.make(line) for unit in self._units))
 
     @staticmethod
@@ -131,7 +131,7 @@ class Pair:
 
 
 def agreed(what: str, by_library: Answer, by_model: Answer) -> Answer:
-    """Returns what both the library and the second implementation return. Raises `Differ` if they don't agree."""
+    """Returns the answer of the library and of the second implementation. Raises `Differ` if their answers differ."""
     if by_library != by_model:
         raise Differ(f"{what[:200]}\n  the library gives {by_library[:200]!r}\n  the model gives   {by_model[:200]!r}")
     return by_library
@@ -149,7 +149,7 @@ def set_up(unit: Unit, settings: Settings) -> None:
 
 
 def answered(answer: str, state: str) -> Step:
-    """Returns the outcome that a line names: a refusal, or an event and what became of the unit that it completed, if there was one."""
+    """Returns the outcome that a line describes: a refusal, or an event with the counts for the unit that it completed, if any."""
     words = answer.split()
     if words[0] == "refused":
         return {"refused": " ".join(words[1:])}
@@ -161,7 +161,7 @@ def answered(answer: str, state: str) -> Step:
 
 
 def taken(lines: List[str]) -> Step:
-    """Returns the packets by application and the units by MAP that lines name."""
+    """Returns the packets in lines by application, and the units by MAP."""
     found: Step = {"packets": {}, "units": {}}
     for word, _, key, digits in (line.split() for line in lines if not line.startswith(("clcw ", "refused "))):
         found["packets" if word == "take" else "units"].setdefault(key, []).append(digits.replace("-", ""))
@@ -174,13 +174,13 @@ def state_of(unit: Unit, vcid: int) -> str:
 
 
 def bring(unit: Unit, vcid: int, line: str) -> Step:
-    """Has a unit answer a frame or a release."""
+    """Passes a line with a frame or a release to a unit, and returns the outcome."""
     state = state_of(unit, vcid)
     return answered(unit.live(line), state)
 
 
 def receive(unit: Unit, settings: Settings, digits: str) -> Step:
-    """Has a unit decode octets of a stream of CLTUs, and brings the frames that they carry."""
+    """Passes octets of a stream of CLTUs to a unit, which decodes them, and then the frames that they carried. Returns the outcome."""
     *found, counts = unit.make(f"octets 0 {digits}").splitlines()
     numbers = counts.split()[1:]
     outcome: Step = {"candidates": [line.split()[1] for line in found], **dict(zip(numbers[::2], map(int, numbers[1::2]))), "frames": [], "more": []}
@@ -194,7 +194,7 @@ def receive(unit: Unit, settings: Settings, digits: str) -> Step:
 
 
 def read(unit: Unit, step: Step) -> Step:
-    """Has a unit read a CLCW or a telemetry frame."""
+    """Returns the fields that a unit reads in a CLCW or a telemetry frame, or the refusal."""
     words = unit.make(f"{step['do']} {step['octets']}").split()
     if words[0] == "refused":
         return {"refused": words[1]}
