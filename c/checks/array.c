@@ -86,6 +86,6 @@ int main(void) {
         good += status_of(seed, false) == 0 ? 1 : 0;
         trapped += is_stopped(status_of(seed, true)) ? 1 : 0;
     }
-    printf("%lu arrays filled as they must be and %lu traps behind the seal, of %d\n", good, trapped, PROCESSES);
+    printf("%lu arrays filled correctly and %lu traps after the seal, of %d each\n", good, trapped, PROCESSES);
     return good == PROCESSES && trapped == PROCESSES ? 0 : 1;
 }

@@ -76,11 +76,11 @@ void check_moves() {
     const std::vector<std::uint64_t> before = look(first);
     tcrx::Channel second(std::move(first));
     expect(is_none(first), "a channel that was moved from");  // NOLINT: it holds none
-    expect(look(second) == before, "what a move leaves");
+    expect(look(second) == before, "the channel after a move");
     tcrx::Channel third = make();
     third = std::move(second);
     expect(look(third) == before && is_none(second), "a move over a channel that is held");
-    expect(tcrx_blocks() <= of_one + 2, "the channel below it is freed");
+    expect(tcrx_blocks() <= of_one + 2, "the freed channel that a move replaced");
     tcrx::Channel &same = third;
     third = std::move(same);
     expect(look(third) == before, "a move onto itself");
@@ -89,7 +89,7 @@ void check_moves() {
     expect(second.free() == tcrx::Status::done && is_none(second), "a channel that was freed");
     expect(tcrx_blocks() == 0, "no block is left of freed channels");
     second = make();
-    expect(second.is_held() && second.events().value() == 0, "a new one in its place");
+    expect(second.is_held() && second.events().value() == 0, "a new channel in the place of a freed one");
 }
 
 void check_drops() {
@@ -160,7 +160,7 @@ void check_threads() {
 void check_views() {
     tcrx::Channel channel = make();
     expect(channel.frame({}).status() == tcrx::Status::too_short, "no octets");
-    expect(channel.frame({nullptr, 6}).status() == tcrx::Status::null, "six octets nowhere");
+    expect(channel.frame({nullptr, 6}).status() == tcrx::Status::null, "six octets at a null pointer");
     expect(tcrx::read_frame({}).status() == tcrx::Status::too_short, "no octets to be read");
     expect(tcrx::read_packet({}).status() == tcrx::Status::no_packet, "no octets of a packet");
     expect(tcrx::write_frame({}, {}, {}).status() == tcrx::Status::empty_data, "a frame of nothing");
@@ -200,7 +200,7 @@ void check_racks() {
     const tcrx::Result<tcrx::Located> first = rack.frame(frame_to(675, 5, false)), other = ended_rack.frame(frame_to(675, 8, true));
     expect(first && first->vcid == 5 && first->brought.event == tcrx::Event::e1 && first->brought.accepted, "a frame of a rack");
     expect(other && other->vcid == 8 && other->brought.event == tcrx::Event::e1, "a frame of a rack with its field");
-    expect(channels[1].events().value() == 1 && channels[2].events().value() == 0 && channels[3].events().value() == 1, "their events");
+    expect(channels[1].events().value() == 1 && channels[2].events().value() == 0 && channels[3].events().value() == 1, "the events of the channels of a rack");
     expect(rack.find(5) == &channels[1] && rack.find(8) == &channels[3] && rack.find(9) == nullptr, "channels by their ids");
     expect(rack.frame(frame_to(676, 9, false)).status() == Status::other_spacecraft, "another spacecraft");
     expect(rack.frame(frame_to(675, 9, false)).status() == Status::unknown_channel, "another channel");
@@ -211,9 +211,9 @@ void check_racks() {
     expect(ended_rack.frame(frame_to(675, 5, false)).status() == Status::no_fecf, "no field");
     expect(rack.frame({}).status() == Status::too_short, "no octets of a rack");
     expect(rack.candidate({}).frame.status() == Status::too_short, "a candidate of no octets");
-    expect(channels[1].free() == Status::done && rack.find(5) == &channels[2], "the next of that id");
+    expect(channels[1].free() == Status::done && rack.find(5) == &channels[2], "the next channel with that id");
     expect(tcrx::Rack(675, {}).frame(frame_to(675, 5, false)).status() == Status::unknown_channel, "a rack of no channel");
-    expect(tcrx::Rack(675, {nullptr, 1}).frame(frame_to(675, 5, false)).status() == Status::null, "a rack nowhere");
+    expect(tcrx::Rack(675, {nullptr, 1}).frame(frame_to(675, 5, false)).status() == Status::null, "a rack at a null pointer");
 }
 
 // Returns a Type-BD frame of 51 octets for a channel of spacecraft 675, with its frame error control field.
@@ -284,7 +284,7 @@ void check_frames() {
         expect(kind && kind->arrival == *arrival++, "the kind of a frame");
         Bytes room(MOST_OCTETS);
         const tcrx::Result<tcrx::Octets> written = tcrx::write_frame(header, read->field(), room);
-        expect(Bytes(written->begin(), written->end()) == Bytes(row.octets, row.octets + row.fields[5]), "a frame of fields");
+        expect(Bytes(written->begin(), written->end()) == Bytes(row.octets, row.octets + row.fields[5]), "a frame written from its fields");
     }
 }
 
@@ -305,7 +305,7 @@ void check_words_and_packets() {
         const tcrx::PacketHeader header = {read->apid, read->count, read->telecommand, read->secondary, read->sequence};
         Bytes room(MOST_OCTETS);
         const tcrx::Result<tcrx::Octets> written = tcrx::Packet::write(header, read->octets.part(6), room);
-        expect(Bytes(written->begin(), written->end()) == Bytes(row.octets, row.octets + row.fields[0]), "a packet of fields");
+        expect(Bytes(written->begin(), written->end()) == Bytes(row.octets, row.octets + row.fields[0]), "a packet written from its fields");
     }
 }
 
@@ -314,7 +314,7 @@ bool is_made(const tcrx::Result<tcrx::Octets> &made, const made_row &row) {
     return made && Bytes(made->begin(), made->end()) == Bytes(row.octets, row.octets + row.count);
 }
 
-// Checks each row of frames that are made, and then one failing call for each way to make a frame.
+// Checks each row of frames that calls write, and then one failing call for each way to write a frame.
 void check_made() {
     using tcrx::Arrival;
     using tcrx::Status;
@@ -332,7 +332,7 @@ void check_made() {
     const tcrx::Result<tcrx::Octets> taken = tcrx::check_fecf({fecf_row.octets, fecf_row.count}, again);
     expect(taken && Bytes(taken->begin(), taken->end()) == Bytes(plain.begin(), plain.end()), "a frame without its field");
     expect(tcrx::write_segment(three, 0, {}, {}).status() == Status::empty_data, "a segment of nothing");
-    expect(tcrx::write_command(675, 12, {Arrival::bd, 0}, room).status() == Status::bad_command, "a command that is none");
+    expect(tcrx::write_command(675, 12, {Arrival::bd, 0}, room).status() == Status::bad_command, "a bad command");
     expect(tcrx::Packet::write({}, {}, {}).status() == Status::empty_data, "a packet of nothing");
     expect(tcrx::add_fecf(plain, {}).error().needed == 10, "no room for a field");
     expect(tcrx::check_fecf(plain, {}).status() == Status::wrong_fecf, "a frame without a field");
@@ -350,7 +350,7 @@ void check_streams() {
         std::uint64_t corrected = 0, rejected = 0;
         for (tcrx::Octets rest = stream; rest.size() > 0;) {
             const tcrx::Fed fed = decoder.feed(rest);
-            expect(fed.ended == (fed.frame.size() > 0) && fed.rest.size() == (fed.ended ? 2u : 0u), "how far octets are taken");
+            expect(fed.ended == (fed.frame.size() > 0) && fed.rest.size() == (fed.ended ? 2u : 0u), "the octets that are taken");
             given.insert(given.end(), fed.frame.begin(), fed.frame.end());
             corrected += fed.corrected;
             rejected += fed.rejected;
@@ -358,8 +358,8 @@ void check_streams() {
         }
         Bytes carried(frame_rows[0].octets, frame_rows[0].octets + frame_rows[0].fields[5]);
         carried.resize(14, 0x55);
-        expect(corrected == (i == 1 ? 1u : 0u) && rejected == (i == 2 ? 1u : 0u), "what became of code blocks");
-        expect(given == (i == 2 ? Bytes() : carried), "what a CLTU carried");
+        expect(corrected == (i == 1 ? 1u : 0u) && rejected == (i == 2 ? 1u : 0u), "the counts of code blocks");
+        expect(given == (i == 2 ? Bytes() : carried), "the octets that a CLTU carried");
     }
 }
 
@@ -401,9 +401,9 @@ void check_ends_of_the_link() {
     expect(is_made(tcrx::write_tm(header, false, {TM_CLCW}, 13, room), tm_row), "a telemetry frame");
     expect(is_made(tcrx::write_tm(header, true, {TM_CLCW}, 15, room), tm_fecf_row), "a telemetry frame with its field");
     const tcrx::Result<tcrx::Tm> read = tcrx::read_tm(true, {tm_fecf_row.octets, tm_fecf_row.count});
-    expect(read && read->clcw == TM_CLCW && read->pointer == 2046, "what a telemetry frame says");
+    expect(read && read->clcw == TM_CLCW && read->pointer == 2046, "the fields of a telemetry frame");
     const tcrx::TmHeader &found = read->header;
-    expect(found.scid == 675 && found.vcid == 5 && found.master_count == 200 && found.channel_count == 77, "its header");
+    expect(found.scid == 675 && found.vcid == 5 && found.master_count == 200 && found.channel_count == 77, "the header of a telemetry frame");
     Bytes reporting(tm_row.octets, tm_row.octets + tm_row.count);
     reporting[9] |= 0x80;
     const tcrx::Result<tcrx::Tm> type_2 = tcrx::read_tm(false, reporting);
@@ -413,7 +413,7 @@ void check_ends_of_the_link() {
     expect(tcrx::write_cltu(tcrx::Octets(Bytes(1030)), room).status() == Status::long_cltu, "a CLTU of too much");
     expect(tcrx::write_tm(header, true, {}, 12, room).status() == Status::bad_length, "a short telemetry frame");
     expect(tcrx::read_tm(true, {tm_row.octets, tm_row.count}).status() == Status::wrong_fecf, "a telemetry frame without a field");
-    expect(tcrx::read_tm(false, tcrx::Octets(Bytes(11))).status() == Status::no_control, "one without a CLCW");
+    expect(tcrx::read_tm(false, tcrx::Octets(Bytes(11))).status() == Status::no_control, "a telemetry frame without a CLCW");
 }
 
 struct ReplyRow {
@@ -425,7 +425,7 @@ struct ReplyRow {
 
 const Bytes one_packet = {0x10, 0x05, 0xc0, 0x00, 0x00, 0x00, 0xaa};
 
-// Returns a data field with a packet so many times, and with an octet more if there are several.
+// Returns a data field with `count` packets, and with one more octet at its end if there are several.
 Bytes packets(int count) {
     Bytes field = {0xc0};
     for (int i = 0; i < count; i++) {
@@ -437,8 +437,8 @@ Bytes packets(int count) {
     return field;
 }
 
-// Returns a frame of each event with its reply, which was worked out by hand from CCSDS 232.1-B, 6.3. Of the three
-// packets of one frame two find room.
+// Returns a frame of each event with its reply, which was worked out by hand from CCSDS 232.1-B, 6.3. One frame has
+// three packets, two of which find room.
 std::vector<ReplyRow> reply_rows() {
     using tcrx::Event;
     return {
@@ -468,13 +468,13 @@ void check_replies() {
         expect(brought && brought->event == row.event && brought->accepted == row.accepted && is(brought->delivery, row.delivery),
                "the reply to a frame");
     }
-    expect(channel.buffered().value() == 1 && channel.queued(5).value() == 2 && channel.units(2).value() == 1, "what waits");
+    expect(channel.buffered().value() == 1 && channel.queued(5).value() == 2 && channel.units(2).value() == 1, "the counts of waiting items");
     expect(is(channel.release().value(), {0, 1, false}), "the reply to a release");
     Bytes room(8), other(8);
     const tcrx::Result<tcrx::Octets> taken = channel.take(5, room), unit = channel.take_unit(2, other);
     expect(taken && Bytes(taken->begin(), taken->end()) == one_packet, "a packet that is taken");
     expect(unit && Bytes(unit->begin(), unit->end()) == Bytes({0xab, 0xcd}), "a unit that is taken");
-    expect(channel.release().status() == tcrx::Status::empty && channel.take_unit(2, room).status() == tcrx::Status::empty, "nothing waits");
+    expect(channel.release().status() == tcrx::Status::empty && channel.take_unit(2, room).status() == tcrx::Status::empty, "calls when nothing waits");
     expect(channel.events().value() == 13 && channel.clcw()->word == 0x010400fb, "the events, and the CLCW");
 }
 
@@ -494,8 +494,8 @@ void check_reports() {
         expect(are_fields(found, row.fields) && farm.state == *state++, "a report");
     }
     const tcrx::Farm farm = channel.report().value();
-    expect(channel.clcw(true, false)->word == link_words[0] && tcrx::clcw(farm, 1, true, false)->word == link_words[0], "no RF");
-    expect(channel.clcw(false, true)->word == link_words[1] && tcrx::clcw(farm, 1, false, true)->word == link_words[1], "no bit lock");
+    expect(channel.clcw(true, false)->word == link_words[0] && tcrx::clcw(farm, 1, true, false)->word == link_words[0], "the CLCW with No RF Available");
+    expect(channel.clcw(false, true)->word == link_words[1] && tcrx::clcw(farm, 1, false, true)->word == link_words[1], "the CLCW with No Bit Lock");
 }
 
 void check_settings() {
@@ -510,11 +510,11 @@ void check_settings() {
     const tcrx::Limit of_two[] = {{2, 6}}, no_limit[] = {{2, 0}};
     using tcrx::Status;
     expect(status({1, 9, 4, 0}, {}, {}) == Status::bad_width && status({1, 10, 4, 0, false}, {}, maps) == Status::plain_map, "bad settings");
-    expect(status(settings, {nullptr, 1}, {}) == Status::null && status(settings, {}, {}) == Status::done, "queues nowhere");
+    expect(status(settings, {nullptr, 1}, {}) == Status::null && status(settings, {}, {}) == Status::done, "queues at a null pointer");
     expect(tcrx::storage(settings, queues, maps).value() > 65542, "a storage");
     expect(within({65543, {}}) == Status::bad_others && within({0, no_limit}) == Status::bad_limit, "bad limits");
     expect(within({0, {}}) == Status::unlisted_map && within({0, of_two}) == Status::done, "a limit of each MAP");
-    expect(within({0, {nullptr, 1}}) == Status::null, "limits nowhere");
+    expect(within({0, {nullptr, 1}}) == Status::null, "limits at a null pointer");
     const tcrx::Settings eight = {1, 10, 8, 0};
     const tcrx::Queue four[] = {{5, 8}, {6, 8}, {7, 8}, {8, 8}};
     const tcrx::Limit one[] = {{0, 1024}};

@@ -1,8 +1,9 @@
 /*
- * Tests FARM-1 and CLCWs exhaustively. A possible step is each width of the window with each state and its flags, V(R),
- * arrival, N(S) and room. All of these steps are tested, and so is each CLCW that can be written, and each word of 32
- * bits that can be read. The wanted answers are those of farm.h, and those of the fields in CCSDS 232.0-B, 4.2. The
- * program takes about half a minute.
+ * Tests the steps of FARM-1 for each width of the window, each state with its flags, and each V(R). The arrivals are a
+ * Type-AD frame with each N(S), with and without room, a Set V(R) with each number, and every other arrival with each
+ * value of the FARM-B counter. Also tests each CLCW that can be written, and each word of 32 bits that can be read. The
+ * expected results are those of farm.h, and for CLCWs those of the fields in CCSDS 232.0-B, 4.2. The program takes about
+ * half a minute.
  */
 #include "farm.h"
 

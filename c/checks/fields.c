@@ -1,7 +1,7 @@
 /*
- * Checks each row of fields.h, field by field: frames and packets, which are written again, CLCWs, and frames that are
- * made. Then checks the report of a channel after each step, and its CLCW with each flag of the link alone. The last
- * line of the output is the number of comparisons that passed.
+ * Checks each row of fields.h, field by field. Frames and packets are read and written again, CLCWs are read, and other
+ * frames are written. Then checks the report of a channel after each step, and its CLCW with each flag of the link alone.
+ * The last line of the output is the number of comparisons that passed.
  */
 #include "expecting.h"
 #include "fields.h"
@@ -21,8 +21,8 @@ static void check_frames(void) {
         expect(memcmp(found, row->fields, sizeof found) == 0, "the fields of a frame", i);
         const size_t length = row->fields[5];
         const tcrx_written written = tcrx_write_frame(header, row->octets + 5, length - 5, octets, sizeof octets);
-        expect(written.status == TCRX_DONE && written.length == length, "the length of a frame of fields", i);
-        expect(memcmp(octets, row->octets, length) == 0, "the octets of a frame of fields", i);
+        expect(written.status == TCRX_DONE && written.length == length, "the length of a frame written from its fields", i);
+        expect(memcmp(octets, row->octets, length) == 0, "the octets of a frame written from its fields", i);
     }
 }
 
@@ -44,14 +44,14 @@ static void check_packets(void) {
         const tcrx_packet_header header = {read.apid, read.count, read.telecommand, read.secondary, read.sequence};
         uint8_t octets[MOST_OCTETS];
         const tcrx_written written = tcrx_write_packet(header, row->octets + 6, read.length - 6, octets, sizeof octets);
-        expect(written.status == TCRX_DONE && written.length == read.length, "the length of a packet of fields", i);
-        expect(memcmp(octets, row->octets, read.length) == 0, "the octets of a packet of fields", i);
+        expect(written.status == TCRX_DONE && written.length == read.length, "the length of a packet written from its fields", i);
+        expect(memcmp(octets, row->octets, read.length) == 0, "the octets of a packet written from its fields", i);
     }
 }
 
 static void expect_made(tcrx_written written, const uint8_t *octets, const uint8_t *wanted, size_t count, uint64_t place) {
-    expect(written.status == TCRX_DONE && written.length == count, "the length of a frame that is made", place);
-    expect(memcmp(octets, wanted, count) == 0, "the octets of a frame that is made", place);
+    expect(written.status == TCRX_DONE && written.length == count, "the length of a written frame", place);
+    expect(memcmp(octets, wanted, count) == 0, "the octets of a written frame", place);
 }
 
 static void check_made(void) {
@@ -63,7 +63,7 @@ static void check_made(void) {
         const tcrx_written written = tcrx_write_segment(first, 37, 3, i, made_unit, unit_count, octets, sizeof octets);
         expect_made(written, octets, segment_rows[i].octets, segment_rows[i].count, i);
     }
-    expect(tcrx_write_segment(first, 37, 3, 3, made_unit, unit_count, octets, sizeof octets).status == TCRX_NO_SEGMENT, "the last one", 3);
+    expect(tcrx_write_segment(first, 37, 3, 3, made_unit, unit_count, octets, sizeof octets).status == TCRX_NO_SEGMENT, "a segment behind the last one", 3);
     expect_made(tcrx_write_segment(bypass, 37, 7, 0, made_unit, unit_count, octets, sizeof octets), octets, whole_row.octets, whole_row.count, 4);
     expect_made(tcrx_write_command(675, 12, TCRX_UNLOCK, 77, octets, sizeof octets), octets, command_rows[0].octets, command_rows[0].count, 5);
     expect_made(tcrx_write_command(675, 12, TCRX_SET_VR, 9, octets, sizeof octets), octets, command_rows[1].octets, command_rows[1].count, 6);
@@ -73,9 +73,9 @@ static void check_made(void) {
 }
 
 static void expect_tm(tcrx_tm read, tcrx_tm_header header, uint64_t place) {
-    expect(read.status == TCRX_DONE && read.clcw == TM_CLCW && read.pointer == 2046, "what a telemetry frame says", place);
-    expect(read.header.scid == header.scid && read.header.vcid == header.vcid, "whose telemetry frame it is", place);
-    expect(read.header.master_count == header.master_count && read.header.channel_count == header.channel_count, "which one it is", place);
+    expect(read.status == TCRX_DONE && read.clcw == TM_CLCW && read.pointer == 2046, "the fields of a telemetry frame", place);
+    expect(read.header.scid == header.scid && read.header.vcid == header.vcid, "the ids in a telemetry frame", place);
+    expect(read.header.master_count == header.master_count && read.header.channel_count == header.channel_count, "the counts in a telemetry frame", place);
 }
 
 /* Gives a decoder the CLTU in pieces of `size` octets, with another octet behind it. If `wrong` isn't 0, the first code
@@ -97,16 +97,16 @@ static void check_stream(uint8_t correct, uint8_t wrong, size_t size, uint64_t p
         at += (size_t)answer.taken;
         corrected += answer.corrected;
         rejected += answer.rejected;
-        expect(answer.status == TCRX_DONE && (answer.ended ? at == all - 1 : answer.taken == count), "how far octets are taken", place);
+        expect(answer.status == TCRX_DONE && (answer.ended ? at == all - 1 : answer.taken == count), "the number of octets that are taken", place);
         if (answer.ended) {
             ended++;
-            expect(decoder.carried == 14 && memcmp(carried, plain->octets, length) == 0, "what a CLTU carries", place);
-            for (size_t k = length; k < 14; k++) expect(carried[k] == 0x55, "its fill", place);
+            expect(decoder.carried == 14 && memcmp(carried, plain->octets, length) == 0, "the octets that a CLTU carries", place);
+            for (size_t k = length; k < 14; k++) expect(carried[k] == 0x55, "the fill in a CLTU", place);
         }
     }
-    expect(corrected == (correct && wrong ? 1u : 0u), "how many code blocks are corrected", place);
-    expect(rejected == (!correct && wrong ? 1u : 0u), "how many code blocks are rejected", place);
-    expect(ended == (correct || !wrong ? 1u : 0u), "how many frames end", place);
+    expect(corrected == (correct && wrong ? 1u : 0u), "the number of corrected code blocks", place);
+    expect(rejected == (!correct && wrong ? 1u : 0u), "the number of rejected code blocks", place);
+    expect(ended == (correct || !wrong ? 1u : 0u), "the number of candidate frames", place);
 }
 
 static void check_ends_of_the_link(void) {
@@ -141,8 +141,8 @@ static void check_reports(void) {
         const uint32_t found[OF_FARM] = {farm.width, farm.state, farm.vr, farm.farm_b, farm.lockout, farm.wait, farm.retransmit};
         expect(report.status == TCRX_DONE && memcmp(found, row->fields, sizeof found) == 0, "a report", i);
     }
-    expect(tcrx_channel_clcw(&channel, 1, 0).word == link_words[0], "no RF", 0);
-    expect(tcrx_channel_clcw(&channel, 0, 1).word == link_words[1], "no bit lock", 0);
+    expect(tcrx_channel_clcw(&channel, 1, 0).word == link_words[0], "the CLCW with No RF Available", 0);
+    expect(tcrx_channel_clcw(&channel, 0, 1).word == link_words[1], "the CLCW with No Bit Lock", 0);
     expect(tcrx_channel_free(&channel) == TCRX_DONE, "a channel freed", 0);
 }
 
@@ -153,5 +153,5 @@ int main(void) {
     check_made();
     check_ends_of_the_link();
     check_reports();
-    return close_with("things that are read");
+    return close_with("comparisons of fields");
 }

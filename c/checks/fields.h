@@ -1,7 +1,7 @@
 /*
- * Frames, CLCWs and packets with their fields, frames that are made, and the steps of a channel with FARM-1 after each,
- * for fields.c and ends.cc. All of it was worked out by hand, from CCSDS 232.0-B, 4.1 and 4.2, CCSDS 133.0-B, 4.1, and
- * CCSDS 232.1-B, 6.3. Fill follows each frame and packet.
+ * Frames, CLCWs and packets with their fields, frames that calls write, and the steps of a channel with FARM-1 after
+ * each, for fields.c and ends.cc. All of it was worked out by hand, from CCSDS 232.0-B, 4.1 and 4.2, CCSDS 133.0-B, 4.1,
+ * and CCSDS 232.1-B, 6.3, except where a comment names another source. Fill follows each frame and packet that is read.
  *
  * The fields are plain numbers here, and not records of the header, so that the checks find a record in which two
  * fields have swapped names.
@@ -61,7 +61,7 @@ static const packet_row packet_rows[] = {
     {{0x08, 0x00, 0xea, 0xaa, 0x00, 0x00, 0xaa, 0x55}, 8, {7, 0, 10922, 0, 1, 3}},
 };
 
-/* A frame that is made. */
+/* A frame that a call writes. */
 typedef struct {
     uint8_t octets[16];
     size_t count;

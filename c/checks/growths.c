@@ -165,8 +165,8 @@ static bool is_never_null(void) {
 }
 #endif
 
-/* Makes the call with its first block refused, then with the second, until no block is refused. A call that doesn't
- * grow requests no block. */
+/* Makes a call with its first block refused, then with its second, and so on until no block is refused. If `grows` isn't
+ * set, the call must request no block. Returns whether each result is as it must be. */
 static bool done(tcrx_status (*call)(void), bool grows) {
     for (unsigned long n = 0; n < 10000; n++) {
         const state before = look();
@@ -201,13 +201,13 @@ int main(void) {
         if (done(calls[i].call, calls[i].grows)) {
             good += 1;
         } else {
-            printf("call %zu isn't as it must be\n", i);
+            printf("call %zu doesn't have the expected result\n", i);
         }
     }
     const bool never = is_never_null();
     const bool freed = free_it() == TCRX_DONE && blocks == 0;
     if (!never) {
-        printf("where no block is given, its address is null\n");
+        printf("the address is null if there is no block\n");
     }
     printf("%lu blocks refused in %lu calls, %lu calls done, %s\n", refusals, count, good, freed ? "all freed" : "not all freed");
     return good == count && never && freed && refusals > 0 ? 0 : 1;

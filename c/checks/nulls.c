@@ -32,7 +32,7 @@ static void compare(const row *rows, size_t count, tcrx_status status) {
     for (size_t i = 0; i < count; i++) {
         expect(rows[i].status == status && rows[i].rest == 0, rows[i].call, i);
     }
-    expect(memcmp(octets, kept, ROOM) == 0 && text[0] == '\0', "a buffer", status);
+    expect(memcmp(octets, kept, ROOM) == 0 && text[0] == '\0', "the buffers after these calls", status);
 }
 
 static void check_single(void) {
@@ -70,7 +70,7 @@ static void check_single(void) {
     compare(rows, sizeof rows / sizeof rows[0], TCRX_NULL);
 }
 
-/* Checks the lists of a channel that is to be created, and of its storage. */
+/* Checks the calls that create a channel or compute its storage, with null pointers to lists. */
 static void check_lists(void) {
     tcrx_channel channel = TCRX_HOLDS_NONE;
     const row rows[] = {
@@ -86,10 +86,10 @@ static void check_lists(void) {
         COUNT(tcrx_storage_with_limits(settings, NULL, 0, NULL, 0, 9, NULL, 1)),
     };
     compare(rows, sizeof rows / sizeof rows[0], TCRX_NULL);
-    expect(channel.held == 0, "a channel that isn't made", 0);
+    expect(channel.held == 0, "a channel that isn't created", 0);
 }
 
-/* Checks each call of a channel if no channel is given or held. */
+/* Checks each call of a channel with a null pointer or without a channel that is held. */
 static void check_none(tcrx_channel *channel, tcrx_status status) {
     static const uint8_t unlock[] = {0x30, 0x2a, 0x04, 0x05, 0x00, 0x00};
     const tcrx_reply frame = tcrx_channel_frame(channel, unlock, sizeof unlock);
@@ -113,7 +113,7 @@ static void check_none(tcrx_channel *channel, tcrx_status status) {
     compare(rows, sizeof rows / sizeof rows[0], status);
 }
 
-/* Checks the calls of a channel that is held. */
+/* Checks the calls of a channel that is held, with null pointers to octets. */
 static void check_held(tcrx_channel *channel) {
     const row rows[] = {
         {"tcrx_channel_frame without octets", tcrx_channel_frame(channel, NULL, 6).status, 0},
@@ -121,7 +121,7 @@ static void check_held(tcrx_channel *channel) {
         WRITTEN(tcrx_channel_take_unit(channel, 2, NULL, ROOM)),
     };
     compare(rows, sizeof rows / sizeof rows[0], TCRX_NULL);
-    expect(tcrx_channel_events(channel).count == 0, "events of a channel that was given nothing", 0);
+    expect(tcrx_channel_events(channel).count == 0, "the events of a channel without frames", 0);
 }
 
 int main(void) {
@@ -139,5 +139,5 @@ int main(void) {
     check_held(&channel);
     expect(tcrx_channel_free(&channel) == TCRX_DONE, "a channel freed", 0);
     check_none(&channel, TCRX_NO_CHANNEL);
-    return close_with("answers of calls that are given nothing");
+    return close_with("results of calls without octets, lists or a channel");
 }

@@ -116,7 +116,7 @@ static void check_write(tcrx_header header, size_t field_count, size_t room, tcr
     const tcrx_written written = tcrx_write_frame(header, from, field_count, to, room);
     const size_t kept = status == TCRX_DONE ? length : 0;
     expect(written.status == status && written.length == length, "the status of a written frame", place);
-    expect(is_filled(to + kept, room - kept), "what follows a written frame", place);
+    expect(is_filled(to + kept, room - kept), "the octets behind a written frame", place);
     expect(status != TCRX_DONE || memcmp(to + 5, from, field_count) == 0, "the data field of a written frame", place);
     free(from);
     free(to);
@@ -141,8 +141,8 @@ static uint8_t *fresh(void) {
 }
 
 static void expect_refused(tcrx_written written, tcrx_status status, size_t length, unsigned long place) {
-    expect(written.status == status && written.length == length, "the status of a making that is refused", place);
-    expect(is_filled(made, sizeof made), "the buffer of a making that is refused", place);
+    expect(written.status == status && written.length == length, "the status of a write that fails", place);
+    expect(is_filled(made, sizeof made), "the buffer after a write that fails", place);
 }
 
 static void check_packets_made(void) {
@@ -212,10 +212,10 @@ static void expect_undecoded(tcrx_decoder decoder, uint8_t *frame, size_t room, 
     static const uint8_t octets[] = {0x55, 0x55};
     const tcrx_decoded answer = tcrx_cltu_octets(decoder, octets, sizeof octets, frame, room);
     const tcrx_decoder kept = answer.decoder;
-    expect(answer.status == status && answer.ended == 0 && answer.taken == 0, "octets that are refused", place);
-    expect(answer.corrected == 0 && answer.rejected == 0 && answer.overlong == 0, "code blocks of octets that are refused", place);
-    expect(kept.correct == decoder.correct && kept.decoding == decoder.decoding && kept.last == decoder.last, "a decoder as it was", place);
-    expect(kept.count == decoder.count && kept.carried == decoder.carried && is_filled(made, sizeof made), "what it holds as it was", place);
+    expect(answer.status == status && answer.ended == 0 && answer.taken == 0, "a decoder that takes no octets", place);
+    expect(answer.corrected == 0 && answer.rejected == 0 && answer.overlong == 0, "the counts of a decoder that takes no octets", place);
+    expect(kept.correct == decoder.correct && kept.decoding == decoder.decoding && kept.last == decoder.last, "the unchanged record of a decoder", place);
+    expect(kept.count == decoder.count && kept.carried == decoder.carried && is_filled(made, sizeof made), "the unchanged octets of a decoder", place);
 }
 
 static void check_decoders(void) {
@@ -232,16 +232,16 @@ static void check_decoders(void) {
     expect(answer.overlong == 1 && answer.corrected == 0 && answer.rejected == 0, "a CLTU that carries too much", 237);
     const tcrx_decoded anew = tcrx_cltu_search(full);
     const tcrx_decoder now = anew.decoder;
-    expect(anew.status == TCRX_DONE && now.correct == 1 && now.decoding == 0 && now.last == 0 && now.count == 0, "a search anew", 238);
-    expect(anew.ended == 0 && anew.taken == 0 && anew.corrected == 0 && anew.rejected == 0 && anew.overlong == 0, "a search alone", 239);
-    expect(tcrx_cltu_search(correct).status == TCRX_BAD_FLAG && tcrx_cltu_search(decoding).status == TCRX_BAD_FLAG, "no flag", 240);
-    expect(tcrx_cltu_search(count).status == TCRX_BAD_DECODER && tcrx_cltu_search(too_much).status == TCRX_BAD_DECODER, "no decoder", 241);
+    expect(anew.status == TCRX_DONE && now.correct == 1 && now.decoding == 0 && now.last == 0 && now.count == 0, "a new search", 238);
+    expect(anew.ended == 0 && anew.taken == 0 && anew.corrected == 0 && anew.rejected == 0 && anew.overlong == 0, "the counts after a new search", 239);
+    expect(tcrx_cltu_search(correct).status == TCRX_BAD_FLAG && tcrx_cltu_search(decoding).status == TCRX_BAD_FLAG, "a bad flag of a decoder", 240);
+    expect(tcrx_cltu_search(count).status == TCRX_BAD_DECODER && tcrx_cltu_search(too_much).status == TCRX_BAD_DECODER, "a bad record of a decoder", 241);
 }
 
 static void expect_unread(tcrx_tm read, tcrx_status status, unsigned long place) {
     const int is_empty = read.clcw == 0 && read.pointer == 0 && read.header.scid == 0 && read.header.vcid == 0;
     expect(read.status == status && is_empty, "a telemetry frame that is refused", place);
-    expect(read.header.master_count == 0 && read.header.channel_count == 0, "the counts of one that is refused", place);
+    expect(read.header.master_count == 0 && read.header.channel_count == 0, "the counts of a telemetry frame that is refused", place);
 }
 
 static void check_telemetry(void) {
@@ -270,7 +270,7 @@ static void check_text(tcrx_status status, const char *wanted) {
     expect(refused.status == TCRX_NO_ROOM && refused.length == needed && is_filled((const uint8_t *)text, sizeof text), "no room for a text", status);
     const tcrx_written written = tcrx_text(status, text, TCRX_TEXT_ROOM);
     expect(written.status == TCRX_DONE && written.length == needed && strcmp(text, wanted) == 0, wanted, status);
-    expect(is_filled((const uint8_t *)text + needed, sizeof text - needed), "what follows a text", status);
+    expect(is_filled((const uint8_t *)text + needed, sizeof text - needed), "the octets behind a text", status);
 }
 
 static void check_texts(void) {
@@ -285,7 +285,7 @@ static void check_texts(void) {
         char text[TCRX_TEXT_ROOM];
         const tcrx_written written = tcrx_text(status, text, sizeof text);
         there += written.status == TCRX_DONE ? 1 : 0;
-        expect(written.status == TCRX_DONE || (written.status == TCRX_NO_STATUS && written.length == 0), "a number", status);
+        expect(written.status == TCRX_DONE || (written.status == TCRX_NO_STATUS && written.length == 0), "a status number", status);
     }
     expect(there == sizeof texts / sizeof texts[0], "the count of statuses", there);
 }
@@ -307,8 +307,8 @@ static tcrx_status new_channel(tcrx_channel *channel, tcrx_settings settings, co
 static tcrx_status status_of(tcrx_settings settings, const tcrx_queue *queues, size_t q, const tcrx_map *maps, size_t m) {
     tcrx_channel channel = TCRX_HOLDS_NONE;
     const tcrx_status status = new_channel(&channel, settings, queues, q, maps, m);
-    expect((channel.held == 1) == (status == TCRX_DONE), "whether one is held", status);
-    expect(tcrx_channel_free(&channel) == (status == TCRX_DONE ? TCRX_DONE : TCRX_NO_CHANNEL), "what is freed", status);
+    expect((channel.held == 1) == (status == TCRX_DONE), "the flag of a new channel", status);
+    expect(tcrx_channel_free(&channel) == (status == TCRX_DONE ? TCRX_DONE : TCRX_NO_CHANNEL), "the status of freeing a channel", status);
     return status;
 }
 
@@ -317,14 +317,14 @@ static void check_lists(void) {
     static const tcrx_map bad_map[] = {{5, 1}, {64, 0}}, map_twice[] = {{5, 1}, {6, 0}, {5, 1}}, many[] = {{5, 257}};
     const tcrx_settings plain = {63, 254, 64, 255, 0};
     const tcrx_settings vcid = {64, 254, 64, 255, 1}, width = {63, 9, 64, 255, 1}, buffer = {63, 254, 65, 255, 1}, flag = {63, 254, 64, 255, 2};
-    expect(status_of(vcid, NULL, 0, NULL, 0) == TCRX_BAD_VCID && status_of(width, NULL, 0, NULL, 0) == TCRX_BAD_WIDTH, "numbers", 0);
-    expect(status_of(buffer, NULL, 0, NULL, 0) == TCRX_BAD_BUFFER && status_of(flag, NULL, 0, NULL, 0) == TCRX_BAD_FLAG, "numbers", 1);
+    expect(status_of(vcid, NULL, 0, NULL, 0) == TCRX_BAD_VCID && status_of(width, NULL, 0, NULL, 0) == TCRX_BAD_WIDTH, "bad numbers in settings", 0);
+    expect(status_of(buffer, NULL, 0, NULL, 0) == TCRX_BAD_BUFFER && status_of(flag, NULL, 0, NULL, 0) == TCRX_BAD_FLAG, "bad numbers in settings", 1);
     expect(status_of(good_settings, good_queues, 2, good_maps, 2) == TCRX_DONE, "good lists", 0);
     expect(status_of(plain, good_queues, 2, NULL, 0) == TCRX_DONE, "a plain channel", 0);
-    expect(status_of(good_settings, bad_apid, 2, bad_map, 2) == TCRX_BAD_APID, "an APID", 0);
+    expect(status_of(good_settings, bad_apid, 2, bad_map, 2) == TCRX_BAD_APID, "a bad APID", 0);
     expect(status_of(good_settings, twice, 3, bad_map, 2) == TCRX_DOUBLE_APID, "an APID twice", 0);
     expect(status_of(good_settings, large, 1, bad_map, 2) == TCRX_BAD_CAPACITY, "a large capacity", 0);
-    expect(status_of(good_settings, NULL, 0, bad_map, 2) == TCRX_BAD_MAP, "a MAP", 0);
+    expect(status_of(good_settings, NULL, 0, bad_map, 2) == TCRX_BAD_MAP, "a bad MAP", 0);
     expect(status_of(good_settings, NULL, 0, map_twice, 3) == TCRX_DOUBLE_MAP, "a MAP twice", 0);
     expect(status_of(plain, NULL, 0, many, 1) == TCRX_BAD_UNITS, "room for many units", 0);
     expect(status_of(plain, NULL, 0, good_maps, 2) == TCRX_PLAIN_MAP, "a MAP of a plain channel", 0);
@@ -335,8 +335,8 @@ static void check_lists(void) {
 static tcrx_status limited(tcrx_settings settings, const tcrx_map *maps, size_t m, uint32_t others, const tcrx_limit *limits, size_t l) {
     tcrx_channel channel = TCRX_HOLDS_NONE;
     const tcrx_status status = tcrx_channel_new_with_limits(&channel, settings, good_queues, 2, maps, m, others, limits, l);
-    expect((channel.held == 1) == (status == TCRX_DONE), "whether one is held within limits", status);
-    expect(tcrx_channel_free(&channel) == (status == TCRX_DONE ? TCRX_DONE : TCRX_NO_CHANNEL), "what is freed", status);
+    expect((channel.held == 1) == (status == TCRX_DONE), "the flag of a new channel within limits", status);
+    expect(tcrx_channel_free(&channel) == (status == TCRX_DONE ? TCRX_DONE : TCRX_NO_CHANNEL), "the status of freeing a channel", status);
     return status;
 }
 
@@ -345,7 +345,7 @@ static void check_limits(void) {
     const tcrx_settings plain = {63, 254, 1, 255, 0}, bad = {63, 3, 1, 255, 1}, good = {63, 254, 1, 255, 1};
     expect(limited(good, good_maps, 2, 0, both, 2) == TCRX_DONE, "good limits", 0);
     expect(limited(bad, good_maps, 2, 65543, over, 2) == TCRX_BAD_WIDTH, "a fault of the settings before those of limits", 0);
-    expect(limited(good, good_maps, 2, 65543, over, 2) == TCRX_BAD_OTHERS, "the others", 0);
+    expect(limited(good, good_maps, 2, 65543, over, 2) == TCRX_BAD_OTHERS, "the limit of other MAPs", 0);
     expect(limited(good, good_maps, 2, 9, over, 2) == TCRX_BAD_LIMIT_MAP, "the MAP of a limit", 0);
     expect(limited(good, good_maps, 2, 9, twice, 3) == TCRX_DOUBLE_LIMIT, "two limits of a MAP", 0);
     expect(limited(plain, NULL, 0, 9, both, 2) == TCRX_PLAIN_LIMIT, "limits of a plain channel", 0);
@@ -357,8 +357,8 @@ static void check_limits(void) {
 static void check_asked(tcrx_channel *channel) {
     static const uint8_t unlock[] = {0x30, 0x2a, 0x04, 0x05, 0x00, 0x00, 0xff};
     uint8_t octets[8];
-    expect(tcrx_channel_new(channel, good_settings, NULL, 0, NULL, 0) == TCRX_IN_USE, "a channel that is held", 0);
-    expect(tcrx_channel_new_with_limits(channel, good_settings, NULL, 0, NULL, 0, 9, NULL, 0) == TCRX_IN_USE, "one that is held", 1);
+    expect(tcrx_channel_new(channel, good_settings, NULL, 0, NULL, 0) == TCRX_IN_USE, "a new channel in place of one that is held", 0);
+    expect(tcrx_channel_new_with_limits(channel, good_settings, NULL, 0, NULL, 0, 9, NULL, 0) == TCRX_IN_USE, "a new channel with limits in place of one that is held", 1);
     expect(tcrx_channel_frame(channel, unlock, 4).status == TCRX_SHORT && tcrx_channel_frame(channel, unlock, 5).status == TCRX_TRUNCATED, "a frame", 5);
     expect(tcrx_channel_frame(channel, unlock, 6).status == TCRX_DONE, "a frame", 6);
     expect(tcrx_channel_release(channel).status == TCRX_EMPTY, "an empty buffer", 0);
@@ -367,7 +367,7 @@ static void check_asked(tcrx_channel *channel) {
     expect(tcrx_channel_queued(channel, 6).status == TCRX_NO_QUEUE, "no queue", 1);
     expect(tcrx_channel_units(channel, 6).status == TCRX_NO_MAP, "no MAP", 1);
     expect(tcrx_channel_clcw(channel, 2, 0).status == TCRX_BAD_FLAG && tcrx_channel_clcw(channel, 0, 2).word == 0, "a flag of the link", 0);
-    expect(tcrx_channel_events(channel).count == 1, "only the frame that is one is an event", 0);
+    expect(tcrx_channel_events(channel).count == 1, "the number of events after failing calls and one frame", 0);
 }
 
 static void check_channel(void) {
@@ -392,7 +392,8 @@ static uint64_t rack_events(void) {
     return all;
 }
 
-/* Writes a Type-AD frame with this N(S), with a frame error control field if it is to have one. Returns its length. */
+/* Writes a Type-AD frame with this N(S). If `fecf` is 1, the frame ends with a frame error control field. Returns its
+ * length. */
 static size_t rack_octets(uint16_t scid, uint8_t vcid, uint8_t ns, uint8_t fecf, uint8_t *octets) {
     const tcrx_header header = {scid, vcid, ns, 0, 0};
     const uint8_t field[] = {0xc0, 0xaa};
@@ -401,8 +402,8 @@ static size_t rack_octets(uint16_t scid, uint8_t vcid, uint8_t ns, uint8_t fecf,
     return fecf == 1 ? tcrx_add_fecf(plain, count, octets, 10).length : count;
 }
 
-/* Expects that a rack rejects a candidate. The reply must have the length of its frame, and say whether more follows.
- * No channel may have a new event. */
+/* Expects that a rack rejects a candidate. The reply must have the length of its frame and the flag for octets that
+ * follow the frame. No channel may have a new event. */
 static void expect_no_candidate(uint16_t scid, uint8_t fecf, const uint8_t *octets, size_t count, tcrx_status status, size_t length, unsigned more) {
     const uint64_t events = rack_events();
     const tcrx_candidate_reply reply = tcrx_rack_candidate(rack, PLACES, scid, fecf, octets, count);
@@ -469,8 +470,8 @@ static void check_candidates(uint8_t fecf, uint8_t vcid, size_t place) {
         const uint64_t events = tcrx_channel_events(&rack[place]).count;
         const tcrx_candidate_reply reply = tcrx_rack_candidate(rack, PLACES, CRAFT, fecf, octets + at, all + 2 - at);
         expect(reply.status == TCRX_DONE && reply.vcid == vcid && reply.event == 1 && reply.accepted == 1, "a frame of a candidate", at);
-        expect(reply.length == all / 3 && reply.more == (at < 2 * (all / 3)), "what follows a frame of a candidate", at);
-        expect(tcrx_channel_release(&rack[place]).status == TCRX_DONE && tcrx_channel_events(&rack[place]).count == events + 2, "its channel", at);
+        expect(reply.length == all / 3 && reply.more == (at < 2 * (all / 3)), "the length of a frame of a candidate", at);
+        expect(tcrx_channel_release(&rack[place]).status == TCRX_DONE && tcrx_channel_events(&rack[place]).count == events + 2, "the channel of a candidate", at);
     }
 }
 
@@ -491,7 +492,7 @@ static void check_rack(void) {
     expect(first.status == TCRX_DONE && first.place == FIRST && other.status == TCRX_DONE && other.place == OTHER, "the places of ids", 0);
     expect(none.status == TCRX_UNKNOWN_CHANNEL && none.place == 0, "an id of no channel", 6);
     expect(tcrx_rack_find(NULL, 1, 5).status == TCRX_NULL && tcrx_rack_find(NULL, 0, 5).status == TCRX_UNKNOWN_CHANNEL, "no rack", 0);
-    expect(tcrx_rack_find(rack, FIRST, 5).status == TCRX_UNKNOWN_CHANNEL, "an id behind the end", 0);
+    expect(tcrx_rack_find(rack, FIRST, 5).status == TCRX_UNKNOWN_CHANNEL, "an id of a channel behind the end of a rack", 0);
     expect(tcrx_channel_free(&rack[FIRST]) == TCRX_DONE, "the first channel", FIRST);
     check_candidates(1, 5, SECOND);
     expect(tcrx_channel_free(&rack[SECOND]) == TCRX_DONE && tcrx_channel_free(&rack[OTHER]) == TCRX_DONE, "the last channels", 0);

@@ -52,7 +52,7 @@ std::vector<std::string> lines_of(const std::string &script) {
     return lines;
 }
 
-// Returns the texts of the answers to lines and of the final report, and behind them the reason if a script ended.
+// Returns the texts of the answers to lines, then that of the final report, or the reason why a script ended.
 // Checks that no more lines are answered after that.
 std::string come_of(Session session, const std::string &script) {
     std::string texts;
@@ -121,7 +121,7 @@ void check_errors() {
     expect(live.answer({}) && live.answer("channel 1 10 4 0") && live.text().text.empty(), "lines after that");
 }
 
-// The first text of a session, for which its buffer must grow.
+// Checks the first text of a session, for which its buffer must grow.
 void check_room() {
     Session live = *Session::live(42);
     expect(live.answer("channel 1 10 4 0").status == Status::done, "a line without a text");
@@ -215,7 +215,7 @@ void check_refused() {
 
 }  // namespace
 
-// The memory of a buffer for texts.
+// Allocates the buffer for texts. Returns null while texts are refused.
 void *operator new[](std::size_t count, const std::nothrow_t &) noexcept {
     return texts_are_refused ? nullptr : ::operator new[](count);
 }

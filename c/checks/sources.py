@@ -8,7 +8,7 @@ doxygen is installed, it must read the header's comments without a warning.
 
 usage: c/checks/sources.py
 
-It can be started from any folder. The last line says how many checks passed, and whether doxygen isn't installed.
+You can start it from any folder. The last line has the numbers of checks that passed and failed. Without doxygen its check is left out.
 """
 
 import re
@@ -36,7 +36,7 @@ def compiled(compiler: list[str], lines: str, folder: Path, *flags: str) -> str:
 
 
 def versions() -> list[tuple[str, str]]:
-    """Compiles the header in each version of each language, and the headers for C++ also as flight software is built."""
+    """Compiles the header in each version of each language, and the headers for C++ also with and without exceptions and RTTI."""
     said = [(compiler[1], compiled(compiler, '#include "tcrx.h"\n', HEADER.parent, *WARNINGS)) for compiler in C + CXX]
     for compiler in CXX[2:]:
         for flags in (("-fexceptions", "-frtti"), ("-fno-exceptions", "-fno-rtti")):
@@ -47,7 +47,7 @@ def versions() -> list[tuple[str, str]]:
 
 
 def shown_code() -> list[tuple[str, str]]:
-    """Compiles the lines of code of c/README.md, in the versions that it names."""
+    """Compiles the lines of code of c/README.md, in the oldest version of C and in the newest one of C++."""
     blocks = re.findall(r"^```c\n(.*?)^```$", (TOP / "c" / "README.md").read_text(), re.M | re.S)
     lines = '#include "tcrx.h"\n' + "".join(f"void shown_{i}({GIVEN}) {{\n{block}}}\n" for i, block in enumerate(blocks))
     said = [(f"the code of c/README.md, {compiler[1]}", compiled(compiler, lines, HEADER.parent)) for compiler in (C[0], CXX[-1])]

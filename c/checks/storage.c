@@ -95,7 +95,7 @@ static uint64_t static_storage(const plan *p) {
     return TCRX_STORAGE_OF(parts);
 }
 
-/* Computes the sum by the rows of the table. */
+/* Computes the storage part by part, as docs/explanation/memory.md describes it. */
 static uint64_t sum(const plan *p) {
     const uint64_t buffer = p->settings.buffer * (UINT64_C(32) + 1019);
     const uint64_t runs = p->settings.segmented == 1 ? 128 * 40 + 2 * all_limits(p) : 0;
@@ -121,8 +121,8 @@ static void check(const plan *p, uint64_t place) {
     tcrx_channel channel = TCRX_HOLDS_NONE;
     asked = 0;
     const tcrx_count storage = ask(p);
-    expect(asked == 0 || !is_exact, "a storage that asks for memory", place);
-    expect(storage.count == (storage.status == TCRX_DONE ? sum(p) : 0), "a storage", place);
+    expect(asked == 0 || !is_exact, "a call for the storage that requests memory", place);
+    expect(storage.count == (storage.status == TCRX_DONE ? sum(p) : 0), "the storage", place);
     if (storage.count > MADE || !is_made(place)) {
         return;
     }
@@ -132,12 +132,12 @@ static void check(const plan *p, uint64_t place) {
         const size_t limits = p->limited ? p->limit_count : 0, lists = 4 * (p->queue_count + p->map_count) + 8 * limits;
         const uint64_t most = static_storage(p);
         const uint64_t all = storage.count + lists + OWN;
-        expect(asked == all || !is_exact, "what the making asks for", place);
-        expect(all + 63 < most && most <= all + 128, "what TCRX_STORAGE_OF says", place);
+        expect(asked == all || !is_exact, "the bytes that the creation requests", place);
+        expect(all + 63 < most && most <= all + 128, "the bytes that TCRX_STORAGE_OF gives", place);
     } else {
-        expect(asked == 0 || !is_exact, "a refusal that asks for memory", place);
+        expect(asked == 0 || !is_exact, "a refused creation that requests memory", place);
     }
-    expect(tcrx_channel_free(&channel) == (made == TCRX_DONE ? TCRX_DONE : TCRX_NO_CHANNEL), "what is freed", place);
+    expect(tcrx_channel_free(&channel) == (made == TCRX_DONE ? TCRX_DONE : TCRX_NO_CHANNEL), "the status of freeing a channel", place);
     expect(blocks == 0 || !is_exact, "blocks that are left", place);
 }
 
@@ -262,5 +262,5 @@ int main(int count, char **words) {
     check_named();
     check_nothing();
     for (uint64_t place = 0; place < 20000; place++) check_any(place);
-    return close_with("answers about storage");
+    return close_with("results about storage");
 }

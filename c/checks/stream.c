@@ -3,7 +3,7 @@
  * Prints how many candidate frames ended, and how many code blocks were corrected and rejected. With `sum` it checks
  * the frame error control field of a frame of 1,024 octets COUNT times.
  *
- *   stream COUNT MODE WRONG      MODE is detect or correct; WRONG is how many of the 147 code blocks of each CLTU have a wrong bit
+ *   stream COUNT MODE WRONG      MODE is detect or correct; in each CLTU, WRONG of the 147 code blocks have a wrong bit
  *   stream COUNT sum
  */
 #include "../../dist/tcrx.h"

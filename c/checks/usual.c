@@ -1,8 +1,8 @@
 /*
  * Makes the calls on a usual channel whose instructions benchmarks/limit counts. The channel has units of up to 256
- * octets on MAP 0, and a queue for PACKETS packets. A data field with 36 packets of seven octets is released, and no
- * more packets would fit into a unit. Then a frame of 1,024 octets with its frame error control field is brought to
- * the rack of this channel. Prints how many packets the release queued and dropped.
+ * octets on MAP 0, and a queue for PACKETS packets. A data field with 36 packets of seven octets is released. That is
+ * the largest number of such packets in a unit. Then a frame of 1,024 octets with its frame error control field is
+ * brought to the rack of this channel. Prints how many packets the release queued and dropped.
  *
  *   usual PACKETS
  *
