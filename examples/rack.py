@@ -10,8 +10,8 @@ APPLICATIONS = {1: 5, 2: 7}
 
 # pylint: disable-next=too-many-arguments  # they are parts of a frame
 def send(rack: Rack, vcid: int, application: int, octet: int, *, ns: int = 0, bypass: bool = False, turned: int = 0) -> None:
-    """Sends, as a ground test does, an octet in a packet, in a frame with its frame error control field. A bit of the
-    frame may be turned on the way."""
+    """Sends an octet in a packet, as a ground test does. The frame ends with its frame error control field. `turned` has
+    the bits of one octet of the frame that are flipped on the way."""
     packet = write_packet(application, 0, bytes([octet]))
     frames = write_segments(packet, scid=SPACECRAFT, vcid=vcid, ns=ns, map=0, bypass=bypass)
     sent = bytearray(add_fecf(frames[0]))

@@ -48,8 +48,8 @@ static void receive(const radio_message *message) {
     }
 }
 
-/* Sends each packet on the bus, under the message id in its primary header. Returns whether the bus had a buffer for
- * each. */
+/* Sends all packets that wait on the bus, each under the message id in its primary header. Returns false if the bus had
+ * no buffer. */
 static bool send_packets(void) {
     for (;;) {
         CFE_SB_Buffer_t *message = CFE_SB_AllocateMessageBuffer(MOST_UNIT);
@@ -66,7 +66,8 @@ static bool send_packets(void) {
     }
 }
 
-/* Releases a data field only when all packets before it are sent. Otherwise the buffer fills, and the ground waits. */
+/* Releases data fields, each only after all packets before it are sent. If the bus has no buffer, the data fields wait,
+ * so that the ground must wait, too. */
 static void hand_on(void) {
     while (send_packets() && tcrx_channel_release(&rack[0]).status == TCRX_DONE) {
     }

@@ -1,8 +1,8 @@
 /*
  * Takes octets of the radio all the way to packets, through the decoder, the randomiser, frames of different lengths,
  * the check sum and a channel. The program sends a frame of each length from 8 to 1,024 octets in a CLTU of its own,
- * and then CLTUs with 1 to 4 frames. Each CLTU comes in pieces and with one wrong bit. The program prints how many
- * frames didn't come through whole, and then the outcome for a CLTU that carries more than the receiver takes.
+ * and then CLTUs with 2 to 4 frames, all without and with a check sum. Each CLTU comes in pieces and with one wrong bit.
+ * The program prints how many frames were lost, and then the outcome for a CLTU that carries more than the receiver takes.
  */
 #include <tcrx.h>
 
@@ -83,7 +83,7 @@ static void send_frame(sent *frame, size_t length, uint8_t fecf) {
     frame->length = fecf ? tcrx_add_fecf(plain, whole, frame->octets, sizeof frame->octets).length : whole;
 }
 
-/* Sends one CLTU with these frames, in pieces, and with one bit turned in its first code block. */
+/* Sends one CLTU with these frames, in pieces, and with one bit flipped in its first code block. */
 static void transmit(receiver *at, const sent *frames, unsigned count) {
     static uint8_t carried[2 * CARRIED], random[2 * CARRIED], cltu[1200];
     size_t length = 0;
@@ -165,6 +165,6 @@ int main(void) {
         send_frame(&frames[i], 40, 1);
     }
     transmit(&at, frames, 3);
-    printf("of 3 frames where 2 are taken: %u come, and %u CLTU is over the bound\n", at.frames, at.over_the_bound);
+    printf("3 frames in a CLTU, at most 2 taken: frames received: %u, CLTUs over the bound: %u\n", at.frames, at.over_the_bound);
     return tcrx_channel_free(at.rack) != TCRX_DONE || all != 0;
 }

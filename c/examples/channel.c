@@ -86,7 +86,7 @@ static void release_all(tcrx_channel *channel) {
     }
 }
 
-/* Delivers packets to their applications, and units of the payload's MAP. */
+/* Delivers packets to their applications, and takes a unit of the payload's MAP. */
 static void deliver(tcrx_channel *channel) {
     uint8_t octets[MOST_UNIT];
     for (size_t i = 0; i < APPLICATIONS; i++) {

@@ -31,8 +31,8 @@ bool start(Channels &channels) {
     return true;
 }
 
-// Sends, as a ground test does, an octet in a packet, in a frame with its frame error control field. A bit of the frame
-// may be turned on the way.
+// Sends an octet in a packet, as a ground test does. The frame ends with its frame error control field. `turned` has the
+// bits of one octet of the frame that are flipped on the way.
 void send(tcrx::Rack &rack, const tcrx::Header &header, std::uint16_t application, std::uint8_t octet, std::uint8_t turned = 0) {
     std::array<std::uint8_t, 64> packet{}, frame{}, sent{};
     const auto unit = tcrx::Packet::write({application}, tcrx::Octets(&octet, 1), packet);

@@ -41,7 +41,7 @@ static void print_packet(const uint8_t *field, size_t count) {
     printf("packet of application %u with %" PRIu32 " octets\n", (unsigned)packet.apid, packet.length);
 }
 
-/* Gives FARM-1 an arrival, and keeps its record. */
+/* Takes one step of FARM-1, and keeps its new record. */
 static tcrx_step_answer step(receiver *self, uint8_t arrival, uint8_t number) {
     const tcrx_step_answer answer = tcrx_farm_step(self->farm, arrival, number, self->full ? 0 : 1);
     self->farm = answer.farm;

@@ -34,7 +34,7 @@ static unsigned numbers[MOST_WORDS];
 static uint8_t octets[LONGEST_SCRIPT / 2];
 static size_t octet_count;
 
-/* Whether standard input is a script, which is read whole. Otherwise lines are read one by one. */
+/* True if standard input is a script, which is read whole. Otherwise lines are read one by one. */
 static bool is_script;
 static char script[LONGEST_SCRIPT + 1];
 static size_t script_length, script_read;
@@ -64,7 +64,7 @@ static bool next_line(size_t *length) {
     return true;
 }
 
-/* Splits a line into words. Words beyond the largest number that any line has are counted as one. */
+/* Splits a line into words. Stops at MOST_WORDS words, one more than any command may have. */
 static void split(size_t length) {
     word_count = 0;
     for (size_t at = 0; at < length && word_count < MOST_WORDS;) {
@@ -84,7 +84,7 @@ static bool is_word(word given, const char *text) {
     return given.length == strlen(text) && memcmp(given.at, text, given.length) == 0;
 }
 
-/* Reads a number of 1 to 5 decimal digits, up to a bound. */
+/* Reads a number of 1 to 5 decimal digits. Returns false if the word isn't one, or if the number is over `most`. */
 static bool read_number(word given, unsigned most, unsigned *number) {
     *number = 0;
     for (size_t i = 0; i < given.length; i++) {
@@ -136,7 +136,7 @@ static uint8_t has_fecf;
 /* The reason why a line is bad, or null. */
 typedef const char *reason;
 
-/* Asks the library whether a channel can be created from the settings. */
+/* Returns the reason why the library rejects settings, or null if it accepts them. */
 static reason judge(const receiver *at) {
     switch (tcrx_storage(at->settings, at->queues, at->queue_count, at->maps, at->map_count).status) {
     case TCRX_DONE: return NULL;
@@ -214,7 +214,7 @@ static reason set_up_channel(void) {
     return why;
 }
 
-/* Tries an entry at the end of its list, and counts it if it is good. */
+/* Adds a queue at the end of its list. Removes it again if the library rejects the settings. */
 static reason set_up_queue(void) {
     receiver *at = find(numbers[1]);
     if (is_operating || at == NULL) {
@@ -257,7 +257,7 @@ static const char *refusal(tcrx_status status) {
     }
 }
 
-/* Returns whether a call was refused, and prints the refusal. */
+/* Returns whether a call was refused. If so, prints the refusal. */
 static bool is_refused(tcrx_status status) {
     if (status != TCRX_DONE) {
         printf("refused %s\n", refusal(status));
@@ -313,8 +313,8 @@ static reason bring(void) {
     return NULL;
 }
 
-/* Brings the frame that a CLTU carried. At most six octets that begin with no frame may follow it as fill. If more
- * follows, does nothing. */
+/* Brings the frame that a CLTU carried. Up to six octets that don't begin with a frame may follow it as fill. If more
+ * follows, refuses the octets. */
 static reason bring_candidate(void) {
     const tcrx_frame frame = tcrx_read_frame(octets, octet_count);
     if (frame.status == TCRX_DONE) {
@@ -336,8 +336,8 @@ static void release(const receiver *at) {
     }
 }
 
-/* Prints a packet or a unit that is taken. If there is none, prints the refusal, unless the caller only asks whether an
- * item waits. */
+/* Takes a packet or a unit, and prints it. Otherwise prints the refusal, unless `is_asked` is set and no item waits.
+ * Returns whether an item was taken. */
 static bool take(const receiver *at, bool is_unit, unsigned key, bool is_asked) {
     static uint8_t taken[MOST_OCTETS];
     const tcrx_written found = is_unit ? tcrx_channel_take_unit(held_by(at), (uint8_t)key, taken, sizeof taken)

@@ -1,8 +1,8 @@
 /*
- * This header is the shared part of tcrx.c, tclive.c and tcmake.c. It reads the words of the command line, and has a
- * session of the library answer standard input on standard output. The session's answers are proved to be those of the
- * programs tcrx, tclive and tcmake, unless memory runs out. This file isn't proved. It reads, looks for line feeds and
- * writes. checks/dist_programs compares it with the proved programs.
+ * This header is the shared part of tcrx.c, tclive.c and tcmake.c. It reads the words of the command line, passes the
+ * lines of standard input to a session of the library, and writes the answers to standard output. The session's answers
+ * are proved to be those of the programs tcrx, tclive and tcmake, unless memory runs out. This file isn't proved.
+ * checks/dist_programs compares the output of its programs with that of the proved programs.
  */
 #ifndef TCRX_PROGRAMS_LINES_H
 #define TCRX_PROGRAMS_LINES_H
@@ -23,7 +23,7 @@ static inline bool is_written(void) {
     return fflush(stdout) == 0 && !ferror(stdout);
 }
 
-/* Prints on standard error why no more lines are answered. */
+/* Prints on standard error the reason why no more lines are answered. */
 static inline int fail(const char *begin, const char *why) {
     fflush(stdout);
     fprintf(stderr, "%s%s\n", begin, why);
@@ -45,7 +45,7 @@ typedef struct {
     uint16_t scid;
 } given_words;
 
-/* Prints on standard error which word is wrong. */
+/* Prints a wrong word and the reason on standard error. */
 static inline int refuse(const command_line *of, const char *word, const char *why) {
     fprintf(stderr, "%s: %s %s\n%s\n", of->name, word, why, of->usage);
     return BAD_COMMAND_LINE;
@@ -73,7 +73,7 @@ static inline bool is_utf8(const char *word) {
     return true;
 }
 
-/* Prints on standard error which word isn't UTF-8. */
+/* Prints on standard error a word that isn't UTF-8, with escapes. */
 static inline int refuse_octets(const command_line *of, int place, const char *word) {
     static const char escaped[] = "\t\r\n'\"\\", letters[] = "trn'\"\\";
     fprintf(stderr, "%s: word %d isn't valid UTF-8: ", of->name, place);
@@ -150,7 +150,7 @@ static tcrx_lines session = TCRX_HOLDS_NONE;
 static uint8_t usual[147456], *larger, *text = usual;
 static size_t room = sizeof usual;
 
-/* Returns the whole of an answer. The session keeps the text until there is a buffer for it. */
+/* Returns the whole answer. If the buffer is too short, a longer one is allocated, and the session then writes the text. */
 static inline tcrx_written whole(tcrx_written answer) {
     while (answer.status == TCRX_NO_ROOM) {
         uint8_t *const made = realloc(larger, answer.length);
@@ -165,8 +165,8 @@ static inline tcrx_written whole(tcrx_written answer) {
     return answer;
 }
 
-/* Writes an answer, or writes on standard error the reason that the session gives. For every other status memory has
- * run out. */
+/* Writes an answer. If the session gives a reason instead, writes that on standard error. Every other status means that
+ * memory has run out. */
 static inline int put(const char *begin, tcrx_written answer) {
     if (answer.status == TCRX_DONE) {
         fwrite(text, 1, answer.length, stdout);
@@ -211,7 +211,7 @@ static inline int answer_line(const char *begin, bool is_strict) {
     return is_bad(answer.length) ? fail(begin, "a line is bad, and no later line was answered") : is_written() ? GO_ON : fail(begin, "cannot write");
 }
 
-/* Keeps the front of a line, which is enough to see that the line is too long. */
+/* Adds octets to the line. Octets beyond the room are dropped, because the line is too long in any case. */
 static inline void keep(const uint8_t *octets, size_t more) {
     const size_t fits = more < sizeof line - length ? more : sizeof line - length;
     memcpy(line + length, octets, fits);

@@ -20,8 +20,8 @@ static const command_line live = {
     .options = SCID | FECF | VERSION,
 };
 
-/* Returns whether the program runs a script. Until 0.3.0 the program was named `live`, and also ran scripts: `live run
- * --scid N`. */
+/* Returns whether the program runs a script. It does that if it is started as `live run --scid N`. Until version 0.3.0
+ * its name was `live`, and callers may still use that command. */
 static bool is_script(int count, char **word) {
     const char *const slash = count > 1 ? strrchr(word[0], '/') : NULL;
     return count > 1 && strcmp(slash != NULL ? slash + 1 : word[0], "live") == 0 && strcmp(word[1], "run") == 0;
