@@ -1,8 +1,8 @@
 /*
  * The calls of the library, with parameters that are only numbers of 32 bits and addresses. Each machine passes those
- * in the same way, so no machine's rule for passing records matters. This file is compiled to the LLVM module of the
- * library's own machine, and linked with that module. The result becomes a WebAssembly module, from which
- * tools/portable writes its output.
+ * in the same way, so no machine's rule for passing records matters. This file is compiled to an LLVM module for the
+ * machine that the library's LLVM module is for, and linked with that. The result becomes a WebAssembly module, from
+ * which tools/portable writes its output.
  *
  * Each call returns a status, and puts the other fields of its record into `numbers`. The record of a FARM-1 and a
  * count take two of these numbers. The settings and headers that a call takes stand in `numbers`, too. An instance of
@@ -14,8 +14,8 @@
 
 typedef uint32_t u32;
 
-/* The largest number of octets that a call is given. It is one more than the longest frame has, which is a telemetry
- * frame of 2,048 octets. By the additional octet the call sees that octets follow the frame. */
+/* The largest number of octets that are passed to a call. The longest frame is a telemetry frame of 2,048 octets. One
+ * more octet is passed, so that the call can detect that octets follow the frame. */
 enum { MOST_FRAME = 2049 };
 
 static u32 numbers[16];
@@ -398,8 +398,8 @@ u32 EXPORT(module_rack_find)(u32 vcid) {
 }
 /* The lines that tools/c_interface writes end here. */
 
-/* Returns whether there is room for a channel with this storage, with its own block and a copy of each list. Returns
- * true if the settings have a fault. */
+/* Returns whether there is room for a channel with this storage, with its own block and a copy of each list. If the
+ * settings have a fault, returns true, because the creation of the channel then fails without it. */
 static int is_reserved(tcrx_count storage, uint64_t entries) {
     return storage.status != TCRX_DONE || heap_reserve(storage.count + 1024 + 8 * entries);
 }

@@ -1,6 +1,6 @@
 /*
- * The calls by lines as a WebAssembly module, with only numbers of 32 bits and addresses, as adapter.c has the other
- * calls. tools/page puts this module into its page. An instance holds one session, its line and its text.
+ * The calls of sessions of lines for a WebAssembly module. As in adapter.c, their parameters are only numbers of 32 bits
+ * and addresses. tools/page puts this module into its page. An instance holds one session, its line and its text.
  */
 #include "tcrx_lines.h"
 
@@ -90,7 +90,8 @@ static tcrx_lines session = TCRX_HOLDS_NONE;
 static uint8_t *line, *text;
 static size_t line_room, text_room, length;
 
-/* Makes room for this many octets in place of those that were there, and returns it. Returns NULL if there is no memory. */
+/* Returns room for `count` octets. Allocates it in place of the old room if that is too small. Returns NULL if there is no
+ * memory. */
 static uint8_t *room_for(uint8_t **at, size_t *room, size_t count) {
     if (*at == NULL || *room < count) {
         if (*at != NULL) {
@@ -102,7 +103,7 @@ static uint8_t *room_for(uint8_t **at, size_t *room, size_t count) {
     return *at;
 }
 
-/* Has the whole text of an answer in `text`, and returns the status. */
+/* Puts the whole text of an answer into `text`, and returns the status. */
 static u32 answered(tcrx_written answer) {
     if (answer.status == TCRX_NO_ROOM) {
         if (room_for(&text, &text_room, answer.length) == NULL) {
@@ -114,7 +115,7 @@ static u32 answered(tcrx_written answer) {
     return answer.status;
 }
 
-/* Returns the room for a line of this many octets, or NULL if there is no memory. */
+/* Returns the room for a line of `count` octets, or NULL if there is no memory. */
 uint8_t *EXPORT(module_line)(u32 count) {
     return room_for(&line, &line_room, count);
 }
@@ -139,7 +140,7 @@ u32 EXPORT(module_make)(u32 fecf) {
     return tcrx_lines_make(&session, (uint8_t)fecf);
 }
 
-/* Answers the line of this many octets that stands in the room for it. */
+/* Answers the line of `count` octets that stands in the room for a line. */
 u32 EXPORT(module_answer)(u32 count) {
     return answered(tcrx_lines_answer(&session, line, count, text, text_room));
 }

@@ -1,8 +1,8 @@
 /*
  * A program for a Cortex-M3 without an operating system and without a C library's heap or streams. It runs a script on
- * one channel, and prints the answers in the words of the program tcrx by semihosting, to which qemu-system-arm and
- * debuggers listen. Then it prints how many bytes of the stack were used. checks/targets gives it the script, and
- * compares its output.
+ * one channel, and prints the answers in the words of the program tcrx. It prints by semihosting, which qemu-system-arm
+ * and debuggers support. At the end it prints how many bytes of the stack were used. checks/targets compiles a script
+ * into it, and compares its output.
  */
 #include "tcrx.h"
 
@@ -143,7 +143,7 @@ static void bring(const line *read) {
     say_field(" rest ", reply.rest);
 }
 
-/* Returns whether the call was refused, and prints the refusal if it was. */
+/* Returns whether a call was refused. If so, prints the refusal. */
 static bool is_refused(tcrx_status status) {
     if (status == TCRX_EMPTY) {
         say("refused empty");

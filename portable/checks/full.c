@@ -1,8 +1,8 @@
 /*
  * Tests a memory of fixed size. The creation of a channel that doesn't fit must fail with TCRX_NO_MEMORY, and a channel
  * that fits is created in its place. Then all memory of the module is taken, up to the last slot of each size. Each
- * call must still succeed, because none requests memory. At the end each packet must be as it was sent.
- * TCRX_MODULE_PAGES must be defined.
+ * call must still succeed, because none requests memory, and each packet must be as it was sent. TCRX_MODULE_PAGES must
+ * be defined.
  */
 #include "tcrx.h"
 #include "tcrx_instance.h"
@@ -109,7 +109,7 @@ int main(void) {
         }
         if (calls[i] == take) {
             if (packet_length < 7 || packet[packet_length - 1] != ends[packets]) {
-                fail("another packet", i + 1);
+                fail("a packet that differs from the one that was sent", i + 1);
             }
             packets += 1;
         }
@@ -118,9 +118,9 @@ int main(void) {
     const uint32_t stack = stack_used();
     if (tcrx_channel_free(&channel) != TCRX_DONE || make() != TCRX_DONE || bring_ad0() != TCRX_DONE || release() != TCRX_DONE
         || take() != TCRX_DONE || tcrx_channel_free(&channel) != TCRX_DONE) {
-        fail("no channel after it", 0);
+        fail("a new channel after the first one", 0);
     }
-    printf("%zu calls done with a full memory, of which %zu rooms were taken; %lu not as they must be, %u octets of the stack used\n",
+    printf("%zu calls with a full memory, in which %zu slots were taken; %lu failures, %u bytes of the stack used\n",
            sizeof calls / sizeof calls[0], taken_count, failed, (unsigned)stack);
     return failed == 0 && taken_count > 2 ? 0 : 1;
 }

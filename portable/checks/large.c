@@ -20,7 +20,7 @@ int main(void) {
     const tcrx_status large = tcrx_channel_new_with_limits(&channel, settings, queues, QUEUES, NULL, 0, LONGEST, NULL, 0);
     const tcrx_status small = tcrx_channel_new_with_limits(&channel, settings, queues, 1, NULL, 0, 1, NULL, 0);
     const int good = needed.count >> 32 == 1 && large == TCRX_NO_MEMORY && small == TCRX_DONE;
-    printf("%llu bytes: status %d, and of one queue %d\n", (unsigned long long)needed.count, (int)large, (int)small);
+    printf("%llu bytes: status %d; a channel with one queue: status %d\n", (unsigned long long)needed.count, (int)large, (int)small);
     tcrx_channel_free(&channel);
     return good ? 0 : 1;
 }

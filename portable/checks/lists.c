@@ -1,7 +1,7 @@
 /*
- * Passes lists of queues, of MAPs and of limits that are longer than any channel takes. Each entry is examined,
- * including the last one. Prints the status of each call, for checks/targets, which compares them with those of the
- * library of this machine.
+ * Passes lists of queues, of MAPs and of limits to the library, most of them longer than those of any channel. In some
+ * of them the APID or the MAP of the last entry alone is out of range, so that each entry must be examined. Prints the
+ * status of each call, for checks/targets, which compares them with those of the library of this machine.
  */
 #include "tcrx.h"
 

@@ -1,8 +1,8 @@
-// Checks the answers of the page of tools/page without a browser, by its own script and module, which are taken out of
-// the file.
+// Checks the answers of the page of tools/page without a browser, by the page's own script and module, which are taken
+// out of the file.
 //
-//    node page.js PAGE cases INDEX      brings each case of the file INDEX through a session, and prints how many are as stored
-//    node page.js PAGE parts INDEX      takes the frames of these cases apart, and some whose parts are known
+//    node page.js PAGE cases INDEX      passes each case of the file INDEX to a session, and compares the answers with the stored ones
+//    node page.js PAGE parts INDEX      takes the frames of these cases apart, and other frames whose parts are known
 //    node page.js PAGE examples FOLDER  compares each example of the page with FOLDER/NAME.tcs and FOLDER/NAME.out
 //    node page.js PAGE KIND NUMBER..    answers standard input by a session that module_KIND creates with these numbers
 "use strict";
@@ -31,7 +31,7 @@ function expect(isGood, what) {
   if (!isGood) console.log(`${what} isn't as expected`);
 }
 
-/* Returns what a session answers to lines, and the text with which it ended them if it did. */
+/* Returns the answers of a session to lines. If the session ended early, returns the reason as `fault`. */
 function answersTo(session, text) {
   const lines = text.split("\n");
   if (lines[lines.length - 1] === "") lines.pop();
@@ -44,7 +44,7 @@ function answersTo(session, text) {
   return {output, fault: ""};
 }
 
-/* Returns the cases of an index, each with its script and with what is stored for it. */
+/* Returns the cases of an index, each with its script and the stored output. */
 function casesOf(index) {
   return fs.readFileSync(index, "latin1").trimEnd().split("\n").map((line) => {
     const [, name, scid, fault] = line.match(/^(\S+) (\S+) ?(.*)$/);
@@ -60,7 +60,7 @@ function checkCases(index) {
   }
 }
 
-/* Frames, whether their channel is plain, and their parts. */
+/* Each entry has a frame, a flag that is true if its channel is plain, and the parts of the frame. */
 const FRAMES = [
   ["002a040c00c01005c0000000aa", false, "002a Type-AD, spacecraft 42|040c virtual channel 1, 13 octets in all|00 N(S) 0|c0 segment unsegmented MAP 0"
     + "|1005c0000000aa telecommand packet of application 5, count 0"],
@@ -74,7 +74,7 @@ const FRAMES = [
   ["002a04", false, "002a04 short"],
 ];
 
-/* The parts of a frame are all of its octets, each once. */
+/* Checks the parts of frames. Together they must be all octets of the frame, each once. */
 function checkParts(index) {
   const maker = new Session(compiled, "make", 0);
   for (const [hex, isPlain, parts] of FRAMES) {

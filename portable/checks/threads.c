@@ -3,7 +3,7 @@
  * in each round. Then one thread makes rounds on both channels in turn. Each packet must come back as it was sent, and
  * each CLCW must be that of its channel.
  *
- *   threads COUNT    rounds of each kind
+ *   threads COUNT    makes COUNT rounds on each channel in each of the two ways, rounded down to a multiple of 256
  */
 #include "tcrx.h"
 

@@ -60,14 +60,14 @@ function drawParts(hex) {
 /* Returns the column of FARM-1's table for the state before a step. */
 const columnOf = ({before}) => STATES.indexOf(before.state) + 1;
 
-/* Returns, in words, the entry of FARM-1's table for the step. */
+/* Returns the entry of FARM-1's table for a step, in words. */
 function entryOf(done) {
   const row = given.table.rows[done.event - 1];
   const column = columnOf(done);
   return `${row[0]}, in ${given.table.head[column]}: ${row[column]}`;
 }
 
-/* Returns the octets that a line hands over, as hexadecimal digits, or an empty text. */
+/* Returns the octets in a line `frame` or `candidate`, as hexadecimal digits, or an empty text for other lines. */
 const octetsOf = (line) => (line.match(/^[ \t\r]*(?:frame|candidate)[ \t\r]+([0-9a-fA-F]+)/) || ["", ""])[1];
 
 function drawAnswers() {
@@ -203,7 +203,7 @@ function insertLine(at, line) {
   by("script").value = lines.join("\n");
 }
 
-/* Adds an operation of the reader after the last one that was carried out, and carries it out. */
+/* Inserts lines of the reader after the last operation that was carried out, and carries them out. */
 function addOperation(...lines) {
   if (run.channels.size === 0) {
     by("fault").textContent = "Set up a channel first.";
@@ -220,7 +220,7 @@ function addSetting(line) {
   runTo(steps);
 }
 
-/* Returns the line for which tcmake makes frames of the fields, and its answers. */
+/* Returns the line with which tcmake makes frames of the fields, and the answers to it. */
 function madeOfFields() {
   const [kind, scid, vcid, ns, vr, map, size] = ["kind", "scid", "vcid", "ns", "vr", "map", "size"].map((id) => by(id).value);
   const packet = `packet ${by("apid").value} ${by("count").value} ${by("data").value}`;

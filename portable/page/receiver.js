@@ -1,8 +1,8 @@
 "use strict";
 /*
- * The receiver that the page shows, without the drawing. The library is here as a WebAssembly module, and its sessions
+ * The receiver that the page shows, without the drawing. The library is a WebAssembly module, and its sessions
  * (dist/tcrx_lines.h) return all answers: those of tclive to the lines of a script, and those of tcmake about frames. This
- * file takes from these texts what the page draws.
+ * file reads from these texts the values that the page draws.
  */
 
 const DONE = 0;
@@ -37,10 +37,10 @@ class Session {
 const linesOf = (text) => text.split("\n").slice(0, -1);
 const wordsOf = (line) => line.split(/[ \t\r]+/).filter((it) => it !== "");
 const isBlank = (line) => /^[ \t\r]*(#|$)/.test(line);
-/* The rows of FARM-1's table for answers that aren't about frames. */
+/* The rows of FARM-1's table, by the first word of an answer that isn't about a frame. */
 const EVENTS = {release: 10, clcw: 11};
 
-/* The first lines of a script, which set up, and a number of the operations after them. */
+/* A run of the first lines of a script, which set channels up, and of at most `steps` operations after them. */
 class Run {
   constructor(compiled, scid, script, steps) {
     this.session = new Session(compiled, "live", scid, 0);
