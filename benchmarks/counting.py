@@ -11,7 +11,7 @@ from typing import NoReturn, Sequence
 
 sys.dont_write_bytecode = True
 TOP = Path(__file__).resolve().parent.parent
-# Callgrind counts a copy by one string instruction once for each octet, so the C library is made to copy by moves.
+# Callgrind counts a string instruction once for each octet that it copies. With this setting the C library copies by moves.
 MOVES = "glibc.cpu.x86_rep_movsb_threshold=10000000"
 # The loads of a bare channel: a round, its word, and the smaller and the larger number of rounds that are made.
 LOADS = (("a Type-AD frame of 13 octets, its release and its take", "sequenced", 1_000, 11_000),
@@ -21,7 +21,7 @@ LOADS = (("a Type-AD frame of 13 octets, its release and its take", "sequenced",
 
 
 def stop(why: str) -> NoReturn:
-    """Exits with the reason."""
+    """Exits with status 1, and prints the reason on standard error."""
     sys.exit(f"benchmarks/{Path(sys.argv[0]).name}: {why}")
 
 

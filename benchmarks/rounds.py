@@ -1,8 +1,8 @@
-"""Makes COUNT rounds of c/checks/rounds.c by the package in Python. A round is a frame, its release and its take.
+"""Makes COUNT rounds by the package in Python, as c/checks/rounds.c does. A round is a frame, its release and its take.
 
 usage: benchmarks/rounds.py channel|receiver COUNT
 
-The rounds are made by a channel, or by a receiver, whose calls are lines.
+The rounds are made on a `Channel`, or on a `Receiver`, whose calls are lines.
 """
 from __future__ import annotations
 
@@ -21,7 +21,7 @@ FRAMES: List[bytes] = [bytes.fromhex(f"002a040c{number:02x}c01005c0000000aa") fo
 
 def packets_of(rounds: int, bring: Callable[[bytes], Brought | Refused], release: Callable[[], Released | Refused],
                take: Callable[[], Packet | Refused]) -> int:
-    """Makes rounds, and returns in how many of them the frame was accepted and released, and its packet taken."""
+    """Makes rounds. Returns the number of rounds in which the frame was accepted and released, and its packet was taken."""
     taken = 0
     for number in range(rounds):
         brought, released, packet = bring(FRAMES[number & 255]), release(), take()

@@ -7,7 +7,7 @@ enum { FIELD = 1019, UNIT = 65542, STREAMS = 128, KEYS = 2048, NONE = 0xffff };
 enum { OPEN = 1, WAITING, LOCKED_OUT };
 enum { CONTINUING, FIRST, LAST, UNSEGMENTED };
 
-/* Rooms, each after the number of its octets. */
+/* A ring of rooms. Each room begins with the number of octets that it holds. */
 typedef struct {
     uint32_t first, waiting, capacity, stride;
     uint8_t *rooms;

@@ -24,8 +24,8 @@ static uint8_t left_of[7][256], places[128], stream[CLTUS * CLTU], carried[MOST 
 static uint16_t sums[8][256];
 static unsigned long frames, corrected, rejected;
 
-/* Fills the tables: the value that each octet adds at its place of a code block and of eight octets, and the place of
- * each wrong bit. */
+/* Fills the tables: the value that an octet adds to the parity bits by its place in a code block, the value that it adds
+ * to the check sum by its place in eight octets, and the place of the wrong bit for each syndrome. */
 static void fill_tables(void) {
     for (unsigned octet = 0; octet < 256; octet++) {
         unsigned left = octet << 7, sum = octet << 8;

@@ -1,7 +1,7 @@
 //! A telecommand receiver in plain Rust: frames, FARM-1, reassembly, packets, channels behind locks, scripts.
 //!
-//! It was written independently of the crates of this repository, and shares no line with them. Its answers are
-//! compared with theirs before anything is counted. It has no proofs, and aborts if memory runs out.
+//! It was written independently of the crates of this repository, and shares no line with them. benchmarks/run compares
+//! its answers with theirs before it counts anything. It has no proofs, and aborts if memory runs out.
 pub mod channel;
 pub mod journal;
 pub mod link;

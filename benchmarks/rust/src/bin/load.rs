@@ -60,8 +60,8 @@ impl Sender {
     fn first(&self, number: u8) -> &[u8] {
         &self.sequenced[usize::from(number)]
     }
-    /// Returns the frame after the accepted one: the accepted frame again, one that bypasses the window, one that is
-    /// ahead, or an Unlock.
+    /// Returns the frame that follows an accepted frame: that frame again, a Type-BD frame, a frame ahead of V(R), or an
+    /// Unlock.
     fn second(&self, number: u8) -> &[u8] {
         match number % 4 {
             0 => self.first(number),
