@@ -1,5 +1,5 @@
 """Sends the packets of bench.py to tcrx-bench in CLTUs, and reads the CLCWs that come down in telemetry frames. One
-CLTU in five is lost, and of all other octets one bit in a thousand is flipped.
+CLTU in five is lost, and one bit in a thousand of all other octets is flipped.
 
 Usage: python3 examples/bench_cltu.py SEED [--udp] [--detect] [--randomised]
 """
@@ -41,8 +41,8 @@ class Coded(bench_udp.Remote):
         self.frames.send(turned(self.dice, IDLE + (b"" if self.dice.random() < LOST else cltu) + IDLE))
 
     def clcw(self, vcid: int) -> Clcw:
-        """Returns the CLCW of a telemetry frame that was made after everything that was sent had arrived. That is the
-        second frame from now on."""
+        """Returns the CLCW of a telemetry frame that was written after everything that was sent had arrived. The second
+        frame that comes from now on is such a frame."""
         while select.select([self.clcws], [], [], 0)[0]:
             self.clcws.recv(2048)
         self.clcws.recv(2048)
@@ -58,8 +58,8 @@ def through(dice: random.Random, past: List[bytes], turning: bool) -> Iterator[b
 
 
 def run(seed: int, udp: bool = False, mode: str = "correct", randomised: bool = False) -> str:
-    """Sends packets until each has arrived. Returns how many frames that took, and what the bench prints about
-    the sender."""
+    """Sends packets until each has arrived. Returns the result of `bench.run`, and the line that the bench prints
+    about the sender."""
     said: List[str] = []
     words = ["--tc-udp" if udp else "--tc-tcp", "0", "--cltu", mode, *["--randomised"] * randomised, "--tm-udp", "PLACE",
              "--tm-rate", RATE, "--tm-length", "64", "--tm-fecf", "--sender", "1", "10"]

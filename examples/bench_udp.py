@@ -20,7 +20,7 @@ from tcrx import Clcw  # pylint: disable=wrong-import-position
 
 # The seconds without a CLCW after which no more are expected, and the seconds between two CLCWs that follow no frame.
 QUIET, PERIOD = 0.004, "0.02"
-# The options by which frames come to the bench, and CLCWs go to the address that replaces PLACE.
+# The options for the ports: frames come to the bench by UDP, and CLCWs go to the address that replaces PLACE.
 PORTS = ("--tc-udp", "0", "--clcw-udp", "PLACE", "--period", PERIOD)
 
 
@@ -69,7 +69,7 @@ class Remote:
 @contextmanager
 def start(fecf: bool, words: Sequence[str] = PORTS,
           made: Callable[[Dict[str, int], socket.socket], Remote] = Remote, said: Optional[List[str]] = None) -> Iterator[Remote]:
-    """Starts a bench on free ports. Adds the text that the bench prints at its end to `said`."""
+    """Starts a bench on free ports. Adds the lines that the bench prints when it exits to `said`."""
     clcws = socket.socket(socket.AF_INET, socket.SOCK_DGRAM)
     clcws.bind(("127.0.0.1", 0))
     clcws.settimeout(60)

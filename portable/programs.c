@@ -42,8 +42,8 @@ ssize_t rattle_arg(size_t at, char *room, size_t most) {
     return count <= most ? (ssize_t)count : -2;
 }
 
-/* Returns a block of `count` octets with the content of the block at `at`, which is freed. If `given` is false, returns
- * that block unchanged. */
+/* Returns a block of `count` bytes with the content of the block at `at`, which is freed. If no such block can be
+ * allocated, returns `given` false, and the block at `at` stays as it was. */
 rattle_block rattle_realloc(void *at, size_t kept, size_t count, size_t alignment) {
     (void)kept;
     return answer(realloc(at, count == 0 ? alignment : count));

@@ -200,7 +200,7 @@ void check_racks() {
     const tcrx::Result<tcrx::Located> first = rack.frame(frame_to(675, 5, false)), other = ended_rack.frame(frame_to(675, 8, true));
     expect(first && first->vcid == 5 && first->brought.event == tcrx::Event::e1 && first->brought.accepted, "a frame of a rack");
     expect(other && other->vcid == 8 && other->brought.event == tcrx::Event::e1, "a frame of a rack with its field");
-    expect(channels[1].events().value() == 1 && channels[2].events().value() == 0 && channels[3].events().value() == 1, "the events of the channels of a rack");
+    expect(channels[1].events().value() == 1 && channels[2].events().value() == 0 && channels[3].events().value() == 1, "the events of a rack");
     expect(rack.find(5) == &channels[1] && rack.find(8) == &channels[3] && rack.find(9) == nullptr, "channels by their ids");
     expect(rack.frame(frame_to(676, 9, false)).status() == Status::other_spacecraft, "another spacecraft");
     expect(rack.frame(frame_to(675, 9, false)).status() == Status::unknown_channel, "another channel");
@@ -242,7 +242,7 @@ bool is_carried(tcrx::Rack &rack, tcrx::Octets candidate, std::size_t refused) {
     return good;
 }
 
-// Checks candidates of twenty frames, and of three frames of which the middle one is refused.
+// Checks a candidate of twenty frames, and one of three frames, the middle one of which is refused.
 void check_candidates() {
     std::array<tcrx::Channel, 2> channels;
     channels[0] = *tcrx::Channel::make({5, 10, 4, 7}, {}, {}, {64, {}});
@@ -459,7 +459,7 @@ bool is(const tcrx::Delivery &found, const tcrx::Delivery &wanted) {
     return found.queued == wanted.queued && found.dropped == wanted.dropped && found.rest == wanted.rest;
 }
 
-// Checks the reply of each row, and what a release and takes return after them.
+// Checks the reply of each row, and the results of a release and of takes after them.
 void check_replies() {
     const tcrx::Queue two[] = {{5, 2}};
     tcrx::Channel channel = *tcrx::Channel::make({1, 10, 1, 250}, two, maps, {32, {}});
@@ -474,7 +474,7 @@ void check_replies() {
     const tcrx::Result<tcrx::Octets> taken = channel.take(5, room), unit = channel.take_unit(2, other);
     expect(taken && Bytes(taken->begin(), taken->end()) == one_packet, "a packet that is taken");
     expect(unit && Bytes(unit->begin(), unit->end()) == Bytes({0xab, 0xcd}), "a unit that is taken");
-    expect(channel.release().status() == tcrx::Status::empty && channel.take_unit(2, room).status() == tcrx::Status::empty, "calls when nothing waits");
+    expect(channel.release().status() == tcrx::Status::empty && channel.take_unit(2, room).status() == tcrx::Status::empty, "empty queues");
     expect(channel.events().value() == 13 && channel.clcw()->word == 0x010400fb, "the events, and the CLCW");
 }
 
@@ -494,8 +494,8 @@ void check_reports() {
         expect(are_fields(found, row.fields) && farm.state == *state++, "a report");
     }
     const tcrx::Farm farm = channel.report().value();
-    expect(channel.clcw(true, false)->word == link_words[0] && tcrx::clcw(farm, 1, true, false)->word == link_words[0], "the CLCW with No RF Available");
-    expect(channel.clcw(false, true)->word == link_words[1] && tcrx::clcw(farm, 1, false, true)->word == link_words[1], "the CLCW with No Bit Lock");
+    expect(channel.clcw(true, false)->word == link_words[0] && tcrx::clcw(farm, 1, true, false)->word == link_words[0], "No RF Available");
+    expect(channel.clcw(false, true)->word == link_words[1] && tcrx::clcw(farm, 1, false, true)->word == link_words[1], "No Bit Lock");
 }
 
 void check_settings() {

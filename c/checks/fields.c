@@ -63,7 +63,7 @@ static void check_made(void) {
         const tcrx_written written = tcrx_write_segment(first, 37, 3, i, made_unit, unit_count, octets, sizeof octets);
         expect_made(written, octets, segment_rows[i].octets, segment_rows[i].count, i);
     }
-    expect(tcrx_write_segment(first, 37, 3, 3, made_unit, unit_count, octets, sizeof octets).status == TCRX_NO_SEGMENT, "a segment behind the last one", 3);
+    expect(tcrx_write_segment(first, 37, 3, 3, made_unit, unit_count, octets, sizeof octets).status == TCRX_NO_SEGMENT, "no more segments", 3);
     expect_made(tcrx_write_segment(bypass, 37, 7, 0, made_unit, unit_count, octets, sizeof octets), octets, whole_row.octets, whole_row.count, 4);
     expect_made(tcrx_write_command(675, 12, TCRX_UNLOCK, 77, octets, sizeof octets), octets, command_rows[0].octets, command_rows[0].count, 5);
     expect_made(tcrx_write_command(675, 12, TCRX_SET_VR, 9, octets, sizeof octets), octets, command_rows[1].octets, command_rows[1].count, 6);
@@ -75,7 +75,7 @@ static void check_made(void) {
 static void expect_tm(tcrx_tm read, tcrx_tm_header header, uint64_t place) {
     expect(read.status == TCRX_DONE && read.clcw == TM_CLCW && read.pointer == 2046, "the fields of a telemetry frame", place);
     expect(read.header.scid == header.scid && read.header.vcid == header.vcid, "the ids in a telemetry frame", place);
-    expect(read.header.master_count == header.master_count && read.header.channel_count == header.channel_count, "the counts in a telemetry frame", place);
+    expect(read.header.master_count == header.master_count && read.header.channel_count == header.channel_count, "the frame counts", place);
 }
 
 /* Gives a decoder the CLTU in pieces of `size` octets, with another octet behind it. If `wrong` isn't 0, the first code
@@ -97,7 +97,7 @@ static void check_stream(uint8_t correct, uint8_t wrong, size_t size, uint64_t p
         at += (size_t)answer.taken;
         corrected += answer.corrected;
         rejected += answer.rejected;
-        expect(answer.status == TCRX_DONE && (answer.ended ? at == all - 1 : answer.taken == count), "the number of octets that are taken", place);
+        expect(answer.status == TCRX_DONE && (answer.ended ? at == all - 1 : answer.taken == count), "the count of taken octets", place);
         if (answer.ended) {
             ended++;
             expect(decoder.carried == 14 && memcmp(carried, plain->octets, length) == 0, "the octets that a CLTU carries", place);

@@ -214,8 +214,8 @@ static void expect_undecoded(tcrx_decoder decoder, uint8_t *frame, size_t room, 
     const tcrx_decoder kept = answer.decoder;
     expect(answer.status == status && answer.ended == 0 && answer.taken == 0, "a decoder that takes no octets", place);
     expect(answer.corrected == 0 && answer.rejected == 0 && answer.overlong == 0, "the counts of a decoder that takes no octets", place);
-    expect(kept.correct == decoder.correct && kept.decoding == decoder.decoding && kept.last == decoder.last, "the unchanged record of a decoder", place);
-    expect(kept.count == decoder.count && kept.carried == decoder.carried && is_filled(made, sizeof made), "the unchanged octets of a decoder", place);
+    expect(kept.correct == decoder.correct && kept.decoding == decoder.decoding && kept.last == decoder.last, "an unchanged decoder", place);
+    expect(kept.count == decoder.count && kept.carried == decoder.carried && is_filled(made, sizeof made), "a decoder's octets", place);
 }
 
 static void check_decoders(void) {
@@ -233,9 +233,9 @@ static void check_decoders(void) {
     const tcrx_decoded anew = tcrx_cltu_search(full);
     const tcrx_decoder now = anew.decoder;
     expect(anew.status == TCRX_DONE && now.correct == 1 && now.decoding == 0 && now.last == 0 && now.count == 0, "a new search", 238);
-    expect(anew.ended == 0 && anew.taken == 0 && anew.corrected == 0 && anew.rejected == 0 && anew.overlong == 0, "the counts after a new search", 239);
-    expect(tcrx_cltu_search(correct).status == TCRX_BAD_FLAG && tcrx_cltu_search(decoding).status == TCRX_BAD_FLAG, "a bad flag of a decoder", 240);
-    expect(tcrx_cltu_search(count).status == TCRX_BAD_DECODER && tcrx_cltu_search(too_much).status == TCRX_BAD_DECODER, "a bad record of a decoder", 241);
+    expect(anew.ended == 0 && anew.taken == 0 && anew.corrected == 0 && anew.rejected == 0 && anew.overlong == 0, "the counts of a search", 239);
+    expect(tcrx_cltu_search(correct).status == TCRX_BAD_FLAG && tcrx_cltu_search(decoding).status == TCRX_BAD_FLAG, "a decoder's flags", 240);
+    expect(tcrx_cltu_search(count).status == TCRX_BAD_DECODER && tcrx_cltu_search(too_much).status == TCRX_BAD_DECODER, "a decoder's counts", 241);
 }
 
 static void expect_unread(tcrx_tm read, tcrx_status status, unsigned long place) {
@@ -317,8 +317,8 @@ static void check_lists(void) {
     static const tcrx_map bad_map[] = {{5, 1}, {64, 0}}, map_twice[] = {{5, 1}, {6, 0}, {5, 1}}, many[] = {{5, 257}};
     const tcrx_settings plain = {63, 254, 64, 255, 0};
     const tcrx_settings vcid = {64, 254, 64, 255, 1}, width = {63, 9, 64, 255, 1}, buffer = {63, 254, 65, 255, 1}, flag = {63, 254, 64, 255, 2};
-    expect(status_of(vcid, NULL, 0, NULL, 0) == TCRX_BAD_VCID && status_of(width, NULL, 0, NULL, 0) == TCRX_BAD_WIDTH, "bad numbers in settings", 0);
-    expect(status_of(buffer, NULL, 0, NULL, 0) == TCRX_BAD_BUFFER && status_of(flag, NULL, 0, NULL, 0) == TCRX_BAD_FLAG, "bad numbers in settings", 1);
+    expect(status_of(vcid, NULL, 0, NULL, 0) == TCRX_BAD_VCID && status_of(width, NULL, 0, NULL, 0) == TCRX_BAD_WIDTH, "bad settings", 0);
+    expect(status_of(buffer, NULL, 0, NULL, 0) == TCRX_BAD_BUFFER && status_of(flag, NULL, 0, NULL, 0) == TCRX_BAD_FLAG, "bad settings", 1);
     expect(status_of(good_settings, good_queues, 2, good_maps, 2) == TCRX_DONE, "good lists", 0);
     expect(status_of(plain, good_queues, 2, NULL, 0) == TCRX_DONE, "a plain channel", 0);
     expect(status_of(good_settings, bad_apid, 2, bad_map, 2) == TCRX_BAD_APID, "a bad APID", 0);
@@ -357,8 +357,8 @@ static void check_limits(void) {
 static void check_asked(tcrx_channel *channel) {
     static const uint8_t unlock[] = {0x30, 0x2a, 0x04, 0x05, 0x00, 0x00, 0xff};
     uint8_t octets[8];
-    expect(tcrx_channel_new(channel, good_settings, NULL, 0, NULL, 0) == TCRX_IN_USE, "a new channel in place of one that is held", 0);
-    expect(tcrx_channel_new_with_limits(channel, good_settings, NULL, 0, NULL, 0, 9, NULL, 0) == TCRX_IN_USE, "a new channel with limits in place of one that is held", 1);
+    expect(tcrx_channel_new(channel, good_settings, NULL, 0, NULL, 0) == TCRX_IN_USE, "a held channel", 0);
+    expect(tcrx_channel_new_with_limits(channel, good_settings, NULL, 0, NULL, 0, 9, NULL, 0) == TCRX_IN_USE, "a held channel, with limits", 1);
     expect(tcrx_channel_frame(channel, unlock, 4).status == TCRX_SHORT && tcrx_channel_frame(channel, unlock, 5).status == TCRX_TRUNCATED, "a frame", 5);
     expect(tcrx_channel_frame(channel, unlock, 6).status == TCRX_DONE, "a frame", 6);
     expect(tcrx_channel_release(channel).status == TCRX_EMPTY, "an empty buffer", 0);
@@ -471,7 +471,7 @@ static void check_candidates(uint8_t fecf, uint8_t vcid, size_t place) {
         const tcrx_candidate_reply reply = tcrx_rack_candidate(rack, PLACES, CRAFT, fecf, octets + at, all + 2 - at);
         expect(reply.status == TCRX_DONE && reply.vcid == vcid && reply.event == 1 && reply.accepted == 1, "a frame of a candidate", at);
         expect(reply.length == all / 3 && reply.more == (at < 2 * (all / 3)), "the length of a frame of a candidate", at);
-        expect(tcrx_channel_release(&rack[place]).status == TCRX_DONE && tcrx_channel_events(&rack[place]).count == events + 2, "the channel of a candidate", at);
+        expect(tcrx_channel_release(&rack[place]).status == TCRX_DONE && tcrx_channel_events(&rack[place]).count == events + 2, "a candidate's channel", at);
     }
 }
 

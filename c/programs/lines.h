@@ -146,7 +146,7 @@ static inline int read_words(const command_line *of, int count, char **word, int
 /* --- The session --- */
 
 static tcrx_lines session = TCRX_HOLDS_NONE;
-/* The text of an answer is in a buffer that is long enough for most of them, or in a larger one. */
+/* The text of an answer is in a buffer that is long enough for most texts, or in a larger one. */
 static uint8_t usual[147456], *larger, *text = usual;
 static size_t room = sizeof usual;
 

@@ -167,7 +167,7 @@ function drawChannel(channel) {
 function drawChannels() {
   const drawn = [...run.channels.values()].filter((it) => it.farm !== undefined && it.clcw !== undefined);
   const channels = drawn.sort((one, other) => one.settings.vcid - other.settings.vcid).map(drawChannel);
-  by("channels").replaceChildren(...(channels.length > 0 ? channels : [make("p", {}, "No channel is set up. A line such as ", make("code", {}, "channel 1 10 4 0"), " does it.")]));
+  by("channels").replaceChildren(...(channels.length > 0 ? channels : [make("p", {}, "No channel is set up. A line such as ", make("code", {}, "channel 1 10 4 0"), " sets one up.")]));
 }
 
 /* Marks the next line in the script, unless the reader is typing there. */

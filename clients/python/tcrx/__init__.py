@@ -24,7 +24,7 @@ proved, nor is anything about Python, ctypes or libffi.
   threads take turns, and each is whole. In a Python without a GIL, a lock in each makes its calls take turns.
 - An interrupt (Ctrl-C) never comes during a call of the library. The receiver goes on, but the answer may be lost.
 - After a fork each process has the receiver as it was then, and the two have nothing in common from then on.
-- What is neither closed nor in a `with` is freed by its finaliser, when nothing refers to it or when Python ends.
+- An object that is neither closed nor in a `with` is freed by its finaliser, when nothing refers to it or when Python exits.
 
 The package needs only the standard library, and Python 3.9 or later. Importing it loads no library, and never starts a compiler.
 """

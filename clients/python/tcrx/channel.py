@@ -55,7 +55,7 @@ STATES = {OPEN: State.OPEN, WAIT: State.WAIT, LOCKOUT: State.LOCKOUT}
 NOTHING, ONE_QUEUED = Delivery(0, 0, False), Delivery(1, 0, False)
 # The size of the buffer into which packets and units are taken. A longer item is taken into a buffer of its own.
 FIRST_ROOM = 4096
-# The number of octets of a stream that a decoder is given at a time.
+# The largest number of octets of a stream that are passed to the library at a time.
 PIECE = 4096
 
 
@@ -191,14 +191,14 @@ class NotWritten(Fault):
 
 
 def written_by(library: ctypes.PyDLL, name: str, *given: Any, room: int = MOST_FRAME) -> Tuple[int, bytes]:
-    """Returns the status of a call that writes, and what it wrote."""
+    """Returns the status of a call that writes, and the octets that it wrote."""
     octets = ctypes.create_string_buffer(room)
     written = getattr(library, name)(*given, octets, room)
     return written.status, octets.raw[:written.length] if written.status == DONE else b""
 
 
 def made_by(library: ctypes.PyDLL, name: str, *given: Any, room: int = MOST_FRAME) -> bytes:
-    """Returns what a call writes. Raises `NotWritten` with the reason if it writes nothing."""
+    """Returns the octets that a call writes. Raises `NotWritten` with the reason if it writes none."""
     status, octets = written_by(library, name, *given, room=room)
     if status != DONE:
         raise NotWritten(text_of(library, status))
@@ -296,8 +296,8 @@ class Decoder:
         self.corrected = self.rejected = self.overlong = 0
 
     def feed(self, octets: Octets) -> List[bytes]:
-        """Returns the candidates that end in these octets. A candidate is what a CLTU carried: a frame with fill behind
-        it, or several frames. A `Rack` brings candidates as they are."""
+        """Returns the candidates that end in these octets. A candidate has the octets that a CLTU carried: a frame with
+        fill behind it, or several frames. A `Rack` brings candidates as they are."""
         frames: List[bytes] = []
         whole = octets_of(octets)
         for at in range(0, len(whole), PIECE):
@@ -324,8 +324,8 @@ class Decoder:
 
 
 def randomise(frame: Octets, *, library: Library = None) -> bytes:
-    """Returns a frame, or what a CLTU carried, with the random sequence added. A sequence that is added twice changes
-    nothing. Raises `NotWritten`."""
+    """Returns a frame, or the octets that a CLTU carried, with the random sequence added. Adding the sequence twice
+    changes nothing. Raises `NotWritten`."""
     whole = octets_of(frame)
     return made_by(load(library), "tcrx_randomise_at", whole, len(whole), room=MOST_CLTU)
 
@@ -426,7 +426,7 @@ class Channel:
                 self._finalizer = weakref.finalize(self, free, self._library, held)
 
     def __reduce__(self) -> NoReturn:
-        raise TypeError("a channel can't be copied or pickled: a copy of it is no second channel")
+        raise TypeError("a channel can't be copied or pickled: a copy wouldn't be a second channel")
 
     def _raise(self, status: int) -> NoReturn:
         """Raises the exception for the status of a call that has no answer."""
@@ -612,7 +612,7 @@ class Rack:
         return self._brought(self._call("tcrx_rack_frame_at", self.scid, int(self.fecf), whole, len(whole)))
 
     def bring_candidate(self, octets: Octets, *, most: int = 1) -> Carried:
-        """Brings the frames of a candidate, which a `Decoder` gives, one after the other, and at most `most` of them.
+        """Brings the frames of a candidate, which a `Decoder` returns, one after the other, and at most `most` of them.
         Each is as long as its length field says. With `fecf` its field is then checked. If octets that aren't fill
         don't begin with a frame, their refusal is the last answer."""
         answers: List[Union[Brought, Refused]] = []

@@ -106,18 +106,18 @@ class Session:
 
     @classmethod
     def script(cls, scid: int, *, library: Library = None) -> Session:
-        """Creates a session that carries out a script as `tcrx run` does, which ends at its first bad line. Raises what
-        `live` raises."""
+        """Creates a session that carries out a script as `tcrx run` does. The script ends at its first bad line. The call
+        raises the exceptions of `live`."""
         return cls(library, "script", in_range(scid, 65535, "scid"))
 
     @classmethod
     def make(cls, *, fecf: bool = False, library: Library = None) -> Session:
         """Creates a session that answers lines as `tcmake` does. With `fecf` each frame that it makes ends with a frame
-        error control field. Raises what `live` raises."""
+        error control field. The call raises the exceptions of `live`."""
         return cls(library, "make", int(bool(fecf)))
 
     def __reduce__(self) -> NoReturn:
-        raise TypeError("a session can't be copied or pickled: a copy of it is no second session")
+        raise TypeError("a session can't be copied or pickled: a copy wouldn't be a second session")
 
     def _raise(self, status: int, text: str = "") -> NoReturn:
         """Raises the exception for the status of a call that has no answer."""

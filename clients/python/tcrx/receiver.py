@@ -235,7 +235,7 @@ class LineReceiver:
 
     @staticmethod
     def _collected(channel: int, answers: List[str]) -> Tuple[Tuple[Union[Packet, Unit], ...], Clcw]:
-        """Returns what was taken out of the queues, and the CLCW, which comes last."""
+        """Returns the packets and units that were taken out of the queues, and the CLCW, which comes last."""
         clcw = re.fullmatch(rf"clcw {channel} {WORD}", answers[-1])
         if clcw is None:
             raise ValueError(answers[-1])
@@ -302,7 +302,7 @@ class Receiver(LineReceiver):
         return RemoteReceiver(connection)
 
     def __reduce__(self) -> NoReturn:
-        raise TypeError("a receiver can't be copied or pickled: a copy of it is no second receiver")
+        raise TypeError("a receiver can't be copied or pickled: a copy wouldn't be a second receiver")
 
     def _answers(self, line: str, form: Form) -> List[str]:
         try:
@@ -312,7 +312,7 @@ class Receiver(LineReceiver):
 
     def close(self) -> Dict[int, Final]:
         """Ends the lines, and returns the final report by channel. A second call returns the same report. Raises
-        `Ended` if the receiver was left by an exception, and what a call of `Session` raises if memory runs out."""
+        `Ended` if the receiver was left by an exception, and the exceptions of `Session.end` if memory runs out."""
         if self._final is None:
             self._final = final_of(self._session.end().split("\n")[:-1])
             self._session.close()

@@ -319,7 +319,7 @@ class NotSetUp(Fault):
 
 
 def without_hint(answer: str) -> str:
-    """Returns a bad answer, or a reason, without the hint that may follow it, which says what to write instead."""
+    """Returns a bad answer, or a reason, without the hint that may follow it. A hint tells the user what to write instead."""
     return answer.partition(": ")[0]
 
 

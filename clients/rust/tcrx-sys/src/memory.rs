@@ -32,8 +32,8 @@ extern "C" fn rattle_alloc(count: usize, alignment: usize) -> Block {
     answer(unsafe { malloc(if count == 0 { alignment } else { count }) })
 }
 
-/// Returns a block of `count` octets with the content of the given block, which is freed. If there is no such block,
-/// the given block stays as it was.
+/// Returns a block of `count` octets with the content of the given block, which is freed. If no such block can be
+/// allocated, the given block stays as it was.
 ///
 /// # Safety
 ///

@@ -197,8 +197,8 @@ fn a_rack_gives_each_frame_to_its_channel() {
     assert_eq!(none.frame(&located_frame(675, 5, false)), Err(RackError::UnknownChannel));
 }
 
-/// The candidates have twenty frames, and three of which the middle one is refused. Each frame is of Type-BD, has 51 octets with its
-/// frame error control field, and is for channel 5 or 8 in turn. Six octets of fill follow the last frame.
+/// One candidate has twenty frames. The other has three, and the middle one is refused. Each frame is of Type-BD, has 51 octets
+/// with its frame error control field, and is for channel 5 or 8 in turn. Six octets of fill follow the last frame.
 #[test]
 fn candidates_of_several_frames() {
     let settings = |vcid| Settings { vcid, queues: &[], maps: &[], ..SETTINGS };
