@@ -1,4 +1,4 @@
-"""Reads dist/tcrx.h or dist/tcrx_lines.h, for the tools that derive something from a header. It returns the parts of the header with their
+"""Reads dist/tcrx.h or dist/tcrx_lines.h, for the tools that derive something from a header. Its functions return the parts of the header with their
 constants, records and calls, and the comments on them.
 
 The comments are read as doxygen reads them. These commands are known: @file, @brief, @par, @defgroup with @{ and @}, @param, @return and

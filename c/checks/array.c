@@ -1,9 +1,9 @@
 /*
- * Requests blocks of all sizes and alignments from tcrx_static.c until its array is used up. This is done a thousand
- * times, each time in a process of its own. Each block must be aligned, lie in the array, and keep its octets, so that
- * two blocks that overlap are found. No block that fits may be refused, and a refused block must cut nothing off the
- * array. Once the storage is sealed, a request must stop the process by a trap, even a request for no octets. The
- * return of a block must not stop it.
+ * Requests blocks of many sizes and alignments from tcrx_static.c until its array is used up. A thousand processes do
+ * this, and a thousand more, which then seal the storage. Each block must be aligned, lie in the array, and keep its
+ * octets, so that two blocks that overlap are found. No block that fits may be refused, and a refused block must cut
+ * nothing off the array. Once the storage is sealed, a request must stop the process by a trap, even a request for no
+ * octets. The return of a block must not stop it.
  */
 #define _POSIX_C_SOURCE 200809L
 #include "../../dist/tcrx.h"

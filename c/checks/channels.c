@@ -9,8 +9,8 @@
  * must take nothing. If there is room for the frame error control field, every second frame is brought with a wrong
  * field and then with the right one. Each CLCW must also be that of FARM-1's record.
  *
- * If this file is compiled with LIMITED, the limit of each channel on each MAP is the number of octets in all frames of the
- * script that are for the channel. No unit is longer then, so that each answer stays the same.
+ * If this file is compiled with LIMITED, the limit of a channel on each MAP is one more than the number of octets in all
+ * frames of the script that are for the channel, but at most 65,542. No unit is longer, so that each answer stays the same.
  *
  * If this file is compiled with SEALED, it is linked with tcrx_static.c, and the storage is sealed once all channels are
  * created. A later request for memory by any call ends the program.

@@ -367,7 +367,7 @@ static void check_asked(tcrx_channel *channel) {
     expect(tcrx_channel_queued(channel, 6).status == TCRX_NO_QUEUE, "no queue", 1);
     expect(tcrx_channel_units(channel, 6).status == TCRX_NO_MAP, "no MAP", 1);
     expect(tcrx_channel_clcw(channel, 2, 0).status == TCRX_BAD_FLAG && tcrx_channel_clcw(channel, 0, 2).word == 0, "a flag of the link", 0);
-    expect(tcrx_channel_events(channel).count == 1, "the number of events after failing calls and one frame", 0);
+    expect(tcrx_channel_events(channel).count == 1, "the number of events", 0);
 }
 
 static void check_channel(void) {

@@ -1,4 +1,4 @@
-// Brings the stored cases through sessions of tcrx_lines.hpp, line by line, for checks/bindings: scripts as `tcrx run`,
+// Passes the stored cases to sessions of tcrx_lines.hpp, line by line, for checks/bindings: scripts as `tcrx run` does,
 // and the input of `tclive` and `tcmake`. Checks each error, and sessions that are moved, freed and used after that.
 // Refuses each request for memory in turn, including those of the buffer for texts. The program is linked with
 // c/checks/refusing_memory.c. The last line of the output is the number of checks that passed.

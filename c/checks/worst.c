@@ -96,7 +96,7 @@ static unsigned long long call_of_a_queue(const char *call) {
     return strcmp(call, "buffered") == 0 ? tcrx_channel_buffered(&channel).count : tcrx_channel_events(&channel).count;
 }
 
-/* Makes each call without a channel once. Returns how many failed. */
+/* Makes some calls that need no channel, each once. Returns how many of them failed. */
 static unsigned long long call_without_a_channel(void) {
     const tcrx_settings settings = {1, 10, 64, 0, 1};
     const tcrx_queue queue = {5, 1};

@@ -165,6 +165,6 @@ int main(void) {
         send_frame(&frames[i], 40, 1);
     }
     transmit(&at, frames, 3);
-    printf("3 frames in a CLTU, at most 2 taken: frames received: %u, CLTUs over the bound: %u\n", at.frames, at.over_the_bound);
+    printf("of 3 frames where 2 are taken: %u come, and %u CLTU is over the bound\n", at.frames, at.over_the_bound);
     return tcrx_channel_free(at.rack) != TCRX_DONE || all != 0;
 }

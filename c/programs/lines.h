@@ -56,7 +56,7 @@ static inline int print(const command_line *of, const char *what, const char *mo
     return is_written() ? DONE : fail(of->name, ": cannot write");
 }
 
-/* Returns whether a word is UTF-8: no octets too many for a character, no surrogate, and nothing above U+10FFFF. */
+/* Returns whether a word is UTF-8, without overlong forms, surrogates and characters above U+10FFFF. */
 static inline bool is_utf8(const char *word) {
     for (const unsigned char *at = (const unsigned char *)word; *at != 0;) {
         const unsigned first = *at++;

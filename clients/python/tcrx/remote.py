@@ -23,7 +23,7 @@ from .values import Ended, Fault, Final, TimedOut, Unexpected, without_hint
 __all__ = ["RemoteReceiver"]
 
 PROBE, PROBE_ANSWER = "?", "bad unknown command"
-# The beginnings of the last line of an answer that has several lines.
+# The beginnings of the line that ends an answer of several lines, or that is the whole answer.
 LAST = ("clcw ", "bad ", "refused channel")
 # The numbers of octets after which an answer, or a final report, isn't read any further. The longest answer is a unit of 65,542 octets, each in
 # two digits. A final report has at most a line for each of 64 channels, and for each of their 2,047 applications and 64 MAPs.

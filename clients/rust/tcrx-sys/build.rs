@@ -15,7 +15,8 @@ fn found_by_pkg_config() -> Option<PathBuf> {
     (ran.status.success() && !text.trim().is_empty()).then(|| PathBuf::from(text.trim()))
 }
 
-/// Builds the library, and returns its folder. For another machine CC and AR name the tools.
+/// Builds the library, and returns its folder. For another machine CC and AR must name the tools. Returns `None` if the
+/// build fails, or if it is for another machine and CC isn't set.
 fn made() -> Option<PathBuf> {
     let dist = Path::new(&env::var_os("CARGO_MANIFEST_DIR")?).join("../../../dist");
     let folder = PathBuf::from(env::var_os("OUT_DIR")?);

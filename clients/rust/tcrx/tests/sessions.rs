@@ -1,4 +1,4 @@
-//! Brings the stored cases through sessions, line by line: scripts as `tcrx run`, and the input of `tclive` and of
+//! Passes the stored cases to sessions, line by line: scripts as `tcrx run` does, and the input of `tclive` and of
 //! `tcmake`. Tests each error. Refuses each block in turn, both those of the library and those of the buffer for texts.
 
 mod refusing;
