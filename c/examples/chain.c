@@ -165,6 +165,6 @@ int main(void) {
         send_frame(&frames[i], 40, 1);
     }
     transmit(&at, frames, 3);
-    printf("of 3 frames where 2 are taken: %u come, and %u CLTU is over the bound\n", at.frames, at.over_the_bound);
+    printf("of a CLTU with 3 frames, at most 2 are taken: %u came, and %u CLTU had more\n", at.frames, at.over_the_bound);
     return tcrx_channel_free(at.rack) != TCRX_DONE || all != 0;
 }
