@@ -29,11 +29,11 @@ def plain(address: str) -> str:
 
 
 def refusal_of(port: Port, address: str) -> str:
-    """Why a new connection from an address isn't taken. The text is empty if it is taken."""
+    """Why a new connection from an address, as `plain` returns it, isn't taken. The text is empty if it is taken."""
     hub = port.hub
     if not port.place.allows(address):
         return "this address isn't allowed here"
-    if hub.per_address and sum(plain(each.address) == plain(address) for each in port.open) >= hub.per_address:
+    if hub.per_address and sum(each.address == address for each in port.open) >= hub.per_address:
         return f"this address has {hub.per_address} connections, and no more are taken"
     if len(port.open) >= hub.most and not has_made_room(port):
         return f"there are {hub.most} connections, and no more are taken"

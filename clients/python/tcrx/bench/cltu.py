@@ -5,7 +5,7 @@ from __future__ import annotations
 
 from argparse import Namespace
 from collections import Counter
-from typing import Dict, Iterator, Optional
+from typing import Callable, Dict, Iterator, List, Optional
 
 from ..channel import Decoder, randomise
 from ..lines import Session
@@ -13,7 +13,7 @@ from .octets import BROWSER, LONGEST_FRONT, begins_frame, begins_request
 from .ports import Hub, Port, SendingConnection
 from .scheduler import work_on
 
-# Octets that are decoded at once, so that few frames are found beyond those of a turn.
+# Octets that are decoded at once, which take a small part of a turn.
 PIECE = 512
 # The counts that the state and the metrics have of CLTUs.
 CLTU_COUNTS = ("cltus", "corrected_blocks", "rejected_blocks", "overlong_cltus", "overfull_cltus")
@@ -31,13 +31,15 @@ class CltuDecoding:
         """Returns a decoder for octets with CLTUs that follow one another."""
         return Decoder(correct=self.mode == "correct")
 
-    def pieces(self, decoder: Decoder, port: Port, source: str, octets: bytes) -> Iterator[int]:
-        """Decodes octets piece by piece, and brings the frames in each. Yields for each piece how much work it was: as many frames, and one."""
+    def pieces(self, decoder: Decoder, port: Port, source: str, octets: bytes) -> Iterator[None]:
+        """Decodes a piece of the octets, or brings a frame, at each step."""
         for at in range(0, max(1, len(octets)), PIECE):
-            yield 1 + self._decode(decoder, port, source, octets[at:at + PIECE])
+            for candidate in self._decode(decoder, port, source, octets[at:at + PIECE]):
+                yield from self._bring(port, source, randomise(candidate) if self.randomised else candidate)
+            yield
 
-    def _decode(self, decoder: Decoder, port: Port, source: str, octets: bytes) -> int:
-        """Counts what was found in a piece, and brings its frames. Returns how many."""
+    def _decode(self, decoder: Decoder, port: Port, source: str, octets: bytes) -> List[bytes]:
+        """Returns the candidates in a piece, and counts what was found there."""
         before = decoder.corrected, decoder.rejected, decoder.overlong
         found = decoder.feed(octets)
         corrected, rejected, overlong = (now - then for now, then in zip((decoder.corrected, decoder.rejected, decoder.overlong), before))
@@ -51,22 +53,21 @@ class CltuDecoding:
             spacecraft.journal.write(f"# {spacecraft.now():.6f} cltu {source} found {len(found)} corrected {corrected} rejected {rejected} overlong {overlong}")
         if overlong:
             port.note(source, "a CLTU carried more than 1029 octets, and is left out")
-        return sum(self._bring(port, source, randomise(candidate) if self.randomised else candidate) for candidate in found)
+        return found
 
-    def _bring(self, port: Port, source: str, candidate: bytes) -> int:
-        """Brings the frames of a candidate. What begins with no frame is brought as well, so that the receiver says why; more frames than may
-        be are counted and noted. Returns how many frames there were."""
+    def _bring(self, port: Port, source: str, candidate: bytes) -> Iterator[None]:
+        """Brings the frames of a candidate, one at each step. What begins with no frame is brought as well, so that the receiver says why; more
+        frames than may be are counted and noted."""
         *frames, last = self.maker.answer(f"frames {self.most} {candidate.hex()}").split("\n")[:-1]
         word, _, behind = last.partition(" ")
         for frame in frames:
             port.bring(bytes.fromhex(frame[6:]), source)
-        if frames:
-            port.count("frames", len(frames))
+            port.count("frames")
+            yield
         if word == "more" and len(frames) < self.most:
             port.bring(bytes.fromhex(behind), source)
         elif word == "more":
             self._say_overfull(port, source, bytes.fromhex(behind))
-        return len(frames)
 
     def _say_overfull(self, port: Port, source: str, left: bytes) -> None:
         """Counts and notes a CLTU with more frames than may be, or with noise behind them."""
@@ -89,7 +90,7 @@ class CltuConnection(SendingConnection):
     def __init__(self, port: Port, decoding: CltuDecoding) -> None:
         super().__init__(port, port.hub.scheduler.frames)
         self.decoding, self.decoder = decoding, decoding.new_decoder()
-        self.pieces: Iterator[int] = iter(())
+        self.pieces: Iterator[None] = iter(())
         """The pieces of what was read last that aren't decoded yet."""
         self.front: Optional[bytes] = b""
         """The first octets of the stream, which are kept until it is clear that no browser sends them."""
@@ -112,8 +113,6 @@ class CltuConnection(SendingConnection):
         self.come()
         self.balance()
 
-    def take_turn(self, most: int) -> int:
-        count = work_on(self.pieces, most)
-        self.wants_turn = count >= most
+    def take_turn(self, has_time: Callable[[], bool]) -> None:
+        self.wants_turn = work_on(self.pieces, has_time)
         self.balance()
-        return count

@@ -7,6 +7,7 @@ of a frame, docs/howto/bench.md the first three commands, and docs/reference/tcr
 from __future__ import annotations
 
 import asyncio
+import gc
 import os
 import signal
 import sys
@@ -25,7 +26,7 @@ from .faults import Faults
 from .journal import Journal, replay
 from .octets import Cutter
 from .options import note_of_old, read_setup, read_words, warning_of, warning_of_files
-from .ports import (Connection, Datagrams, FrameConnection, Hub, LineConnection, Notes, Place, Port, Reader, Target, all_senders, readers_sender,
+from .ports import (Broadcast, Connection, Datagrams, FrameConnection, Hub, LineConnection, Notes, Place, Port, Reader, Target, all_senders,
                     write_some)
 from .spacecraft import Arrival, Release, Spacecraft
 from .telemetry import MARKER, Telemetry
@@ -161,7 +162,7 @@ class Bench:  # pylint: disable=too-many-instance-attributes  # it is made of th
             return CltuConnection(port, self.decoding)
         return FrameConnection(port, Cutter(self.options.scid, self.options.fill, self.options.resync, self.options.fecf))
 
-    def _decode(self, port: Port, source: str, octets: bytes) -> Iterator[int]:
+    def _decode(self, port: Port, source: str, octets: bytes) -> Iterator[None]:
         """Decodes the CLTUs of a datagram, for which no other datagram is waited."""
         assert self.decoding
         return self.decoding.pieces(self.decoding.new_decoder(), port, source, octets)
@@ -178,9 +179,8 @@ class Bench:  # pylint: disable=too-many-instance-attributes  # it is made of th
     def _sender(self, kind: str) -> Callable[[bytes], None]:
         """Returns a function that sends to all places of a kind."""
         targets, ports = [target for target in self.targets if target.port.place.kind == f"{kind}-udp"], self.listening.get(f"{kind}-tcp", [])
-        readers = readers_sender(ports)
-        marked = (lambda octets: readers(MARKER + octets)) if kind == "tm" and self.options.tm_marker else readers
-        send = all_senders([*(target.send for target in targets), marked])
+        front = MARKER if kind == "tm" and self.options.tm_marker else b""
+        send = all_senders([*(target.send for target in targets), *(Broadcast(port, front).send for port in ports)])
         return self.faults.sender(send, [*ports, *(target.port for target in targets)]) if self.faults and kind in ("clcw", "tm") else send
 
     def say_ports(self) -> None:
@@ -306,7 +306,7 @@ class Bench:  # pylint: disable=too-many-instance-attributes  # it is made of th
     async def _answer_last(self) -> int:
         """Has what was read answered, as far as a part of `--patience` reaches. Returns how many connections and sockets had more."""
         reserve = (1 - LAST_ANSWERS) * self.options.patience
-        while (left := self.hub.scheduler.count_waiting()) and time.monotonic() < (self.until or 0.0) - reserve and not self.over.done():
+        while (left := self.hub.scheduler.count_senders()) and time.monotonic() < (self.until or 0.0) - reserve and not self.over.done():
             await asyncio.sleep(0)
         if left:
             self.notes.say_once(f"left unanswered at the end: what came over {left} connections and sockets")
@@ -395,6 +395,8 @@ async def serve(options: Namespace) -> int:
     if bench.hub.most < options.connections:
         notes.say_once(warning_of_files(bench.hub.most))
     bench.begin_timers()
+    # Python's garbage collector looks no more at what there is by now, which would take ten milliseconds each time.
+    gc.freeze()
     if demo:
         bench.write(f"open http://{bench.listening['http'][0].address}/\n{KEYS}\n")
         demo.begin([port for port in bench.hub.ports if port.place.kind == "tc-udp"][-1].number, ask_to_end)

@@ -2,9 +2,8 @@
 from __future__ import annotations
 
 import re
-import sys
 from binascii import crc_hqx
-from typing import List, Optional, Tuple
+from typing import List, Optional
 
 # Octets of a header, and of the shortest frame.
 HEADER, SHORTEST = 5, 6
@@ -52,26 +51,28 @@ class Cutter:
     """
 
     def __init__(self, scid: int, fill: int, resync: bool, fecf: bool = False) -> None:
-        self.fill, self.resync, self.scid, self.fecf = fill, resync, scid, fecf
+        self.fill, self.resync, self.fecf = fill, resync, fecf
         self.kept, self.to_skip = bytearray(), 0
         self.place = 0
         """How many octets were cut off so far."""
         self.skipped, self.is_lost = 0, False
         """How many octets began no frame, and were left out to find the next header; and whether no frame came since."""
+        self.fault = ""
+        """What is wrong with the octets that come next, where nothing can be cut off them."""
         first = bytes(flags << 4 | scid >> 8 for flags in range(4))
         self.pattern = re.compile(b"[" + re.escape(first) + b"]" + re.escape(bytes([scid & 255])), re.S)
 
-    def feed(self, octets: bytes, most: int = sys.maxsize) -> Tuple[List[bytes], str]:
-        """The frames that are whole now, up to so many, and what is wrong with the octets behind them, if anything is."""
+    def cut(self, most: int) -> List[bytes]:
+        """Cuts off up to so many pieces: frames, each of which is returned, and octets that begin no frame, for which an empty piece is returned.
+        There are fewer pieces only if more octets must come first, or if `fault` says what is wrong with the next ones."""
         kept = self.kept
-        kept += octets
-        is_request = not self.place and begins_request(bytes(kept[:LONGEST_FRONT]))
-        if is_request is not False:
+        if not self.place and (is_request := begins_request(bytes(kept[:LONGEST_FRONT]))) is not False:
             # Nothing is cut off before that is known, so that no frame that a page has sent is found behind it.
-            return [], BROWSER if is_request else ""
-        frames: List[bytes] = []
-        at, fault, end = 0, "", len(kept)
-        while not fault and len(frames) < most:
+            self.fault = BROWSER if is_request else ""
+            return []
+        pieces: List[bytes] = []
+        at, end = 0, len(kept)
+        while len(pieces) < most:
             if self.to_skip:
                 step = min(self.to_skip, end - at)
                 at, self.to_skip = at + step, self.to_skip - step
@@ -84,15 +85,17 @@ class Cutter:
                 break
             octets = bytes(kept[at:at + length])
             if begins and (is_own or not self.fecf or not crc_hqx(octets, 0xFFFF)):
-                frames.append(octets)
+                pieces.append(octets)
                 at, self.to_skip, self.is_lost = at + length, -length % self.fill, False
             elif self.resync:
+                pieces.append(b"")
                 at = self.find_next(at + 1)
             else:
-                fault = f"octets that begin no frame: {kept[at:at + HEADER].hex()} at octet {self.place + at}"
+                self.fault = f"octets that begin no frame: {kept[at:at + HEADER].hex()} at octet {self.place + at}"
+                break
         self.place += at
         del kept[:at]
-        return frames, fault
+        return pieces
 
     def find_next(self, begin: int) -> int:
         """Returns the place at which the next header of this spacecraft may begin. Counts the octets before it as skipped."""

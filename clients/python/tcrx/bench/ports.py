@@ -16,7 +16,7 @@ from collections import deque
 from pathlib import Path
 from typing import IO, Any, Callable, Deque, Dict, Iterator, List, Mapping, NamedTuple, Optional, Set, Tuple, Union, cast
 
-from .admission import MOST_LINGERING, refusal_of
+from .admission import MOST_LINGERING, plain, refusal_of
 from .octets import BROWSER, Cutter, has_request
 from .scheduler import FairQueue, Scheduler, work_on
 from .spacecraft import Spacecraft
@@ -27,6 +27,10 @@ LONGEST_LINE, MOST_WORDS, MOST_KEPT = 8192, 1024, 1 << 22
 CLCW_BUFFER = 4096
 # Octets that are read at once, so that nobody waits long for another.
 CHUNK = 1 << 14
+# Frames that are answered between two looks at the clock.
+AT_ONCE = 8
+# Octets that may wait to be written to the readers of a port, before frames have to wait as well.
+HIGH_WATER = 1 << 16
 # Octets of a datagram.
 LONGEST_DATAGRAM = 65536
 # Octets that the kernel keeps of datagrams, where it may; what Linux says of the memory of a socket, and where in it, how many it lost.
@@ -54,11 +58,10 @@ class Place(NamedTuple):
         if not self.allowed:
             return True
         try:
-            given = ipaddress.ip_address(address.partition("%")[0])
+            given = ipaddress.ip_address(plain(address))
         except ValueError:
             return False
-        mapped = getattr(given, "ipv4_mapped", None)
-        return any((mapped or given) in network for network in self.allowed)
+        return any(given in network for network in self.allowed)
 
 
 def shown(host: str, port: int) -> str:
@@ -153,7 +156,7 @@ class Port:
         self.address = shown(place.host, place.port)
         self.open: Set[Connection] = set()
         self.counts: Dict[str, int] = {}
-        self.bring: Callable[[bytes, str], None] = hub.spacecraft.bring
+        self.bring: Callable[[bytes, str], object] = hub.spacecraft.bring
         """Called with each frame that arrives here, and from where."""
         self.look: Callable[[], None] = lambda: None
         """Called before the counts are looked at."""
@@ -193,13 +196,18 @@ class Hub:  # pylint: disable=too-many-instance-attributes  # what ports share
         self.spacecraft, self.notes, self.most, self.patience, self.per_address = spacecraft, notes, most, patience, per_address
         self.ports: List[Port] = []
         self.datagrams: List[Datagrams] = []
+        self.broadcasts: List[Broadcast] = []
         self.loop = asyncio.get_running_loop()
         self.lingering: Dict[Connection, None] = {}
         """Those that were sent why they are closed, in that order."""
         self.closed = False
         """From then on nothing more is read. What was read before is still answered."""
-        self.scheduler = Scheduler(self.loop)
+        self.scheduler = Scheduler(self.loop, self.is_behind)
         self._sweep()
+
+    def is_behind(self) -> bool:
+        """Whether the readers of a port are to be written so much that no more frames are to come for now."""
+        return any(broadcast.size > HIGH_WATER for broadcast in self.broadcasts)
 
     def _sweep(self) -> None:
         """Looks at each connection from time to time."""
@@ -237,6 +245,8 @@ class Hub:  # pylint: disable=too-many-instance-attributes  # what ports share
 
     async def close(self, seconds: float) -> None:
         """Closes all connections; one that doesn't read what is there for it is cut off after some seconds."""
+        for broadcast in self.broadcasts:
+            broadcast.flush()
         for port in self.ports:
             for connection in list(port.open):
                 connection.finish()
@@ -274,7 +284,7 @@ class Connection(asyncio.BufferedProtocol):  # pylint: disable=too-many-instance
         """Takes the connection, or says why not."""
         self.transport = cast(asyncio.Transport, transport)
         name = transport.get_extra_info("peername") or ("?", 0)
-        self.address, self.peer = name[0], shown(name[0], name[1])
+        self.address, self.peer = plain(name[0]), shown(name[0], name[1])
         self.source = f"{self.port.place.kind} {self.peer}"
         if why := refusal_of(self.port, self.address):
             self._refuse(why)
@@ -370,10 +380,10 @@ class SendingConnection(Connection):
     def come(self) -> None:
         """Asks for a turn."""
         if not self.wants_turn:
-            self.hub.scheduler.come(self.queue, self)
+            self.hub.scheduler.serve_now(self.queue, self)
 
-    def take_turn(self, most: int) -> int:
-        """Has up to so many frames or lines answered, and returns how many."""
+    def take_turn(self, has_time: Callable[[], bool]) -> None:
+        """Has frames or lines answered, one at least, as long as there is time."""
         raise NotImplementedError
 
     def balance(self) -> None:
@@ -397,27 +407,31 @@ class FrameConnection(SendingConnection):
         self.come()
         self.balance()
 
-    def take_turn(self, most: int) -> int:
+    def take_turn(self, has_time: Callable[[], bool]) -> None:
         self.wants_turn = False
         if self.done:
-            return 0
-        skipped = self.cutter.skipped
-        frames, fault = self.cutter.feed(b"", most)
-        for frame in frames:
-            self.port.bring(frame, self.source)
-        self.port.count("frames", len(frames))
-        self.wants_turn = len(frames) == most and not fault
-        if frames or not self.cutter.kept:
+            return
+        cutter, count, skipped = self.cutter, 0, self.cutter.skipped
+        while not self.wants_turn:
+            pieces = cutter.cut(AT_ONCE)
+            for frame in filter(None, pieces):
+                self.port.bring(frame, self.source)
+                count += 1
+            if len(pieces) < AT_ONCE:
+                break
+            self.wants_turn = not has_time()
+        if count:
+            self.port.count("frames", count)
+        if count or not cutter.kept:
             self.begun = None
-        if self.cutter.kept and self.begun is None:
+        if cutter.kept and self.begun is None:
             self.begun = time.monotonic()
-        if self.cutter.skipped != skipped:
-            self._note_skipped(self.cutter.skipped - skipped, "octets began no frame")
-        if fault:
-            self.port.count("turned_away" if fault == BROWSER else "faults")
-            self.turn_away(fault)
+        if cutter.skipped != skipped:
+            self._note_skipped(cutter.skipped - skipped, "octets began no frame")
+        if cutter.fault:
+            self.port.count("turned_away" if cutter.fault == BROWSER else "faults")
+            self.turn_away(cutter.fault)
         self.balance()
-        return len(frames)
 
     def _note_skipped(self, count: int, why: str) -> None:
         self.port.count("skipped_octets", count)
@@ -498,14 +512,13 @@ class LineConnection(SendingConnection):
         """Whether lines wait and can be carried out. They can't while the answers to others aren't read."""
         return bool(self.lines) and not self.paused and not self.done
 
-    def take_turn(self, most: int) -> int:
-        count = 0
-        while count < most and self._may_order():
+    def take_turn(self, has_time: Callable[[], bool]) -> None:
+        while self._may_order():
             self._order(self.lines.popleft())
-            count += 1
+            if not has_time():
+                break
         self.wants_turn = self._may_order()
         self.balance()
-        return count
 
     def _order(self, octets: Optional[bytes]) -> None:
         """Has a line carried out, unless it has neither an answer nor an effect. One that is too long is answered as such, whatever it says."""
@@ -561,8 +574,8 @@ class Reader(Connection):
     def __init__(self, port: Port) -> None:
         super().__init__(port)
         self.kept: Deque[bytes] = deque()
+        """The pieces that wait while the other end doesn't read."""
         self.size, self.most = 0, MOST_WORDS if port.place.kind == "clcw-tcp" else MOST_KEPT
-        self.called = False
 
     def opened(self) -> None:
         """Small buffers: what waits is to wait here, where the oldest can be left out."""
@@ -570,55 +583,91 @@ class Reader(Connection):
         if self.most == MOST_WORDS:
             self.transport.get_extra_info("socket").setsockopt(socket.SOL_SOCKET, socket.SO_SNDBUF, CLCW_BUFFER)
 
-    def send(self, octets: bytes) -> None:
-        """Keeps this for the reader, and leaves out the oldest of what it didn't read."""
-        self.kept.append(octets)
-        self.size += len(octets)
-        while self.size > self.most and self.paused:
-            self.size -= len(self.kept.popleft())
-            self.port.count("lost")
-        if not self.called and not self.paused:
-            self.called = True
-            self.hub.loop.call_soon(self._write)
-
-    def _write(self) -> None:
-        """Writes what is kept, unless the reader still has to read what came before."""
-        self.called = False
+    def send(self, pieces: List[bytes], octets: bytes) -> None:
+        """Writes pieces, which are these octets. If the other end doesn't read, they are kept, and the oldest that are kept are left out."""
+        if self.transport.is_closing():
+            return
         if not self.paused:
-            self._hand_over()
+            self._write(octets, len(pieces))
+            return
+        self.kept.extend(pieces)
+        self.size += len(octets)
+        lost = 0
+        while self.size > self.most:
+            self.size -= len(self.kept.popleft())
+            lost += 1
+        if lost:
+            self.port.count("lost", lost)
 
-    def _hand_over(self) -> None:
-        """Writes all that is kept, in one go."""
+    def _write(self, octets: bytes, count: int) -> None:
+        """Writes octets, which are this number of pieces."""
+        self.port.count("sent", count)
+        self.transport.write(octets)
+
+    def _write_kept(self) -> None:
+        """Writes what is kept, in one go."""
         if self.kept and not self.transport.is_closing():
-            self.port.count("sent", len(self.kept))
-            octets = b"".join(self.kept)
+            octets, count = b"".join(self.kept), len(self.kept)
             self.kept.clear()
             self.size = 0
-            self.transport.write(octets)
+            self._write(octets, count)
 
     def resume_writing(self) -> None:
         super().resume_writing()
-        self._write()
+        self._write_kept()
 
     def finish(self) -> None:
-        """Writes the kept octets before the connection is closed. So a slow reader that reads on gets the newest ones in the end."""
-        self._hand_over()
+        """Writes what is kept before the connection is closed. So a slow reader that reads on gets the newest in the end."""
+        self._write_kept()
         super().finish()
 
     def connection_lost(self, exc: Optional[Exception]) -> None:
-        """Counts the octets that the reader didn't read as lost."""
+        """Counts what is kept as lost."""
         if self.kept:
             self.port.count("lost", len(self.kept))
         super().connection_lost(exc)
 
 
-def readers_sender(ports: List[Port]) -> Callable[[bytes], None]:
-    """Returns a function that sends octets to all readers of these ports."""
-    def send(octets: bytes) -> None:
-        for port in ports:
-            for connection in port.open:
-                cast(Reader, connection).send(octets)
-    return send
+class Broadcast:
+    """Sends what goes out at a port to all of its readers, each piece behind the octets `front`. The pieces of a round of the event loop are
+    joined, and written in turns."""
+
+    def __init__(self, port: Port, front: bytes) -> None:
+        self.port, self.front, self.wants_turn = port, front, False
+        self.pieces: List[bytes] = []
+        self.size = 0
+        """What isn't written to any reader yet, and how many octets that are."""
+        self.writes: Iterator[None] = iter(())
+        port.hub.broadcasts.append(self)
+
+    def send(self, octets: bytes) -> None:
+        """Has a piece written to each reader, in a later round of the event loop."""
+        if not self.port.open:
+            return
+        self.pieces.append(self.front + octets)
+        self.size += len(octets)
+        if not self.wants_turn:
+            self.writes = self._write()
+            self.port.hub.scheduler.enqueue(self.port.hub.scheduler.output, self)
+
+    def take_turn(self, has_time: Callable[[], bool]) -> None:
+        """Writes to some readers, one at least, as long as there is time."""
+        # After an exception, what is sent next begins anew.
+        self.wants_turn = False
+        self.wants_turn = work_on(self.writes, has_time)
+
+    def _write(self) -> Iterator[None]:
+        """Writes to a reader at each step, until each has all pieces."""
+        while self.pieces:
+            pieces, self.pieces, self.size = self.pieces, [], 0
+            octets = b"".join(pieces)
+            for connection in list(self.port.open):
+                cast(Reader, connection).send(pieces, octets)
+                yield
+
+    def flush(self) -> None:
+        """Writes all pieces at once."""
+        self.take_turn(lambda: True)
 
 
 # --- Datagrams ---
@@ -640,10 +689,10 @@ class Datagrams:
     """A port that takes a frame in each datagram, or CLTUs where it is given what decodes them. While it waits for its turn the kernel keeps what
     comes, and loses what it has no room for."""
 
-    def __init__(self, place: Place, hub: Hub, fill: int, decode: Optional[Callable[[Port, str, bytes], Iterator[int]]] = None) -> None:
+    def __init__(self, place: Place, hub: Hub, fill: int, decode: Optional[Callable[[Port, str, bytes], Iterator[None]]] = None) -> None:
         self.port, self.hub, self.fill, self.decode = Port(place, hub), hub, fill, decode
         self.wants_turn = self.is_read = False
-        self.pieces: Iterator[int] = iter(())
+        self.pieces: Iterator[None] = iter(())
         """The work that the datagrams are that have come, piece by piece."""
         self.socket = bound(place)
         self.socket.setsockopt(socket.SOL_SOCKET, socket.SO_RCVBUF, DATAGRAM_BUFFER)
@@ -665,7 +714,7 @@ class Datagrams:
     def _come(self) -> None:
         """Asks for a turn."""
         self.pieces = self._answer()
-        self.hub.scheduler.come(self.hub.scheduler.frames, self)
+        self.hub.scheduler.serve_now(self.hub.scheduler.frames, self)
         self._balance()
 
     def _count_lost(self) -> None:
@@ -674,15 +723,13 @@ class Datagrams:
         if lost := int.from_bytes(found[4 * DROPS:], sys.byteorder):
             self.port.counts["lost"] = lost
 
-    def take_turn(self, most: int) -> int:
-        """Has some datagrams answered, each of which counts for its frames."""
-        count = work_on(self.pieces, most)
-        self.wants_turn = count >= most
+    def take_turn(self, has_time: Callable[[], bool]) -> None:
+        """Has datagrams answered, as long as there is time."""
+        self.wants_turn = work_on(self.pieces, has_time)
         self._balance()
-        return count
 
-    def _answer(self) -> Iterator[int]:
-        """Has the datagrams answered that are there, and yields for each piece how much work it was. At the end no more are read."""
+    def _answer(self) -> Iterator[None]:
+        """Has the datagrams answered that are there, a piece of the work at each step. At the end no more are read."""
         while not self.hub.closed:
             try:
                 octets, sender = self.socket.recvfrom(LONGEST_DATAGRAM)
@@ -691,7 +738,7 @@ class Datagrams:
             source = f"{self.port.place.kind} {shown(sender[0], sender[1])}"
             if not self.port.place.allows(sender[0]):
                 self.port.count("turned_away")
-                yield 1
+                yield
             elif self.decode:
                 self.port.count("datagrams")
                 yield from self.decode(self.port, source, octets)
@@ -700,7 +747,7 @@ class Datagrams:
                 if self.fill > 1 and len(octets) >= 4:
                     octets = octets[:((octets[2] & 3) << 8 | octets[3]) + 1]
                 self.port.bring(octets, source)
-                yield 1
+                yield
 
     def close(self) -> None:
         """Reads nothing more."""
