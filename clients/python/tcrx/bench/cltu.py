@@ -80,8 +80,9 @@ class CltuDecoding:
 
     def state(self) -> Dict[str, object]:
         """Returns the state as values of JSON."""
-        return {"mode": self.mode, "randomised": self.randomised, "most_frames": self.most, "refused_candidates": self.hub.spacecraft.refused_of_ports,
-                **{what: self.counts[what] for what in CLTU_COUNTS}}
+        spacecraft = self.hub.spacecraft
+        return {"mode": self.mode, "randomised": self.randomised, "most_frames": self.most,
+                "refused_candidates": sum(spacecraft.refused.values()) - spacecraft.refused_of_lines, **{what: self.counts[what] for what in CLTU_COUNTS}}
 
 
 class CltuConnection(SendingConnection):

@@ -28,7 +28,7 @@ from .octets import Cutter
 from .options import note_of_old, read_setup, read_words, warning_of, warning_of_files
 from .ports import (Broadcast, Connection, Datagrams, FrameConnection, Hub, LineConnection, Notes, Place, Port, Reader, Target, all_senders,
                     write_some)
-from .spacecraft import Arrival, Release, Spacecraft
+from .spacecraft import Release, Spacecraft
 from .telemetry import MARKER, Telemetry
 from .watch import Watches
 from .web import Visitor, Web
@@ -213,13 +213,12 @@ class Bench:  # pylint: disable=too-many-instance-attributes  # it is made of th
             self.telemetry.begin()
         self._write_log()
 
-    def _renew(self, arrival: Arrival) -> None:
-        """Ends the receiver with its report, and begins another one, with another file of the log."""
+    def _renew(self, source: str) -> str:
+        """Ends the receiver with its report, and begins another one, with another file of the log. Returns the answer to the line."""
         try:
             session = self._new_session()
         except Fault as fault:
-            arrival.answer(f"bad {fault}")
-            return
+            return f"bad {fault}"
         report = self.spacecraft.session.end()
         self.journal.end(report.split("\n")[:-1])
         self._print(report)
@@ -230,10 +229,10 @@ class Bench:  # pylint: disable=too-many-instance-attributes  # it is made of th
         except NotUp as fault:
             # Memory ran out, since the same lines were good before.
             self._fail(str(fault))
-        self.spacecraft.note_text(arrival.source, "the receiver was begun anew")
-        arrival.answer(f"anew {self.journal.part}")
+        self.spacecraft.note_text(source, "the receiver was begun anew")
         if self.link_watch and self.link_watch.lost:
             self.spacecraft.set_link(True)
+        return f"anew {self.journal.part}"
 
     def _say_took_sum(self, source: str) -> None:
         """Says that --fecf may be missing."""

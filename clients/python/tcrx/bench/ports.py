@@ -526,12 +526,9 @@ class LineConnection(SendingConnection):
         if words and not words[0].startswith("#"):
             if octets is not None:
                 self.port.count("lines")
-            self.hub.spacecraft.order(" ".join(words), self.source, self._answered)
-
-    def _answered(self, answer: str) -> None:
-        """Writes an answer. A good line that sets up has none."""
-        if answer and not self.done and not self.transport.is_closing():
-            self.transport.write(f"{answer}\n".encode("ascii", errors="replace"))
+            answer = self.hub.spacecraft.order(" ".join(words), self.source)
+            if answer and not self.done and not self.transport.is_closing():
+                self.transport.write(f"{answer}\n".encode("ascii", errors="replace"))
 
     def balance(self) -> None:
         """Reads no more lines while some wait, or while answers do; asks for a turn where one is wanted; closes at the end."""

@@ -26,8 +26,7 @@ LAST_NOTES = 20
 # The bench's own line, and where a release comes from that it makes after some time.
 ANEW, RELEASE = "anew", "release"
 EVENTS = tuple(f"E{number}" for number in range(1, 10))
-
-Asker = Callable[[str], None]
+FRAME_LINE = re.compile("(frame|candidate) ((?:[0-9a-fA-F]{2})+)")
 
 
 class Release(enum.Enum):
@@ -45,16 +44,11 @@ BEHIND = {Release.AUTO: "deliver", Release.AFTER: "collect", Release.MANUAL: "cl
 class Arrival:  # pylint: disable=too-few-public-methods  # a record, made for each frame
     """A frame or line that arrived, with what is to be known when it is answered."""
 
-    __slots__ = ("came", "source", "line", "octets", "asker", "event")
+    __slots__ = ("came", "source", "line", "octets", "event")
 
-    def __init__(self, came: float, source: str, line: str, octets: bytes = b"", asker: Optional[Asker] = None) -> None:
-        self.came, self.source, self.line, self.octets, self.asker = came, source, line, octets, asker
+    def __init__(self, came: float, source: str, line: str, octets: bytes = b"") -> None:
+        self.came, self.source, self.line, self.octets = came, source, line, octets
         self.event: Optional[Event] = None
-
-    def answer(self, text: str) -> None:
-        """Gives an answer to the one who asked, if there is one."""
-        if self.asker:
-            self.asker(text)
 
 
 class Event:  # pylint: disable=too-few-public-methods  # a record, made for each frame
@@ -100,7 +94,7 @@ class Spacecraft:  # pylint: disable=too-many-instance-attributes  # what is kno
         self.channels: Dict[int, Channel] = {}
         self.refused: Counter[str] = Counter()
         self.bad: Counter[str] = Counter()
-        self.frames = self.packets = self.units = self.refused_of_ports = 0
+        self.frames = self.packets = self.units = self.refused_of_lines = 0
         self.last_events: Deque[Event] = deque(maxlen=LAST_EVENTS)
         self.last_notes: Deque[Dict[str, object]] = deque(maxlen=LAST_NOTES)
         """The events of ports. They have a list of their own, so that no peer can push the receiver's events out."""
@@ -122,8 +116,8 @@ class Spacecraft:  # pylint: disable=too-many-instance-attributes  # what is kno
         """Called when a frame arrives."""
         self.took_sum: Callable[[str], None] = lambda source: None
         """Called where the first frame of a channel ends with its frame error control field, and that was data."""
-        self.renew: Callable[[Arrival], None] = lambda arrival: None
-        """Called to have the receiver begun anew."""
+        self.renew: Callable[[str], str] = lambda source: ""
+        """Called with the source of the line that has the receiver begun anew. Returns the answer to it."""
         self.is_ending = False
         """From the end on nothing is written that nobody asked for."""
         self.next_in_turn = 0
@@ -136,28 +130,28 @@ class Spacecraft:  # pylint: disable=too-many-instance-attributes  # what is kno
 
     # --- What arrives ---
 
-    def bring(self, octets: bytes, source: str, asker: Optional[Asker] = None, word: str = "frame") -> None:
-        """Octets of a link, with a frame at their front; or what a CLTU carried, where the word is `candidate`."""
+    def bring(self, octets: bytes, source: str, word: str = "frame") -> str:
+        """Has octets answered, with a frame at their front; or what a CLTU carried, where the word is `candidate`. Returns the answer."""
         self.arrived()
         octets = octets[:MOST_OCTETS] or b"\0"
-        arrival = Arrival(self.now(), source, f"{word} {octets.hex()}", octets, asker)
+        arrival = Arrival(self.now(), source, f"{word} {octets.hex()}", octets)
         answer, = self.answers_to(arrival.line)
         if answer.startswith("frame "):
             self._frame_answered(arrival, answer)
         else:
             self._refused(arrival, answer)
+        return answer
 
-    def order(self, line: str, source: str, asker: Optional[Asker]) -> None:
-        """A line of a person or a script: its words with a space between each two."""
-        found = re.fullmatch("(frame|candidate) ((?:[0-9a-fA-F]{2})+)", line)
-        if found:
-            self.bring(bytes.fromhex(found[2]), source, asker, found[1])
-            return
-        arrival = Arrival(self.now(), source, line, b"", asker)
+    def order(self, line: str, source: str) -> str:
+        """Carries out a line of a person or a script, which has its words with a space between each two. Returns the answer, which is empty if
+        there is none."""
+        if found := FRAME_LINE.fullmatch(line):
+            answer = self.bring(bytes.fromhex(found[2]), source, found[1])
+            self.refused_of_lines += answer.startswith("refused ")
+            return answer
         if line == ANEW:
-            self.renew(arrival)
-        else:
-            self._order(arrival)
+            return self.renew(source)
+        return self._order(Arrival(self.now(), source, line))
 
     def answers_to(self, line: str) -> List[str]:
         """Returns the answers to a line, of which the first is empty if there is none. Raises a `Fault` where memory ran out at one, after
@@ -209,14 +203,10 @@ class Spacecraft:  # pylint: disable=too-many-instance-attributes  # what is kno
         self._log_origin(arrival)
         self.journal.answer(arrival.line, answer)
         self._note_event(arrival, answer)
-        arrival.answer(answer)
-        is_bad = answer.startswith("bad ")
-        if is_bad:
+        if answer.startswith("bad "):
             self.bad[without_hint(why_bad(answer))] += 1
         else:
             self.refused[answer.partition(" ")[2]] += 1
-        # Nobody asks for the answer where a frame came by a port for frames.
-        self.refused_of_ports += not arrival.asker and not is_bad
 
     def _frame_answered(self, arrival: Arrival, answer: str) -> None:
         """Counts a frame, and hands on what comes of it."""
@@ -231,7 +221,6 @@ class Spacecraft:  # pylint: disable=too-many-instance-attributes  # what is kno
         self.active = channel.vcid
         answers = self.answers_to(f"{self.behind} {channel.vcid}")
         self._note_event(arrival, answer, answers[-1][-8:] if answers[-1].startswith("clcw ") else "")
-        arrival.answer(answer)
         if self.journal.file:
             self._log_origin(arrival)
             self.journal.answer(arrival.line, answer)
@@ -266,32 +255,31 @@ class Spacecraft:  # pylint: disable=too-many-instance-attributes  # what is kno
         if not self.is_ending and self.channels.get(channel.vcid) is channel:
             self._deliver(Arrival(self.now(), RELEASE, f"release {channel.vcid}"))
 
-    def _deliver(self, arrival: Arrival) -> None:
+    def _deliver(self, arrival: Arrival) -> str:
         """Hands on what is released by a line, or by the bench after some time."""
         answers = self.answers_to(f"deliver{arrival.line[7:]}")
-        arrival.answer("\n".join(answers) if arrival.line.startswith("deliver") else answers[0])
         self._log_origin(arrival)
         if len(answers) == 1:
             self.journal.answer(f"release{arrival.line[7:]}", answers[0])
-            return
-        if answers[0].startswith("release "):
-            self._note_event(arrival, answers[0], answers[-1][-8:])
-        self._hand_on(self.channels[int(answers[-1].split(" ")[1])], answers, asked=True)
+        else:
+            if answers[0].startswith("release "):
+                self._note_event(arrival, answers[0], answers[-1][-8:])
+            self._hand_on(self.channels[int(answers[-1].split(" ")[1])], answers, asked=True)
+        return "\n".join(answers) if arrival.line.startswith("deliver") else answers[0]
 
-    def _collect(self, arrival: Arrival) -> None:
+    def _collect(self, arrival: Arrival) -> str:
         """Hands on what waits, by a line."""
         answers = self.answers_to(arrival.line)
-        arrival.answer("\n".join(answers))
         self._log_origin(arrival)
         if answers[-1].startswith("clcw "):
             self._hand_on(self.channels[int(answers[-1].split(" ")[1])], answers)
         else:
             self.journal.answer(f"clcw{arrival.line[7:]}", answers[0])
+        return "\n".join(answers)
 
-    def _take(self, arrival: Arrival) -> None:
+    def _take(self, arrival: Arrival) -> str:
         """Sends a packet or unit."""
         answer = self._ask(arrival, arrival.line)
-        arrival.answer(answer)
         if not answer.startswith(("refused ", "bad ")):
             self.channels[int(answer.split(" ")[1])].changed = True
             if answer.startswith("take "):
@@ -299,6 +287,7 @@ class Spacecraft:  # pylint: disable=too-many-instance-attributes  # what is kno
                 self.send_packet(bytes.fromhex(answer.rpartition(" ")[2]))
             else:
                 self._send_unit(answer)
+        return answer
 
     def _send_clcw(self, arrival: Arrival, vcid: int) -> None:
         """Sends the CLCW of a channel."""
@@ -312,36 +301,31 @@ class Spacecraft:  # pylint: disable=too-many-instance-attributes  # what is kno
 
     # --- Lines of people, and the bench's own ---
 
-    def _order(self, arrival: Arrival) -> None:
+    def _order(self, arrival: Arrival) -> str:
         """Carries out a line that isn't a frame."""
         word = arrival.line.partition(" ")[0]
         if word in SET_UP:
-            self._set_up(arrival)
-        elif word == "deliver" or (word == "release" and self.release is not Release.MANUAL and arrival.line.count(" ") == 1):
-            # A person's release has all handed on as the bench's own, but with --release manual.
-            self._deliver(arrival)
-        elif word == "collect":
-            self._collect(arrival)
-        elif word in ("take", "unit"):
-            self._take(arrival)
-        else:
-            self._do_other(arrival)
-            vcid = arrival.line.split(" ")[1:2]
-            if word == "link" and vcid and vcid[0].isascii() and vcid[0].isdecimal() and int(vcid[0][:9]) in self.channels:
-                # A flag of the link is in the CLCW that follows.
-                self._send_clcw(arrival, int(vcid[0][:9]))
+            return self._set_up(arrival)
+        # A person's release has all handed on as the bench's own, but with --release manual.
+        if word == "deliver" or (word == "release" and self.release is not Release.MANUAL and arrival.line.count(" ") == 1):
+            return self._deliver(arrival)
+        if word == "collect":
+            return self._collect(arrival)
+        if word in ("take", "unit"):
+            return self._take(arrival)
+        return self._do_other(arrival)
 
-    def _set_up(self, arrival: Arrival) -> None:
+    def _set_up(self, arrival: Arrival) -> str:
         """Notes what a line sets up, or why it is bad."""
         answer = self.answers_to(arrival.line)[0]
         self._log_origin(arrival)
-        arrival.answer(answer)
         if answer:
             self.journal.answer(arrival.line, answer)
             self.bad[without_hint(why_bad(answer))] += 1
         else:
             self._note_set_up(arrival.line)
         self.changes += 1
+        return answer
 
     def _note_set_up(self, line: str) -> None:
         """Notes a channel, queue or MAP that was set up."""
@@ -356,18 +340,17 @@ class Spacecraft:  # pylint: disable=too-many-instance-attributes  # what is kno
         else:
             self.channels[numbers[0]].maps[numbers[1]] = numbers[2]
 
-    def _do_other(self, arrival: Arrival) -> None:
+    def _do_other(self, arrival: Arrival) -> str:
         """Carries out any other line."""
         answer = self._ask(arrival, arrival.line)
-        arrival.answer(answer)
         if answer.startswith("bad "):
             self.bad[without_hint(why_bad(answer))] += 1
         elif answer.startswith(("link ", "release ")):
+            # Both change the CLCW.
             vcid = int(answer.split(" ")[1])
             self._note_event(arrival, answer)
-            self.channels[vcid].changed = True
-            if answer.startswith("release "):
-                self._send_clcw(arrival, vcid)
+            self._send_clcw(arrival, vcid)
+        return answer
 
     def say_next_clcw(self) -> None:
         """Sends the CLCW of the next channel, in turn."""
