@@ -111,9 +111,9 @@ class CltuConnection(SendingConnection):
                 return
             self.front = None
         self.pieces = self.decoding.pieces(self.decoder, self.port, self.source, data)
-        self.come()
-        self.balance()
+        self.request_turn()
+        self.update_reading()
 
     def take_turn(self, has_time: Callable[[], bool]) -> None:
         self.wants_turn = work_on(self.pieces, has_time)
-        self.balance()
+        self.update_reading()

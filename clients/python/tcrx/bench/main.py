@@ -361,7 +361,7 @@ async def serve(options: Namespace) -> int:
     loop = asyncio.get_running_loop()
     asked: "asyncio.Future[str]" = loop.create_future()
     notes = Notes()
-    notes.hear(loop)
+    notes.handle_exceptions(loop)
     try:
         journal = Journal(options.log, options.scid, options.fecf)
     except OSError as error:

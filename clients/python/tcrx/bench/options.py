@@ -26,9 +26,9 @@ SENDS = (("clcw-udp", "CLCWs to HOST:PORT, one in each datagram"), ("packets-udp
 
 # Options that do nothing any more.
 OLD = ("program", "tcmake")
-# Octets of a telemetry frame, frames a second and virtual channel, where they aren't given.
 # As many of the shortest frames as the 1,029 octets of a CLTU have room for.
 MOST_FRAMES = 171
+# The options of telemetry frames where they aren't given.
 TM_DEFAULTS = {"tm_length": 1115, "tm_rate": 1.0, "tm_vcid": 0, "tm_fecf": False, "tm_marker": False}
 # The fewest octets of a telemetry frame that ends with its frame error control field.
 SHORTEST_WITH_FECF = 13

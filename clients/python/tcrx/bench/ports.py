@@ -118,8 +118,8 @@ class Notes:
         except OSError:
             return False
 
-    def hear(self, loop: asyncio.AbstractEventLoop) -> None:
-        """Has a line written for what the event loop complains of, in place of a trace each time."""
+    def handle_exceptions(self, loop: asyncio.AbstractEventLoop) -> None:
+        """Has the event loop report an exception by a line, in place of a trace each time."""
         loop.set_exception_handler(lambda _, context: self.say(complaint_of(context)))
         logger = logging.getLogger("asyncio")
         logger.propagate = False
@@ -158,8 +158,8 @@ class Port:
         self.counts: Dict[str, int] = {}
         self.bring: Callable[[bytes, str], object] = hub.spacecraft.bring
         """Called with each frame that arrives here, and from where."""
-        self.look: Callable[[], None] = lambda: None
-        """Called before the counts are looked at."""
+        self.update_counts: Callable[[], None] = lambda: None
+        """Called before the counts are shown."""
         self.server: Optional[asyncio.AbstractServer] = None
 
     @property
@@ -179,7 +179,7 @@ class Port:
 
     def state(self) -> Dict[str, object]:
         """Returns the state of the port as values of JSON."""
-        self.look()
+        self.update_counts()
         return {"port": self.place.kind, "address": self.address, "open": len(self.open), **self.counts}
 
     def peers(self) -> List[Dict[str, object]]:
@@ -210,11 +210,11 @@ class Hub:  # pylint: disable=too-many-instance-attributes  # what ports share
         return any(broadcast.size > HIGH_WATER for broadcast in self.broadcasts)
 
     def _sweep(self) -> None:
-        """Looks at each connection from time to time."""
+        """Checks the timeouts of each connection from time to time."""
         if not self.closed:
             for port in self.ports:
                 for connection in list(port.open):
-                    connection.look()
+                    connection.check_timeouts()
             self.loop.call_later(min(1.0, self.patience / 4), self._sweep)
 
     async def listen(self, place: Place, made: Callable[[Port], Connection]) -> Port:
@@ -239,7 +239,7 @@ class Hub:  # pylint: disable=too-many-instance-attributes  # what ports share
             if port.server:
                 port.server.close()
             for connection in list(port.open):
-                connection.balance()
+                connection.update_reading()
         while self.datagrams:
             self.datagrams.pop().close()
 
@@ -295,7 +295,7 @@ class Connection(asyncio.BufferedProtocol):  # pylint: disable=too-many-instance
                 transport.get_extra_info("socket").setsockopt(*option)
             self.opened()
             # After this call, as older versions of asyncio begin to read behind it.
-            self.hub.loop.call_soon(self.balance)
+            self.hub.loop.call_soon(self.update_reading)
 
     def _refuse(self, why: str) -> None:
         """Counts and closes a connection that isn't taken."""
@@ -355,11 +355,11 @@ class Connection(asyncio.BufferedProtocol):  # pylint: disable=too-many-instance
         self.port.open.discard(self)
         self.hub.spacecraft.changes += 1
 
-    def balance(self) -> None:
-        """Reads on, or not."""
+    def update_reading(self) -> None:
+        """Pauses or resumes reading."""
 
-    def look(self) -> None:
-        """Looks whether it is time for something."""
+    def check_timeouts(self) -> None:
+        """Does what is due by now."""
 
     def pause_writing(self) -> None:
         """Called when the other end doesn't read the written octets."""
@@ -370,6 +370,16 @@ class Connection(asyncio.BufferedProtocol):  # pylint: disable=too-many-instance
         self.paused = False
 
 
+def set_reading(transport: asyncio.Transport, reads: bool) -> None:
+    """Pauses or resumes the reading of a transport, unless it is closing."""
+    if transport.is_closing() or transport.is_reading() == reads:
+        return
+    if reads:
+        transport.resume_reading()
+    else:
+        transport.pause_reading()
+
+
 class SendingConnection(Connection):
     """One that sends frames or lines, which are answered by turns. While it waits for its turn it reads nothing, so little of it waits."""
 
@@ -377,7 +387,7 @@ class SendingConnection(Connection):
         super().__init__(port)
         self.queue, self.wants_turn = queue, False
 
-    def come(self) -> None:
+    def request_turn(self) -> None:
         """Asks for a turn."""
         if not self.wants_turn:
             self.hub.scheduler.serve_now(self.queue, self)
@@ -386,8 +396,8 @@ class SendingConnection(Connection):
         """Has frames or lines answered, one at least, as long as there is time."""
         raise NotImplementedError
 
-    def balance(self) -> None:
-        stop_transport(self, self.wants_turn or self.hub.closed)
+    def update_reading(self) -> None:
+        set_reading(self.transport, not self.wants_turn and not self.hub.closed)
 
 
 class FrameConnection(SendingConnection):
@@ -404,8 +414,8 @@ class FrameConnection(SendingConnection):
         if self.done:
             return
         self.cutter.kept += data
-        self.come()
-        self.balance()
+        self.request_turn()
+        self.update_reading()
 
     def take_turn(self, has_time: Callable[[], bool]) -> None:
         self.wants_turn = False
@@ -431,13 +441,13 @@ class FrameConnection(SendingConnection):
         if cutter.fault:
             self.port.count("turned_away" if cutter.fault == BROWSER else "faults")
             self.turn_away(cutter.fault)
-        self.balance()
+        self.update_reading()
 
     def _note_skipped(self, count: int, why: str) -> None:
         self.port.count("skipped_octets", count)
         self.port.note(self.source, f"{count} octets skipped: {why}")
 
-    def look(self) -> None:
+    def check_timeouts(self) -> None:
         """A frame that has begun must be whole after some time."""
         if self.begun is None or self.done or self.wants_turn or time.monotonic() - self.begun < self.hub.patience or self._has_more():
             return
@@ -466,16 +476,6 @@ class FrameConnection(SendingConnection):
         super().connection_lost(exc)
 
 
-def stop_transport(connection: Connection, stopped: bool) -> None:
-    """Has a transport read nothing, or read on."""
-    if connection.transport.is_closing():
-        return
-    if stopped and connection.transport.is_reading():
-        connection.transport.pause_reading()
-    elif not stopped and not connection.transport.is_reading():
-        connection.transport.resume_reading()
-
-
 class LineConnection(SendingConnection):
     """Lines, as `tclive` reads them; the answers go back."""
 
@@ -501,7 +501,7 @@ class LineConnection(SendingConnection):
             self._keep(line)
         self.too_long = self.too_long or len(begun) > LONGEST_LINE
         self.begun = begun[:LONGEST_LINE + 1]
-        self.balance()
+        self.update_reading()
 
     def _keep(self, line: bytes) -> None:
         """Keeps a whole line until its turn."""
@@ -518,7 +518,7 @@ class LineConnection(SendingConnection):
             if not has_time():
                 break
         self.wants_turn = self._may_order()
-        self.balance()
+        self.update_reading()
 
     def _order(self, octets: Optional[bytes]) -> None:
         """Has a line carried out, unless it has neither an answer nor an effect. One that is too long is answered as such, whatever it says."""
@@ -530,12 +530,12 @@ class LineConnection(SendingConnection):
             if answer and not self.done and not self.transport.is_closing():
                 self.transport.write(f"{answer}\n".encode("ascii", errors="replace"))
 
-    def balance(self) -> None:
+    def update_reading(self) -> None:
         """Reads no more lines while some wait, or while answers do; asks for a turn where one is wanted; closes at the end."""
         if self._may_order():
-            self.come()
+            self.request_turn()
         # One that was told why it is closed is read on, as that text would be lost otherwise.
-        stop_transport(self, not self.done and (bool(self.lines) or self.paused or self.hub.closed))
+        set_reading(self.transport, self.done or not (self.lines or self.paused or self.hub.closed))
         if self.ended and not self.lines and not self.transport.is_closing():
             self.transport.close()
 
@@ -545,7 +545,7 @@ class LineConnection(SendingConnection):
             self._keep(self.begun)
             self.begun = b""
         self.ended = True
-        self.hub.loop.call_soon(self.balance)
+        self.hub.loop.call_soon(self.update_reading)
         return not self.done
 
     def finish(self) -> None:
@@ -556,11 +556,11 @@ class LineConnection(SendingConnection):
 
     def pause_writing(self) -> None:
         super().pause_writing()
-        self.balance()
+        self.update_reading()
 
     def resume_writing(self) -> None:
         super().resume_writing()
-        self.balance()
+        self.update_reading()
 
 
 class Reader(Connection):
@@ -694,13 +694,13 @@ class Datagrams:
         self.socket = bound(place)
         self.socket.setsockopt(socket.SOL_SOCKET, socket.SO_RCVBUF, DATAGRAM_BUFFER)
         self.port.address = address_of(self.socket)
-        self.port.look = self._count_lost
+        self.port.update_counts = self._count_lost
         hub.ports.append(self.port)
         hub.datagrams.append(self)
-        self._balance()
+        self._update_reading()
 
-    def _balance(self) -> None:
-        """Is called when a datagram comes, or not, while it waits for its turn anyway."""
+    def _update_reading(self) -> None:
+        """Has `_come` called when a datagram comes, unless this waits for its turn anyway."""
         is_read = not self.wants_turn and not self.hub.closed
         if is_read and not self.is_read:
             self.hub.loop.add_reader(self.socket, self._come)
@@ -712,7 +712,7 @@ class Datagrams:
         """Asks for a turn."""
         self.pieces = self._answer()
         self.hub.scheduler.serve_now(self.hub.scheduler.frames, self)
-        self._balance()
+        self._update_reading()
 
     def _count_lost(self) -> None:
         """Looks how many the kernel has lost."""
@@ -723,7 +723,7 @@ class Datagrams:
     def take_turn(self, has_time: Callable[[], bool]) -> None:
         """Has datagrams answered, as long as there is time."""
         self.wants_turn = work_on(self.pieces, has_time)
-        self._balance()
+        self._update_reading()
 
     def _answer(self) -> Iterator[None]:
         """Has the datagrams answered that are there, a piece of the work at each step. At the end no more are read."""
@@ -748,9 +748,9 @@ class Datagrams:
 
     def close(self) -> None:
         """Reads nothing more."""
-        self._balance()
+        self._update_reading()
         self._count_lost()
-        self.port.look = lambda: None
+        self.port.update_counts = lambda: None
         self.socket.close()
 
 

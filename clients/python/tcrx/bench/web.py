@@ -20,7 +20,7 @@ PAGE = Path(__file__).resolve().parent / "page.html"
 # Octets of a request, and seconds between two looks at what changed.
 LONGEST_REQUEST, PAUSE = 8192, 0.2
 # Seconds after which something is sent, so that a connection that is gone is noticed.
-BREATH = 15.0
+HEARTBEAT = 15.0
 HEADERS = "X-Content-Type-Options: nosniff\r\nReferrer-Policy: no-referrer\r\nCache-Control: no-store\r\nConnection: close\r\n"
 
 
@@ -125,10 +125,10 @@ class Visitor(Connection):
         elif end:
             self._answer(head.decode("latin-1").split("\r\n"))
 
-    def look(self) -> None:
+    def check_timeouts(self) -> None:
         """A request must be whole after some time, and one that follows is sent something from time to time."""
         if self.follower:
-            self.follower.breathe()
+            self.follower.send_heartbeat()
         elif not self.done and time.monotonic() - self.came > self.hub.patience:
             self._say(408, f"no whole request within {self.hub.patience:g} seconds\n")
 
@@ -210,9 +210,9 @@ class Follower:
         self.seen, self.shown, self.sent = seen, shown, time.monotonic()
         self.visitor.transport.write(text)
 
-    def breathe(self) -> None:
-        """Sends a comment where nothing was sent for long."""
-        if self.sent and not self.paused and time.monotonic() - self.sent > BREATH:
+    def send_heartbeat(self) -> None:
+        """Sends a comment if nothing was sent for long."""
+        if self.sent and not self.paused and time.monotonic() - self.sent > HEARTBEAT:
             self.sent = time.monotonic()
             self.visitor.transport.write(b": still here\n\n")
 
