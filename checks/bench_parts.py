@@ -144,7 +144,7 @@ class Bench:
         return self.ended()
 
     def ended(self) -> Tuple[int, str, str]:
-        """The same of one that ends by itself."""
+        """Returns what `end` returns, of a bench that ends by itself."""
         printed, _ = self.child.communicate(timeout=PATIENCE)
         self.errors.seek(0)
         error = self.errors.read().decode()

@@ -181,9 +181,9 @@ class Journal:
             assert isinstance(plain, bytes)  # the receiver found its sum right
             self.write(f"#* {line}", f"frame {plain.hex()}", f"#= {answer}")
 
-    def end(self, report: List[str]) -> None:
-        """The final report."""
-        self.write("# end", *(f"#= {line}" for line in report))
+    def end(self, report: str) -> None:
+        """Adds the final report."""
+        self.write("# end", *(f"#= {line}" for line in report.splitlines()))
 
 
 def without_fill(octets: bytes) -> bytes:

@@ -219,9 +219,7 @@ class Bench:  # pylint: disable=too-many-instance-attributes  # it is made of th
             session = self._new_session()
         except Fault as fault:
             return f"bad {fault}"
-        report = self.spacecraft.session.end()
-        self.journal.end(report.split("\n")[:-1])
-        self._print(report)
+        self._end_receiver()
         self.journal.begin_part()
         self.spacecraft.begin_anew(session)
         try:
@@ -283,10 +281,8 @@ class Bench:  # pylint: disable=too-many-instance-attributes  # it is made of th
         if self.over.done():
             self._report_all(self.over.result())
         else:
-            report = self.spacecraft.session.end()
             self._log_coding()
-            self.journal.end(report.split("\n")[:-1])
-            self._print(report)
+            self._end_receiver()
         if self.web:
             self.web.send()
         self.journal.close()
@@ -311,6 +307,12 @@ class Bench:  # pylint: disable=too-many-instance-attributes  # it is made of th
             self.notes.say_once(f"left unanswered at the end: what came over {left} connections and sockets")
         self.hub.scheduler.close()
         return left
+
+    def _end_receiver(self) -> None:
+        """Ends the receiver, and has its final report logged and printed."""
+        report = self.spacecraft.session.end()
+        self.journal.end(report)
+        self._print(report)
 
     def _log_coding(self) -> None:
         """Adds to the log what was counted of CLTUs and telemetry frames."""

@@ -226,7 +226,7 @@ def labelled(name: str, **labels: object) -> str:
 
 
 def channel_metrics(channel: Dict[str, object]) -> Iterator[Tuple[str, str, Dict[str, object], object]]:
-    """The name, the kind, the labels and the value of each figure of a channel."""
+    """Yields the figures of a channel, as `all_metrics` does."""
     about = {"channel": channel["channel"]}
     for event, count in cast(Dict[str, int], channel["events"]).items():
         yield "frames_total", "counter", {**about, "event": event}, count
@@ -242,7 +242,7 @@ def channel_metrics(channel: Dict[str, object]) -> Iterator[Tuple[str, str, Dict
 
 
 def all_metrics(state: Dict[str, object]) -> Iterator[Tuple[str, str, Dict[str, object], object]]:
-    """The same of all that is known."""
+    """Yields the name, the kind, the labels and the value of each figure."""
     yield "seconds", "gauge", {}, state["seconds"]
     yield "packets_total", "counter", {}, state["packets"]
     yield "units_total", "counter", {}, state["units"]
