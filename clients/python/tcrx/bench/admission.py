@@ -20,7 +20,7 @@ OTHER_FILES = MOST_LINGERING + 64
 
 
 def plain(address: str) -> str:
-    """An address without its zone. An IPv4 address that is written as an IPv6 address is the IPv4 address."""
+    """Returns an address without its zone. An IPv4 address that is written as an IPv6 address becomes the IPv4 address."""
     try:
         given = ipaddress.ip_address(address.partition("%")[0])
     except ValueError:
@@ -29,7 +29,7 @@ def plain(address: str) -> str:
 
 
 def refusal_of(port: Port, address: str) -> str:
-    """Why a new connection from an address, as `plain` returns it, isn't taken. The text is empty if it is taken."""
+    """Returns why a new connection from an address, as `plain` returns it, isn't taken, or an empty text if it is taken."""
     hub = port.hub
     if not port.place.allows(address):
         return "this address isn't allowed here"

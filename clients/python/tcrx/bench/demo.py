@@ -45,7 +45,7 @@ class Sender:
         self.clcw = clcw
 
     def next(self) -> Optional[Tuple[int, bytes]]:
-        """The number and the data field that are to be sent now, if any."""
+        """Returns the number and the data field that are to be sent next, if any."""
         if self.clcw and (self.clcw.lockout or self.clcw.wait):
             self.sent = self.accepted
             return None
@@ -59,7 +59,7 @@ class Sender:
 
 
 def is_in_background() -> bool:
-    """Whether this is a job in the background of a terminal."""
+    """Returns whether this is a job in the background of a terminal."""
     try:
         return os.tcgetpgrp(sys.stdin.fileno()) != os.getpgrp()
     except OSError:
@@ -83,7 +83,7 @@ class Demo:
         self.quit: Callable[[], None] = lambda: None
 
     def port(self) -> int:
-        """The port to which CLCWs are to be sent."""
+        """Returns the port to which CLCWs are to be sent."""
         return int(self.socket.getsockname()[1])
 
     def begin(self, frames: int, quit_bench: Callable[[], None]) -> None:

@@ -26,7 +26,7 @@ class Faults:  # pylint: disable=too-few-public-methods  # it is called by the p
                 port.bring = self._link_of(port)
 
     def _link_of(self, port: Port) -> Callable[[bytes, str], None]:
-        """The link to a port."""
+        """Returns a function that brings the frames of a port over the link."""
         def happens(share: float, what: str) -> bool:
             found = self.dice.random() < share
             if found:

@@ -42,7 +42,7 @@ FIRST = re.compile(r"# tcrx-bench \S+ spacecraft (\d{1,4})(, with frame error co
 
 
 def printable(text: str) -> str:
-    """A text without what a terminal would obey, and not longer than a line of a page."""
+    """Returns a text without what a terminal would obey, and not longer than a line of a page."""
     return re.sub(r"[^ -~]", "?", text if len(text) <= 100 else text[:97] + "...")
 
 
@@ -133,14 +133,14 @@ class Journal:
     # --- What is answered ---
 
     def origin(self, came: float, answered: float, source: str) -> None:
-        """Says of the lines that follow when they came and were answered, and from where."""
+        """Adds when the lines that follow came and were answered, and from where."""
         if self.file is not None:
             if len(self.lines) > MOST_LINES:
                 self.flush()
             self.lines.append(f"# {came:.6f} {answered:.6f} {source}")
 
     def answer(self, line: str, answer: str) -> None:
-        """A line and its answer."""
+        """Adds a line and its answer."""
         if self.file is None:
             return
         word = line.partition(" ")[0]
@@ -173,7 +173,7 @@ class Journal:
                 self.answer(f"release {vcid}", answer)
 
     def _frame_with_sum(self, line: str, answer: str) -> None:
-        """A frame with its sum, which `tcrx` takes without it."""
+        """Adds a frame with its sum, which `tcrx` takes without it."""
         if answer == "refused check":
             self.write(f"#> {line}", f"#~ {answer}")
         else:
@@ -187,7 +187,7 @@ class Journal:
 
 
 def without_fill(octets: bytes) -> bytes:
-    """A candidate up to the end of the frame that its length field names, with its header in any case."""
+    """Returns a candidate up to the end of the frame that its length field names, and at least its first five octets if it has as many."""
     return octets[:max(HEADER, ((octets[2] & 3) << 8 | octets[3]) + 1)] if len(octets) > HEADER else octets
 
 
@@ -208,7 +208,7 @@ class Step(NamedTuple):
 
 
 def steps_of(lines: Iterable[str]) -> Iterator[Step]:
-    """The lines of a journal that the receiver is given, each with its answer. After the last come those of the report. Raises `Unfit` at a
+    """Yields the lines of a journal that the receiver is given, each with its answer, and then those of the report. Raises `Unfit` at a
     second answer."""
     line, place, answer, time, coming = "", 0, None, 0.0, 0.0
     in_place_of_next = False
@@ -246,7 +246,7 @@ class Log:  # pylint: disable=too-few-public-methods  # it is gone through, more
         self.scid, self.fecf = int(first[1]), bool(first[2])
 
     def _lines(self) -> Iterator[str]:
-        """Its whole lines."""
+        """Yields its whole lines."""
         try:
             with open(self.path, encoding="latin-1", newline="\n") as file:
                 for number, line in enumerate(iter(lambda: file.readline(LONGEST + 1), ""), 1):
@@ -260,12 +260,12 @@ class Log:  # pylint: disable=too-few-public-methods  # it is gone through, more
             raise Unfit(f"{self.path} can't be read: {error.strerror}") from None
 
     def steps(self) -> Iterator[Step]:
-        """The lines that the receiver is given, and the final report."""
+        """Yields the lines that the receiver is given, and the final report."""
         return steps_of(islice(self._lines(), 1, None))
 
 
 def without_link(answer: Optional[str]) -> Optional[str]:
-    """An answer of a receiver as `tcrx` gives it: a CLCW has no flags of the link."""
+    """Returns an answer of a receiver as `tcrx` gives it: a CLCW has no flags of the link."""
     if answer and re.fullmatch(r"clcw \d+ [0-9a-f]{8}", answer):
         return f"{answer[:-8]}{int(answer[-8:], 16) & ~LINK_FLAGS:08x}"
     return answer

@@ -111,7 +111,7 @@ class Bench:  # pylint: disable=too-many-instance-attributes  # it is made of th
         return Session.live(self.options.scid, fecf=self.options.fecf)
 
     def _fail(self, why: str) -> None:
-        """The receiver gives no more answers."""
+        """Has the bench end with this reason, as the receiver gives no more answers."""
         if not self.over.done():
             self.over.set_result(why)
 
@@ -157,7 +157,7 @@ class Bench:  # pylint: disable=too-many-instance-attributes  # it is made of th
             self.telemetry.send = self._sender("tm")
 
     def _sender_of_frames(self, port: Port) -> Connection:
-        """A connection of one that sends frames, or CLTUs."""
+        """Returns a connection for frames, or for CLTUs."""
         if self.decoding:
             return CltuConnection(port, self.decoding)
         return FrameConnection(port, Cutter(self.options.scid, self.options.fill, self.options.resync, self.options.fecf))
@@ -172,7 +172,7 @@ class Bench:  # pylint: disable=too-many-instance-attributes  # it is made of th
         return {"cltu": self.decoding.state() if self.decoding else None, "telemetry": self.telemetry.state() if self.telemetry else None}
 
     def _visitor(self, port: Port) -> Visitor:
-        """A connection of the page."""
+        """Returns a connection for the page."""
         assert self.web
         return Visitor(port, self.web)
 
@@ -191,7 +191,7 @@ class Bench:  # pylint: disable=too-many-instance-attributes  # it is made of th
 
     @staticmethod
     def write(text: str) -> bool:
-        """Writes to standard output; whether that could be done."""
+        """Writes to standard output. Returns whether that could be done."""
         try:
             print(text, end="", flush=True)
             return True
@@ -264,7 +264,7 @@ class Bench:  # pylint: disable=too-many-instance-attributes  # it is made of th
     # --- The end ---
 
     def has_to_end(self) -> None:
-        """From now on it has `--patience` to end, or no more time if it was asked already."""
+        """Gives the bench the time of `--patience` to end, or no more time at a second call."""
         if self.until is None:
             self.until = time.monotonic() + self.options.patience
         else:

@@ -18,24 +18,24 @@ BROWSER = "a browser asks here, and isn't obeyed; the page is at --http"
 
 
 def ends_with_sum(octets: bytes) -> bool:
-    """Whether the frame at the front of octets ends with the right frame error control field."""
+    """Returns whether the frame at the front of octets ends with the right frame error control field."""
     return not crc_hqx(octets[:((octets[2] & 3) << 8 | octets[3]) + 1], 0xFFFF)
 
 
 def begins_frame(octets: bytes, scid: int, fecf: bool) -> bool:
-    """Whether octets begin with a whole frame of this spacecraft, with the right frame error control field if frames have one."""
+    """Returns whether octets begin with a whole frame of this spacecraft, with the right frame error control field if frames have one."""
     if len(octets) < SHORTEST or octets[0] & 0xCC or (octets[0] & 3) << 8 | octets[1] != scid:
         return False
     return SHORTEST <= ((octets[2] & 3) << 8 | octets[3]) + 1 <= len(octets) and (not fecf or ends_with_sum(octets))
 
 
 def has_request(octets: bytes) -> bool:
-    """Whether a line of these octets begins as a browser does."""
+    """Returns whether a line of these octets begins as a browser does."""
     return REQUEST.search(octets) is not None
 
 
 def begins_request(octets: bytes) -> Optional[bool]:
-    """Whether a stream that begins with these octets is a browser's; None where more must come to know that."""
+    """Returns whether a stream that begins with these octets is a browser's, or None if more must come to know that."""
     if REQUEST.match(octets):
         return True
     whole = octets + HELLO[len(octets):]

@@ -43,7 +43,7 @@ FAULTS = (("drop", "lose this share of the frames that arrive, 0 to 1: 0.2 loses
 
 
 def number_in(least: int, most: int) -> Any:
-    """A reader of whole numbers of a range."""
+    """Returns a function that reads a whole number of a range."""
     def read(word: str) -> int:
         if not word.isascii() or not word.isdecimal() or len(word) > 9 or not least <= int(word) <= most:
             raise argparse.ArgumentTypeError(f"{word!r} isn't a number from {least} to {most}")
@@ -52,7 +52,7 @@ def number_in(least: int, most: int) -> Any:
 
 
 def seconds(word: str) -> float:
-    """A number of seconds."""
+    """Reads a number of seconds."""
     try:
         value = float(word)
     except ValueError:
@@ -63,7 +63,7 @@ def seconds(word: str) -> float:
 
 
 def rate(word: str) -> float:
-    """A number of frames a second."""
+    """Reads a number of frames a second."""
     try:
         value = float(word)
     except ValueError:
@@ -74,7 +74,7 @@ def rate(word: str) -> float:
 
 
 def share(word: str) -> float:
-    """A part of a whole."""
+    """Reads a share, from 0 to 1."""
     try:
         value = float(word)
     except ValueError:
@@ -103,7 +103,7 @@ class Listen(argparse.Action):
 
 
 def network_of(word: str) -> Network:
-    """The addresses that a word names; those of IPv4 that are written as of IPv6 are those of IPv4. Raises `ValueError`."""
+    """Returns the network that a word names. IPv4 addresses that are written as IPv6 addresses become IPv4 addresses. Raises `ValueError`."""
     network = ipaddress.ip_network(word)
     mapped = network.network_address.ipv4_mapped if isinstance(network, ipaddress.IPv6Network) and network.prefixlen >= 96 else None
     return ipaddress.IPv4Network((int(mapped), network.prefixlen - 96)) if mapped else network
@@ -122,7 +122,7 @@ class Allow(argparse.Action):
 
 
 def is_loopback(host: str) -> bool:
-    """Whether this machine alone can reach it."""
+    """Returns whether only this machine can reach a host."""
     try:
         return ipaddress.ip_address(host).is_loopback
     except ValueError:
@@ -137,7 +137,7 @@ class Lines(argparse.RawDescriptionHelpFormatter):
 
 
 def make_parser() -> argparse.ArgumentParser:
-    """The parser of the command line."""
+    """Returns the parser of the command line."""
     made = argparse.ArgumentParser(prog="tcrx-bench", allow_abbrev=False, formatter_class=Lines, usage="tcrx-bench --scid N [OPTION]...", description=(
         "Runs one spacecraft's telecommand receiver and opens ports to it. Frames or CLTUs come in over TCP and UDP;\n"
         "CLCWs, packets, units and telemetry frames go out. PORT is a port of 127.0.0.1, or HOST:PORT. Port 0 takes a free port."))
@@ -214,7 +214,7 @@ def add_behaviour(made: argparse.ArgumentParser) -> None:
 
 
 def read_words(words: Sequence[str]) -> argparse.Namespace:
-    """The options; a bad command line ends the program with status 2."""
+    """Returns the options. A bad command line ends the program with status 2."""
     made = make_parser()
     options = made.parse_args(words)
     if fault := fault_of_senders(options.sender):
@@ -277,7 +277,7 @@ def set_demo(options: argparse.Namespace) -> None:
 
 
 def read_setup(path: Path) -> List[Tuple[int, str]]:
-    """The lines of a file that sets up, with their numbers. Raises `ValueError` where it can't be read or has others."""
+    """Returns the lines of a file that sets up, with their numbers. Raises `ValueError` if it can't be read or has other lines."""
     try:
         with open(path, encoding="latin-1") as file:
             text = file.read(LONGEST_SETUP + 1)

@@ -54,7 +54,7 @@ class Place(NamedTuple):
     allowed: List[Network] = []
 
     def allows(self, address: str) -> bool:
-        """Whether one with this address may connect."""
+        """Returns whether a peer with this address may connect."""
         if not self.allowed:
             return True
         try:
@@ -65,12 +65,12 @@ class Place(NamedTuple):
 
 
 def shown(host: str, port: int) -> str:
-    """An address as it is written in the command line."""
+    """Returns an address as it is written in the command line."""
     return f"[{host}]:{port}" if ":" in host else f"{host}:{port}"
 
 
 def write_some(given: IO[str], octets: bytes) -> bytes:
-    """Writes octets to a standard stream as far as nobody has to be waited for who doesn't read; gives what is left. Raises `OSError`."""
+    """Writes octets to a standard stream as far as it has room, and returns the rest. Raises `OSError`."""
     looking = select.poll()
     looking.register(given.fileno(), select.POLLOUT)
     # Where there is room at all, a pipe has room for so much.
@@ -112,7 +112,7 @@ class Notes:
 
     @staticmethod
     def _write(text: str) -> bool:
-        """Writes a line; whether that could be done without waiting."""
+        """Writes a line. Returns whether that could be done without waiting."""
         try:
             return not write_some(sys.stderr, f"tcrx-bench: {text}\n".encode(errors="backslashreplace"))
         except OSError:
@@ -183,7 +183,7 @@ class Port:
         return {"port": self.place.kind, "address": self.address, "open": len(self.open), **self.counts}
 
     def peers(self) -> List[Dict[str, object]]:
-        """Who is connected, the oldest connection first, as values of JSON."""
+        """Returns the peers that are connected, the oldest connection first, as values of JSON."""
         now = time.monotonic()
         return [{"peer": each.peer, "seconds": round(now - each.since, 3), "octets": each.octets} for each in sorted(self.open, key=lambda each: each.since)]
 
@@ -206,7 +206,7 @@ class Hub:  # pylint: disable=too-many-instance-attributes  # what ports share
         self._sweep()
 
     def is_behind(self) -> bool:
-        """Whether the readers of a port are to be written so much that no more frames are to come for now."""
+        """Returns whether so much waits to be written to the readers of a port that frames have to wait, too."""
         return any(broadcast.size > HIGH_WATER for broadcast in self.broadcasts)
 
     def _sweep(self) -> None:
@@ -281,7 +281,7 @@ class Connection(asyncio.BufferedProtocol):  # pylint: disable=too-many-instance
         """When it was made, and how many octets came."""
 
     def connection_made(self, transport: asyncio.BaseTransport) -> None:
-        """Takes the connection, or says why not."""
+        """Takes the connection, or turns it away."""
         self.transport = cast(asyncio.Transport, transport)
         name = transport.get_extra_info("peername") or ("?", 0)
         self.address, self.peer = plain(name[0]), shown(name[0], name[1])
@@ -303,14 +303,14 @@ class Connection(asyncio.BufferedProtocol):  # pylint: disable=too-many-instance
         self.turn_away(why)
 
     def opened(self) -> None:
-        """The connection was taken."""
+        """Prepares a connection that was taken."""
 
     def get_buffer(self, sizehint: int) -> bytearray:
         """Returns the buffer into which octets are read."""
         return self.room
 
     def buffer_updated(self, nbytes: int) -> None:
-        """Called when this number of octets was read."""
+        """Takes in this number of octets, which are in the buffer."""
         self.octets += nbytes
         self.data_received(bytes(self.room[:nbytes]))
 
@@ -350,7 +350,7 @@ class Connection(asyncio.BufferedProtocol):  # pylint: disable=too-many-instance
         self.transport.abort()
 
     def connection_lost(self, exc: Optional[Exception]) -> None:
-        """The connection is over."""
+        """Forgets the connection, which is over."""
         self.hub.lingering.pop(self, None)
         self.port.open.discard(self)
         self.hub.spacecraft.changes += 1
@@ -362,11 +362,11 @@ class Connection(asyncio.BufferedProtocol):  # pylint: disable=too-many-instance
         """Does what is due by now."""
 
     def pause_writing(self) -> None:
-        """Called when the other end doesn't read the written octets."""
+        """Notes that the other end doesn't read what was written."""
         self.paused = True
 
     def resume_writing(self) -> None:
-        """Called when the other end reads again."""
+        """Notes that the other end reads again."""
         self.paused = False
 
 
@@ -448,7 +448,7 @@ class FrameConnection(SendingConnection):
         self.port.note(self.source, f"{count} octets skipped: {why}")
 
     def check_timeouts(self) -> None:
-        """A frame that has begun must be whole after some time."""
+        """Gives up a frame that has begun and isn't whole after some time."""
         if self.begun is None or self.done or self.wants_turn or time.monotonic() - self.begun < self.hub.patience or self._has_more():
             return
         what = f"{len(self.cutter.kept)} octets of a frame, and no more within {self.hub.patience:g} seconds"
@@ -463,13 +463,13 @@ class FrameConnection(SendingConnection):
         self.data_received(b"")
 
     def _has_more(self) -> bool:
-        """Whether octets are there that weren't read yet, as the bench was busy with others."""
+        """Returns whether octets have come that weren't read yet, as the bench was busy with others."""
         looking = select.poll()
         looking.register(self.transport.get_extra_info("socket").fileno(), select.POLLIN)
         return bool(looking.poll(0))
 
     def connection_lost(self, exc: Optional[Exception]) -> None:
-        """Says so where it ended within a frame, and not since the bench ends."""
+        """Notes a connection that ended within a frame, unless the bench is ending."""
         if self.cutter.kept and not self.done and not self.hub.closed:
             self.port.count("faults")
             self.port.note(self.source, f"the connection ended with {len(self.cutter.kept)} octets of a frame")
@@ -509,7 +509,7 @@ class LineConnection(SendingConnection):
         self.too_long = False
 
     def _may_order(self) -> bool:
-        """Whether lines wait and can be carried out. They can't while the answers to others aren't read."""
+        """Returns whether lines wait and can be carried out. They can't while the answers to others aren't read."""
         return bool(self.lines) and not self.paused and not self.done
 
     def take_turn(self, has_time: Callable[[], bool]) -> None:
@@ -540,7 +540,7 @@ class LineConnection(SendingConnection):
             self.transport.close()
 
     def eof_received(self) -> bool:
-        """No more lines come; the answers of those that are under way still go out."""
+        """Keeps the last line, after which none comes. The answers to those that wait still go out."""
         if self.begun and not self.done:
             self._keep(self.begun)
             self.begun = b""
@@ -549,7 +549,7 @@ class LineConnection(SendingConnection):
         return not self.done
 
     def finish(self) -> None:
-        """Says so where not all of its lines were answered."""
+        """Tells the other end if not all of its lines were answered."""
         if (left := len(self.lines)) and not self.done and not self.transport.is_closing():
             self.transport.write(self.last_words(f"lines of this connection that were left unanswered at the end: {left}"))
         super().finish()
@@ -575,7 +575,7 @@ class Reader(Connection):
         self.size, self.most = 0, MOST_WORDS if port.place.kind == "clcw-tcp" else MOST_KEPT
 
     def opened(self) -> None:
-        """Small buffers: what waits is to wait here, where the oldest can be left out."""
+        """Makes the buffers small, so that output waits here, where the oldest can be left out."""
         self.transport.set_write_buffer_limits(0)
         if self.most == MOST_WORDS:
             self.transport.get_extra_info("socket").setsockopt(socket.SOL_SOCKET, socket.SO_SNDBUF, CLCW_BUFFER)
@@ -670,7 +670,7 @@ class Broadcast:
 # --- Datagrams ---
 
 def bound(place: Place) -> socket.socket:
-    """A socket for datagrams that come to a place."""
+    """Returns a socket for datagrams that come to a place."""
     family, _, _, _, address = socket.getaddrinfo(place.host, place.port, type=socket.SOCK_DGRAM)[0]
     given = socket.socket(family, socket.SOCK_DGRAM)
     try:
@@ -789,7 +789,7 @@ def all_senders(senders: List[Callable[[bytes], None]]) -> Callable[[bytes], Non
 
 
 def parse_place(kind: str, word: str, default: Optional[str] = "127.0.0.1") -> Tuple[Place, bool]:
-    """The place that `[HOST:]PORT` names, and whether a host was named. Raises `ValueError` where it is none."""
+    """Returns the place that `[HOST:]PORT` names, and whether a host was named. Raises `ValueError` for any other word."""
     found = re.fullmatch(r"(?:(\[[^\]]+\]|[^:\[\]]+):)?(\d{1,5})", word)
     if found is None or int(found[2]) > 65535 or (default is None and found[1] is None):
         raise ValueError(word)

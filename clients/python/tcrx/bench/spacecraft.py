@@ -60,7 +60,7 @@ class Event:  # pylint: disable=too-few-public-methods  # a record, made for eac
         self.number, self.arrival, self.answer, self.word = number, arrival, answer, word
 
     def state(self) -> Dict[str, object]:
-        """The event as values of JSON."""
+        """Returns the event as values of JSON."""
         came = self.arrival
         return {"id": self.number, "time": round(came.came, 6), "source": came.source, "line": "" if came.octets else printable(came.line),
                 "octets": came.octets.hex(), "answer": self.answer, "clcw": self.word}
@@ -125,7 +125,7 @@ class Spacecraft:  # pylint: disable=too-many-instance-attributes  # what is kno
         """The channel that took in the last frame, until telemetry has reported it."""
 
     def now(self) -> float:
-        """Seconds since the begin."""
+        """Returns the seconds since the bench began."""
         return time.monotonic() - self.begun
 
     # --- What arrives ---
@@ -302,7 +302,7 @@ class Spacecraft:  # pylint: disable=too-many-instance-attributes  # what is kno
     # --- Lines of people, and the bench's own ---
 
     def _order(self, arrival: Arrival) -> str:
-        """Carries out a line that isn't a frame."""
+        """Carries out a line that isn't a frame, and returns the answer."""
         word = arrival.line.partition(" ")[0]
         if word in SET_UP:
             return self._set_up(arrival)
@@ -373,7 +373,7 @@ class Spacecraft:  # pylint: disable=too-many-instance-attributes  # what is kno
         self.last_events.append(arrival.event)
 
     def events_since(self, since: int) -> List[Dict[str, object]]:
-        """The events after one of this number, as values of JSON."""
+        """Returns the events after the one with this number, as values of JSON."""
         return [event.state() for event in self.last_events if event.number > since]
 
     def note_text(self, source: str, text: str, at: Optional[float] = None) -> None:
@@ -397,7 +397,7 @@ class Spacecraft:  # pylint: disable=too-many-instance-attributes  # what is kno
                 self.read_report(channel, self.answers_to(f"report {channel.vcid}")[0])
 
     def state(self) -> Dict[str, object]:
-        """All that is known of the receiver, as values of JSON."""
+        """Returns all that is known of the receiver, as values of JSON."""
         return {"spacecraft": self.scid, "fecf": self.fecf, "release": self.release.value, "frames": self.frames,
                 "packets": self.packets, "units": self.units, "refused": dict(self.refused), "bad": dict(self.bad), **self.coding(),
                 "senders": self.senders(), "channels": [state_of(self.channels[vcid]) for vcid in sorted(self.channels)]}

@@ -41,7 +41,7 @@ class Telemetry:
         self.loop.call_at(self.started + self.place / self.options.tm_rate, self._make_next)
 
     def _next_channel(self) -> int:
-        """The channel whose CLCW goes next."""
+        """Returns the channel whose CLCW is sent next."""
         active, self.spacecraft.active = self.spacecraft.active, None
         self.was_of_active = active is not None and not self.was_of_active
         if active is not None and self.was_of_active:

@@ -102,7 +102,7 @@ class Watch:  # pylint: disable=too-many-instance-attributes  # what is known of
         return f"E{self.events[place]}"
 
     def has_other_data(self, number: int, data: str, is_accepted: bool) -> bool:
-        """Whether other data were accepted under the number of a frame. Those of an accepted frame are kept."""
+        """Returns whether other data were accepted under the number of a frame. Keeps the data of an accepted frame."""
         if is_accepted:
             self.data.pop((number + KEPT) % 256, None)
             self.data[number] = data
@@ -144,17 +144,17 @@ class Watches:
         self.note(f"channel {watch.channel}: frame {seen.number} {what}", seen.time)
 
     def missing(self) -> List[int]:
-        """The channels that weren't set up."""
+        """Returns the watched channels that weren't set up."""
         return [watch.channel for watch in self.all.values() if watch.since is None]
 
     def begin(self, channel: int, first: int) -> None:
-        """A channel was set up with its first V(R)."""
+        """Notes that a channel was set up, with its first V(R)."""
         if watch := self.all.get(channel):
             watch.data.clear()
             watch.see(Seen("set", first, self.time()))
 
     def see(self, line: str, answers: List[str]) -> None:
-        """A line that the receiver was given, and its answers."""
+        """Looks at a line that the receiver was given, and at its answers."""
         for answer in answers:
             words = answer.split(" ")
             watch = self.all.get(int(words[1])) if words[0] in ("frame", "clcw") and len(words) > 2 else None

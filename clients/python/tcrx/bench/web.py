@@ -52,7 +52,7 @@ class Web:
         self._tick()
 
     def state(self, since: int = 0, has_peers: bool = False) -> Dict[str, object]:
-        """All that is known, with the events after one of this number, and perhaps with who is connected."""
+        """Returns all that is known, with the events after the one with this number, and with the peers of each port if they are wanted."""
         ports = [{**port.state(), **({"peers": port.peers()} if has_peers and port.server else {})} for port in self.hub.ports]
         return {"program": f"tcrx-bench {__version__}", "receiver": "running", "library": self.library, "begun": round(self.begun, 3),
                 "seconds": round(self.spacecraft.now(), 3), **self.spacecraft.state(), "ports": ports,
@@ -84,14 +84,14 @@ class Web:
 
 
 def names_of(own: str, full: str) -> Set[str]:
-    """The names of a machine: its own, without its domain as well, and its full one, if that is its own with a domain."""
+    """Returns the names of a machine: its own, the same without a domain, and its full name if that is its own with a domain."""
     own, full = own.lower(), full.lower()
     short = own.partition(".")[0]
     return {own, short, *([full] if full.startswith(f"{short}.") else [])} - {""}
 
 
 def allowed_host(name: str, names: Collection[str]) -> bool:
-    """Whether a request may be for a host of this name: an address, or one of these names. Another site that has its name lead here
+    """Returns whether a request may be for a host of this name: an address, or one of these names. Another site that has its name lead here
     can't read the page so."""
     host = re.sub(r":\d+$", "", name).strip("[]")
     try:
@@ -126,7 +126,7 @@ class Visitor(Connection):
             self._answer(head.decode("latin-1").split("\r\n"))
 
     def check_timeouts(self) -> None:
-        """A request must be whole after some time, and one that follows is sent something from time to time."""
+        """Gives up a request that isn't whole after some time. To a page that follows, sends something from time to time."""
         if self.follower:
             self.follower.send_heartbeat()
         elif not self.done and time.monotonic() - self.came > self.hub.patience:
@@ -140,7 +140,7 @@ class Visitor(Connection):
         self.transport.close()
 
     def _answer(self, lines: List[str]) -> None:
-        """The answer to a request."""
+        """Answers a request."""
         found = re.fullmatch(r"([A-Z]+) (/[^ ?]*)(?:\?[^ ]*)? HTTP/1\.[01]", lines[0])
         method, path = (found[1], found[2]) if found else ("", "")
         hosts = [line.partition(":")[2].strip() for line in lines[1:] if line.lower().startswith("host:")]
@@ -161,7 +161,7 @@ class Visitor(Connection):
             self._say(404, "there is /, /state, /metrics and /events\n")
 
     def _say_state(self, path: str) -> None:
-        """The state at this moment."""
+        """Answers with the state at this moment."""
         if path == "/state":
             self._say(200, json.dumps(self.web.state(has_peers=True)) + "\n", "application/json")
         else:
@@ -178,7 +178,7 @@ STATUSES = {200: "OK", 400: "Bad Request", 404: "Not Found", 405: "Method Not Al
 
 
 def answer(status: int, kind: str, text: str, more: str = "", body: bool = True) -> bytes:
-    """An answer over HTTP."""
+    """Returns an answer over HTTP."""
     octets = text.encode()
     named = kind if "version=" in kind else f"{kind}; charset=utf-8"
     head = f"HTTP/1.1 {status} {STATUSES[status]}\r\nContent-Type: {named}\r\nContent-Length: {len(octets)}\r\n{HEADERS}{more}\r\n"
@@ -202,7 +202,7 @@ class Follower:
         return self.visitor.paused
 
     def is_behind(self, changes: int) -> bool:
-        """Whether it reads, and what was sent to it last hasn't so many changes."""
+        """Returns whether it reads and there were changes since it was last sent the state."""
         return not self.paused and self.shown != changes
 
     def send(self, text: bytes, seen: int, shown: int) -> None:
@@ -220,7 +220,7 @@ class Follower:
 # --- Prometheus ---
 
 def labelled(name: str, **labels: object) -> str:
-    """A name with its labels."""
+    """Returns a name with its labels."""
     words = ",".join(f'{label}="{value}"' for label, value in labels.items())
     return f"tcrx_{name}{{{words}}}" if words else f"tcrx_{name}"
 
@@ -272,7 +272,7 @@ def all_metrics(state: Dict[str, object]) -> Iterator[Tuple[str, str, Dict[str, 
 
 
 def metrics_of(state: Dict[str, object]) -> Iterator[str]:
-    """The lines of the Prometheus text: those of one name together, behind its kind."""
+    """Yields the lines of the Prometheus text: those of one name together, after its kind."""
     families: Dict[str, List[str]] = {}
     kinds: Dict[str, str] = {}
     for name, kind, labels, value in all_metrics(state):
