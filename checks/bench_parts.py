@@ -35,12 +35,12 @@ def attempt_all(checks: Sequence[Callable[[Path], None]]) -> int:
 
 
 def numbered(apid: int, number: int) -> bytes:
-    """A packet of a single octet of data, by its number."""
+    """Returns a packet of a single octet of data, by its number."""
     return (0x1000 | apid).to_bytes(2, "big") + (0xC000 | number & 0x3FFF).to_bytes(2, "big") + b"\x00\x00" + bytes([number & 255])
 
 
 def word_of(channel: int, flags: int, farm_b: int, report: int) -> str:
-    """A CLCW's eight digits."""
+    """Returns a CLCW's eight digits."""
     return f"{word(channel, flags, farm_b, report).word:08x}"
 
 
@@ -55,14 +55,14 @@ def read_on(link: socket.socket, octets: bytearray) -> None:
 
 
 def read_all(link: socket.socket) -> bytes:
-    """All that comes until the other end closes."""
+    """Returns all that comes until the other end closes."""
     octets = bytearray()
     read_on(link, octets)
     return bytes(octets)
 
 
 def read_count(link: socket.socket, count: int) -> bytes:
-    """So many octets, or fewer where no more come."""
+    """Returns so many octets, or fewer where no more come."""
     octets = b""
     link.settimeout(PATIENCE)
     while len(octets) < count and (more := link.recv(count - len(octets))):
@@ -71,7 +71,7 @@ def read_count(link: socket.socket, count: int) -> bytes:
 
 
 def free_port(kind: int = socket.SOCK_STREAM) -> int:
-    """A port of this machine that nothing uses at the moment."""
+    """Returns a port of this machine that nothing uses at the moment."""
     with socket.socket(socket.AF_INET, kind) as taken:
         taken.bind(("127.0.0.1", 0))
         return int(taken.getsockname()[1])
@@ -102,7 +102,7 @@ class Bench:
             self.ports[kind] = int(address.rpartition(":")[2])
 
     def connect(self, kind: str, source: str = "127.0.0.1", buffer: int = 0) -> socket.socket:
-        """A connection to a port, with a small buffer for what comes where one is named."""
+        """Returns a connection to a port, with a small buffer for what comes where one is named."""
         link = socket.socket()
         if buffer:
             link.setsockopt(socket.SOL_SOCKET, socket.SO_RCVBUF, buffer)
@@ -112,7 +112,7 @@ class Bench:
         return link
 
     def reader(self, kind: str = "packets-tcp") -> socket.socket:
-        """A connection to a port that sends, once it is one of those that are counted there."""
+        """Returns a connection to a port that sends, once it is one of those that are counted there."""
         open_before = self.port(kind)["open"]
         link = self.connect(kind)
         until(lambda: self.port(kind)["open"] > open_before)
@@ -125,14 +125,14 @@ class Bench:
             link.sendto(octets, ("127.0.0.1", self.ports["tc-udp"]))
 
     def ask(self, lines: str) -> List[str]:
-        """The answers to lines over a connection of their own, which is closed behind them."""
+        """Returns the answers to lines over a connection of their own, which is closed behind them."""
         with self.connect("lines") as link:
             link.sendall(lines.encode("latin-1"))
             link.shutdown(socket.SHUT_WR)
             return read_all(link).decode("latin-1").split("\n")[:-1]
 
     def get(self, path: str, method: str = "GET", host: str = "localhost") -> Tuple[str, str]:
-        """The head and the body of an answer over HTTP."""
+        """Returns the head and the body of an answer over HTTP."""
         with self.connect("http") as link:
             link.sendall(f"{method} {path} HTTP/1.1\r\nHost: {host}\r\n\r\n".encode())
             head, _, body = read_all(link).decode().partition("\r\n\r\n")
@@ -152,15 +152,15 @@ class Bench:
         return self.child.returncode, printed.decode(), error
 
     def state(self) -> Any:
-        """The state as it is given over HTTP."""
+        """Returns the state as it is given over HTTP."""
         return json.loads(self.get("/state")[1])
 
     def port(self, kind: str) -> Any:
-        """What is counted on a port."""
+        """Returns what is counted on a port."""
         return next(port for port in self.state()["ports"] if port["port"] == kind)
 
     def open_files(self) -> List[str]:
-        """What the process has open, without the files of its event loop."""
+        """Returns what the process has open, without the files of its event loop."""
         found = []
         for number in os.listdir(f"/proc/{self.child.pid}/fd"):
             try:
@@ -170,29 +170,29 @@ class Bench:
         return found
 
     def threads(self) -> int:
-        """How many threads the process has."""
+        """Returns how many threads the process has."""
         return len(os.listdir(f"/proc/{self.child.pid}/task"))
 
 
 # --- The log ---
 
 def lines_of(log: Path) -> List[str]:
-    """The lines of a log."""
+    """Returns the lines of a log."""
     return log.read_text(encoding="latin-1").split("\n")[:-1]
 
 
 def script_of(log: Path) -> str:
-    """The script that a log is, without its comments: `tcrx` takes a mebibyte."""
+    """Returns the script that a log is, without its comments: `tcrx` takes a mebibyte."""
     return "".join(line + "\n" for line in lines_of(log) if not line.startswith("#"))
 
 
 def answers_of(log: Path) -> str:
-    """The answers that a log has for `tcrx`."""
+    """Returns the answers that a log has for `tcrx`."""
     return "".join(line[3:] + "\n" for line in lines_of(log) if line.startswith("#= "))
 
 
 def words_sent(log: Path) -> List[str]:
-    """Each CLCW of a log in its order, with the flags of the link."""
+    """Returns the CLCWs of a log in their order, with the flags of the link."""
     found: List[str] = []
     for line in lines_of(log):
         if match := re.fullmatch(r"#([=~]) clcw \d+ ([0-9a-f]{8})", line):
@@ -203,7 +203,7 @@ def words_sent(log: Path) -> List[str]:
 
 
 def run_tcrx(script: str) -> str:
-    """What `tcrx run` prints for a script."""
+    """Returns what `tcrx run` prints for a script."""
     ran = run(TCRX, "run", "--scid", "42", given=script)
     return ran.stdout + ran.stderr
 
@@ -216,7 +216,7 @@ def same_lines(answer: str, wanted: str, what: str) -> None:
 
 
 def replay(bench: Bench, *words: str) -> subprocess.CompletedProcess[str]:
-    """A run of --replay over a log."""
+    """Runs --replay over a log."""
     return run(sys.executable, PROGRAM, "--replay", bench.log, *words)
 
 
