@@ -1,12 +1,12 @@
 -- After each step of a unit, a CLCW can still show its components.
-use Rattle.std.specs.Prelude.{◌≡◌, ◌+◌, ◌%◌, ◌↔◌, Bool, true, false, List, ◌∷◌, Some, unwrap_or}
+use Rattle.std.specs.Prelude.{◌≡◌, ◌+◌, ◌%◌, ◌↔◌, Bool, true, false, Option, List, ◌∷◌, Some, None, unwrap_or}
 use Rattle.std.proofs.Common.{refl, sym, ◌∙◌, subst, inl, inr, arith, ◌<◌}
 use Rattle.tc_judge.specs.declared.account.Rules.{Rules}
 use Rattle.tc_judge.specs.declared.account.SentFrame.{SentFrame}
 use Rattle.tc_link.specs.declared.farm.Report.{Report}
 use Rattle.tc_link.specs.declared.farm.State.{State}
 use Rattle.tc_link.specs.declared.farm.State.TheVariants.{S1, S2, S3}
-use Rattle.tc_link.specs.Farm.{Row, E1, E2, E3, E4, E5, E6, E7, E8, E9, E10, entry_at, after, frame_row}
+use Rattle.tc_link.specs.Farm.{Row, E1, E2, E3, E4, E5, E6, E7, E8, E9, E10, entry, entry_at, after, frame_row}
 use Rattle.tc_judge.specs.Account.{Explains, heard, lost, comes, released}
 use Rattle.tc_judge.specs.Alternatives.{Leads, other_at}
 use Rattle.tc_judge.specs.Reading.{shown_state, IsShown}
@@ -70,14 +70,6 @@ leads-counter rules OtherCommand room r y h (inl e) = counted-at E9 r.state r y 
 leads-counter rules (Known kind) room r y h (inr e) = other-counted (frame_row rules.window r.vr kind false) r.state r y h e.1
 leads-counter rules OtherCommand room r y h (inr e) = let s : Some (record r { farm_b = (r.farm_b + 1) % 4 }) ≡ Some y = e.1 in let q : y.farm_b ≡ (r.farm_b + 1) % 4 = cc s in omega arith
 
-free-counter : (r : Report) → r.farm_b < 4 → (after E10 r).farm_b < 4
-free-counter r h = let q : (after E10 r).farm_b ≡ r.farm_b = free r.state r in omega arith
-  where
-    free : (s : State) (r : Report) → (unwrap_or (entry_at E10 s r) r).farm_b ≡ r.farm_b
-    free S1 r = refl
-    free S2 r = refl
-    free S3 r = refl
-
 pub lockout-shown : (s : State) (l w : Bool) → s ≡ shown_state l w → (s ≡ S3) ↔ (l ≡ true)
 lockout-shown s true w e = ((λ h. refl), (λ h. e))
 lockout-shown s false true e = ((λ h. absurd (cc (h, e))), (λ h. absurd cc))
@@ -139,15 +131,6 @@ flags-at E10 S1 r y is f e = so-of r.state r.lockout r.wait f y (cc) (cc) (cc)
 flags-at E10 S2 r y is f e = so-of S1 false false refl y (cc) (let l : r.lockout ≡ false = waits r.lockout r.wait (sym is ∙ f) in let q : y.lockout ≡ r.lockout = cc in q ∙ l) (cc)
 flags-at E10 S3 r y is f e = so-of S3 true false refl y (let q : y.state ≡ r.state = cc in q ∙ is) (let l : r.lockout ≡ true = locked r.lockout r.wait (sym is ∙ f) in let q : y.lockout ≡ r.lockout = cc in q ∙ l) (cc)
 
-freed-flags : (s : State) (r : Report) → r.state ≡ s → r.state ≡ shown_state r.lockout r.wait → (after E10 r).state ≡ shown_state (after E10 r).lockout (after E10 r).wait
-freed-flags S1 r is f = let e : entry_at E10 r.state r ≡ Some r = subst (λ x. entry_at E10 x r ≡ Some r) (sym is) refl in let q : after E10 r ≡ r = cc e in subst (λ y. y.state ≡ shown_state y.lockout y.wait) (sym q) f
-freed-flags S2 r is f =
-    let e : entry_at E10 r.state r ≡ Some (record r { state = S1; wait = false }) = subst (λ x. entry_at E10 x r ≡ Some (record r { state = S1; wait = false })) (sym is) refl in
-    let q : after E10 r ≡ record r { state = S1; wait = false } = cc e in subst (λ y. y.state ≡ shown_state y.lockout y.wait) (sym q) (flags-at E10 S2 r (record r { state = S1; wait = false }) is f refl)
-freed-flags S3 r is f =
-    let e : entry_at E10 r.state r ≡ Some (record r { wait = false }) = subst (λ x. entry_at E10 x r ≡ Some (record r { wait = false })) (sym is) refl in
-    let q : after E10 r ≡ record r { wait = false } = cc e in subst (λ y. y.state ≡ shown_state y.lockout y.wait) (sym q) (flags-at E10 S3 r (record r { wait = false }) is f refl)
-
 other-flags : (row : Row) (s : State) (r y : Report) → r.state ≡ s → r.state ≡ shown_state r.lockout r.wait → other_at row s r ≡ Some y → y.state ≡ shown_state y.lockout y.wait
 other-flags E1 s r y is f e = absurd cc
 other-flags E2 s r y is f e = absurd cc
@@ -175,11 +158,15 @@ leads-flags rules OtherCommand room r y f (inr e) = let s : Some (record r { far
 pub shown-leads : (rules : Rules) (k : SentFrame) (room : Bool) (r y : Report) → IsShown r → Leads rules k room r y → IsShown y
 shown-leads rules k room r y f step = record { counter = leads-counter rules k room r y f.counter step; state = leads-flags rules k room r y f.state step }
 
-pub shown-free : (r : Report) → IsShown r → IsShown (after E10 r)
-shown-free r f = record { counter = free-counter r f.counter; state = freed-flags r.state r refl f.state }
+pub shown-after : (row : Row) (r : Report) → IsShown r → IsShown (after row r)
+shown-after row r f = by (entry row r) refl where
+  by : (o : Option Report) → entry row r ≡ o → IsShown (after row r)
+  by None e = subst (λ o. IsShown (unwrap_or o r)) (sym e) f
+  by (Some y) e = subst (λ o. IsShown (unwrap_or o r)) (sym e)
+      (record { counter = counted-at row r.state r y f.counter e; state = flags-at row r.state r y refl f.state e })
 
 pub shown-on : (rules : Rules) (way : List SentFrame) (r q : Report) (items : List Item) → IsShown r → Explains rules way r (Heard q ∷ items) → IsShown q
 shown-on rules way r q items f (heard e) = f
 shown-on rules (k ∷ way) r q items f (lost l e) = shown-on rules way r q items f e
 shown-on rules (k ∷ way) r q items f (comes {new = new} room step e) = shown-on rules way new q items (shown-leads rules k room r new f step) e
-shown-on rules way r q items f (released e) = shown-on rules way (after E10 r) q items (shown-free r f) e
+shown-on rules way r q items f (released e) = shown-on rules way (after E10 r) q items (shown-after E10 r f) e

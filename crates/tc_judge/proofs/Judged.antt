@@ -43,12 +43,14 @@ after-sent rules r k way at items n = (there, back) where
         subst (λ ks. Explains rules ks r items) (sym (drop-append-le s.0 way (k ∷ []) le)) (sent-later rules (drop s.0 way) r k items s.3),
       )
 
-pub hears : (rules : Rules) (now q : Report) (w way : List SentFrame) (a at out : List Bool) → w ≡ way → a ≡ at
-    → ((items : List Item) → SomeAt (λ s. Explains rules s q items) out w ↔ SomeAt (λ s. Explains rules s now (Heard q ∷ items)) a w)
-    → (items : List Item) → SomeAt (λ s. Explains rules s q items) out way ↔ SomeAt (λ s. Explains rules s now (Heard q ∷ items)) at way
-hears rules now q w way a at out we ae h items =
-    subst (λ ws. SomeAt (λ s. Explains rules s q items) out ws ↔ SomeAt (λ s. Explains rules s now (Heard q ∷ items)) at ws) we
-    (subst (λ ks. SomeAt (λ s. Explains rules s q items) out w ↔ SomeAt (λ s. Explains rules s now (Heard q ∷ items)) ks w) ae (h items))
+pub hears : (rules : Rules) (n now s q : Report) (w way : List SentFrame) (a at out : List Bool) → n ≡ now → s ≡ q → w ≡ way → a ≡ at
+    → ((items : List Item) → SomeAt (λ ks. Explains rules ks s items) out w ↔ SomeAt (λ ks. Explains rules ks n (Heard s ∷ items)) a w)
+    → (items : List Item) → SomeAt (λ ks. Explains rules ks q items) out way ↔ SomeAt (λ ks. Explains rules ks now (Heard q ∷ items)) at way
+hears rules n now s q w way a at out ne se we ae h items =
+    subst (λ x. SomeAt (λ ks. Explains rules ks q items) out way ↔ SomeAt (λ ks. Explains rules ks x (Heard q ∷ items)) at way) ne
+    (subst (λ x. SomeAt (λ ks. Explains rules ks x items) out way ↔ SomeAt (λ ks. Explains rules ks n (Heard x ∷ items)) at way) se
+    (subst (λ ws. SomeAt (λ ks. Explains rules ks s items) out ws ↔ SomeAt (λ ks. Explains rules ks n (Heard s ∷ items)) at ws) we
+    (subst (λ x. SomeAt (λ ks. Explains rules ks s items) out w ↔ SomeAt (λ ks. Explains rules ks n (Heard s ∷ items)) x w) ae (h items))))
 
 abbrev pub IsMarked : List Bool → Type 0
 IsMarked at = (k : ℕ) × (k < length at) × IsTrue (slice_index_or at k false)

@@ -1,7 +1,8 @@
 //! Accounts of a receiving unit, which list the frames that were sent to it and the CLCWs that were heard from it, and
 //! the rules by which it is judged.
 
-use tc_link::{Kind, Report, Window};
+use crate::shown::Shown;
+use tc_link::{Kind, Window};
 
 /// The rules by which a unit is judged.
 #[derive(Clone, Copy, Debug)]
@@ -30,5 +31,5 @@ pub enum Item {
     /// A frame was sent. It is noted before its octets leave.
     Sent(SentFrame),
     /// A CLCW was heard, which showed these components. CLCWs are noted in the order in which the unit made them.
-    Heard(Report),
+    Heard(Shown),
 }

@@ -4,17 +4,16 @@ ghost use Rattle.std.specs.Prelude.{◌≡◌, ◌<◌, ◌≤◌, ◌+◌, ◌�
 ghost use Rattle.tc_link.specs.declared.farm.Report.{Report};
 ghost use Rattle.tc_judge.specs.Account.{Explains};
 ghost use Rattle.tc_judge.specs.Layer.{SomeAt};
-ghost use Rattle.tc_judge.specs.Reading.{IsShown};
 ghost use Rattle.tc_judge.specs.declared.account.Rules.{Rules};
 ghost use Rattle.tc_judge.specs.declared.account.Item.{Item};
 
 use crate::account::{Item, Rules, SentFrame};
 use crate::layer::COMPONENTS;
+use crate::shown::Shown;
 use crate::walk::{Layers, hear};
 use std::alloc::{AllocError, Global};
 use std::marker::Model;
 use std::mem::swap;
-use tc_link::Report;
 
 /// The verdict of a judge on a CLCW that was heard.
 #[derive(Clone, Copy, Debug, PartialEq, Eq)]
@@ -37,7 +36,7 @@ pub enum Verdict {
 #[derive(Debug, Drop)]
 pub struct Judge {
     rules: Rules,
-    now: Report,
+    now: Shown,
     way: Vec<SentFrame>,
     marks: Vec<bool>,
     found: Vec<bool>,
@@ -49,14 +48,13 @@ pub struct Judge {
 impl Model for Judge {
     ghost use Rattle.std.specs.Prelude.{◌≡◌, ◌+◌, ◌≤◌, length, vec_capacity};
     ghost use Rattle.tc_judge.specs.Judge.{Knowledge};
-    ghost use Rattle.tc_judge.specs.Reading.{IsShown};
 
     ghost Value = { Knowledge };
 
     ghost view = { λ j. record { rules = j.rules; now = j.now; way = j.way.items; marks = j.marks.items; most = j.most; overrun = j.overrun } };
 
-    ghost invariant = { λ j. IsShown j.now × (length j.marks.items ≡ length j.way.items + 1) × (length j.way.items ≤ j.most)
-        × (j.most ≤ vec_capacity j.way) × (j.most + 1 ≤ vec_capacity j.marks) × (j.most + 1 ≤ vec_capacity j.found)
+    ghost invariant = { λ j. (length j.marks.items ≡ length j.way.items + 1) × (length j.way.items ≤ j.most) × (j.most ≤ vec_capacity j.way)
+        × (j.most + 1 ≤ vec_capacity j.marks) × (j.most + 1 ≤ vec_capacity j.found)
         × (length j.layers.here.items ≡ 8192) × (length j.layers.next.items ≡ 8192) };
 }
 
@@ -64,7 +62,6 @@ impl Judge {
     ghost use Rattle.std.specs.Prelude.{◌≡◌, ◌≢◌, ◌<◌, ◌≤◌, ◌↔◌, ◌∷◌, [], List, ℕ, true, false, drop, length, IfOk};
     ghost use Rattle.tc_judge.specs.Account.{Explains};
     ghost use Rattle.tc_judge.specs.Judge.{Allows};
-    ghost use Rattle.tc_judge.specs.Reading.{IsShown};
     ghost use Rattle.tc_judge.specs.declared.account.Item.{Item};
     ghost use Rattle.tc_judge.specs.declared.account.Item.TheVariants.{Sent, Heard};
 
@@ -73,8 +70,7 @@ impl Judge {
     ///
     /// This allocates two layers of 8,192 bytes each, room for `most` frames, and two lists of `most` + 1 marks. It
     /// fails if there is too little memory.
-    pub fn new(alloc: Global, rules: Rules, first: Report, most: usize) -> Result<Judge, AllocError>
-        requires { IsShown first }
+    pub fn new(alloc: Global, rules: Rules, first: Shown, most: usize) -> Result<Judge, AllocError>
         ensures allows { IfOk result (λ j. (items : List Item) → Allows j items ↔ Explains rules [] first items) }
         ensures room { IfOk result (λ j. (j.way ≡ []) × (j.most ≡ most) × (j.overrun ≡ false)) }
     {
@@ -112,7 +108,7 @@ impl Judge {
 
     /// Notes that a CLCW was heard, which showed these components. Returns the verdict on it, together with everything
     /// that was noted before. Unless the verdict is `Possible`, the CLCW isn't noted.
-    pub fn heard(&mut self, shown: Report) -> Verdict
+    pub fn heard(&mut self, shown: Shown) -> Verdict
         ensures unknown { (result ≡ Verdict.Unknown) ↔ (self.old.overrun ≡ true) }
         ensures possible { result ≡ Verdict.Possible → (items : List Item) → Allows self.new items ↔ Allows self.old (Heard shown ∷ items) }
         ensures explained { result ≡ Verdict.Possible → Allows self.new [] }
@@ -133,7 +129,15 @@ impl Judge {
             layers,
             ..
         } = self;
-        hear(rules, *now, shown, way, marks, found, layers);
+        hear(
+            rules,
+            now.report(),
+            shown.report(),
+            way,
+            marks,
+            found,
+            layers,
+        );
         if !any(found) {
             return Verdict::Impossible;
         }
@@ -146,8 +150,7 @@ impl Judge {
     /// Goes on from these components: those of a CLCW that no history explains, those of the first CLCW that was heard
     /// of a unit to which frames were already on their way, or the first components of a unit that was reset while
     /// frames were on their way. Any number of the frames on their way, from the oldest on, may be gone.
-    pub fn go_on(&mut self, from: Report)
-        requires { IsShown from }
+    pub fn go_on(&mut self, from: Shown)
         ensures allows { (items : List Item) → Allows self.new items ↔ ((n : ℕ) × Explains self.old.rules (drop n self.old.way) from items) }
         ensures kept { (self.new.rules ≡ self.old.rules) × (self.new.way ≡ self.old.way) × (self.new.most ≡ self.old.most)
             × (self.new.overrun ≡ self.old.overrun) }
@@ -157,8 +160,7 @@ impl Judge {
     }
 
     /// Begins anew with a unit that has these components, and to which no frame is on its way. This ends an overrun.
-    pub fn restart(&mut self, first: Report)
-        requires { IsShown first }
+    pub fn restart(&mut self, first: Shown)
         ensures allows { (items : List Item) → Allows self.new items ↔ Explains self.old.rules [] first items }
         ensures room { (self.new.way ≡ []) × (self.new.most ≡ self.old.most) × (self.new.overrun ≡ false) }
     {
@@ -187,10 +189,9 @@ fn room_for_marks(alloc: Global, most: usize) -> Result<Vec<bool>, AllocError>
 pub fn is_possible(
     alloc: Global,
     rules: Rules,
-    first: Report,
+    first: Shown,
     account: &[Item],
 ) -> Result<bool, AllocError>
-    requires { IsShown first }
     ensures { IfOk result (λ b. IsTrue b ↔ Explains rules [] first account.now) }
 {
     let mut judge = Judge::new(alloc, rules, first, account.len())?;

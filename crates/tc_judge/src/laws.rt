@@ -2,7 +2,7 @@
 
 ghost use Rattle.std.specs.Prelude.{◌≡◌, ◌⊎◌, ◌<◌, ◌↔◌, ◌∷◌, ◌++◌, [], List, ℕ, true, false};
 ghost use Rattle.tc_link.specs.Clcw.{fields_of, word_of};
-ghost use Rattle.tc_link.specs.Farm.{E10, after};
+ghost use Rattle.tc_link.specs.Farm.{Row, E10, after, first_report};
 ghost use Rattle.tc_link.specs.declared.clcw.Link.{Link};
 ghost use Rattle.tc_link.specs.declared.command.Command.TheVariants.{Unlock, SetVr};
 ghost use Rattle.tc_link.specs.declared.command.Kind.TheVariants.{Ad, Bd, Bc, Invalid};
@@ -36,6 +36,12 @@ pub fn a_clcw_shows_the_state()
         → Explains rules way r (Heard shown ∷ items) → IsShown shown }
     ensures lockout { (r : Report) → IsShown r → (r.state ≡ S3) ↔ (r.lockout ≡ true) }
     ensures wait { (r : Report) → IsShown r → (r.state ≡ S2) ↔ ((r.lockout ≡ false) × (r.wait ≡ true)) }
+{}
+
+/// A CLCW can show the first components of a FARM-1 (`first`), and those after each event (`after`).
+pub fn a_clcw_can_show_the_components_of_a_farm()
+    ensures first { (number : ℕ) → IsShown (first_report number) }
+    ensures after { (row : Row) (r : Report) → IsShown r → IsShown (after row r) }
 {}
 
 /// The CLCW of a unit shows the components that the unit has.

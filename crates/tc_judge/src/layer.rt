@@ -8,7 +8,7 @@ ghost use Rattle.tc_link.specs.Farm.{E10, after};
 ghost use Rattle.tc_judge.specs.Layer.{Has, IsEmpty, place_in_layer};
 ghost use Rattle.tc_judge.specs.Reading.{IsShown};
 
-use crate::reading::{is_shown, shown_state};
+use crate::shown::shown_state;
 use crate::step::freed;
 use tc_link::Report;
 
@@ -18,12 +18,10 @@ pub const COMPONENTS: usize = 8192;
 
 /// Returns whether a layer has these components.
 pub fn has(layer: &[bool], x: Report) -> bool
-    requires { length layer.now ≡ 8192 }
+    requires len { length layer.now ≡ 8192 }
+    requires shown { IsShown x }
     ensures { IsTrue result ↔ Has layer.now x }
 {
-    if !is_shown(x) {
-        return false;
-    }
     layer[place(&x)]
 }
 

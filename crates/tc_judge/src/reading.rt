@@ -3,10 +3,11 @@
 ghost use Rattle.std.specs.Prelude.{◌≡◌, ◌↔◌, IsTrue, List, ℕ, drop, IsSome, IfSome, IfNone};
 ghost use Rattle.tc_link.specs.Clcw.{IsClcw, fields_of};
 ghost use Rattle.tc_link.specs.Frame.{header_of};
-ghost use Rattle.tc_judge.specs.Reading.{IsFor, IsShown, is_other_command, shown, shown_state, as_taken};
+ghost use Rattle.tc_judge.specs.Reading.{IsFor, is_other_command, shown, as_taken};
 
 use crate::account::SentFrame;
-use tc_link::{Frame, Kind, Report, State, kind, read_clcw, read_frame};
+use crate::shown::{Shown, shown_state};
+use tc_link::{Frame, Kind, Report, kind, read_clcw, read_frame};
 
 /// Reads the frame at the front of octets that are sent, as the unit of this spacecraft and virtual channel takes it.
 /// Returns `None` if the octets don't begin with a frame, or if the frame is for another spacecraft or channel. Then
@@ -53,17 +54,16 @@ fn is_other_command(field: &[u8]) -> bool
 /// Reads the components that a CLCW shows. Returns `None` if the word isn't a CLCW of COP-1 for this virtual channel.
 /// Then there is nothing to note.
 ///
-/// The state is S3 if Lockout is set, S2 if Wait is set and Lockout isn't, and otherwise S1. Nothing is allocated.
-pub fn read_heard(word: u32, vcid: u8) -> Option<Report>
+/// Nothing is allocated.
+pub fn read_heard(word: u32, vcid: u8) -> Option<Shown>
     ensures variant { IsSome result ↔ (IsClcw word × ((fields_of word).vcid ≡ vcid)) }
     ensures report { IfSome result (λ r. r ≡ shown (fields_of word)) }
-    ensures components { IfSome result (λ r. IsShown r) }
 {
     let fields = read_clcw(word)?;
     if fields.vcid != vcid {
         return None;
     }
-    Some(Report {
+    Shown::new(Report {
         state: shown_state(fields.lockout, fields.wait),
         vr: fields.vr,
         lockout: fields.lockout,
@@ -71,24 +71,4 @@ pub fn read_heard(word: u32, vcid: u8) -> Option<Report>
         retransmit: fields.retransmit,
         farm_b: fields.farm_b,
     })
-}
-
-/// Returns the state that the flags of a CLCW show.
-pub fn shown_state(lockout: bool, wait: bool) -> State
-    ensures { result ≡ shown_state lockout wait }
-{
-    if lockout {
-        State::S3
-    } else if wait {
-        State::S2
-    } else {
-        State::S1
-    }
-}
-
-/// Returns whether a CLCW can show these components: the counter is below 4, and the flags show the state.
-pub fn is_shown(r: Report) -> bool
-    ensures { IsTrue result ↔ IsShown r }
-{
-    r.farm_b < 4 && r.state == shown_state(r.lockout, r.wait)
 }

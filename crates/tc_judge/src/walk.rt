@@ -37,6 +37,7 @@ pub fn hear(
     layers: &mut Layers,
 )
     requires now { IsShown now }
+    requires shown { IsShown shown }
     requires marks { length marks.now ≡ length way.now + 1 }
     requires room { length marks.now ≤ vec_capacity found.old }
     requires layers { (length layers.old.here.items ≡ 8192) × (length layers.old.next.items ≡ 8192) }
@@ -72,6 +73,7 @@ fn take_turn(
     layers: &mut Layers,
 ) -> bool
     requires now { IsShown now }
+    requires shown { IsShown shown }
     requires layer { IsLayer layers.old.here.items }
     requires layers { (length layers.old.here.items ≡ 8192) × (length layers.old.next.items ≡ 8192) }
     ensures turn { (way : List SentFrame) (items : List Item) → slice_get way 0 ≡ coming
@@ -96,6 +98,7 @@ fn turn(
     next: &mut [bool],
 ) -> bool
     requires now { IsShown now }
+    requires shown { IsShown shown }
     requires layer { IsLayer layer.old }
     requires len { length layer.old ≡ 8192 }
     requires next { length next.old ≡ 8192 }

@@ -3,8 +3,8 @@
 
 use std::alloc::{AllocError, Global};
 use std::process::Abort;
-use tc_judge::{Item, Judge, Rules, Verdict, is_possible, read_heard, read_sent};
-use tc_link::{Farm, Window};
+use tc_judge::{Item, Judge, Rules, Shown, Verdict, is_possible, read_heard, read_sent};
+use tc_link::{Farm, Report, State, Window};
 
 // The frames that were sent on virtual channel 1 of spacecraft 42, each with at least 6 octets, and the CLCWs that were
 // heard, of 4 octets. The unit has a window of 10, room for 3 data fields, and V(R) at 252 at first. Nothing is lost.
@@ -114,6 +114,11 @@ fn rules(rt: &impl Abort, lossy: bool, profile: bool) -> Rules {
     }
 }
 
+// Returns the components with which a FARM-1 starts.
+fn first(rt: &impl Abort, vr: u8) -> Shown {
+    Shown::new(Farm::new(window(rt), vr).report()).expect(rt, "shown components")
+}
+
 // Creates a judge, even if memory is refused once.
 fn judge(
     rt: &(impl Abort + Print),
@@ -123,7 +128,7 @@ fn judge(
     vr: u8,
     most: usize,
 ) -> Result<Judge, AllocError> {
-    let first = Farm::new(window(rt), vr).report();
+    let first = first(rt, vr);
     let made = Judge::new(alloc, rules(rt, lossy, profile), first, most);
     if made.is_err() {
         let _ = println!(rt; "refused: Judge::new");
@@ -197,6 +202,48 @@ fn units_with_one_fault(rt: HostRuntime) {
     }
 }
 
+// CLCWs, and the components that they show.
+#[test]
+fn components_of_a_clcw(rt: HostRuntime) {
+    let waiting = Report {
+        state: State::S2,
+        vr: 1,
+        lockout: false,
+        wait: true,
+        retransmit: true,
+        farm_b: 0,
+    };
+    let locked = Report {
+        state: State::S3,
+        vr: 255,
+        lockout: true,
+        retransmit: false,
+        farm_b: 3,
+        ..waiting
+    };
+    for (word, report) in [(0x01041801, waiting), (0x010436ff, locked)] {
+        let shown = read_heard(word, 1).expect(&rt, "a CLCW");
+        assert_eq!(rt; shown.report(), report);
+        assert_eq!(rt; Shown::new(report), Some(shown));
+        for other in [
+            Report {
+                farm_b: 4,
+                ..report
+            },
+            Report {
+                lockout: !report.lockout,
+                ..report
+            },
+            Report {
+                state: State::S1,
+                ..report
+            },
+        ] {
+            assert_eq!(rt; Shown::new(other), None);
+        }
+    }
+}
+
 // Accounts that were written by hand. An Unlock leaves Retransmit as it is, another control command is counted, and a
 // Set V(R) in lockout isn't counted.
 const OTHERWISE: [&str; 3] = [
@@ -234,21 +281,30 @@ fn a_judge_goes_on_after_an_overrun_and_an_impossible_clcw(rt: HostRuntime) {
     );
 }
 
+// Judges a whole account of a unit with V(R) at 0, even if memory is refused once.
+fn judge_whole(
+    rt: &(impl Abort + Print),
+    alloc: Global,
+    account: &[Item],
+) -> Result<bool, AllocError> {
+    let first = first(rt, 0);
+    let judged = is_possible(alloc, rules(rt, false, true), first, account);
+    if judged.is_err() {
+        let _ = println!(rt; "refused: is_possible");
+        return is_possible(alloc, rules(rt, false, true), first, account);
+    }
+    judged
+}
+
 #[test]
 fn growth_of_the_verdict_on_a_whole_account(rt: HostRuntime) {
-    let first = Farm::new(window(&rt), 0).report();
-    let sent = read_sent(&[0x00, 0x2a, 0x04, 0x05, 0x00, 0xaa], 42, 1, true).expect(&rt, "a frame");
+    let octets = [0x00, 0x2a, 0x04, 0x05, 0x00, 0xaa];
+    let sent = read_sent(&octets, 42, 1, true).expect(&rt, "a frame");
     let shown = read_heard(0x01040001, 1).expect(&rt, "a CLCW");
-    for (expected, account) in [
-        (true, [Item::Sent(sent), Item::Heard(shown)]),
-        (false, [Item::Heard(shown), Item::Sent(sent)]),
-    ] {
-        let mut judged = is_possible(rt.alloc(), rules(&rt, false, true), first, &account);
-        if judged.is_err() {
-            let _ = println!(rt; "refused: is_possible");
-            judged = is_possible(rt.alloc(), rules(&rt, false, true), first, &account);
-        }
-        let judged = judged.expect(&rt, "memory");
-        assert_eq!(rt; judged, expected);
-    }
+    let account = [Item::Sent(sent), Item::Heard(shown)];
+    let judged = judge_whole(&rt, rt.alloc(), &account).expect(&rt, "memory");
+    assert!(rt; judged);
+    let account = [Item::Heard(shown), Item::Sent(sent)];
+    let judged = judge_whole(&rt, rt.alloc(), &account).expect(&rt, "memory");
+    assert!(rt; !judged);
 }

@@ -16,7 +16,7 @@ pub returns-in-Impossible : goal.returns-in-Impossible
 returns-in-Impossible c =
     let h : c.loop-item.item-index < length c.args.account.now = omega arith in (
       λ t. absurd (cc t),
-      λ e. absurd (none-on c.loop-item.judge c.args.account.now c.loop-item.item-index _ (Heard c.in-Heard.shown) h c.in-Heard.is
+      λ e. absurd (none-on c.loop-item.judge c.args.account.now c.loop-item.item-index _ (Heard c.in-Heard.shown) h (sym c.item-item.is ∙ c.in-Heard.is)
           (c.heard.ensures.impossible c.in-Impossible.is) c.loop-item.invariant.1 e),
     )
 
@@ -30,7 +30,7 @@ loop-item-preserved c =
           subst (λ j. Allows j [] × (Allows j (drop (c.loop-item.item-index + 1) c.args.account.now) ↔ Explains c.args.rules [] c.args.first c.args.account.now)
           × (j.overrun ≡ false) × (length j.way ≤ c.loop-item.item-index + 1) × (j.most ≡ length c.args.account.now)) (sym w.judge-is) (
             (w.sent.ensures.allows room []).1 (explained-sent c.loop-item.judge.rules c.loop-item.judge.now w.in-Sent.frame c.loop-item.judge.way c.loop-item.judge.marks c.loop-item.invariant.0),
-            on c.loop-item.judge w.sent.new.self c.args.account.now c.loop-item.item-index _ (Sent w.in-Sent.frame) h w.in-Sent.is (w.sent.ensures.allows room) c.loop-item.invariant.1,
+            on c.loop-item.judge w.sent.new.self c.args.account.now c.loop-item.item-index _ (Sent w.in-Sent.frame) h (sym c.item-item.is ∙ w.in-Sent.is) (w.sent.ensures.allows room) c.loop-item.invariant.1,
             noted.1 ∙ c.loop-item.invariant.2,
             omega (arith, noted.0, c.loop-item.invariant.3),
             w.sent.ensures.kept.1 ∙ c.loop-item.invariant.4,
@@ -39,7 +39,7 @@ loop-item-preserved c =
           subst (λ j. Allows j [] × (Allows j (drop (c.loop-item.item-index + 1) c.args.account.now) ↔ Explains c.args.rules [] c.args.first c.args.account.now)
           × (j.overrun ≡ false) × (length j.way ≤ c.loop-item.item-index + 1) × (j.most ≡ length c.args.account.now)) (sym w.judge-is) (
             w.heard.ensures.explained w.in-Possible.is,
-            on c.loop-item.judge w.heard.new.self c.args.account.now c.loop-item.item-index _ (Heard w.in-Heard.shown) h w.in-Heard.is (w.heard.ensures.possible w.in-Possible.is) c.loop-item.invariant.1,
+            on c.loop-item.judge w.heard.new.self c.args.account.now c.loop-item.item-index _ (Heard w.in-Heard.shown) h (sym c.item-item.is ∙ w.in-Heard.is) (w.heard.ensures.possible w.in-Possible.is) c.loop-item.invariant.1,
             w.heard.ensures.kept.2 ∙ c.loop-item.invariant.2,
             omega (arith, w.heard.ensures.shorter, c.loop-item.invariant.3),
             w.heard.ensures.kept.1 ∙ c.loop-item.invariant.4,
