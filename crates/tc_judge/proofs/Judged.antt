@@ -10,7 +10,7 @@ use Rattle.tc_link.specs.declared.farm.Report.{Report}
 use Rattle.tc_judge.specs.Account.{Explains, ended, sent}
 use Rattle.tc_judge.specs.declared.account.Item.{Item}
 use Rattle.tc_judge.specs.declared.account.Item.TheVariants.{Sent, Heard}
-use Rattle.tc_judge.specs.Layer.{SomeAt}
+use Rattle.tc_judge.specs.Layer.{Has, SomeAt}
 use Rattle.tc_judge.specs.Judge.{Allows, Knowledge}
 use Rattle.tc_judge.proofs.Silent.{sent-later}
 
@@ -51,6 +51,15 @@ hears rules n now s q w way a at out ne se we ae h items =
     (subst (λ x. SomeAt (λ ks. Explains rules ks x items) out way ↔ SomeAt (λ ks. Explains rules ks n (Heard x ∷ items)) at way) se
     (subst (λ ws. SomeAt (λ ks. Explains rules ks s items) out ws ↔ SomeAt (λ ks. Explains rules ks n (Heard s ∷ items)) at ws) we
     (subst (λ x. SomeAt (λ ks. Explains rules ks s items) out w ↔ SomeAt (λ ks. Explains rules ks n (Heard s ∷ items)) x w) ae (h items))))
+
+pub gathers : (rules : Rules) (n now : Report) (w way : List SentFrame) (a at into set : List Bool) → n ≡ now → w ≡ way → a ≡ at → into ≡ set
+    → ((q : Report) → Has into q ↔ SomeAt (λ ks. Explains rules ks n (Heard q ∷ [])) a w)
+    → (q : Report) → Has set q ↔ SomeAt (λ ks. Explains rules ks now (Heard q ∷ [])) at way
+gathers rules n now w way a at into set ne we ae se g q =
+    subst (λ x. Has x q ↔ SomeAt (λ ks. Explains rules ks now (Heard q ∷ [])) at way) se
+    (subst (λ x. Has into q ↔ SomeAt (λ ks. Explains rules ks x (Heard q ∷ [])) at way) ne
+    (subst (λ x. Has into q ↔ SomeAt (λ ks. Explains rules ks n (Heard q ∷ [])) at x) we
+    (subst (λ x. Has into q ↔ SomeAt (λ ks. Explains rules ks n (Heard q ∷ [])) x w) ae (g q))))
 
 abbrev pub IsMarked : List Bool → Type 0
 IsMarked at = (k : ℕ) × (k < length at) × IsTrue (slice_index_or at k false)

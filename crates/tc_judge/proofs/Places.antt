@@ -10,7 +10,7 @@ use Rattle.tc_link.specs.declared.farm.Report.{Report}
 use Rattle.tc_judge.specs.Account.{Explains}
 use Rattle.tc_judge.specs.declared.account.Item.{Item}
 use Rattle.tc_judge.specs.declared.account.Item.TheVariants.{Heard}
-use Rattle.tc_judge.specs.Layer.{SomeAt, SomeOf, IsTurn, IsEmpty}
+use Rattle.tc_judge.specs.Layer.{Has, SomeAt, SomeOf, IsTurn, IsEmpty}
 
 drop-suc : {X : Type 0} (xs : List X) (i : ℕ) → drop 1 (drop i xs) ≡ drop (suc i) xs
 drop-suc [] zero = refl
@@ -30,9 +30,11 @@ get-drop (x ∷ xs) (suc i) = get-drop xs i
 abbrev pub SomeAfter : (List SentFrame → Type 0) → ℕ → List Bool → List SentFrame → Type 0
 SomeAfter Holds i at way = (k : ℕ) × (i ≤ k) × (k < length at) × IsTrue (slice_index_or at k false) × Holds (drop k way)
 
-abbrev pub IsSoFar : Rules → Report → Report → List SentFrame → List Bool → ℕ → List Bool → List Bool → List Item → Type 0
-IsSoFar rules now q way at i out layer items =
-    (SomeAt (λ s. Explains rules s q items) out way ⊎ SomeOf (λ r. Explains rules (drop i way) r (Heard q ∷ items)) layer)
+-- `Found` is the case that the unit makes the next CLCW before place i. The other cases are that it follows from
+-- components of the layer at place i, or from `now` at a place from i on.
+abbrev pub IsSoFar : Rules → Report → Report → List SentFrame → List Bool → ℕ → Type 0 → List Bool → List Item → Type 0
+IsSoFar rules now q way at i Found layer items =
+    (Found ⊎ SomeOf (λ r. Explains rules (drop i way) r (Heard q ∷ items)) layer)
     ⊎ SomeAfter (λ s. Explains rules s now (Heard q ∷ items)) i at way
 
 pub pushed : (Holds : List SentFrame → Type 0) (out : List Bool) (is : Bool) (i : ℕ) (way : List SentFrame) → length out ≡ i
@@ -100,20 +102,20 @@ regroup {A = A} {B = B} {C = C} {D = D} {E = E} {F = F} {G = G} {H = H} d t g = 
   back (inl (inr e)) = down (t.1 (inl e))
   back (inr x) = fall (g.0 x)
 
-pub turn-on : (rules : Rules) (now q : Report) (way : List SentFrame) (at out : List Bool) (layer next : List Bool) (is : Bool) (i : ℕ) (items : List Item)
-    → i < length at → length out ≡ i → IsTurn rules now q (slice_index_or at i false) layer (IsTrue is) next (drop i way) items
-    → IsSoFar rules now q way at (i + 1) (out ++ is ∷ []) next items ↔ IsSoFar rules now q way at i out layer items
-turn-on rules now q way at out layer next is i items h e turn =
-    regroup (pushed (λ s. Explains rules s q items) out is i way e)
-    (subst (λ ks. ((IsTrue is × Explains rules (drop i way) q items) ⊎ SomeOf (λ y. Explains rules ks y (Heard q ∷ items)) next)
+pub turn-on : (rules : Rules) (now q : Report) (way : List SentFrame) (at : List Bool) (Found More : Type 0) (layer joined next : List Bool) (i : ℕ) (items : List Item)
+    → i < length at → (More ↔ (Found ⊎ (Has joined q × Explains rules (drop i way) q items))) → IsTurn rules now q (slice_index_or at i false) layer joined next (drop i way) items
+    → IsSoFar rules now q way at (i + 1) More next items ↔ IsSoFar rules now q way at i Found layer items
+turn-on rules now q way at Found More layer joined next i items h more turn =
+    regroup more
+    (subst (λ ks. ((Has joined q × Explains rules (drop i way) q items) ⊎ SomeOf (λ y. Explains rules ks y (Heard q ∷ items)) next)
     ↔ (SomeOf (λ r. Explains rules (drop i way) r (Heard q ∷ items)) layer ⊎ (IsTrue (slice_index_or at i false) × Explains rules (drop i way) now (Heard q ∷ items))))
     (drop-one way i) turn)
     (one-after (λ s. Explains rules s now (Heard q ∷ items)) i at way h)
 
-pub at-last : (rules : Rules) (now q : Report) (way : List SentFrame) (at out : List Bool) (layer : List Bool) (i : ℕ) (items : List Item) → IsEmpty layer → length at ≤ i
-    → IsSoFar rules now q way at i out layer items ↔ SomeAt (λ s. Explains rules s q items) out way
-at-last rules now q way at out layer i items le h = (there, λ s. inl (inl s)) where
-  there : IsSoFar rules now q way at i out layer items → SomeAt (λ s. Explains rules s q items) out way
+pub at-last : (rules : Rules) (now q : Report) (way : List SentFrame) (at : List Bool) (Found : Type 0) (layer : List Bool) (i : ℕ) (items : List Item) → IsEmpty layer → length at ≤ i
+    → IsSoFar rules now q way at i Found layer items ↔ Found
+at-last rules now q way at Found layer i items le h = (there, λ s. inl (inl s)) where
+  there : IsSoFar rules now q way at i Found layer items → Found
   there (inl (inl s)) = s
   there (inl (inr s)) = absurd (le s.0 s.1)
   there (inr s) = absurd (omega (arith, h, s.1, s.2))

@@ -29,37 +29,33 @@ goes-held rules None layer next goes = λ r has. absurd (goes r has)
 none-of : (layer : List Bool) (Holds : Report → Type 0) → IsEmpty layer → SomeOf Holds layer → ⊥
 none-of layer Holds e s = e s.0 s.1
 
-middle : (rules : Rules) (q : Report) (joined next : List Bool) (Is : Type 0) (way : List SentFrame) (items : List Item)
-    → IsLayer joined → (Is ↔ Has joined q) → Goes rules (slice_get way 0) joined next
-    → ((Is × Explains rules way q items) ⊎ SomeOf (λ y. Explains rules (drop 1 way) y (Heard q ∷ items)) next)
+middle : (rules : Rules) (q : Report) (joined next : List Bool) (way : List SentFrame) (items : List Item)
+    → IsLayer joined → Goes rules (slice_get way 0) joined next
+    → ((Has joined q × Explains rules way q items) ⊎ SomeOf (λ y. Explains rules (drop 1 way) y (Heard q ∷ items)) next)
     ↔ SomeOf (λ r. Explains rules way r (Heard q ∷ items)) joined
-middle rules q joined next Is [] items held at goes = (there, back) where
-  there : (Is × Explains rules [] q items) ⊎ SomeOf (λ y. Explains rules [] y (Heard q ∷ items)) next → SomeOf (λ r. Explains rules [] r (Heard q ∷ items)) joined
-  there (inl s) = (q, at.0 s.0, heard s.1)
+middle rules q joined next [] items held goes = (there, back) where
+  there : (Has joined q × Explains rules [] q items) ⊎ SomeOf (λ y. Explains rules [] y (Heard q ∷ items)) next → SomeOf (λ r. Explains rules [] r (Heard q ∷ items)) joined
+  there (inl s) = (q, s.0, heard s.1)
   there (inr s) = absurd (none-of next (λ y. Explains rules [] y (Heard q ∷ items)) goes s)
 
-  back : SomeOf (λ r. Explains rules [] r (Heard q ∷ items)) joined → (Is × Explains rules [] q items) ⊎ SomeOf (λ y. Explains rules [] y (Heard q ∷ items)) next
-  back s = let e = end-on rules q s.0 joined items held s.1 s.2 in inl (at.1 e.0, e.1)
-middle rules q joined next Is (k ∷ ks) items held at goes = (there, back) where
-  there : (Is × Explains rules (k ∷ ks) q items) ⊎ SomeOf (λ y. Explains rules ks y (Heard q ∷ items)) next → SomeOf (λ r. Explains rules (k ∷ ks) r (Heard q ∷ items)) joined
-  there (inl s) = (q, at.0 s.0, heard s.1)
+  back : SomeOf (λ r. Explains rules [] r (Heard q ∷ items)) joined → (Has joined q × Explains rules [] q items) ⊎ SomeOf (λ y. Explains rules [] y (Heard q ∷ items)) next
+  back s = inl (end-on rules q s.0 joined items held s.1 s.2)
+middle rules q joined next (k ∷ ks) items held goes = (there, back) where
+  there : (Has joined q × Explains rules (k ∷ ks) q items) ⊎ SomeOf (λ y. Explains rules ks y (Heard q ∷ items)) next → SomeOf (λ r. Explains rules (k ∷ ks) r (Heard q ∷ items)) joined
+  there (inl s) = (q, s.0, heard s.1)
   there (inr s) = step-back rules k ks joined next (Heard q ∷ items) goes s
 
-  sorted : (Has joined q × Explains rules (k ∷ ks) q items) ⊎ SomeOf (λ y. Explains rules ks y (Heard q ∷ items)) next → (Is × Explains rules (k ∷ ks) q items) ⊎ SomeOf (λ y. Explains rules ks y (Heard q ∷ items)) next
-  sorted (inl e) = inl (at.1 e.0, e.1)
-  sorted (inr e) = inr e
+  back : SomeOf (λ r. Explains rules (k ∷ ks) r (Heard q ∷ items)) joined → (Has joined q × Explains rules (k ∷ ks) q items) ⊎ SomeOf (λ y. Explains rules ks y (Heard q ∷ items)) next
+  back s = step-on rules q s.0 k ks joined next items held goes s.1 s.2
 
-  back : SomeOf (λ r. Explains rules (k ∷ ks) r (Heard q ∷ items)) joined → (Is × Explains rules (k ∷ ks) q items) ⊎ SomeOf (λ y. Explains rules ks y (Heard q ∷ items)) next
-  back s = sorted (step-on rules q s.0 k ks joined next items held goes s.1 s.2)
-
-pub turned : (rules : Rules) (now q : Report) (here : Bool) (Is : Type 0) (coming : Option SentFrame) (layer joined next : List Bool)
-    → IsLayer layer → IsJoined now here layer joined → (Is ↔ Has joined q) → Goes rules coming joined next
-    → (way : List SentFrame) (items : List Item) → slice_get way 0 ≡ coming → IsTurn rules now q here layer Is next way items
-turned rules now q here Is coming layer joined next held j at goes way items e =
+pub turned : (rules : Rules) (now q : Report) (here : Bool) (coming : Option SentFrame) (layer joined next : List Bool)
+    → IsLayer layer → IsJoined now here layer joined → Goes rules coming joined next
+    → (way : List SentFrame) (items : List Item) → slice_get way 0 ≡ coming → IsTurn rules now q here layer joined next way items
+turned rules now q here coming layer joined next held j goes way items e =
     (λ s. from (m.0 s), λ s. m.1 (to s)) where
-      m : ((Is × Explains rules way q items) ⊎ SomeOf (λ y. Explains rules (drop 1 way) y (Heard q ∷ items)) next)
+      m : ((Has joined q × Explains rules way q items) ⊎ SomeOf (λ y. Explains rules (drop 1 way) y (Heard q ∷ items)) next)
           ↔ SomeOf (λ r. Explains rules way r (Heard q ∷ items)) joined
-      m = middle rules q joined next Is way items (joined-held now here layer joined held j) at (subst (λ c. Goes rules c joined next) (sym e) goes)
+      m = middle rules q joined next way items (joined-held now here layer joined held j) (subst (λ c. Goes rules c joined next) (sym e) goes)
 
       apart : (r : Report) → Explains rules way r (Heard q ∷ items) → Has layer r ⊎ (IsTrue here × ((r ≡ now) ⊎ (r ≡ after E10 now)))
           → SomeOf (λ r. Explains rules way r (Heard q ∷ items)) layer ⊎ (IsTrue here × Explains rules way now (Heard q ∷ items))

@@ -15,7 +15,7 @@ use Rattle.tc_judge.specs.declared.account.Item.TheVariants.{Heard}
 abbrev pub place_in_layer : Report → ℕ
 place_in_layer r = ((4 * bit r.lockout + 2 * bit r.wait + bit r.retransmit) * 4 + r.farm_b) * 256 + r.vr
 
--- a layer has these components
+-- a layer, or a set of components that a CLCW can show, has these components
 pub record Has (layer : List Bool) (r : Report) : Type 0 where
   pub shown : IsShown r
   pub number : r.vr < 256
@@ -50,11 +50,12 @@ Goes rules None layer next = IsEmpty next
 Goes rules (Some frame) layer next = IsNext rules frame layer next
 
 -- One step along the frames on their way, of which `way` are those from here on. Two statements about the next CLCW are
--- equivalent. The first one is that the unit makes it here (`Is`), or later, from components of the layer `next` after
--- the next frame. The second one is that it follows from components of this layer, or from `now` if `here` is true.
-abbrev pub IsTurn : Rules → Report → Report → Bool → List Bool → Type 0 → List Bool → List SentFrame → List Item → Type 0
-IsTurn rules now shown here layer Is next way items =
-    ((Is × Explains rules way shown items) ⊎ SomeOf (λ y. Explains rules (drop 1 way) y (Heard shown ∷ items)) next)
+-- equivalent. The first one is that the unit makes it here, from components of the layer `joined`, or later, from
+-- components of the layer `next` after the next frame. The second one is that it follows from components of `layer`, or
+-- from `now` if `here` is true.
+abbrev pub IsTurn : Rules → Report → Report → Bool → List Bool → List Bool → List Bool → List SentFrame → List Item → Type 0
+IsTurn rules now shown here layer joined next way items =
+    ((Has joined shown × Explains rules way shown items) ⊎ SomeOf (λ y. Explains rules (drop 1 way) y (Heard shown ∷ items)) next)
     ↔ (SomeOf (λ r. Explains rules way r (Heard shown ∷ items)) layer ⊎ (IsTrue here × Explains rules way now (Heard shown ∷ items)))
 
 -- for some mark that is set, the frames from its place on have a property

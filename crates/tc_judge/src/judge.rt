@@ -8,9 +8,9 @@ ghost use Rattle.tc_judge.specs.declared.account.Rules.{Rules};
 ghost use Rattle.tc_judge.specs.declared.account.Item.{Item};
 
 use crate::account::{Item, Rules, SentFrame};
-use crate::layer::COMPONENTS;
-use crate::shown::Shown;
-use crate::walk::{Layers, hear};
+use crate::layer::{COMPONENTS, clear};
+use crate::shown::{Shown, ShownSet};
+use crate::walk::{Layers, gather, hear};
 use std::alloc::{AllocError, Global};
 use std::marker::Model;
 use std::mem::swap;
@@ -62,6 +62,7 @@ impl Judge {
     ghost use Rattle.std.specs.Prelude.{◌≡◌, ◌≢◌, ◌<◌, ◌≤◌, ◌↔◌, ◌∷◌, [], List, ℕ, true, false, drop, length, IfOk};
     ghost use Rattle.tc_judge.specs.Account.{Explains};
     ghost use Rattle.tc_judge.specs.Judge.{Allows};
+    ghost use Rattle.tc_judge.specs.Layer.{Has, IsEmpty};
     ghost use Rattle.tc_judge.specs.declared.account.Item.{Item};
     ghost use Rattle.tc_judge.specs.declared.account.Item.TheVariants.{Sent, Heard};
 
@@ -145,6 +146,31 @@ impl Judge {
         swap(marks, found);
         trim(way, marks);
         Verdict::Possible
+    }
+
+    /// Writes to `set` the components that the next CLCW can show. They are exactly those for which [`Judge::heard`]
+    /// would return `Possible`. After an overrun, `set` is empty.
+    ///
+    /// After an impossible CLCW, these are the components that would have been possible. The call's steps are those of
+    /// `heard`, and 8,192 more for each place among the frames on their way. Nothing is allocated.
+    pub fn possible(&mut self, set: &mut ShownSet)
+        ensures possible { self.old.overrun ≡ false → (shown : Report) → Has set.new shown ↔ Allows self.old (Heard shown ∷ []) }
+        ensures overrun { self.old.overrun ≡ true → IsEmpty set.new }
+        ensures unchanged { self.new ≡ self.old }
+    {
+        clear(&mut set.flags);
+        if self.overrun {
+            return;
+        }
+        let Judge {
+            rules,
+            now,
+            way,
+            marks,
+            layers,
+            ..
+        } = self;
+        gather(rules, now.report(), way, marks, layers, &mut set.flags);
     }
 
     /// Goes on from these components: those of a CLCW that no history explains, those of the first CLCW that was heard

@@ -46,6 +46,20 @@ pub fn join(layer: &mut [bool], here: bool, now: Report)
     }
 }
 
+/// Adds all components of a layer to another one.
+pub fn unite(into: &mut [bool], layer: &[bool])
+    requires into { length into.old ≡ 8192 }
+    requires layer { length layer.now ≡ 8192 }
+    ensures united { (y : Report) → Has into.new y ↔ (Has into.old y ⊎ Has layer.now y) }
+    ensures len { length into.new ≡ 8192 }
+{
+    for place in 0..layer.len() {
+        if layer[place] {
+            add(into, report_at(place));
+        }
+    }
+}
+
 /// Adds components to a layer, if there are some, and those after a release.
 pub fn add_some(layer: &mut [bool], x: Option<Report>)
     requires len { length layer.old ≡ 8192 }

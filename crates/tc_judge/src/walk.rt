@@ -1,6 +1,6 @@
 //! The walk along the frames on their way to a unit, from layer to layer.
 
-ghost use Rattle.std.specs.Prelude.{◌≡◌, ◌<◌, ◌≤◌, ◌⊎◌, ◌↔◌, ◌+◌, IsTrue, None, List, ◌∷◌, length, slice_get, vec_capacity};
+ghost use Rattle.std.specs.Prelude.{◌≡◌, ◌<◌, ◌≤◌, ◌⊎◌, ◌↔◌, ◌+◌, None, List, ◌∷◌, [], length, slice_get, vec_capacity};
 ghost use Rattle.tc_link.specs.declared.farm.Report.{Report};
 ghost use Rattle.tc_judge.specs.Layer.{Has, IsEmpty, IsLayer, IsMadeOf, IsNext, Goes, IsTurn, SomeAt};
 ghost use Rattle.tc_judge.specs.Account.{Explains};
@@ -10,7 +10,7 @@ ghost use Rattle.tc_judge.specs.declared.account.Item.{Item};
 ghost use Rattle.tc_judge.specs.declared.account.Item.TheVariants.{Heard};
 
 use crate::account::{Rules, SentFrame};
-use crate::layer::{add_some, clear, has, join, report_at};
+use crate::layer::{add_some, clear, has, join, report_at, unite};
 use crate::step::{dealt, otherwise};
 use std::mem::swap;
 use tc_link::Report;
@@ -50,9 +50,34 @@ pub fn hear(
     found.clear();
     clear(&mut layers.here);
     for i in 0..marks.len() {
-        let coming = frame_at(way, i);
-        let is = take_turn(rules, now, shown, marks[i], coming, layers);
-        found.push_reserved(is);
+        take_turn(rules, now, marks[i], frame_at(way, i), layers);
+        found.push_reserved(has(&layers.next, shown));
+    }
+}
+
+/// Adds to `into`, which is empty, the components that the next CLCW can show. They are those of the layers at all
+/// places among the frames on their way. The other arguments are those of [`hear`]. Nothing is allocated.
+pub fn gather(
+    rules: &Rules,
+    now: Report,
+    way: &[SentFrame],
+    marks: &[bool],
+    layers: &mut Layers,
+    into: &mut [bool],
+)
+    requires now { IsShown now }
+    requires marks { length marks.now ≡ length way.now + 1 }
+    requires layers { (length layers.old.here.items ≡ 8192) × (length layers.old.next.items ≡ 8192) }
+    requires len { length into.old ≡ 8192 }
+    requires empty { IsEmpty into.old }
+    ensures gathered { (shown : Report) → Has into.new shown ↔ SomeAt (λ s. Explains rules.now s now (Heard shown ∷ [])) marks.now way.now }
+    ensures layers { (length layers.new.here.items ≡ 8192) × (length layers.new.next.items ≡ 8192) }
+    ensures len { length into.new ≡ 8192 }
+{
+    clear(&mut layers.here);
+    for i in 0..marks.len() {
+        take_turn(rules, now, marks[i], frame_at(way, i), layers);
+        unite(into, &layers.next);
     }
 }
 
@@ -62,57 +87,45 @@ fn frame_at(way: &[SentFrame], place: usize) -> Option<SentFrame>
     way.get(place).copied()
 }
 
-// Takes one step along the frames on their way: from a layer to the next one. Returns whether the unit may have made
-// the CLCW before the frame that comes.
-fn take_turn(
-    rules: &Rules,
-    now: Report,
-    shown: Report,
-    here: bool,
-    coming: Option<SentFrame>,
-    layers: &mut Layers,
-) -> bool
+// Takes one step along the frames on their way. Before it, `layers.here` has the components that a unit can have at a
+// place after frames that came. After it, `layers.next` also has those that are joined there, and `layers.here` is the
+// layer at the next place.
+fn take_turn(rules: &Rules, now: Report, here: bool, coming: Option<SentFrame>, layers: &mut Layers)
     requires now { IsShown now }
-    requires shown { IsShown shown }
     requires layer { IsLayer layers.old.here.items }
     requires layers { (length layers.old.here.items ≡ 8192) × (length layers.old.next.items ≡ 8192) }
-    ensures turn { (way : List SentFrame) (items : List Item) → slice_get way 0 ≡ coming
-        → IsTurn rules.now now shown here layers.old.here.items (IsTrue result) layers.new.here.items way items }
+    ensures turn { (shown : Report) (way : List SentFrame) (items : List Item) → slice_get way 0 ≡ coming
+        → IsTurn rules.now now shown here layers.old.here.items layers.new.next.items layers.new.here.items way items }
     ensures layer { IsLayer layers.new.here.items }
     ensures none { coming ≡ None → IsEmpty layers.new.here.items }
     ensures layers { (length layers.new.here.items ≡ 8192) × (length layers.new.next.items ≡ 8192) }
 {
     let Layers { here: layer, next } = layers;
-    let is = turn(rules, now, shown, here, coming, layer, next);
+    turn(rules, now, here, coming, layer, next);
     swap(layer, next);
-    is
 }
 
 fn turn(
     rules: &Rules,
     now: Report,
-    shown: Report,
     here: bool,
     coming: Option<SentFrame>,
     layer: &mut [bool],
     next: &mut [bool],
-) -> bool
+)
     requires now { IsShown now }
-    requires shown { IsShown shown }
     requires layer { IsLayer layer.old }
     requires len { length layer.old ≡ 8192 }
     requires next { length next.old ≡ 8192 }
-    ensures turn { (way : List SentFrame) (items : List Item) → slice_get way 0 ≡ coming
-        → IsTurn rules.now now shown here layer.old (IsTrue result) next.new way items }
+    ensures turn { (shown : Report) (way : List SentFrame) (items : List Item) → slice_get way 0 ≡ coming
+        → IsTurn rules.now now shown here layer.old layer.new next.new way items }
     ensures layer { IsLayer next.new }
     ensures none { coming ≡ None → IsEmpty next.new }
     ensures len { length layer.new ≡ 8192 }
     ensures next { length next.new ≡ 8192 }
 {
     join(layer, here, now);
-    let is = has(layer, shown);
     go(rules, coming, layer, next);
-    is
 }
 
 // Writes the layer after the frame that comes, or an empty layer if none comes.

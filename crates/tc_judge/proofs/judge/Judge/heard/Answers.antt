@@ -1,4 +1,4 @@
-use Rattle.std.specs.Prelude.{◌≡◌, ◌↔◌, ◌∷◌, [], drop, vec_capacity}
+use Rattle.std.specs.Prelude.{◌≡◌, ◌↔◌, ◌∷◌, [], vec_capacity}
 use Rattle.std.proofs.Common.{arith, ap, subst, sym}
 use Rattle.tc_judge.specs.Account.{Explains}
 use Rattle.tc_judge.specs.Layer.{SomeAt}
