@@ -3,8 +3,8 @@
 //! A test bench notes each frame that it sends to a unit and each CLCW that it hears. For each CLCW, [`Judge::heard`]
 //! returns whether a history of a right unit explains it, together with everything that was noted before. For an
 //! impossible CLCW, [`Judge::possible`] finds the components that would have been possible. [`is_possible`] judges a
-//! whole account. [`read_sent`] and [`read_heard`] read the items of an account from octets. [`Shown`] is the type of the
-//! components that a CLCW shows, and [`ShownSet`] is a set of them.
+//! whole account. [`read_sent`] and [`read_heard`] read the items of an account from octets. [`Shown`] is the type of
+//! the components that a CLCW shows, and [`ShownSet`] is a set of them.
 //!
 //! Laws over the definitions stand as contracts of functions with empty bodies:
 //! [`a_frame_that_is_sent_is_on_its_way`], [`only_a_release_changes_a_unit_to_which_nothing_is_on_its_way`],

@@ -56,9 +56,9 @@ impl Shown {
 
 /// A set of components that a CLCW can show.
 ///
-/// Each of the 8,192 components that a CLCW can show has a place in the set. The places are in the order of the CLCWs
-/// as numbers, so they are by Lockout, Wait, Retransmit, the FARM-B counter and V(R). In contracts, the value is a list
-/// with a flag for each place.
+/// Each of the 8,192 different components that a CLCW can show has a place in a set. The places are in the order of the
+/// CLCWs as numbers: by Lockout, Wait, Retransmit, the FARM-B counter and V(R). In contracts, the value is a list with
+/// a flag for each place.
 #[derive(Debug, Drop)]
 pub struct ShownSet {
     pub(crate) flags: Vec<bool>,

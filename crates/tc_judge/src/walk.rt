@@ -87,9 +87,9 @@ fn frame_at(way: &[SentFrame], place: usize) -> Option<SentFrame>
     way.get(place).copied()
 }
 
-// Takes one step along the frames on their way. Before it, `layers.here` has the components that a unit can have at a
-// place after frames that came. After it, `layers.next` also has those that are joined there, and `layers.here` is the
-// layer at the next place.
+// Takes one step along the frames on their way, from one place to the next. Before it, `layers.here` is the layer at
+// the place, without the components `now`. After it, `layers.next` is that layer with these components, if `here` is
+// true, and `layers.here` is the layer at the next place.
 fn take_turn(rules: &Rules, now: Report, here: bool, coming: Option<SentFrame>, layers: &mut Layers)
     requires now { IsShown now }
     requires layer { IsLayer layers.old.here.items }

@@ -1,5 +1,5 @@
-//! Accounts of units that receive, and the verdicts on them. If no comment says otherwise, the accounts, the verdicts and
-//! the CLCWs that are possible are from a FARM-1 and a judge in Python that were written apart from the sources.
+//! Accounts of units that receive, and the verdicts on them. If no comment says otherwise, the accounts, the verdicts
+//! and the CLCWs that are possible are from a FARM-1 and a judge in Python that were written apart from the sources.
 
 use std::alloc::{AllocError, Global};
 use std::process::Abort;
