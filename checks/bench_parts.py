@@ -14,11 +14,11 @@ from pathlib import Path
 from typing import Any, Callable, Dict, List, Sequence, Tuple
 
 from client_parts import word
-from comparing import PATIENCE, TOP, attempt, begun, close, expect, need, need_library, run, same, until
+from comparing import PATIENCE, TOP, attempt, begun, close, expect, is_wanted, need, need_library, program_of, run, same, until
 
 PROGRAM = TOP / "clients/python/tcrx_bench.py"
 # The programs of this tree, which must be built: what makes CLTUs, and whose answers are compared with those of a log.
-TCRX, TCMAKE = (TOP / f"crates/{name}/out/{name}" for name in ("tcrx", "tcmake"))
+TCRX, TCMAKE = program_of("tcrx"), program_of("tcmake")
 SETUP = "channel 1 10 8 0\nqueue 1 5 16\n"
 
 
@@ -26,10 +26,9 @@ def attempt_all(checks: Sequence[Callable[[Path], None]]) -> int:
     """Does each check, or those that the variable ONLY names, over a folder; the status."""
     need("tcrx", "tcmake")
     need_library()
-    only = os.environ.get("ONLY", "").split()
     with tempfile.TemporaryDirectory() as folder:
         for check in checks:
-            if not only or check.__name__ in only:
+            if is_wanted(check):
                 attempt(check, Path(folder))
     return close()
 
@@ -81,12 +80,12 @@ class Bench:
     """A bench that runs, from its start to its end. Its ports are free ones."""
 
     def __init__(self, work: Path, *words: str, setup: str = SETUP, python: str = sys.executable,
-                 limit: str = "-f unlimited", stdin: int = subprocess.DEVNULL) -> None:
+                 limit: str = "-f unlimited", stdin: int = subprocess.DEVNULL, has_log: bool = True) -> None:
         self.folder = Path(tempfile.mkdtemp(dir=work))
         self.log = self.folder / "log"
         self.errors = open(self.folder / "errors", "w+b")  # pylint: disable=consider-using-with  # it is closed in `ended`
         (self.folder / "setup").write_text(setup)
-        log = [] if "--log" in words else ["--log", str(self.log)]
+        log = ["--log", str(self.log)] if has_log and "--log" not in words else []
         # With a limit: -f of the kibibytes that a file may have, -n of the files that may be open.
         given = ["bash", "-c", f'ulimit {limit}; exec "$0" "$@"', python, str(PROGRAM), "--scid", "42",
                  *(["--setup", str(self.folder / "setup")] if setup else []), *log, *words]
@@ -168,6 +167,10 @@ class Bench:
             except OSError:
                 pass
         return found
+
+    def memory(self) -> int:
+        """Returns how many kibibytes the process has in memory."""
+        return int(re.findall(r"VmRSS:\s+(\d+)", Path(f"/proc/{self.child.pid}/status").read_text(encoding="ascii"))[0])
 
     def threads(self) -> int:
         """Returns how many threads the process has."""

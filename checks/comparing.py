@@ -137,6 +137,22 @@ def run(*words: object, given: str = "", names: Optional[Mapping[str, str]] = No
     return subprocess.run([str(word) for word in words], input=given, text=True, env=environment, check=False, **rules)
 
 
+def count_in(what: str, ran: subprocess.CompletedProcess[str], least: int) -> None:
+    """Counts the comparisons of another check that was run, which its last line has. It must have passed, with so many comparisons at least."""
+    last = ran.stdout.strip().rpartition("\n")[2]
+    found = re.search(r"(\d+)[^0-9]* passed, ", last)
+    passed = int(found[1]) if found else 0
+    print(f"{what}: {last}", flush=True)
+    counted[True] += passed
+    expect(ran.returncode == 0 and passed >= least, what, ran.stdout + ran.stderr)
+
+
+def is_wanted(check: Callable[..., None]) -> bool:
+    """Returns whether a part of a check is to run. All of them are, unless the variable ONLY names some."""
+    only = os.environ.get("ONLY", "").split()
+    return not only or check.__name__ in only
+
+
 def need(*goals: str) -> None:
     """Ends the check if one of these programs and libraries isn't built from its present sources, and prints what builds it. The programs
     of TCRX_PROGRAMS need no build."""
@@ -165,11 +181,11 @@ def give_up(*_: object) -> None:
     raise Stuck
 
 
-def attempt(check: Callable[..., None], *given: object, keep: bool = False) -> None:
+def attempt(check: Callable[..., None], *given: object, keep: bool = False, longest: float = LONGEST) -> None:
     """Runs a part of a check. An exception that ends it counts as a failed comparison. Then the programs in `begun` are killed, unless
     `keep` is set."""
     signal.signal(signal.SIGALRM, give_up)
-    signal.setitimer(signal.ITIMER_REAL, LONGEST, PATIENCE)
+    signal.setitimer(signal.ITIMER_REAL, longest, PATIENCE)
     try:
         check(*given)
     except (Exception, Stuck) as fault:  # pylint: disable=broad-exception-caught  # any of them counts as failed
