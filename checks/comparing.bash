@@ -60,7 +60,7 @@ answers_cases() {
 # least one comparison passed and none failed.
 close() {
   echo "$passed $1 passed, $failed failed${skipped:+; skipped: $skipped}"
-  [ "$failed" = 0 ] && [ "$passed" -gt 0 ]
+  [ "$failed" = 0 ] && { [ "$passed" -gt 0 ] || [ -n "$skipped" ]; }
 }
 
 # Starts the program with these words. If `to` names a file, standard output goes there, and `$work/out` is empty.
