@@ -485,7 +485,7 @@ class LineConnection(SendingConnection):
         self.lines: Deque[Optional[bytes]] = deque()
         """Lines that wait for their turn; None stands for one that is too long."""
         self.too_long = False
-        self.ended = False
+        self.ended = self.is_lost = False
 
     def data_received(self, data: bytes) -> None:
         """Keeps the lines that are whole, and asks for a turn to pass them on."""
@@ -518,6 +518,8 @@ class LineConnection(SendingConnection):
             if not has_time():
                 break
         self.wants_turn = self._may_order()
+        if self.is_lost and not self.wants_turn:
+            self.port.open.discard(self)
         self.update_reading()
 
     def _order(self, octets: Optional[bytes]) -> None:
@@ -553,6 +555,15 @@ class LineConnection(SendingConnection):
         if (left := len(self.lines)) and not self.done and not self.transport.is_closing():
             self.transport.write(self.last_words(f"lines of this connection that were left unanswered at the end: {left}"))
         super().finish()
+        if self.is_lost:
+            self.port.open.discard(self)
+
+    def connection_lost(self, exc: Optional[Exception]) -> None:
+        """Keeps the place at the port while lines of the connection wait for their turn, so that connections that were cut off don't pile up."""
+        super().connection_lost(exc)
+        self.is_lost = True
+        if self.wants_turn:
+            self.port.open.add(self)
 
     def pause_writing(self) -> None:
         super().pause_writing()
