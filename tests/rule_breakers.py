@@ -19,7 +19,7 @@ from senders import BATCH, LONGEST_WAIT, Asker, Sender, Tally, begin, grown
 from client_parts import ONE, UNLOCK, frame, whole
 
 # Seconds of --patience.
-PATIENT = 3
+PATIENT = 6
 OPTIONS = f"--tc-tcp 0 --tc-udp 0 --lines 0 --packets-tcp 0 --clcw-tcp 0 --http 0 --period 0 --patience {PATIENT}".split()
 # Channel 0 is that of the honest sender. Channel 1 is that of senders that number their frames at random, and has no queue for their packets.
 SETUP = "channel 0 254 64 0\nqueue 0 100 64\nchannel 1 10 8 0\nqueue 1 6 16\n"
@@ -76,6 +76,10 @@ class Breakers:
                 pass
             return read_all(link)
 
+    def wait(self) -> None:
+        """Asks for a CLCW, and waits for it. So a peer that waits for nothing else sends no faster than the bench answers."""
+        self.see([answer[:7] for answer in self.bench.ask("clcw 1\n")], ["clcw 1 "], "the answer to a line beside others")
+
     def see(self, found: object, wanted: object, what: str) -> None:
         """Notes what isn't as it is wanted."""
         if found != wanted:
@@ -123,6 +127,7 @@ class Breakers:
         with self.bench.connect(dice.choice(("tc-tcp", "lines", "http"))) as link:
             link.sendall(OTHER[:dice.randrange(1, 9)])
             link.setsockopt(socket.SOL_SOCKET, socket.SO_LINGER, struct.pack("ii", 1, 0))
+        self.wait()
 
     def out_of_order(self, dice: random.Random) -> None:
         """Sends frames of Types AD and BD with drawn numbers, and an Unlock."""
@@ -135,6 +140,7 @@ class Breakers:
         for octets in (b"", OTHER[:4], OTHER[:9], dice.randbytes(2) + b"\xff" * 1500, OTHER + dice.randbytes(99)):
             self.bench.datagram(octets)
             self.datagrams += 1
+        self.wait()
 
     # --- Lines, requests, and what nobody reads ---
 
@@ -152,11 +158,11 @@ class Breakers:
         self.see([answer[:4] for answer in said.split(b"\n")], [b"bad "] * wanted + [b""], f"the answers to binary lines, {said[:99]!r}")
 
     def deaf_asker(self, _: random.Random) -> None:
-        """Sends lines, reads no answer, and cuts off the connection. As it waits for nothing, it does so a few times a second only."""
+        """Sends lines, reads no answer, and cuts off the connection."""
         with self.bench.connect("lines", buffer=4096) as link:
             link.sendall(b"report 1\n" * 500)
             link.setsockopt(socket.SOL_SOCKET, socket.SO_LINGER, struct.pack("ii", 1, 0))
-        self.ended.wait(0.5)
+        self.wait()
 
     def nonsense(self, dice: random.Random) -> None:
         """Sends a request that is none, too long, for another site, or not whole."""
@@ -167,6 +173,7 @@ class Breakers:
         """Sends octets to a port for readers."""
         with self.bench.connect(dice.choice(("clcw-tcp", "packets-tcp"))) as link:
             link.sendall(dice.randbytes(1 << 18))
+        self.wait()
 
 
 def attack(room: Path, seconds: float) -> None:

@@ -3,6 +3,7 @@ senders a channel. Among their frames are some of another spacecraft and of a ch
 or ask for reports. In the end the senders send on while the bench is asked to end."""
 from __future__ import annotations
 
+import re
 import socket
 import struct
 import threading
@@ -24,6 +25,8 @@ ON_THE_WAY = 512
 REFUSED = frame(0, whole(0, ONE), scid=43) + frame(0, whole(0, ONE), channel=63)
 # The identifier of a packet, its sequence control, its length field, and its data, which are a number.
 PACKET = struct.Struct(">HHHI")
+# What the bench says if it has used four fifths of --patience at its end, and hasn't answered all that it had read.
+LEFT = re.compile(r"tcrx-bench: left unanswered at the end: what came over \d+ connections and sockets\n")
 # Seconds of --patience, and seconds that a report may take.
 PATIENT, LONGEST_WAIT = 30, 10
 # Seconds after which the memory of the bench is measured first, if that fits into the attack. From then on it may grow by the first share. In a
@@ -213,7 +216,8 @@ def end_while_all_send(crowd: Crowd) -> None:
     for thread in threads + crowd.readers:
         thread.join()
     expect(seconds < PATIENT + 1, f"the end took {seconds:.1f} seconds, and --patience is {PATIENT}")
-    same((status, error), (0, ""), "the end: status and standard error")
+    is_short = status == 1 and seconds > 0.8 * PATIENT and LEFT.fullmatch(error)
+    expect((status, error) == (0, "") or is_short, f"the end: status {status} and on standard error: {error}")
     same(crowd.tallies[0].numbers, crowd.tallies[1].numbers, "the packets that came to one reader and to the other")
     for tally in crowd.tallies:
         same((tally.wrong[:3], tally.rest), ([], b""), "the packets of each sender at the end")
