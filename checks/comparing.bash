@@ -53,7 +53,7 @@ answers_cases() {
     fi
   done <"$1/index"
   echo "$cases cases, $wrong of them wrong"
-  [ "$cases" -gt 100 ] && [ "$wrong" = 0 ]
+  [ "$cases" -gt 70 ] && [ "$wrong" = 0 ]
 }
 
 # Prints the last line: close NAME. It says how many comparisons passed and failed, and which parts were skipped. `close` succeeds if at
