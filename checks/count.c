@@ -1,6 +1,7 @@
 // A shim that is preloaded into a program. It counts the bytes of the heap that the program has requested and not freed. For each line
-// that the program writes to standard output, it writes a line to the file that COUNT_TO names. That line has these bytes, the most of them
-// since the line before, how often memory was requested since then, and the program's line. What an allocator adds to a block isn't counted.
+// that the program writes to standard output, it writes a line to the file that COUNT_TO names. That line has the number of these bytes, the
+// largest such number since the line before, the number of requests for memory since then, and the program's line. The bytes that an allocator
+// adds to a block aren't counted.
 #define _GNU_SOURCE
 #include <dlfcn.h>
 #include <fcntl.h>

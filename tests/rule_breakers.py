@@ -15,7 +15,6 @@ from typing import Callable, List
 from bench_parts import Bench, read_all
 from comparing import expect, same, until
 from senders import BATCH, LONGEST_WAIT, Asker, Sender, Tally, begin, grown
-# What the client's parts have made importable.
 from client_parts import ONE, UNLOCK, frame, whole
 
 # Seconds of --patience.
@@ -27,7 +26,7 @@ OTHER = frame(0, whole(0, ONE), scid=43)
 # Headers that begin no frame: the version or a spare bit is set, or the length is below 5.
 BAD_HEADERS = [bytes.fromhex(header) for header in ("402a040c00", "c02a040c00", "082a040c00", "042a040c00", "002a040400", "002a040000", "ffffffffff")]
 NO_FRAME = re.compile(rb"(tcrx-bench: octets that begin no frame: [0-9a-f]{10} at octet \d+\n)?")
-# What the bench says of these peers on standard error.
+# The lines that the bench prints about these peers on standard error.
 SAID = re.compile(r"tcrx-bench: (tc-tcp 127\.0\.0\.1:\d+: (octets that begin no frame: [0-9a-f]{10} at octet \d+|the connection ended with \d+ octets of "
                   rf"a frame|9 octets of a frame, and no more within {PATIENT} seconds)|\d+ more such lines weren't written)")
 # Requests over HTTP, and the status of each answer.
@@ -72,7 +71,7 @@ class Breakers:
                 if ends:
                     link.shutdown(socket.SHUT_WR)
             except OSError:
-                # The bench has closed the connection amid the octets. What it said before can still be read.
+                # The bench has closed the connection amid the octets. Its last lines can still be read.
                 pass
             return read_all(link)
 

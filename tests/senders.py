@@ -14,7 +14,6 @@ from typing import Callable, Dict, List, Optional
 
 from bench_parts import Bench, read_all, read_on, word_of
 from comparing import expect, same, until
-# What the client's parts have made importable.
 from client_parts import ONE, frame, packet, whole
 
 SENDERS, OWN, SHARING = 61, 40, 3
@@ -25,7 +24,7 @@ ON_THE_WAY = 512
 REFUSED = frame(0, whole(0, ONE), scid=43) + frame(0, whole(0, ONE), channel=63)
 # The identifier of a packet, its sequence control, its length field, and its data, which are a number.
 PACKET = struct.Struct(">HHHI")
-# What the bench says if it has used four fifths of --patience at its end, and hasn't answered all that it had read.
+# The line that the bench prints if --patience is over before it has answered everything that it has read.
 LEFT = re.compile(r"tcrx-bench: left unanswered at the end: what came over \d+ connections and sockets\n")
 # Seconds of --patience, and seconds that a report may take.
 PATIENT, LONGEST_WAIT = 30, 10

@@ -11,7 +11,6 @@ from typing import Dict, List
 
 from bench_parts import Bench, numbered, read_all, read_count, word_of
 from comparing import expect, same, until
-# What the client's parts have made importable.
 from client_parts import frame, whole
 
 # The ports that take frames or lines, and the seconds after which a connection that says nothing may lose its place there.
@@ -25,7 +24,7 @@ KINDS = (*HEARD, "packets-tcp", "clcw-tcp")
 OPTIONS = [word for kind in (*KINDS, "http") for word in (f"--{kind}", "0")] + f"--connections {PLACES} --period 0 --patience {PATIENT}".split()
 FULL = f"there are {PLACES} connections, and no more are taken"
 GIVEN_UP = r"nothing came in (\d+) seconds, and the port is full: a new connection takes this place"
-# What the bench says of these connections on standard error.
+# The lines that the bench prints about these connections on standard error.
 SAID = re.compile(rf"tcrx-bench: (\S+ 127\.0\.0\.1:\d+: ({FULL}|{GIVEN_UP})|\d+ more such lines weren't written)")
 
 
