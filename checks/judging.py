@@ -12,16 +12,23 @@ NAMES_ALONE = re.compile(
 )
 # The words of the check about a goal that it found false, and not merely unproved.
 IS_FALSE = "the facts known there allow values at which this goal is false"
-# The words of the check about a goal at which a tactic stopped before it had tried everything.
-MET_LIMIT = "gave up at one of its limits"
-# The ways in which an edit can be refused, the strongest first: the check names values for which a goal is false, it finds no proof, or it
-# gives up at a limit.
-WAYS = ("values", "no_proof", "limit")
+# The words of the check about a goal at which a tactic stopped before it had tried everything: about one without an answer, and about an
+# answer.
+MET_LIMIT = ("gave up at one of its limits", "stopped at its own limit")
+# The words that are put before such a message if a control of the edit is proved.
+HAS_CONTROL = "a right body doesn't come to this limit"
+# The ways in which an edit can be refused, the strongest first: the check names values for which a goal is false, it finds no proof, it
+# gives up at a limit to which a right body doesn't come, or it gives up at another limit.
+WAYS = ("values", "no_proof", "control", "limit")
 
 
 def way_of(why: str) -> str:
     """Returns the way of `WAYS` in which an edit is refused, by the message `why` of the check."""
-    return "values" if IS_FALSE in why else "limit" if MET_LIMIT in why else "no_proof"
+    if IS_FALSE in why:
+        return "values"
+    if any(it in why for it in MET_LIMIT):
+        return "control" if HAS_CONTROL in why else "limit"
+    return "no_proof"
 
 
 def strongest(found: list[str]) -> str | None:

@@ -85,10 +85,9 @@ class Prover:
         words += ["--crate-type", "staticlib"] if crate.is_static else []
         return run([*words, "--incremental", str(kept), *more], folder)
 
-    def try_edits(self, crate: Crate, trial: Trial, is_first: bool, is_whole: bool, jobs: int) -> str:
-        """Checks a copy of a crate with edits in it, and returns what the check printed. The first check of a crate keeps what it proves.
-        A later one starts from this. If `is_whole`, the check looks at the whole crate, and else only at the mutants and what they
-        call."""
+    def try_edits(self, crate: Crate, trial: Trial, is_first: bool, more: list[str]) -> str:
+        """Checks a copy of a crate with edits in it, with `more` words on the check's command line, and returns what it printed. The first
+        check of a crate keeps what it proves. A later one starts from this."""
         with tempfile.TemporaryDirectory(prefix="edits-", dir=self.room) as room:
             for part in SOURCES:
                 if (crate.folder / part).is_dir():
@@ -102,15 +101,14 @@ class Prover:
             if not is_first:
                 kept = Path(room) / "kept"
                 shutil.copytree(self.kept(crate), kept)
-            only = [] if is_whole else [word for it in trial.paths for word in ("--only", it)]
-            return self.rattle("check", crate, Path(room), kept, ["--jobs", str(jobs), *only])[1]
+            return self.rattle("check", crate, Path(room), kept, more)[1]
 
     def build_archive(self, crate: Crate, jobs: int) -> str:
         """Builds a static library from what the first check of its crate proved. Returns what was printed if that fails, and else an empty
         text."""
         made = crate.folder / "out" / f"lib{crate.name}.a"
         made.parent.mkdir(exist_ok=True)
-        more = ["--jobs", str(jobs), "--toolchain", str(self.kit / "toolchain"), "--backend", "llvm", "-o", str(made)]
+        more = ["--jobs", str(jobs), "--cpu", "x86-64", "--toolchain", str(self.kit / "toolchain"), "--backend", "llvm", "-o", str(made)]
         status, printed = self.rattle("build", crate, crate.folder, self.kept(crate), more)
         # tools/target starts from these proofs when it proves and builds the library for other machines.
         if not status:

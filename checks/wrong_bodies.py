@@ -69,10 +69,10 @@ def exits_of(text: str) -> Counter[str]:
 
 def fault_of_alike(old: str, new: str, alike: str) -> str:
     """Returns why the text `alike` is no control for an edit of `old` to `new`, or an empty text if it is one. A control differs from
-    the new text. It has as many exits of each kind as the new text, and not as many as the old one."""
-    if alike == new:
-        return "is the new text itself"
-    if exits_of(alike) == exits_of(old):
+    both texts. It has as many exits of each kind as the new text. If the edit changes the exits, it hasn't those of the old text."""
+    if alike in (old, new):
+        return f"is the {'new' if alike == new else 'old'} text itself"
+    if exits_of(alike) == exits_of(old) != exits_of(new):
         return "has the exits of the old text"
     if exits_of(alike) != exits_of(new):
         return "hasn't the exits of the new text"
@@ -203,6 +203,11 @@ class Edit:
     def title(self) -> str:
         """Returns the name by which the edit or control is reported."""
         return f"{self.crate}/{self.name}" + (f" ({self.kind})" if self.is_right else "")
+
+    @property
+    def origin(self) -> tuple[str, str]:
+        """Returns what edits have in common if they change one body and break one clause: the same original is a control for them."""
+        return self.place, self.turned
 
     @property
     def place(self) -> str:
