@@ -6,20 +6,15 @@ import random
 import re
 import socket
 import struct
-import threading
-import time
 from collections import Counter
 from pathlib import Path
-from typing import Callable, List
 
-from bench_parts import Bench, read_all
 from comparing import expect, same, until
-from senders import BATCH, LONGEST_WAIT, Asker, Sender, Tally, begin, grown
 from client_parts import ONE, UNLOCK, frame, whole
+from peers import PATIENT, Peers
+from senders import Sender
 
-# Seconds of --patience.
-PATIENT = 6
-OPTIONS = f"--tc-tcp 0 --tc-udp 0 --lines 0 --packets-tcp 0 --clcw-tcp 0 --http 0 --period 0 --patience {PATIENT}".split()
+OPTIONS = "--tc-tcp 0 --tc-udp 0 --lines 0 --packets-tcp 0 --clcw-tcp 0 --http 0 --period 0"
 # Channel 0 is that of the honest sender. Channel 1 is that of senders that number their frames at random, and has no queue for their packets.
 SETUP = "channel 0 254 64 0\nqueue 0 100 64\nchannel 1 10 8 0\nqueue 1 6 16\n"
 OTHER = frame(0, whole(0, ONE), scid=43)
@@ -27,8 +22,8 @@ OTHER = frame(0, whole(0, ONE), scid=43)
 BAD_HEADERS = [bytes.fromhex(header) for header in ("402a040c00", "c02a040c00", "082a040c00", "042a040c00", "002a040400", "002a040000", "ffffffffff")]
 NO_FRAME = re.compile(rb"(tcrx-bench: octets that begin no frame: [0-9a-f]{10} at octet \d+\n)?")
 # The lines that the bench prints about these peers on standard error.
-SAID = re.compile(r"tcrx-bench: (tc-tcp 127\.0\.0\.1:\d+: (octets that begin no frame: [0-9a-f]{10} at octet \d+|the connection ended with \d+ octets of "
-                  rf"a frame|9 octets of a frame, and no more within {PATIENT} seconds)|\d+ more such lines weren't written)")
+SAID = (r"octets that begin no frame: [0-9a-f]{10} at octet \d+|the connection ended with \d+ octets of a frame|"
+        rf"9 octets of a frame, and no more within {PATIENT} seconds")
 # Requests over HTTP, and the status of each answer.
 REQUESTS = [(b"\0\xff\r\n\r\n", 400), (b"GET / HTTP/9.9\r\n\r\n", 400), (b"GET\r\n\r\n", 400), (b"GET " * 99 + b"\r\n\r\n", 400),
             (b"get / HTTP/1.1\r\n\r\n", 400), (b"BREW / HTTP/1.1\r\n\r\n", 405), (b"POST / HTTP/1.1\r\nContent-Length: 999999999\r\n\r\n", 405),
@@ -37,52 +32,15 @@ REQUESTS = [(b"\0\xff\r\n\r\n", 400), (b"GET / HTTP/9.9\r\n\r\n", 400), (b"GET\r
             (b"GET / HTTP/1.1\r\nX: " + b"x" * 9000 + b"\r\n\r\n", 431), (b"x" * 1_000_000, 431)]
 
 
-class Breakers:
+class RuleBreakers(Peers):
     """A bench with peers that break its rules, and what they have sent."""
 
-    def __init__(self, room: Path) -> None:
-        self.bench, self.ended = Bench(room, *OPTIONS, setup=SETUP), threading.Event()
-        self.turns: Counter[str] = Counter()
+    def __init__(self, room: Path, honest: Sender) -> None:
+        super().__init__(room, OPTIONS, SETUP, [honest])
         self.frames: Counter[str] = Counter()
         """How many frames each kind of peer has sent."""
-        self.datagrams = 0
-        self.wrong: List[str] = []
-
-    def begin(self, peer: Callable[[random.Random], None]) -> threading.Thread:
-        """Starts a peer, which takes turns until `ended` is set."""
-        name = peer.__name__
-
-        def go() -> None:
-            dice = random.Random(name)
-            while not self.ended.is_set():
-                try:
-                    peer(dice)
-                except OSError as fault:
-                    self.wrong.append(f"{name}: {fault!r}")
-                self.turns[name] += 1
-                self.ended.wait(0.02)
-        return begin(go)
-
-    def told(self, octets: bytes, kind: str = "tc-tcp", ends: bool = True) -> bytes:
-        """Sends octets over a connection, and returns what the bench says to it until it closes it. A peer that doesn't end its side waits in silence."""
-        with self.bench.connect(kind) as link:
-            try:
-                link.sendall(octets)
-                if ends:
-                    link.shutdown(socket.SHUT_WR)
-            except OSError:
-                # The bench has closed the connection amid the octets. Its last lines can still be read.
-                pass
-            return read_all(link)
-
-    def wait(self) -> None:
-        """Asks for a CLCW, and waits for it. So a peer that waits for nothing else sends no faster than the bench answers."""
-        self.see([answer[:7] for answer in self.bench.ask("clcw 1\n")], ["clcw 1 "], "the answer to a line beside others")
-
-    def see(self, found: object, wanted: object, what: str) -> None:
-        """Notes what isn't as it is wanted."""
-        if found != wanted:
-            self.wrong.append(f"{what}: {found!r}, and not {wanted!r}")
+        self.datagrams = self.faults = 0
+        self.deaf = self.bench.reader("lines")
 
     # --- Frames ---
 
@@ -98,6 +56,7 @@ class Breakers:
         wanted = f"tcrx-bench: octets that begin no frame: {header.hex()} at octet {count * len(OTHER)}\n"
         self.see(self.told(OTHER * count + header + dice.randbytes(99)), wanted.encode(), "what is said of a bad header")
         self.frames["refused"] += count
+        self.faults += 1
 
     def wrong_length(self, _: random.Random) -> None:
         """Sends a frame whose length field names fewer octets than it has, so that its last octets are taken for the next frame, and one whose length
@@ -106,6 +65,7 @@ class Breakers:
                  "what is said of a length that is too small")
         self.see(self.told(b"\x00\x2a\x07\xff\x00" + b"\xc0" * 9), b"", "what is said of a length that is too large")
         self.frames["refused"] += 1
+        self.faults += 2
 
     def drawn_octets(self, dice: random.Random) -> None:
         """Sends octets drawn at random. What looks like a frame in front of them is counted here by its length field."""
@@ -115,11 +75,13 @@ class Breakers:
         said = self.told(octets)
         self.see(bool(NO_FRAME.fullmatch(said)), True, f"what is said of drawn octets: {said!r}")
         self.frames["drawn"] += count
+        self.faults += 1
 
     def half_frame(self, _: random.Random) -> None:
         """Sends half a frame, and waits in silence."""
         wanted = f"tcrx-bench: 9 octets of a frame, and no more within {PATIENT} seconds\n"
         self.see(self.told(OTHER[:9], ends=False), wanted.encode(), "what is said of half a frame")
+        self.faults += 1
 
     def vanishing(self, dice: random.Random) -> None:
         """Cuts off a connection within a frame, a line or a request."""
@@ -157,16 +119,22 @@ class Breakers:
         self.see([answer[:4] for answer in said.split(b"\n")], [b"bad "] * wanted + [b""], f"the answers to binary lines, {said[:99]!r}")
 
     def deaf_asker(self, _: random.Random) -> None:
-        """Sends lines, reads no answer, and cuts off the connection."""
-        with self.bench.connect("lines", buffer=4096) as link:
-            link.sendall(b"report 1\n" * 500)
-            link.setsockopt(socket.SOL_SOCKET, socket.SO_LINGER, struct.pack("ii", 1, 0))
-        self.wait()
+        """Cuts off a connection, and sends lines over another one until no more are taken, as nobody reads the answers. The last connection stays
+        open while the bench ends."""
+        self.deaf.setsockopt(socket.SOL_SOCKET, socket.SO_LINGER, struct.pack("ii", 1, 0))
+        self.deaf.close()
+        self.deaf = self.bench.connect("lines", buffer=4096)
+        self.deaf.settimeout(1)
+        try:
+            while True:
+                self.deaf.sendall(b"report 1\n" * 1000)
+        except socket.timeout:
+            pass
 
-    def nonsense(self, dice: random.Random) -> None:
-        """Sends a request that is none, too long, for another site, or not whole."""
-        octets, status = dice.choice(REQUESTS)
-        self.see(self.told(octets, "http", ends=False)[:12], f"HTTP/1.1 {status}".encode(), f"the answer to {octets[:50]!r}")
+    def nonsense(self, _: random.Random) -> None:
+        """Sends requests that are none, too long, for another site, or not whole."""
+        for octets, status in REQUESTS:
+            self.see(self.told(octets, "http", ends=False)[:12], f"HTTP/1.1 {status}".encode(), f"the answer to {octets[:50]!r}")
 
     def sent_to_readers(self, dice: random.Random) -> None:
         """Sends octets to a port for readers."""
@@ -176,54 +144,26 @@ class Breakers:
 
 
 def attack(room: Path, seconds: float) -> None:
-    """Starts all peers for so many seconds, beside an honest sender, a reader of packets and a peer that asks for reports."""
-    these, honest, asker = Breakers(room), Sender(0), Asker()
+    """Starts all peers for so many seconds, beside an honest sender."""
+    honest = Sender(0)
     honest.pause = 0.1
-    bench, tally = these.bench, Tally(these.bench)
-    reader = begin(tally.read)
-    files = len(bench.open_files())
-    peers = [these.other_spacecraft, these.bad_header, these.wrong_length, these.drawn_octets, these.half_frame, these.vanishing, these.out_of_order,
-             these.datagram, these.huge_line, these.binary_lines, these.deaf_asker, these.nonsense, these.sent_to_readers]
-    threads = [*map(these.begin, peers), begin(honest.send, bench, these.ended), begin(asker.ask, bench, these.ended)]
-    memory = grown(bench, seconds)
-    these.ended.set()
-    for thread in threads:
-        thread.join()
-    print(f"rule_breakers: {dict(these.turns)} turns in {seconds:.0f} s, {asker.count} reports of which one took {asker.longest:.2f} s, {memory}", flush=True)
-    expect(all(these.turns[peer.__name__] for peer in peers), f"a peer took no turn: {these.turns}")
-    same(these.wrong[:5], [], "what was said to peers")
-    same((asker.wrong[:3], asker.count > 3), ([], True), "reports that were asked for")
-    expect(asker.longest < LONGEST_WAIT, f"a report took {asker.longest:.1f} seconds")
-    compare(these, honest, tally)
-    expect(until(lambda: len(bench.open_files()) <= files), f"{len(bench.open_files())} files are open, and {files} were")
-    end(these, seconds)
-    reader.join()
+    these = RuleBreakers(room, honest)
+    these.carry_on([these.other_spacecraft, these.bad_header, these.wrong_length, these.drawn_octets, these.half_frame, these.vanishing, these.out_of_order,
+                    these.datagram, these.huge_line, these.binary_lines, these.deaf_asker, these.nonsense, these.sent_to_readers], seconds)
+    compare(these, honest)
+    these.end(SAID, seconds)
+    these.deaf.close()
 
 
-def compare(these: Breakers, honest: Sender, tally: Tally) -> None:
-    """Compares what the bench counted, and what came out of the honest sender's frames, with what was sent."""
+def compare(these: RuleBreakers, honest: Sender) -> None:
+    """Compares what the bench counted with what was sent."""
     bench = these.bench
-    expect(honest.sent > BATCH and until(lambda: tally.numbers[honest.apid] >= honest.sent), f"the honest sender has sent {honest.sent}")
     expect(until(lambda: sum(bench.port("tc-udp").get(count, 0) for count in ("frames", "lost")) == these.datagrams), f"not {these.datagrams} datagrams")
     state, by_udp = bench.state(), bench.port("tc-udp")
     first, second = ({event: count for event, count in channel["events"].items() if count} for channel in state["channels"])
     same((first, sum(second.values())), ({"E1": honest.sent}, these.frames["any number"]), "frames of both channels")
     refused = these.frames["refused"] + these.frames["drawn"] + 2 * honest.batches + by_udp["frames"]
     same((sum(state["refused"].values()), state["frames"]), (refused, refused + honest.sent + these.frames["any number"]), "frames that were refused, and all")
-    same((dict(tally.numbers), tally.wrong[:3], tally.rest), ({honest.apid: honest.sent}, [], b""), "the honest sender's packets, once and in order")
-
-
-def end(these: Breakers, seconds: float) -> None:
-    """Asks the bench to end, and looks at what it has left behind."""
-    bench = these.bench
-    expect({name for name in bench.open_files() if name.startswith("/") and not name.startswith("/dev/")} <= {str(bench.log), str(bench.folder / "errors")},
-           f"files that are open: {bench.open_files()}")
-    begun = time.monotonic()
-    status, _, error = bench.end()
-    took = time.monotonic() - begun
-    expect(took < PATIENT + 1, f"the end took {took:.1f} seconds, and --patience is {PATIENT}")
-    same(status, 0, "the status")
-    # In ten seconds there are at most twenty lines, and one with the number of those that were left out.
-    expect(error.count("\n") < 21 * (seconds / 10 + 3), f"standard error has {error.count(chr(10))} lines")
-    same([line for line in error.splitlines() if not SAID.fullmatch(line)][:3], [], "other lines on standard error")
-    same(sorted(path.name for path in bench.folder.iterdir()), ["errors", "log", "setup"], "the files of the bench")
+    # A connection that is cut off within a frame is a fault only if its octets were read before.
+    more = bench.port("tc-tcp")["faults"] - these.faults
+    expect(0 <= more <= these.turns["vanishing"], f"beside {these.faults} faults at the port for frames {more} are counted")

@@ -14,14 +14,16 @@ from typing import Callable, Dict, List, Optional
 
 from bench_parts import Bench, read_all, read_on, word_of
 from comparing import expect, same, until
-from client_parts import ONE, frame, packet, whole
+from client_parts import ONE, cltu, frame, packet, whole
 
 SENDERS, OWN, SHARING = 61, 40, 3
 # A sender sends so many frames at once whose packets come out, and behind them two frames that are refused.
 BATCH = 32
 # How many frames of a sender may be on their way.
 ON_THE_WAY = 512
-REFUSED = frame(0, whole(0, ONE), scid=43) + frame(0, whole(0, ONE), channel=63)
+REFUSED = ({"scid": 43}, {"channel": 63})
+# The idle sequence that is sent in front of a CLTU.
+IDLE = b"\x55" * 12
 # The identifier of a packet, its sequence control, its length field, and its data, which are a number.
 PACKET = struct.Struct(">HHHI")
 # The line that the bench prints if --patience is over before it has answered everything that it has read.
@@ -29,16 +31,17 @@ LEFT = re.compile(r"tcrx-bench: left unanswered at the end: what came over \d+ c
 # Seconds of --patience, and seconds that a report may take.
 PATIENT, LONGEST_WAIT = 30, 10
 # Seconds after which the memory of the bench is measured first, if that fits into the attack. From then on it may grow by the first share. In a
-# shorter attack it may grow by the second.
-SETTLED, GROWTH, EARLY_GROWTH = 60, 0.05, 0.25
+# shorter attack it may grow by the second. On a busy machine it takes two minutes until all that the bench keeps is full.
+SETTLED, GROWTH, EARLY_GROWTH = 150, 0.05, 0.25
 OPTIONS = f"--tc-tcp 0 --lines 0 --packets-tcp 0 --clcw-tcp 0 --http 0 --connections 64 --period 0 --patience {PATIENT}".split()
 
 
 class Sender:
-    """A sender, which gives each of its packets the next number."""
+    """A sender, which gives each of its packets the next number. If `in_cltus` is set, each of its frames has its frame error control field, and comes in
+    a CLTU."""
 
-    def __init__(self, place: int) -> None:
-        self.apid, self.is_alone, self.pause = 100 + place, place < OWN, 0.0
+    def __init__(self, place: int, in_cltus: bool = False) -> None:
+        self.apid, self.is_alone, self.in_cltus, self.pause = 100 + place, place < OWN, in_cltus, 0.0
         self.channel = place if self.is_alone else OWN + (place - OWN) // SHARING
         self.sent = 0
         """How many of its frames have a packet that is to come out."""
@@ -48,9 +51,10 @@ class Sender:
 
     def next_batch(self) -> bytes:
         """Returns the next frames: of Type AD on a channel of its own, of Type BD on one that it shares."""
-        numbers = range(self.sent, self.sent + BATCH)
-        return b"".join(frame(number % 256, whole(0, packet(self.apid, *number.to_bytes(4, "big"))), channel=self.channel, bypass=not self.is_alone)
-                        for number in numbers) + REFUSED
+        frames = [frame(number % 256, whole(0, packet(self.apid, *number.to_bytes(4, "big"))), self.channel, not self.is_alone, fecf=self.in_cltus)
+                  for number in range(self.sent, self.sent + BATCH)]
+        frames += [frame(0, whole(0, ONE), fecf=self.in_cltus, **other) for other in REFUSED]
+        return b"".join(IDLE + cltu(each) for each in frames) if self.in_cltus else b"".join(frames)
 
     def send(self, bench: Bench, ended: threading.Event, came: Optional[Counter[int]] = None) -> None:
         """Sends over one connection until `ended` is set, or until the bench closes the connection. `came` has how many packets of each sender came
@@ -131,8 +135,8 @@ def begin(work: Callable[..., None], *given: object) -> threading.Thread:
 
 
 def grown(bench: Bench, seconds: float) -> str:
-    """Waits so many seconds, and compares the memory of a bench after them with that after a minute, or after a third of them if that is earlier.
-    Returns both as a text."""
+    """Waits so many seconds, and compares the memory of a bench after them with that after SETTLED seconds, or after a third of them if that is
+    earlier. Returns both as a text."""
     settling = min(SETTLED, seconds / 3)
     time.sleep(settling)
     before = bench.memory()

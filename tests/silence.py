@@ -84,6 +84,8 @@ def is_closed(link: socket.socket) -> bool:
 def attack(room: Path, seconds: float) -> None:
     """Holds all places for a minute, and again as often as that fits into these seconds."""
     these, begun, memory = Silence(room), time.monotonic(), 0
+    these.serve(these.talker)
+    files, threads = len(these.bench.open_files()), these.bench.threads()
     fill_page(these)
     while True:
         hold(these)
@@ -93,6 +95,10 @@ def attack(room: Path, seconds: float) -> None:
             break
     more = these.bench.memory() - memory
     expect(abs(more) < memory / 20, f"memory grew by {more} KiB, and it was {memory} KiB")
+    held = sum(map(len, these.held.values()))
+    expect(until(lambda: len(these.bench.open_files()) == files + held), f"{len(these.bench.open_files())} files are open, and not {files} and {held}")
+    same(these.bench.threads(), threads, "threads after many connections")
+    print(f"silence: {memory} KiB and {more} more", flush=True)
     end(these)
 
 
@@ -101,7 +107,8 @@ def fill_page(these: Silence) -> None:
     links = [these.bench.connect("http") for _ in range(PLACES)]
     with these.bench.connect("http") as link:
         what = "what a visitor is told while all others are silent"
-        same(said_to(link, what).decode().rpartition("\r\n\r\n")[2], f"{FULL}\n", what)
+        head, _, body = said_to(link, what).decode().partition("\r\n\r\n")
+        same((head[:12], body), ("HTTP/1.1 503", f"{FULL}\n"), what)
     for link in links:
         what = "what a silent visitor is told"
         same(said_to(link, what)[:12], b"HTTP/1.1 408", what)

@@ -21,13 +21,13 @@ from ..lines import Session
 from ..values import Fault
 from .admission import room_for
 from .cltu import CltuConnection, CltuDecoding
+from .datagrams import Datagrams, Target
 from .demo import KEYS, SETUP, Demo
 from .faults import Faults
 from .journal import Journal, replay
 from .octets import Cutter
 from .options import note_of_old, read_setup, read_words, warning_of, warning_of_files
-from .ports import (Broadcast, Connection, Datagrams, FrameConnection, Hub, LineConnection, Notes, Place, Port, Reader, Target, all_senders,
-                    write_some)
+from .ports import Broadcast, Connection, FrameConnection, Hub, LineConnection, Notes, Place, Port, Reader, all_senders, write_some
 from .spacecraft import Release, Spacecraft
 from .telemetry import MARKER, Telemetry
 from .watch import Watches
