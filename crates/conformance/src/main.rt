@@ -10,13 +10,20 @@
 ghost use Rattle.std.specs.Prelude.{◌≤◌};
 
 mod clcws;
+mod difference;
+mod index;
+mod large;
 mod lone;
 mod outcome;
 mod replay;
+mod report;
 
 use anyhow::{Context, Result, anyhow};
-use cases::{Case, compare, large_cases, parse_case, report_of};
+use difference::compare;
+use index::{Case, parse_case};
+use large::large_cases;
 use outcome::{COMMANDS, Command, perform};
+use report::report_of;
 use std::fs;
 use std::process::ExitCode;
 use std::rt::Files;

@@ -3,8 +3,7 @@
 use crate::lone::{Lone, LoneBackend};
 use std::alloc::Global;
 use std::io::{Read, Write};
-use tc_rack::{Stage, perform, start};
-use tc_setup::{Configuration, Instruction};
+use tc_rack::{Configuration, Instruction, Stage, perform, start};
 use tc_text::{Reason, ScriptFault, next_line, parse_line, read_whole};
 use test_parts::Form;
 

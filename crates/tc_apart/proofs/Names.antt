@@ -11,10 +11,10 @@ pub use Rattle.tc_cli.proofs.Lists.{any-here, mapped-at, set-elsewhere, set-ther
 pub use Rattle.tc_cli.proofs.Names.{Answer, AreAnswers, AreClosedTogether, AtLock, AtStation, BeginsWith, Changes, Does, HasChannel, History, Identity, IsAnswerOf, IsChannelAnswer, IsClcwAnswer, IsDoneSo, IsFrameAnswer, IsFrameAnswered, IsInstructionAnswered, IsMergeOf, IsPerformed, IsReleaseAnswered, IsTakeAnswered, IsUnitAnswered, Linked, Operating, Operation, Own, Progress, Racked, Roster, SettingUp, at_first, column, eqb-true, get_or_from_slice_get, header_of, heads_of, instruction_of, made_by, new_linked, new_rack, one_more, operator_lists_of, phase_of, rack_for, reported_word, same_Some, settings_in, vcid_of}
 pub use Rattle.tc_cli.proofs.Scripts.{set-up}
 pub use Rattle.tc_desk.specs.Log.{accounts_of}
-pub use Rattle.tc_ends.proofs.Started.{packets-in-cltus, packets-of-loop}
-pub use Rattle.tc_ends.specs.Ends.{AreGivenOf, units_on}
-pub use Rattle.tc_loop.proofs.Counted.{passed-on}
-pub use Rattle.tc_loop.proofs.Names.{era, journal, passed_since, released_since, sent, sent_from, slice_get_within, Event, Settings, flat_map-append}
+pub use Rattle.tc_laws.proofs.EndsLemmas.Started.{packets-in-cltus, packets-of-loop}
+pub use Rattle.tc_laws.specs.Ends.Ends.{AreGivenOf, units_on}
+pub use Rattle.tc_laws.proofs.LoopsLemmas.Counted.{passed-on}
+pub use Rattle.tc_laws.proofs.LoopsLemmas.Names.{era, journal, passed_since, released_since, sent, sent_from, slice_get_within, Event, Settings, flat_map-append}
 pub use Rattle.tc_rack.proofs.Performed.{performed-at}
 pub use Rattle.tc_rack.specs.Rack.{AreChannelsApart, IsChannelAt, IsOf}
 pub use Rattle.tc_rack.specs.declared.operation.Operation.TheVariants.{Clcw}

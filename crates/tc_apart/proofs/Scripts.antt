@@ -28,8 +28,8 @@ use Rattle.tc_rack.specs.Report.{IsReportOf}
 use Rattle.tc_channel.specs.Journal.{History}
 use Rattle.tc_rack.specs.Stage.{phase_of}
 use Rattle.tc_rack.specs.declared.answer.Answer.{Answer}
-use Rattle.tc_setup.specs.Instruction.{instruction_of}
-use Rattle.tc_setup.specs.Phase.{Does, IsBad}
+use Rattle.tc_rack.specs.Instruction.{instruction_of}
+use Rattle.tc_rack.specs.Phase.{Does, IsBad}
 use Rattle.tc_session.specs.Session.{IsEngineEnded, IsEngineSaid, IsScriptLineSaid}
 use Rattle.tc_session.specs.declared.engine.Engine.{Engine}
 use Rattle.tc_session.specs.declared.engine.Engine.TheVariants.{Script}

@@ -18,8 +18,8 @@ use Rattle.tc_make.specs.declared.line.Line.{Line}
 use Rattle.tc_make.specs.declared.line.Stream.{Stream}
 use Rattle.tc_make.specs.declared.maker.Maker.{Maker}
 use Rattle.tc_make.specs.declared.parting.Parting.{Parting}
-use Rattle.tc_write.specs.Frames.{IsMadeFrame}
-use Rattle.tc_ends.specs.Ends.{AreFramesOf, AreNumbered, UnitSent}
+use Rattle.tc_edges.specs.Write.Frames.{IsMadeFrame}
+use Rattle.tc_laws.specs.Ends.Ends.{AreFramesOf, AreNumbered, UnitSent}
 use Rattle.tc_apart.specs.Making.{AreSpelled, AskFor, HasBadLine, frames_needed, order_for}
 
 -- a text that consists of the lines of some frames and then one line `bad` has a bad line

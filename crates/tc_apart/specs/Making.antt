@@ -11,8 +11,8 @@ use Rattle.tc_make.specs.declared.fault.Reason.{Reason}
 use Rattle.tc_make.specs.declared.line.Line.{Line}
 use Rattle.tc_make.specs.declared.line.Line.TheVariants.{Frame, Segments}
 use Rattle.tc_make.specs.declared.line.Stream.{Stream}
-use Rattle.tc_write.specs.Parts.{segments_needed}
-use Rattle.tc_ends.specs.Ends.{AreNumbered, UnitSent}
+use Rattle.tc_edges.specs.Write.Parts.{segments_needed}
+use Rattle.tc_laws.specs.Ends.Ends.{AreNumbered, UnitSent}
 
 -- the line that orders a unit: its segments in Type-AD frames, or one Type-AD frame whose data field is the unit
 abbrev pub order_for : Bool → Stream → UnitSent → Line

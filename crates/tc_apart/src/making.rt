@@ -5,13 +5,13 @@ ghost use Rattle.tc_lines.specs.Answering.{Writes, lines_of};
 ghost use Rattle.tc_make.specs.Serving.{AreWritten};
 ghost use Rattle.tc_make.specs.declared.ending.Ending.{Ending};
 ghost use Rattle.tc_make.specs.declared.line.Stream.{Stream};
-ghost use Rattle.tc_ends.specs.Ends.{UnitSent};
-ghost use Rattle.tc_ends.specs.Examples as example;
+ghost use Rattle.tc_laws.specs.Ends.Ends.{UnitSent};
+ghost use Rattle.tc_laws.specs.Ends.Examples as example;
 ghost use Rattle.tc_apart.specs.Making.{AskFor, AreSpelled, HasBadLine};
 
 /// Suppose that the lines of an input order the frames of a sender's units, one unit after the other, and that
 /// `answer_lines` of tc_make answers them (`AreWritten`). Then `tcmake` writes the frames of
-/// `numbered_frames_send_packets` (tc_ends), or reports that a line is bad (`written`). An empty text has no bad line
+/// `numbered_frames_send_packets` (tc_laws), or reports that a line is bad (`written`). An empty text has no bad line
 /// (`none_bad`). Two lines that were worked out by hand order a unit, with segment headers (`asked`) and without
 /// (`asked_plainly`).
 pub fn tcmake_writes_numbered_frames()

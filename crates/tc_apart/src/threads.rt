@@ -4,7 +4,7 @@
 ghost use Rattle.std.specs.Prelude.{List, ℕ, ◌++◌, ◌≡◌, length, slice_get, Some};
 ghost use Rattle.std.specs.List.{AllByRecursion};
 ghost use Rattle.tc_link.specs.declared.frame.Header.{Header};
-ghost use Rattle.tc_cltu.specs.Reception.{Reception};
+ghost use Rattle.tc_edges.specs.Cltu.Reception.{Reception};
 ghost use Rattle.tc_channel.specs.declared.event.Event.{Event};
 ghost use Rattle.tc_queues.specs.ChannelState.{Queue, no_limits, queue_of};
 ghost use Rattle.tc_channel.specs.Journal.{History};
@@ -13,12 +13,12 @@ ghost use Rattle.tc_channel.specs.Through.{passed_since, released_since, sent_fr
 ghost use Rattle.tc_station.specs.Roster.{Roster, settings_in};
 ghost use Rattle.tc_station.specs.Tally.{AtStation};
 ghost use Rattle.tc_station.specs.Together.{AreClosedTogether};
-ghost use Rattle.tc_loop.specs.Loop.{Loop, Action, IsLoop, journal, receiver, sent};
-ghost use Rattle.tc_loop.specs.Start.{Start, IsStart, era, era_session};
-ghost use Rattle.tc_ends.specs.Arrivals.{AltersNothing, AreEventsOf, Coming, LinkEnd};
-ghost use Rattle.tc_ends.specs.Ends.{AreFrom, AreGivenOf, AreNumbered, CanBeSent, SendsOnly, UnitSent, units_on};
+ghost use Rattle.tc_laws.specs.Loops.Loop.{Loop, Action, IsLoop, journal, receiver, sent};
+ghost use Rattle.tc_laws.specs.Loops.Start.{Start, IsStart, era, era_session};
+ghost use Rattle.tc_laws.specs.Ends.Arrivals.{AltersNothing, AreEventsOf, Coming, LinkEnd};
+ghost use Rattle.tc_laws.specs.Ends.Ends.{AreFrom, AreGivenOf, AreNumbered, CanBeSent, SendsOnly, UnitSent, units_on};
 
-use tc_write::the_segments_of_a_unit_make_the_unit;
+use tc_edges::write::the_segments_of_a_unit_make_the_unit;
 
 /// Suppose that threads work at the channels of a station in any order, each with an operator of its own, and that the
 /// station is then closed together with these operators. `what_calls_answered_stands_in_the_closed_journals`
@@ -27,11 +27,11 @@ use tc_write::the_segments_of_a_unit_make_the_unit;
 ///
 /// - `passed`: The Type-AD data fields of the era that were released are the first that were sent, each once and in
 ///   order.
-/// - `given`: The packets that were taken are those that `packets_that_are_sent_are_given` (tc_ends) promises for the
+/// - `given`: The packets that were taken are those that `packets_that_are_sent_are_given` (tc_laws) promises for the
 ///   packets that the sender sent.
 /// - `in_cltus`: This also holds for the whole way: from a ground system's packets, across the start of an era and in
 ///   CLTUs with wrong bits, to the packets that were taken. The premises are those of `packets_in_cltus_are_given`
-///   (tc_ends).
+///   (tc_laws).
 pub fn a_station_gives_out_what_a_loop_sent()
     ensures passed { (station : Roster) (operators : List AtStation) (closed : List History) (place : ℕ) (channel : History)
         (l : Loop) (session : List Action)

@@ -11,10 +11,10 @@ pub use Rattle.tc_c.specs.Place.{channel_row}
 pub use Rattle.tc_c.specs.Rack.{IsFirstWithVcid, IsHeld, IsHeldAt, channels_in, rack_reply, replied}
 pub use Rattle.tc_c_base.specs.declared.status.Status.TheVariants.{BadWidth}
 pub use Rattle.tc_channel.specs.Reply.{frame_reply_within}
-pub use Rattle.tc_cltu.proofs.Decoding.{block-counted, block-frames, block-state, counted-append, frames-append, one-counted, state-append}
-pub use Rattle.tc_cltu.specs.Cltu.{cltu, code_blocks, filled, start_sequence, tail_sequence}
-pub use Rattle.tc_cltu.specs.CodeBlock.{code_block, decoded}
-pub use Rattle.tc_cltu.specs.Reception.{Decoding, Reception, Step, after_block, corrected_in, corrections_of, counted_in, fate_after, fate_of, frames_of, overlong_in, overruns_of, reception_step, rejected_in, rejections_of, state_after}
+pub use Rattle.tc_edges.proofs.CltuLemmas.Decoding.{block-counted, block-frames, block-state, counted-append, frames-append, one-counted, state-append}
+pub use Rattle.tc_edges.specs.Cltu.Cltu.{cltu, code_blocks, filled, start_sequence, tail_sequence}
+pub use Rattle.tc_edges.specs.Cltu.CodeBlock.{code_block, decoded}
+pub use Rattle.tc_edges.specs.Cltu.Reception.{Decoding, Reception, Step, after_block, corrected_in, corrections_of, counted_in, fate_after, fate_of, frames_of, overlong_in, overruns_of, reception_step, rejected_in, rejections_of, state_after}
 pub use Rattle.tc_fixed.specs.History.{LimitedHistory, with_limited_event}
 pub use Rattle.tc_fixed.specs.Limits.{limit_of}
 pub use Rattle.tc_link.specs.Farm.{E10, Machine, entry, entry_at, first_report, row_of}

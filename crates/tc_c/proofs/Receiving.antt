@@ -4,11 +4,11 @@ use Rattle.tc_c.proofs.Names.{◌≡◌, ℕ, ◌+◌, ◌<◌, ◌≤◌, Bool,
 use Rattle.std.proofs.Math.Seq.{take-append-add}
 use Rattle.std.proofs.lemmas.Bool.{le-ltb, lt-ltb}
 use Rattle.std.proofs.lemmas.List.{take-append-le}
-use Rattle.tc_cltu.specs.declared.block.Mode.{Mode}
-use Rattle.tc_cltu.specs.declared.block.Mode.TheVariants.{Detect}
-use Rattle.tc_cltu.specs.declared.block.Fate.{Fate}
-use Rattle.tc_cltu.specs.declared.block.Fate.TheVariants.{Right, Corrected, Overlong}
-use Rattle.tc_cltu.specs.Reception.{fate_in, fate_behind, rejected_as}
+use Rattle.tc_edges.specs.declared.cltu.block.Mode.{Mode}
+use Rattle.tc_edges.specs.declared.cltu.block.Mode.TheVariants.{Detect}
+use Rattle.tc_edges.specs.declared.cltu.block.Fate.{Fate}
+use Rattle.tc_edges.specs.declared.cltu.block.Fate.TheVariants.{Right, Corrected, Overlong}
+use Rattle.tc_edges.specs.Cltu.Reception.{fate_in, fate_behind, rejected_as}
 use Rattle.std.specs.Prelude.{is_some}
 use Rattle.tc_c.specs.declared.decoder.DecoderRecord.{DecoderRecord}
 

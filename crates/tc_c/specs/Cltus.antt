@@ -1,6 +1,6 @@
 -- The statuses for the reasons why no CLTU is written.
-use Rattle.tc_cltu.specs.declared.writer.CltuFault.{CltuFault}
-use Rattle.tc_cltu.specs.declared.writer.CltuFault.TheVariants as cltus
+use Rattle.tc_edges.specs.declared.cltu.writer.CltuFault.{CltuFault}
+use Rattle.tc_edges.specs.declared.cltu.writer.CltuFault.TheVariants as cltus
 use Rattle.tc_c_base.specs.declared.status.Status.{Status}
 use Rattle.tc_c_base.specs.declared.status.Status.TheVariants as st
 

@@ -1,9 +1,9 @@
 -- A decoder of CLTUs, as a record of numbers and a buffer. The buffer has the octets that the decoder holds.
 use Rattle.std.specs.Prelude.{ℕ, ◌==◌, ◌||◌, Bool, true, false, List, [], ◌∷◌, take, drop, Result, Ok, Err, nat_lt, if◌then◌else◌}
-use Rattle.tc_cltu.specs.declared.block.Mode.{Mode}
-use Rattle.tc_cltu.specs.declared.block.Mode.TheVariants.{Detect, Correct}
-use Rattle.tc_cltu.specs.Cltu.{most_octets}
-use Rattle.tc_cltu.specs.Reception.{Reception, Searching, Decoding}
+use Rattle.tc_edges.specs.declared.cltu.block.Mode.{Mode}
+use Rattle.tc_edges.specs.declared.cltu.block.Mode.TheVariants.{Detect, Correct}
+use Rattle.tc_edges.specs.Cltu.Cltu.{most_octets}
+use Rattle.tc_edges.specs.Cltu.Reception.{Reception, Searching, Decoding}
 use Rattle.tc_c_base.specs.declared.status.Status.{Status}
 use Rattle.tc_c_base.specs.declared.status.Status.TheVariants.{BadDecoder, NoRoom}
 use Rattle.tc_c.specs.declared.decoder.DecoderRecord.{DecoderRecord}

@@ -3,7 +3,7 @@ use Rattle.std.specs.Prelude.{ℕ, List, length, ◌==◌}
 use Rattle.tc_link.specs.Bits.{bit}
 use Rattle.tc_packet.specs.Bits.{word_at, bits}
 use Rattle.tc_packet.specs.SpacePacket.{apid_of, is_telecommand}
-use Rattle.tc_write.specs.declared.packets.PacketHeader.{PacketHeader}
+use Rattle.tc_edges.specs.declared.write.packets.PacketHeader.{PacketHeader}
 use Rattle.tc_c_base.specs.declared.status.Status.TheVariants.{Done, NoPacket}
 use Rattle.tc_c.specs.declared.packets.PacketRecord.{PacketRecord}
 use Rattle.tc_c_base.specs.Status.{code_of}

@@ -4,9 +4,9 @@ use Rattle.std.specs.Prelude.{◌≡◌, ◌≢◌, ◌≤◌, ◌⊎◌, ℕ, B
 use Rattle.tc_link.specs.Bits.{bit}
 use Rattle.tc_link.specs.Frame.{IsWhole, BeginsWith, header_of, fault_of}
 use Rattle.tc_link.specs.declared.frame.FrameFault.{FrameFault}
-use Rattle.tc_fecf.specs.Candidate.{IsDelimited, is_fill}
-use Rattle.tc_fecf.specs.FrameWithField.{frame_with_field, taking_fault_of}
-use Rattle.tc_fecf.specs.declared.frames.FieldFault.{FieldFault}
+use Rattle.tc_edges.specs.Fecf.Candidate.{IsDelimited, is_fill}
+use Rattle.tc_edges.specs.Fecf.FrameWithField.{frame_with_field, taking_fault_of}
+use Rattle.tc_edges.specs.declared.fecf.frames.FieldFault.{FieldFault}
 use Rattle.tc_link.specs.declared.location.LocateFault.{LocateFault}
 use Rattle.tc_link.specs.declared.location.LocateFault.TheVariants.{Frame, OtherSpacecraft, UnknownChannel}
 use Rattle.tc_channel.specs.declared.event.Event.TheVariants as events

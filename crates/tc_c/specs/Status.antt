@@ -5,8 +5,8 @@ use Rattle.tc_link.specs.declared.location.LocateFault.{LocateFault}
 use Rattle.tc_link.specs.declared.location.LocateFault.TheVariants as locations
 use Rattle.tc_link.specs.declared.writing.WriteFault.{WriteFault}
 use Rattle.tc_link.specs.declared.writing.WriteFault.TheVariants as writing
-use Rattle.tc_fecf.specs.declared.frames.FieldFault.{FieldFault}
-use Rattle.tc_fecf.specs.declared.frames.FieldFault.TheVariants as fields
+use Rattle.tc_edges.specs.declared.fecf.frames.FieldFault.{FieldFault}
+use Rattle.tc_edges.specs.declared.fecf.frames.FieldFault.TheVariants as fields
 use Rattle.tc_queues.specs.declared.settings.SettingsFault.{SettingsFault}
 use Rattle.tc_queues.specs.declared.settings.SettingsFault.TheVariants as settings
 use Rattle.tc_fixed.specs.declared.limits.LimitsFault.{LimitsFault}

@@ -1,15 +1,15 @@
 -- Telemetry frames that carry a CLCW, as records of numbers.
 use Rattle.std.specs.Prelude.{ℕ, Bool, true, false, List, length, Result, Ok, Err, Some, None, nat_lt, if◌then◌else◌}
 use Rattle.std.specs.Int.{from_be_bytes, to_be_bytes, w32}
-use Rattle.tc_tm.specs.declared.frame.ErrorControl.{ErrorControl}
-use Rattle.tc_tm.specs.declared.frame.ErrorControl.TheVariants.{Absent, Present}
-use Rattle.tc_tm.specs.declared.frame.TmHeader.{TmHeader}
-use Rattle.tc_tm.specs.declared.frame.TmFault.{TmFault}
-use Rattle.tc_tm.specs.declared.frame.TmFault.TheVariants as writing
-use Rattle.tc_tm.specs.declared.reading.TmFields.{TmFields}
-use Rattle.tc_tm.specs.declared.reading.TmReadFault.{TmReadFault}
-use Rattle.tc_tm.specs.declared.reading.TmReadFault.TheVariants as reading
-use Rattle.tc_tm.specs.TmFrame.{tm_frame, most_length, tm_fault_of, tm_fields_of, read_fault_of}
+use Rattle.tc_edges.specs.declared.tm.frame.ErrorControl.{ErrorControl}
+use Rattle.tc_edges.specs.declared.tm.frame.ErrorControl.TheVariants.{Absent, Present}
+use Rattle.tc_edges.specs.declared.tm.frame.TmHeader.{TmHeader}
+use Rattle.tc_edges.specs.declared.tm.frame.TmFault.{TmFault}
+use Rattle.tc_edges.specs.declared.tm.frame.TmFault.TheVariants as writing
+use Rattle.tc_edges.specs.declared.tm.reading.TmFields.{TmFields}
+use Rattle.tc_edges.specs.declared.tm.reading.TmReadFault.{TmReadFault}
+use Rattle.tc_edges.specs.declared.tm.reading.TmReadFault.TheVariants as reading
+use Rattle.tc_edges.specs.Tm.TmFrame.{tm_frame, most_length, tm_fault_of, tm_fields_of, read_fault_of}
 use Rattle.tc_c_base.specs.declared.status.Status.{Status}
 use Rattle.tc_c_base.specs.declared.status.Status.TheVariants as st
 use Rattle.tc_c.specs.declared.telemetry.TmHeaderRecord.{TmHeaderRecord}

@@ -4,9 +4,9 @@ use Rattle.std.specs.Prelude.{ℕ, ◌+◌, ◌==◌, ◌||◌, List, length, So
 use Rattle.tc_link.specs.declared.frame.Header.{Header}
 use Rattle.tc_link.specs.declared.command.Command.{Command}
 use Rattle.tc_link.specs.declared.command.Command.TheVariants.{Unlock, SetVr}
-use Rattle.tc_write.specs.declared.packets.PacketHeader.{PacketHeader}
-use Rattle.tc_write.specs.Frames.{IsMadeFrame, header_later}
-use Rattle.tc_write.specs.Parts.{segments_needed, piece_at, segment_at}
+use Rattle.tc_edges.specs.declared.write.packets.PacketHeader.{PacketHeader}
+use Rattle.tc_edges.specs.Write.Frames.{IsMadeFrame, header_later}
+use Rattle.tc_edges.specs.Write.Parts.{segments_needed, piece_at, segment_at}
 use Rattle.tc_c_base.specs.declared.status.Status.{Status}
 use Rattle.tc_c_base.specs.declared.status.Status.TheVariants.{BadField, EmptyData, LongPacket, LongUnit, BadMap, BadSize, NoSegment, BadCommand}
 use Rattle.tc_c.specs.declared.frames.HeaderRecord.{HeaderRecord}

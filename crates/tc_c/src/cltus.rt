@@ -1,14 +1,14 @@
 //! Writing CLTUs, and adding the random sequence, into the caller's buffer.
 
 ghost use Rattle.std.specs.Prelude.{◌≡◌, ◌<◌, ◌≤◌, ◌+◌, ◌*◌, ◌/◌, ◌++◌, Some, None, length, take, drop, IfSome, IfNone, IfOk, MatchResult, option_map};
-ghost use Rattle.tc_cltu.specs.CodeBlock.{code_block};
-ghost use Rattle.tc_cltu.specs.Cltu.{cltu, filled, code_blocks, most_octets, cltu_fault_of};
-ghost use Rattle.tc_cltu.specs.Randomiser.{randomised};
+ghost use Rattle.tc_edges.specs.Cltu.CodeBlock.{code_block};
+ghost use Rattle.tc_edges.specs.Cltu.Cltu.{cltu, filled, code_blocks, most_octets, cltu_fault_of};
+ghost use Rattle.tc_edges.specs.Cltu.Randomiser.{randomised};
 ghost use Rattle.tc_c_base.specs.Written.{no_octets, too_short, taken};
 ghost use Rattle.tc_c.specs.Cltus.{cltu_status};
 
 use tc_c_base::{Status, WrittenRecord, no_room, not_written, written};
-use tc_cltu::{MOST_OCTETS, START, TAIL, encode_block, randomise};
+use tc_edges::cltu::{MOST_OCTETS, START, TAIL, encode_block, randomise};
 
 /// Writes the CLTU that carries a frame, or other octets, to the front of a buffer. The CLTU has the start sequence,
 /// the code blocks, with fill in the last one if it needs some, and the tail sequence (CCSDS 231.0-B).

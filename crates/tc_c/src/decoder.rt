@@ -1,16 +1,16 @@
 //! The receiving end of CLTUs. The caller keeps it as a record of numbers and a buffer.
 
 ghost use Rattle.std.specs.Prelude.{◌≡◌, ◌<◌, ◌≤◌, ◌+◌, ◌-◌, ◌∷◌, ◌++◌, [], ℕ, Option, Ok, Err, Some, None, length, take, IfSome, IfNone, IfOk, IfErr, MatchResult, if◌then◌else◌};
-ghost use Rattle.tc_cltu.specs.Cltu.{most_octets};
-ghost use Rattle.tc_cltu.specs.Reception.{Decoding, is_start, reception_step, state_after, frames_of, fate_of, fate_after, after_block, counted_in, corrections_of, corrected_in, rejected_in, overlong_in};
-ghost use Rattle.tc_cltu.specs.declared.block.Fate.{Fate};
-ghost use Rattle.tc_cltu.specs.CodeBlock.{decoded};
+ghost use Rattle.tc_edges.specs.Cltu.Cltu.{most_octets};
+ghost use Rattle.tc_edges.specs.Cltu.Reception.{Decoding, is_start, reception_step, state_after, frames_of, fate_of, fate_after, after_block, counted_in, corrections_of, corrected_in, rejected_in, overlong_in};
+ghost use Rattle.tc_edges.specs.declared.cltu.block.Fate.{Fate};
+ghost use Rattle.tc_edges.specs.Cltu.CodeBlock.{decoded};
 ghost use Rattle.tc_c_base.specs.Status.{code_of};
 ghost use Rattle.tc_c.specs.Decoder.{decoder_room, decoder_given, reception_of, given_by, none_taken, searching};
 
 use crate::farm::flag;
 use tc_c_base::{Status, code};
-use tc_cltu::{Blocks, Fate, Judged, MOST_OCTETS, Mode, accept, begins, judge};
+use tc_edges::cltu::{Blocks, Fate, Judged, MOST_OCTETS, Mode, accept, begins, judge};
 
 /// A decoder of CLTUs without the octets that it holds, which are in a buffer. Flags are 0 or 1.
 #[repr(C)]
@@ -50,7 +50,7 @@ pub struct DecodedRecord {
     pub overlong: u64,
 }
 
-/// Takes the next octets of a stream (CCSDS 231.0-B), as the `Decoder` of tc_cltu does. The call takes all octets, or
+/// Takes the next octets of a stream (CCSDS 231.0-B), as the `Decoder` of tc_edges does. The call takes all octets, or
 /// those up to and including the first one that ends a candidate frame. In the record of a new decoder each field
 /// except `correct` is zero.
 ///

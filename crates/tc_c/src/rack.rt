@@ -4,7 +4,7 @@ ghost use Rattle.std.specs.Prelude.{◌≡◌, ◌<◌, ℕ, List, true, false, 
 ghost use Rattle.tc_link.specs.Frame.{IsWhole, BeginsWith, header_of, fault_of};
 ghost use Rattle.tc_channel.specs.Reply.{frame_reply_within};
 ghost use Rattle.tc_channel.specs.declared.event.Event.TheVariants as Event;
-ghost use Rattle.tc_fecf.specs.FrameWithField.{frame_with_field, taking_fault_of};
+ghost use Rattle.tc_edges.specs.Fecf.FrameWithField.{frame_with_field, taking_fault_of};
 ghost use Rattle.tc_fixed.specs.History.{LimitedHistory, with_limited_event};
 ghost use Rattle.tc_fixed.specs.Limits.{limit_of};
 ghost use Rattle.tc_c_base.specs.Status.{code_of};
@@ -16,9 +16,9 @@ use crate::farm::flag;
 use crate::seat::Seat;
 use crate::status::{field_fault, frame_fault, locate_fault};
 use tc_c_base::{Status, code};
-use tc_fecf::{Delimited, delimit, is_fill};
+use tc_edges::fecf::{Delimited, delimit, is_fill};
+use tc_edges::write::{check_taking, write_without_field};
 use tc_link::{LocateFault, each_input_begins_with_one_frame_at_most, read_frame};
-use tc_write::{check_taking, write_without_field};
 
 /// The outcome for a frame, and the channel that took it in. Flags are 0 or 1. If the call fails, each number except
 /// `status` is 0.

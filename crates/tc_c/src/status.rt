@@ -6,7 +6,7 @@ ghost use Rattle.tc_c.specs.Status.{frame_status, locate_status, write_status, f
 
 use tc_c_base::Status;
 use tc_channel::SettingsFault;
-use tc_fecf::FieldFault;
+use tc_edges::fecf::FieldFault;
 use tc_fixed::LimitsFault;
 use tc_link::{FrameFault, LocateFault, WriteFault};
 

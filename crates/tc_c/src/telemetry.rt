@@ -1,14 +1,14 @@
 //! Telemetry frames that carry a CLCW, written into the caller's buffer and read from octets.
 
 ghost use Rattle.std.specs.Prelude.{◌≡◌, ◌<◌, ◌≤◌, length, take, drop, Ok, Err, IfOk, IfErr, MatchResult};
-ghost use Rattle.tc_tm.specs.TmFrame.{primary_header as primary, before_sum, tm_frame, least_length};
+ghost use Rattle.tc_edges.specs.Tm.TmFrame.{primary_header as primary, before_sum, tm_frame, least_length};
 ghost use Rattle.tc_c_base.specs.Written.{no_octets, too_short, taken};
 ghost use Rattle.tc_c.specs.Telemetry.{error_given, tm_header_in, tm_header_record, tm_allowed, tm_read_status, tm_to_write, tm_frame_carrying, tm_to_read, tm_record, no_tm};
 
 use crate::farm::flag;
 use tc_c_base::{Status, WrittenRecord, code, no_room, not_written, written};
-use tc_fecf::checksum;
-use tc_tm::{ErrorControl, TmFields, TmHeader, TmReadFault, read_tm};
+use tc_edges::fecf::checksum;
+use tc_edges::tm::{ErrorControl, TmFields, TmHeader, TmReadFault, read_tm};
 
 /// The ids and the frame counts in a telemetry frame's primary header (CCSDS 132.0-B, 4.1.2).
 #[repr(C)]

@@ -2,10 +2,10 @@
 
 ghost use Rattle.std.specs.Prelude.{◌≡◌, ◌<◌, ◌≤◌, ◌+◌, ◌-◌, ◌++◌, Some, length, take, drop, IfSome, IfNone, IfOk, IfErr, MatchResult, Err};
 ghost use Rattle.tc_link.specs.Frame.{IsWhole};
-ghost use Rattle.tc_fecf.specs.FrameWithField.{frame_with_field, adding_fault_of, taking_fault_of};
-ghost use Rattle.tc_write.specs.Frames.{IsMadeFrame, IsCommandFrame, command_length};
-ghost use Rattle.tc_write.specs.Packets.{IsPacketOf};
-ghost use Rattle.tc_write.specs.Parts.{segments_needed};
+ghost use Rattle.tc_edges.specs.Fecf.FrameWithField.{frame_with_field, adding_fault_of, taking_fault_of};
+ghost use Rattle.tc_edges.specs.Write.Frames.{IsMadeFrame, IsCommandFrame, command_length};
+ghost use Rattle.tc_edges.specs.Write.Packets.{IsPacketOf};
+ghost use Rattle.tc_edges.specs.Write.Parts.{segments_needed};
 ghost use Rattle.tc_c_base.specs.Written.{no_octets, too_short, taken};
 ghost use Rattle.tc_c.specs.Status.{field_status};
 ghost use Rattle.tc_c.specs.Writing.{packet_to_write, packet_header_in, segment_to_write, IsSegmentFrame, segment_length, command_to_write};
@@ -15,12 +15,12 @@ use crate::farm::flag;
 use crate::frames::{HeaderRecord, read_header, tcrx_write_frame_at};
 use crate::status::field_fault;
 use tc_c_base::{Status, WrittenRecord, no_room, not_written, written};
-use tc_link::Header;
-use tc_packet::Segment;
-use tc_write::{
+use tc_edges::write::{
     PacketHeader, check_adding, check_taking, later_header, packet_front, piece, segment_count,
     segment_header, write_segment, write_with_field, write_without_field,
 };
+use tc_link::Header;
+use tc_packet::Segment;
 
 /// The fields of a packet's primary header, apart from its version and its length (CCSDS 133.0-B, 4.1.3). Flags are 0
 /// or 1.

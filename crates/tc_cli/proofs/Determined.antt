@@ -5,9 +5,9 @@ use Rattle.std.proofs.lemmas.List.{length_push, map_push}
 use Rattle.std.proofs.lemmas.List.Sorted.{length_permutation}
 use Rattle.tc_channel.specs.declared.event.Event.TheVariants as events
 use Rattle.tc_link.specs.declared.frame.FrameFault.{FrameFault}
-use Rattle.tc_setup.specs.Configuration.{AddsToChannel, vcids_of, with_addition}
-use Rattle.tc_setup.specs.declared.instruction.Addition.{Addition}
-use Rattle.tc_setup.specs.declared.instruction.Addition.TheVariants.{Queue, Map}
+use Rattle.tc_rack.specs.Configuration.{AddsToChannel, vcids_of, with_addition}
+use Rattle.tc_rack.specs.declared.instruction.Addition.{Addition}
+use Rattle.tc_rack.specs.declared.instruction.Addition.TheVariants.{Queue, Map}
 use Rattle.tc_link.specs.declared.location.LocateFault.TheVariants as faults
 use Rattle.tc_text.specs.declared.line.Line.{Line as Said}
 use Rattle.tc_cli.proofs.Happened.{IsOneAtMost}
@@ -401,5 +401,5 @@ one-report only scid script answers progress text another leads (inl (none, is))
 one-report only scid script answers progress text another leads (inr (cs, moved, of)) (inl (none, is)) = no-channels _ cs text (setup-report scid progress none) moved of ∙ sym is
 one-report only scid script answers progress text another leads (inr (cs, moved, of)) (inr (ds, turned, reported)) =
     let apart = all-apart only scid script answers progress [] leads in
-    let same : cs ≡ ds = one-order (histories (rack_for scid progress)) cs ds (keyed scid progress apart) moved turned of.rising reported.rising in
+    let same : cs ≡ ds = one-order (histories (rack_for scid progress)) cs ds (keyed scid progress apart) moved turned of.ordered reported.ordered in
     of.written ∙ (ap report_text same ∙ sym reported.written)

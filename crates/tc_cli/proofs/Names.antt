@@ -31,16 +31,16 @@ pub use Rattle.tc_rack.specs.Operation.{IsAnswerOf, IsChannelAnswer, IsClcwAnswe
 pub use Rattle.tc_rack.specs.Performing.{IsDoneSo, IsInstructionAnswered}
 pub use Rattle.tc_rack.specs.Progress.{IsPerformed, Progress, rack_for}
 pub use Rattle.tc_rack.specs.Rack.{Changes, HasChannel, IsRackLocateFault, Racked, histories, new_rack}
-pub use Rattle.tc_rack.specs.Report.{AreRising, IsLawfulHistory, IsReportOf, report_text}
+pub use Rattle.tc_rack.specs.Report.{AreNonDecreasing, IsLawfulHistory, IsReportOf, report_text}
 pub use Rattle.tc_rack.specs.Stage.{phase_of}
 pub use Rattle.tc_rack.specs.declared.answer.Answer.{Answer}
 pub use Rattle.tc_rack.specs.declared.answer.Refusal.TheVariants.{Empty, NoMap, NoQueue, Unlocated}
 pub use Rattle.tc_rack.specs.declared.operation.Operation.{Operation}
 pub use Rattle.tc_rack.specs.declared.stage.Stage.TheVariants.{Operating, SettingUp}
-pub use Rattle.tc_setup.specs.Instruction.{instruction_of}
-pub use Rattle.tc_setup.specs.Phase.{Does, Phase, Setup}
-pub use Rattle.tc_setup.specs.declared.instruction.Instruction.{Instruction}
-pub use Rattle.tc_setup.specs.declared.instruction.Instruction.TheVariants.{Add, Channel, Clcw, Frame, Nothing, Release, Take, Unit as TakeUnit}
+pub use Rattle.tc_rack.specs.Instruction.{instruction_of}
+pub use Rattle.tc_rack.specs.Phase.{Does, Phase, Setup}
+pub use Rattle.tc_rack.specs.declared.instruction.Instruction.{Instruction}
+pub use Rattle.tc_rack.specs.declared.instruction.Instruction.TheVariants.{Add, Channel, Clcw, Frame, Nothing, Release, Take, Unit as TakeUnit}
 pub use Rattle.tc_station.proofs.Counts.{no-fault}
 pub use Rattle.tc_station.specs.Location.{IsLocateFault, IsLocated}
 pub use Rattle.tc_station.specs.Lowest.{lower}

@@ -1,6 +1,6 @@
 -- If no two channels have the same id, only one order of the channels has rising ids.
 use Rattle.std.proofs.Common.{◌≡◌, ◌<◌, ◌≤◌, ℕ, zero, suc, ◌+◌, cond, Bool, List, [], ◌∷◌, Some, map, length, drop, get_or, slice_get, inl, inr, refl, sym, ap, ◌∙◌, subst, arith, eq-eqb, ◌==◌, Contains, IsPermutation}
-use Rattle.tc_cli.proofs.Names.{AreRising, History, eqb_tells, get_or_from_slice_get, same_Some, slice_get_within}
+use Rattle.tc_cli.proofs.Names.{AreNonDecreasing, History, eqb_tells, get_or_from_slice_get, same_Some, slice_get_within}
 use Rattle.std.specs.List.{sum_by}
 use Rattle.std.proofs.lemmas.List.Sorted.{IsPermutation-sym, Contains-permutation, sum_by-IsPermutation}
 use Rattle.std.proofs.lemmas.List.Sums.{sum_by-cons}
@@ -30,17 +30,17 @@ placed vcid (c ∷ cs) some = elim (eqb_tells (vcid_of c) vcid) [
 ]
 
 -- in a list in rising order, the first channel has the least id
-least : (c : History) (cs : List History) (place : ℕ) (d : History) → AreRising (c ∷ cs) → slice_get (c ∷ cs) place ≡ Some d → vcid_of c ≤ vcid_of d
+least : (c : History) (cs : List History) (place : ℕ) (d : History) → AreNonDecreasing (c ∷ cs) → slice_get (c ∷ cs) place ≡ Some d → vcid_of c ≤ vcid_of d
 least c cs zero d rising at = omega (arith, ap (λ (x : History). vcid_of x) (same_Some c d at))
 least c cs (suc place) d rising at =
     let inside = slice_get_within cs place d at in
     let le : vcid_of c ≤ vcid_of (get_or cs place d) = rising 0 (suc place) d (omega arith) (omega (arith, inside)) in
     subst (λ (x : History). vcid_of c ≤ vcid_of x) (get_or_from_slice_get cs place d d at) le
 
-rising-rest : (c : History) (cs : List History) → AreRising (c ∷ cs) → AreRising cs
+rising-rest : (c : History) (cs : List History) → AreNonDecreasing (c ∷ cs) → AreNonDecreasing cs
 rising-rest c cs rising = λ i j d lt inside. rising (suc i) (suc j) d (omega (arith, lt)) (omega (arith, inside))
 
-below : (c : History) (cs : List History) (d : History) (ds : List History) → AreRising (c ∷ cs) → ((vcid : ℕ) → count vcid (c ∷ cs) ≡ count vcid (d ∷ ds)) → vcid_of c ≤ vcid_of d
+below : (c : History) (cs : List History) (d : History) (ds : List History) → AreNonDecreasing (c ∷ cs) → ((vcid : ℕ) → count vcid (c ∷ cs) ≡ count vcid (d ∷ ds)) → vcid_of c ≤ vcid_of d
 below c cs d ds rising same =
     let own = count-own d ds in
     let some : 0 < count (vcid_of d) (c ∷ cs) = omega (arith, same (vcid_of d), own) in
@@ -56,7 +56,7 @@ rest-counts c cs d ds head same vcid =
     omega (arith, one, two, first, same vcid)
 
 -- two lists in rising order have the same ids, if each id occurs as often in one as in the other
-same-ids : (cs ds : List History) → AreRising cs → AreRising ds → ((vcid : ℕ) → count vcid cs ≡ count vcid ds) → map vcid_of cs ≡ map vcid_of ds
+same-ids : (cs ds : List History) → AreNonDecreasing cs → AreNonDecreasing ds → ((vcid : ℕ) → count vcid cs ≡ count vcid ds) → map vcid_of cs ≡ map vcid_of ds
 same-ids [] [] rising rises same = refl
 same-ids [] (d ∷ ds) rising rises same = let own = count-own d ds in absurd (omega (arith, own, same (vcid_of d)))
 same-ids (c ∷ cs) [] rising rises same = let own = count-own c cs in absurd (omega (arith, own, same (vcid_of c)))
@@ -78,7 +78,7 @@ same-channels (c ∷ cs) (d ∷ ds) keyed is =
     λ i. first i ∷ rest i
 
 -- if no two channels have the same id, they have only one order in which the ids rise
-pub one-order : (all cs ds : List History) → ((c d : History) → Contains all c → Contains all d → vcid_of c ≡ vcid_of d → c ≡ d) → IsPermutation all cs → IsPermutation all ds → AreRising cs → AreRising ds → cs ≡ ds
+pub one-order : (all cs ds : List History) → ((c d : History) → Contains all c → Contains all d → vcid_of c ≡ vcid_of d → c ≡ d) → IsPermutation all cs → IsPermutation all ds → AreNonDecreasing cs → AreNonDecreasing ds → cs ≡ ds
 one-order all cs ds keyed one other rising rises =
     let counts : (vcid : ℕ) → count vcid cs ≡ count vcid ds = λ vcid.
     sum_by-IsPermutation (one_of vcid) all cs one ∙ sym (sum_by-IsPermutation (one_of vcid) all ds other) in

@@ -1,6 +1,6 @@
 -- The text that a script writes, line by line.
 use Rattle.std.proofs.Common.{◌≡◌, ℕ, ◌+◌, List, [], ◌∷◌, ◌++◌, ◌⊎◌, Option, None, Some, Result, Ok, Err, IfSome, All, inl, inr, length, refl, sym, ap, ◌∙◌, subst, OnOk, IfErr, is_ok}
-use Rattle.tc_cli.proofs.Names.{AllHaveMet, Answer, AreAnswers, AreRising, AreWorkedChannels, AtStation, History, IsBadLine, IsClosedReport, IsFirstLine, IsLawfulHistory, IsLineAnswered, IsStaffedFound, IsStaffedOperated, IsNumberReported, IsPerformed, IsReadFault, IsReportFault, IsReportOf, IsScriptCloseFault, IsScriptReport, Leads, Line, Staffed, NoMemory, Progress, Read, Reason, Roster, ScriptFault, Session, TooLong, Unbalanced, Write, at_first, goes_on, one_more, phase_of, report_text, starts}
+use Rattle.tc_cli.proofs.Names.{AllHaveMet, Answer, AreAnswers, AreNonDecreasing, AreWorkedChannels, AtStation, History, IsBadLine, IsClosedReport, IsFirstLine, IsLawfulHistory, IsLineAnswered, IsStaffedFound, IsStaffedOperated, IsNumberReported, IsPerformed, IsReadFault, IsReportFault, IsReportOf, IsScriptCloseFault, IsScriptReport, Leads, Line, Staffed, NoMemory, Progress, Read, Reason, Roster, ScriptFault, Session, TooLong, Unbalanced, Write, at_first, goes_on, one_more, phase_of, report_text, starts}
 use Rattle.std.proofs.lemmas.List.{flat_map_more, length_push}
 use Rattle.std.proofs.lemmas.Option.{IfSome_then}
 use Rattle.std.proofs.lemmas.Result.{IfErr-weaker, on_ok_weaker}
@@ -108,7 +108,7 @@ pub reported : (scid : ℕ) (session : Session) (staffed met : Staffed) (station
 reported scid session staffed met station operator operators channels shown a b lent found have place hand ours all closed numbers lawful text =
     let one = subst (λ (x : Roster × List AtStation). IsClosedReport x.0 x.1 channels) (λ i. (place i, (all ∙ ap (λ (o : AtStation). o ∷ []) hand) i)) closed in
     let mine = subst (λ (x : Roster × AtStation). IsOurs x.0 x.1) (λ i. (place i, hand i)) ours in
-    let of : IsReportOf channels (report_text shown) = record { rising = closed.rising; reported = numbers; lawful = subst (All IsLawfulHistory) lent lawful; written = ap report_text lent } in
+    let of : IsReportOf channels (report_text shown) = record { ordered = closed.ordered; reported = numbers; lawful = subst (All IsLawfulHistory) lent lawful; written = ap report_text lent } in
     (report_text shown, inr (staffed, met, channels, found, have, mine, one, of), text)
 
 -- if workers have carried out the whole script, the report on their channels is the report of the script when its lines
@@ -120,12 +120,12 @@ IsReportInOrder = (scid : ℕ) (script : List ℕ) (channels : List History) (te
 -- if the octets of the reader are known, the text that is written is the report of the script with these octets when its
 -- lines are carried out in order
 pub parallel-written : IsReportInOrder → (known : Option (List ℕ)) (scid : ℕ) (script read : List ℕ) (channels shown : List History) (a b c : Option (List ℕ))
-    → script ≡ read → IfSome known (λ octets. read ≡ octets) → shown ≡ channels → AreWorkedChannels scid script channels → AreRising channels → All IsNumberReported channels
+    → script ≡ read → IfSome known (λ octets. read ≡ octets) → shown ≡ channels → AreWorkedChannels scid script channels → AreNonDecreasing channels → All IsNumberReported channels
     → All IsLawfulHistory shown → Appends a b (report_text shown) → Keeps b c → IfSome known (λ octets. IsWrittenInParallel scid octets a c)
 parallel-written in-order None scid script read channels shown a b c whole is lent worked rising numbers lawful text kept = tt
 parallel-written in-order (Some octets) scid script read channels shown a b c whole is lent worked rising numbers lawful text kept =
     let of-script = subst (λ s. AreWorkedChannels scid s channels) (whole ∙ is) worked in
-    let of : IsReportOf channels (report_text shown) = record { rising = rising; reported = numbers; lawful = subst (All IsLawfulHistory) lent lawful; written = ap report_text lent } in
+    let of : IsReportOf channels (report_text shown) = record { ordered = rising; reported = numbers; lawful = subst (All IsLawfulHistory) lent lawful; written = ap report_text lent } in
     let one = in-order scid octets channels (report_text shown) of-script of in
     (one.0, one.1, report_text shown, one.2, one.3, Appends-kept a b c _ text kept)
 

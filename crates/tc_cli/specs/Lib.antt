@@ -1,6 +1,6 @@
-pub use Rattle.tc_setup.specs.Configuration
-pub use Rattle.tc_setup.specs.Instruction
-pub use Rattle.tc_setup.specs.Phase
+pub use Rattle.tc_rack.specs.Configuration
+pub use Rattle.tc_rack.specs.Instruction
+pub use Rattle.tc_rack.specs.Phase
 pub mod Script
 pub mod Staffed
 pub mod Watched

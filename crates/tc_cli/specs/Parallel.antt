@@ -9,10 +9,10 @@ use Rattle.tc_text.specs.declared.line.Line.{Line as Said}
 use Rattle.tc_text.specs.declared.fault.ScriptFault.{ScriptFault}
 use Rattle.tc_text.specs.declared.fault.ScriptFault.TheVariants.{Unbalanced}
 use Rattle.tc_cli.specs.Parting.{Parted, IsNewlyParted, IsGiven, IsFrameGiven, IsWorkedOut, IsWorkedUnbalanced}
-use Rattle.tc_setup.specs.Instruction.{instruction_of}
-use Rattle.tc_setup.specs.Phase.{Setup, Does}
-use Rattle.tc_setup.specs.declared.instruction.Instruction.{Instruction}
-use Rattle.tc_setup.specs.declared.instruction.Instruction.TheVariants.{Nothing, Channel, Add, Frame, Release, Take, Unit as TakeUnit, Clcw}
+use Rattle.tc_rack.specs.Instruction.{instruction_of}
+use Rattle.tc_rack.specs.Phase.{Setup, Does}
+use Rattle.tc_rack.specs.declared.instruction.Instruction.{Instruction}
+use Rattle.tc_rack.specs.declared.instruction.Instruction.TheVariants.{Nothing, Channel, Add, Frame, Release, Take, Unit as TakeUnit, Clcw}
 use Rattle.tc_rack.specs.Stage.{phase_of}
 use Rattle.tc_rack.specs.declared.stage.Stage.{Stage}
 use Rattle.tc_rack.specs.declared.stage.Stage.TheVariants.{SettingUp, Operating}

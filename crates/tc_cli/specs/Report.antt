@@ -1,7 +1,7 @@
 -- The channels of a closed station, in the order of the final report.
 use Rattle.std.specs.Prelude.{List, IsPermutation}
 use Rattle.tc_channel.specs.Journal.{History}
-use Rattle.tc_rack.specs.Report.{AreRising}
+use Rattle.tc_rack.specs.Report.{AreNonDecreasing}
 use Rattle.tc_station.specs.Roster.{Roster}
 use Rattle.tc_station.specs.Tally.{AtStation}
 use Rattle.tc_station.specs.Together.{AreClosedTogether}
@@ -11,4 +11,4 @@ pub record IsClosedReport (station : Roster) (operators : List AtStation) (chann
   pub there : List History
   pub closed : AreClosedTogether station operators there
   pub all : IsPermutation there channels
-  pub rising : AreRising channels
+  pub ordered : AreNonDecreasing channels

@@ -3,8 +3,8 @@ use Rattle.std.specs.Prelude.{◌≡◌, ◌<◌, ◌≤◌, ℕ, ◌+◌, List,
 use Rattle.tc_text.specs.Reading.{IsFirstLine, script_limit}
 use Rattle.tc_text.specs.Word.{words}
 use Rattle.tc_text.specs.Line.{line_of}
-use Rattle.tc_setup.specs.Instruction.{instruction_of}
-use Rattle.tc_setup.specs.Phase.{Phase, Setup, Does, IsBad}
+use Rattle.tc_rack.specs.Instruction.{instruction_of}
+use Rattle.tc_rack.specs.Phase.{Phase, Setup, Does, IsBad}
 use Rattle.tc_text.specs.declared.line.Line.{Line as Said}
 use Rattle.tc_text.specs.declared.fault.Reason.{Reason}
 use Rattle.tc_text.specs.declared.fault.Reason.TheVariants.{NoMemory}

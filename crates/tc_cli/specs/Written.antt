@@ -12,8 +12,8 @@ use Rattle.tc_text.specs.declared.line.Line.{Line as Said}
 use Rattle.tc_text.specs.declared.fault.Reason.TheVariants.{NoMemory}
 use Rattle.tc_text.specs.declared.fault.ScriptFault.{ScriptFault}
 use Rattle.tc_text.specs.declared.fault.ScriptFault.TheVariants.{Line, Read, TooLong, Write, Unbalanced}
-use Rattle.tc_setup.specs.Instruction.{instruction_of}
-use Rattle.tc_setup.specs.Phase.{Setup, Does}
+use Rattle.tc_rack.specs.Instruction.{instruction_of}
+use Rattle.tc_rack.specs.Phase.{Setup, Does}
 use Rattle.tc_cli.specs.Staffed.{Staffed, AllHaveMet}
 use Rattle.tc_rack.specs.Printed.{answer_line}
 use Rattle.tc_rack.specs.Progress.{Progress, rack_for, IsPerformed}

@@ -4,7 +4,7 @@ ghost use Rattle.std.specs.Prelude.{◌≤◌, length};
 
 use memchr::{memchr, memrchr};
 use std::alloc::Global;
-use tc_fecf::without_field;
+use tc_edges::fecf::without_field;
 use tc_text::{Line, next_line, parse_line};
 
 /// Returns true if a script that was carried out has a frame, and if each of its frames is whole and ends with its

@@ -5,7 +5,7 @@ ghost use Rattle.tc_cli.specs.Parting.{empty_list, IsNewStation};
 
 use std::alloc::Global;
 use tc_channel::{Items, allowed_settings_have_no_fault};
-use tc_setup::Configuration;
+use tc_rack::Configuration;
 use tc_station::{CountingStation, StationFault, WorkList};
 use tc_text::Reason;
 

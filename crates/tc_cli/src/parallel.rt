@@ -4,8 +4,8 @@ ghost use Rattle.std.specs.Prelude.{◌≡◌, ◌≢◌, ◌⊎◌, ◌≤◌, 
 ghost use Rattle.std.specs.Io.KnownBytes.{Keeps};
 ghost use Rattle.tc_cli.specs.Parallel.{AreParted, ArePartedFor, AreWorkedChannels, Begins, HasCause, IsLineParted, IsParted, GivesToFound};
 ghost use Rattle.tc_cli.specs.Parting.{IsGiven, IsFrameGiven};
-ghost use Rattle.tc_setup.specs.Phase.{Does, IsBad, Setup};
-ghost use Rattle.tc_rack.specs.Report.{AreRising};
+ghost use Rattle.tc_rack.specs.Phase.{Does, IsBad, Setup};
+ghost use Rattle.tc_rack.specs.Report.{AreNonDecreasing};
 ghost use Rattle.tc_cli.specs.Script.{IsScriptFault, IsGood, IsGoodLine, IsBadLine};
 ghost use Rattle.tc_rack.specs.Stage.{phase_of, IsStageKept};
 ghost use Rattle.tc_cli.specs.Written.{IsWrittenInParallel};
@@ -20,8 +20,7 @@ use std::mem;
 use std::sync::Wait;
 use std::thread::Threads;
 use tc_channel::{CountingChannel, Octets};
-use tc_rack::{Stage, write_report};
-use tc_setup::{Configuration, Instruction};
+use tc_rack::{Configuration, Instruction, Stage, write_report};
 use tc_station::{Gate, Job, Order};
 use tc_text::{Reason, ScriptFault, next_line, parse_line, read_whole};
 
@@ -95,7 +94,7 @@ fn work_lines<T: Threads + Wait + Sync, G: Gate + Sync>(
 ) -> Result<Vec<CountingChannel>, ScriptFault>
     requires spacecraft { scid ≤ 1023 }
     requires within { length script.now ≤ script_limit }
-    ensures rising { IfOk result (λ channels. AreRising channels.items) }
+    ensures ordered { IfOk result (λ channels. AreNonDecreasing channels.items) }
     ensures reported { IfOk result (λ channels. All IsNumberReported channels.items) }
     ensures worked { IfOk result (λ channels. AreWorkedChannels scid script.now channels.items) }
     ensures good { OnOk result (IsGood script.now) }

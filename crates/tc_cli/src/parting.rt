@@ -2,7 +2,7 @@
 
 ghost use Rattle.std.specs.Prelude.{◌≡◌, ◌≢◌, ◌≤◌, ◌⊎◌, [], All, IfOk, IfErr, OnOk, OnErr, MatchOption};
 ghost use Rattle.tc_cli.specs.Parting.{IsNewlyParted, IsGiven, IsFrameGiven, HasWorkList, IsListAt, IsWorkedOut, IsWorkFault};
-ghost use Rattle.tc_rack.specs.Report.{AreRising};
+ghost use Rattle.tc_rack.specs.Report.{AreNonDecreasing};
 ghost use Rattle.tc_channel.specs.Journal.{IsNumberReported};
 ghost use Rattle.tc_station.specs.Work.{line_of_fault};
 
@@ -13,7 +13,7 @@ use std::marker::Model;
 use std::sync::Wait;
 use std::thread::Threads;
 use tc_channel::{CountingChannel, Octets};
-use tc_setup::{Configuration, append};
+use tc_rack::{Configuration, append};
 use tc_station::{CountingStation, Gate, Job, OperatorsFault, Order, WorkFault, WorkList};
 use tc_text::{Reason, ScriptFault};
 
@@ -95,7 +95,7 @@ impl Parted {
         gate: &G,
         lines: u32,
     ) -> Result<Vec<CountingChannel>, ScriptFault>
-        ensures rising { IfOk result (λ channels. AreRising channels.items) }
+        ensures ordered { IfOk result (λ channels. AreNonDecreasing channels.items) }
         ensures reported { IfOk result (λ channels. All IsNumberReported channels.items) }
         ensures worked { IfOk result (λ channels. IsWorkedOut self channels.items) }
         ensures fault { IfErr result (IsWorkFault lines self) }

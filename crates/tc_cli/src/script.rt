@@ -18,8 +18,7 @@ use std::sync::Wait;
 use tc_desk::{
     one_alone_is_answered_after_its_own_events, the_only_operator_made_the_whole_journal,
 };
-use tc_rack::{Answer, Stage, perform, start, write_report};
-use tc_setup::{Configuration, Instruction};
+use tc_rack::{Answer, Configuration, Instruction, Stage, perform, start, write_report};
 use tc_text::{Reason, ScriptFault, next_line, parse_line, read_whole};
 
 /// Reads a script, carries out its lines in order, and writes their answers and then the final report.

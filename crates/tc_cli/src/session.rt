@@ -6,8 +6,7 @@ use crate::founding::found;
 use crate::staffed::StaffedStation;
 use std::alloc::Global;
 use std::sync::Wait;
-use tc_rack::{Answer, Backend, Operation, Stage};
-use tc_setup::Configuration;
+use tc_rack::{Answer, Backend, Configuration, Operation, Stage};
 use tc_text::Reason;
 
 /// The progress of a script whose operations are carried out one after the other.

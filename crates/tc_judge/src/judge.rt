@@ -73,6 +73,7 @@ impl Judge {
     /// fails if there is too little memory.
     pub fn new(alloc: Global, rules: Rules, first: Shown, most: usize) -> Result<Judge, AllocError>
         ensures allows { IfOk result (λ j. (items : List Item) → Allows j items ↔ Explains rules [] first items) }
+        ensures rules { IfOk result (λ j. j.rules ≡ rules) }
         ensures room { IfOk result (λ j. (j.way ≡ []) × (j.most ≡ most) × (j.overrun ≡ false)) }
     {
         Ok(Judge {
@@ -188,6 +189,7 @@ impl Judge {
     /// Begins anew with a unit that has these components, and to which no frame is on its way. This ends an overrun.
     pub fn restart(&mut self, first: Shown)
         ensures allows { (items : List Item) → Allows self.new items ↔ Explains self.old.rules [] first items }
+        ensures rules { self.new.rules ≡ self.old.rules }
         ensures room { (self.new.way ≡ []) × (self.new.most ≡ self.old.most) × (self.new.overrun ≡ false) }
     {
         self.now = first;

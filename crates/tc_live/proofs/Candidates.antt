@@ -1,8 +1,8 @@
 -- A candidate in which more than fill follows the frame changes nothing. Any other candidate that passes the check is
 -- carried out as a frame line.
 use Rattle.tc_live.proofs.Names.{◌≡◌, ◌⊎◌, ℕ, Bool, true, false, List, Option, Some, inl, inr, refl, sym, subst, ap, ◌∙◌, arith, IsTrue, ◌↔◌, not, MatchOption, true≢false, Racked, Stage, instruction_of, IsBad, phase_of, Receiving, IsCandidateDone, IsPassedDone, IsBadCandidate, LiveAnswer, FrameCheck, FrameEnds}
-use Rattle.tc_fecf.specs.Candidate.{IsDelimited, is_fill}
-use Rattle.tc_fecf.proofs.Delimiting.{one-frame}
+use Rattle.tc_edges.specs.Fecf.Candidate.{IsDelimited, is_fill}
+use Rattle.tc_edges.proofs.FecfLemmas.Delimiting.{one-frame}
 use Rattle.tc_text.specs.declared.line.Line.{Line}
 use Rattle.tc_text.specs.declared.fault.Reason.{Reason}
 use Rattle.tc_live.specs.Check.{CarriesMore, FailsCandidate, IsCandidatePassed}

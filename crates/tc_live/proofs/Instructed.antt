@@ -1,6 +1,6 @@
 -- A line of a script is answered on the channels of a receiver, and the answer is reported.
 use Rattle.tc_live.proofs.Names.{◌≡◌, ℕ, Option, ap, subst, Progress, IsPerformed, Answer, Receiving, IsInstructed, script_answer, LiveAnswer, FrameCheck, FrameEnds}
-use Rattle.tc_setup.specs.declared.instruction.Instruction.{Instruction}
+use Rattle.tc_rack.specs.declared.instruction.Instruction.{Instruction}
 use Rattle.tc_rack.specs.Performing.{IsInstructionAnswered}
 
 pub instructed : (old : Receiving) (check : FrameCheck) (ends : FrameEnds) (scid from : ℕ) (stage new : Progress) (instruction : Instruction) (a : Option Answer) (answer : LiveAnswer)

@@ -21,6 +21,6 @@ pub use Rattle.tc_rack.specs.Stage.{phase_of}
 pub use Rattle.tc_rack.specs.declared.answer.Answer.{Answer}
 pub use Rattle.tc_rack.specs.declared.stage.Stage.{Stage}
 pub use Rattle.tc_rack.specs.declared.stage.Stage.TheVariants.{Operating, SettingUp}
-pub use Rattle.tc_setup.specs.Instruction.{instruction_of}
-pub use Rattle.tc_setup.specs.Phase.{IsBad}
+pub use Rattle.tc_rack.specs.Instruction.{instruction_of}
+pub use Rattle.tc_rack.specs.Phase.{IsBad}
 pub use Rattle.tc_text.specs.declared.live.LiveLine.TheVariants.{Candidate, Collect, Deliver, Link, Report, Script}

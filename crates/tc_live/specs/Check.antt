@@ -1,8 +1,8 @@
 -- The check that frames must pass before they are brought to a channel.
 use Rattle.std.specs.Prelude.{◌≡◌, ◌≢◌, ◌⊎◌, ℕ, false, List, None}
 use Rattle.tc_link.specs.Frame.{IsWhole, fault_of}
-use Rattle.tc_fecf.specs.Candidate.{IsDelimited, is_fill}
-use Rattle.tc_fecf.specs.FrameWithField.{frame_with_field, taking_fault_of}
+use Rattle.tc_edges.specs.Fecf.Candidate.{IsDelimited, is_fill}
+use Rattle.tc_edges.specs.Fecf.FrameWithField.{frame_with_field, taking_fault_of}
 use Rattle.tc_text.specs.declared.line.Line.{Line}
 use Rattle.tc_text.specs.declared.line.Line.TheVariants.{Frame}
 use Rattle.tc_live.specs.declared.check.FrameCheck.{FrameCheck}

@@ -1,6 +1,6 @@
 -- A record of whether frames that aren't checked end with a frame error control field.
 use Rattle.std.specs.Prelude.{Bool, true, false, ℕ, List, Some, None, if◌then◌else◌}
-use Rattle.tc_fecf.specs.FrameWithField.{taking_fault_of}
+use Rattle.tc_edges.specs.Fecf.FrameWithField.{taking_fault_of}
 use Rattle.tc_text.specs.declared.line.Line.{Line}
 use Rattle.tc_text.specs.declared.line.Line.TheVariants.{Frame}
 use Rattle.tc_live.specs.declared.check.FrameCheck.{FrameCheck}

@@ -10,9 +10,9 @@ use Rattle.tc_text.specs.declared.line.Line.{Line}
 use Rattle.tc_text.specs.declared.live.LiveLine.{LiveLine}
 use Rattle.tc_text.specs.declared.live.LiveLine.TheVariants.{Script, Link as LinkOf, Report, Deliver, Collect, Candidate}
 use Rattle.tc_channel.specs.declared.holding.Holding.{Holding}
-use Rattle.tc_setup.specs.Instruction.{instruction_of}
-use Rattle.tc_setup.specs.Phase.{Does, IsBad, IsBadOperation, Operates, Operation as InOperation}
-use Rattle.tc_setup.specs.declared.instruction.Instruction.{Instruction}
+use Rattle.tc_rack.specs.Instruction.{instruction_of}
+use Rattle.tc_rack.specs.Phase.{Does, IsBad, IsBadOperation, Operates, Operation as InOperation}
+use Rattle.tc_rack.specs.declared.instruction.Instruction.{Instruction}
 use Rattle.tc_rack.specs.Stage.{phase_of}
 use Rattle.tc_rack.specs.declared.answer.Answer.{Answer}
 use Rattle.tc_rack.specs.declared.stage.Stage.{Stage}

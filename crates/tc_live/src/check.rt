@@ -5,7 +5,7 @@ ghost use Rattle.tc_live.specs.Check.{IsPassed, FailsCheck, IsFieldOff, HasWrong
 
 use std::alloc::Global;
 use tc_channel::Octets;
-use tc_fecf::{FieldFault, delimit, is_fill, without_field};
+use tc_edges::fecf::{FieldFault, delimit, is_fill, without_field};
 use tc_text::{Line, Reason};
 
 /// The check that octets must pass, which depends on whether frames end with a frame error control field.

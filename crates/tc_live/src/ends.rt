@@ -3,7 +3,7 @@
 ghost use Rattle.std.specs.Prelude.{◌≡◌};
 ghost use Rattle.tc_live.specs.Ends.{ends_after, has_field};
 
-use tc_fecf::passes;
+use tc_edges::fecf::passes;
 use tc_link::read_frame;
 
 /// A record of whether each frame of the `frame` lines so far ended with a frame error control field. The record is

@@ -3,14 +3,14 @@
 ghost use Rattle.std.specs.Prelude.{◌≡◌, ◌≢◌, ◌⊎◌, ◌↔◌, [], All, IsPermutation, IsTrue, IfOk, IfErr, OnOk, OnErr};
 ghost use Rattle.std.specs.Io.KnownBytes.{Keeps};
 ghost use Rattle.tc_rack.specs.Delivery.{AreAnswersWritten};
-ghost use Rattle.tc_rack.specs.Report.{AreRising};
+ghost use Rattle.tc_rack.specs.Report.{AreNonDecreasing};
 ghost use Rattle.tc_rack.specs.Stage.{phase_of};
 ghost use Rattle.tc_live.specs.Ends.{ends_behind};
 ghost use Rattle.tc_live.specs.Receiver.{new_receiver, begun, rack_at, IsInstructed, IsScriptDone, IsPassedDone, IsCandidateDone, IsBadCandidate, IsLinked, IsReportDone, IsDeliveryBegun, IsCollectionBegun, IsDeliveryDone, IsLiveLineAnswered, IsBadLiveLine, IsBadScript, IsBadScriptLine, IsScriptLineAnswered, IsReceiverLeft};
 ghost use Rattle.tc_live.specs.Serving.{IsClosingFault, IsReportWritten};
 ghost use Rattle.tc_rack.specs.Rack.{histories};
-ghost use Rattle.tc_setup.specs.Instruction.{instruction_of};
-ghost use Rattle.tc_setup.specs.Phase.{Does, IsBad, IsBadOperation, Operates, Setup, Operation as InOperation};
+ghost use Rattle.tc_rack.specs.Instruction.{instruction_of};
+ghost use Rattle.tc_rack.specs.Phase.{Does, IsBad, IsBadOperation, Operates, Setup, Operation as InOperation};
 ghost use Rattle.tc_channel.specs.Journal.{IsNumberReported};
 
 use crate::answer::LiveAnswer;
@@ -23,8 +23,9 @@ use std::io::Write;
 use std::marker::Model;
 use tc_channel::{CountingChannel, Octets};
 use tc_link::Link;
-use tc_rack::{Operation, Rack, RackBackend, Stage, begin, perform, write_report};
-use tc_setup::{Configuration, Instruction};
+use tc_rack::{
+    Configuration, Instruction, Operation, Rack, RackBackend, Stage, begin, perform, write_report,
+};
 use tc_text::{Line, LiveLine, Reason, SpacecraftId, parse_line, parse_live_line};
 
 /// A receiver of one spacecraft: its channels, which are being set up or are in operation, and the check that octets
@@ -272,7 +273,7 @@ impl Receiver {
     // Returns the channels in rising order of their ids. They are the channels that an operation would find.
     fn into_channels(self, alloc: Global) -> Result<Vec<CountingChannel>, ServingFault>
         ensures channels { IfOk result (λ channels. IsPermutation (histories (rack_at self)) channels.items) }
-        ensures rising { IfOk result (λ channels. AreRising channels.items) }
+        ensures ordered { IfOk result (λ channels. AreNonDecreasing channels.items) }
         ensures reported { IfOk result (λ channels. All IsNumberReported channels.items) }
         ensures fault { IfErr result (IsClosingFault self) }
     {

@@ -4,8 +4,8 @@ use Rattle.tc_make.proofs.Names.{Appends, Appends-nil, Writes, flat_map-append, 
 use Rattle.std.proofs.lemmas.List.{append-nil}
 use Rattle.std.proofs.lemmas.Option.{get_or_from_slice_get}
 use Rattle.std.specs.Prelude.{codes, slice_get}
-use Rattle.tc_cltu.specs.Reception.{Receiver, Reception, frames_of, corrected_in, rejected_in, overlong_in}
-use Rattle.tc_cltu.specs.declared.block.Mode.{Mode}
+use Rattle.tc_edges.specs.Cltu.Reception.{Receiver, Reception, frames_of, corrected_in, rejected_in, overlong_in}
+use Rattle.tc_edges.specs.declared.cltu.block.Mode.{Mode}
 use Rattle.tc_make.specs.Decoders.{IsFed, IsPieceSaid, candidates_text, blocks_text}
 use Rattle.tc_make.proofs.Written.{joined}
 

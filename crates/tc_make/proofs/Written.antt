@@ -6,15 +6,15 @@ use Rattle.std.specs.List.{flat_map, concat, AllByRecursion}
 use Rattle.std.proofs.lemmas.List.Folds.{concat-append}
 use Rattle.tc_link.specs.Frame.{IsWhole, fault_of}
 use Rattle.tc_link.specs.declared.frame.FrameFault.{FrameFault}
-use Rattle.tc_fecf.specs.Candidate.{IsDelimited}
+use Rattle.tc_edges.specs.Fecf.Candidate.{IsDelimited}
 use Rattle.std.proofs.KnownBytes.{Appends-trans, Appends-nil}
 use Rattle.tc_packet.specs.PacketFields.{HasFields}
 use Rattle.tc_packet.specs.Bits.{word_at, bits}
 use Rattle.tc_packet.specs.SpacePacket.{apid_of, is_telecommand, packets_of, rest_of}
 use Rattle.tc_packet.specs.declared.packet.Packet.{Packet}
-use Rattle.tc_fecf.specs.FrameWithField.{taking_fault_of}
-use Rattle.tc_fecf.specs.declared.frames.FieldFault.{FieldFault}
-use Rattle.tc_fecf.specs.declared.frames.FieldFault.TheVariants as fields
+use Rattle.tc_edges.specs.Fecf.FrameWithField.{taking_fault_of}
+use Rattle.tc_edges.specs.declared.fecf.frames.FieldFault.{FieldFault}
+use Rattle.tc_edges.specs.declared.fecf.frames.FieldFault.TheVariants as fields
 use Rattle.tc_make.specs.Answer.{OrNoMemory, Unless, IsSentAt, IsStopAt, AreSent, IsPartSaid, IsFramesSaid, IsPartingOf, IsUnitSaid, IsEndedSaid, IsExplained, AreFramesSaid, frames_text, parts_of, field_fault_text}
 use Rattle.tc_make.specs.Printed.{bad_text, named_text, some_text, refused_text, frame_fault_text, rest_text, unit_packets_text, packet_text, printed_text, holds_text, whole_text}
 use Rattle.tc_make.specs.declared.ending.Ending.{Ending}

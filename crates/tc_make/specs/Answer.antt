@@ -8,16 +8,16 @@ use Rattle.tc_link.specs.declared.command.Command.{Command}
 use Rattle.tc_link.specs.declared.frame.FrameFault.{FrameFault}
 use Rattle.tc_link.specs.declared.frame.Header.{Header}
 use Rattle.tc_packet.specs.declared.segment.Segment.{Segment}
-use Rattle.tc_fecf.specs.Candidate.{IsDelimited, AreDelimited}
-use Rattle.tc_fecf.specs.FrameWithField.{frame_with_field, taking_fault_of}
-use Rattle.tc_fecf.specs.declared.frames.FieldFault.{FieldFault}
-use Rattle.tc_fecf.specs.declared.frames.FieldFault.TheVariants as fields
+use Rattle.tc_edges.specs.Fecf.Candidate.{IsDelimited, AreDelimited}
+use Rattle.tc_edges.specs.Fecf.FrameWithField.{frame_with_field, taking_fault_of}
+use Rattle.tc_edges.specs.declared.fecf.frames.FieldFault.{FieldFault}
+use Rattle.tc_edges.specs.declared.fecf.frames.FieldFault.TheVariants as fields
 use Rattle.tc_make.specs.Ending.{ended, ending_reason_of}
 use Rattle.tc_make.specs.Explanation.{Explains}
 use Rattle.tc_make.specs.Frames.{IsMadeFrame, IsCommandFrame, frame_reason_of, command_reason_of}
 use Rattle.tc_make.specs.Packets.{IsMadePacket, packet_reason_of}
 use Rattle.tc_make.specs.Parting.{IsFrameAt, parting_reason_of}
-use Rattle.tc_write.specs.Parts.{segments_needed}
+use Rattle.tc_edges.specs.Write.Parts.{segments_needed}
 use Rattle.tc_make.specs.Decoders.{IsDecoderSaid, IsPieceSaid, IsSearchSaid}
 use Rattle.tc_make.specs.LinkAnswer.{IsCltuSaid, IsRandomSaid, IsTelemetrySaid, IsTmSaid}
 pub use Rattle.tc_make.specs.Printed.{OrNoMemory, Unless, frames_text}

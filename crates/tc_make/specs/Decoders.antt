@@ -1,9 +1,9 @@
 -- The decoders of streams, and the answers to their octets.
 use Rattle.std.specs.Prelude.{◌≡◌, ◌⊎◌, ℕ, Bool, List, [], ◌∷◌, ◌++◌, codes, decimal, replicate, slice_index_or, slice_set, Option, Some, None}
 use Rattle.std.specs.List.{flat_map}
-use Rattle.tc_cltu.specs.Cltu.{most_octets}
-use Rattle.tc_cltu.specs.Reception.{Receiver, Searching, state_after, frames_of, corrected_in, rejected_in, overlong_in, is_decoding}
-use Rattle.tc_cltu.specs.declared.block.Mode.{Mode}
+use Rattle.tc_edges.specs.Cltu.Cltu.{most_octets}
+use Rattle.tc_edges.specs.Cltu.Reception.{Receiver, Searching, state_after, frames_of, corrected_in, rejected_in, overlong_in, is_decoding}
+use Rattle.tc_edges.specs.declared.cltu.block.Mode.{Mode}
 use Rattle.tc_make.specs.Printed.{bad_text, named_text, flag_text}
 use Rattle.tc_make.specs.declared.fault.Reason.TheVariants.{NoDecoder, NoMemory}
 

@@ -1,6 +1,6 @@
 -- The ending of frames, with or without a frame error control field.
 use Rattle.std.specs.Prelude.{ℕ, List, length, Option, Some, None, nat_lt, if◌then◌else◌}
-use Rattle.tc_fecf.specs.FrameWithField.{frame_with_field}
+use Rattle.tc_edges.specs.Fecf.FrameWithField.{frame_with_field}
 use Rattle.tc_make.specs.declared.ending.Ending.{Ending}
 use Rattle.tc_make.specs.declared.ending.Ending.TheVariants.{DataField, ErrorControl}
 use Rattle.tc_make.specs.declared.fault.Reason.{Reason}

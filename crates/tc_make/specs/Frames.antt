@@ -2,7 +2,7 @@
 use Rattle.std.specs.Prelude.{ℕ, ◌+◌, Bool, false, List, length, Option, Some, None, nat_lt, if◌then◌else◌}
 use Rattle.tc_link.specs.declared.frame.Header.{Header}
 use Rattle.tc_packet.specs.declared.segment.Segment.{Segment}
-pub use Rattle.tc_write.specs.Frames.{IsMadeFrame, IsCommandFrame}
+pub use Rattle.tc_edges.specs.Write.Frames.{IsMadeFrame, IsCommandFrame}
 use Rattle.tc_make.specs.declared.fault.Reason.{Reason}
 use Rattle.tc_make.specs.declared.fault.Reason.TheVariants.{BadScid, BadVcid, BadMap, NoData, TooMuchData}
 

@@ -1,8 +1,8 @@
 -- The meaning of a line, as a function of its words.
 use Rattle.std.specs.Prelude.{ℕ, Bool, true, false, Option, ◌==◌, ◌&&◌, ◌||◌, List, [], ◌∷◌, length, codes, slice_index, Some, None, Result, Ok, Err, if◌then◌else◌}
 use Rattle.hex.specs.Hex.{decode_of}
-use Rattle.tc_cltu.specs.declared.block.Mode.{Mode}
-use Rattle.tc_cltu.specs.declared.block.Mode.TheVariants.{Detect, Correct}
+use Rattle.tc_edges.specs.declared.cltu.block.Mode.{Mode}
+use Rattle.tc_edges.specs.declared.cltu.block.Mode.TheVariants.{Detect, Correct}
 use Rattle.tc_link.specs.declared.command.Command.TheVariants.{Unlock, SetVr}
 use Rattle.tc_packet.specs.declared.segment.Part.TheVariants.{Unsegmented}
 use Rattle.tc_packet.specs.declared.segment.Segment.{Segment}

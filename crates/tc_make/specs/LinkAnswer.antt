@@ -1,12 +1,12 @@
 -- The answers to lines about the link: CLTUs and telemetry frames.
 use Rattle.std.specs.Prelude.{◌≡◌, ◌⊎◌, ℕ, ◌==◌, ◌||◌, if◌then◌else◌, List, length, codes, nat_lt, Option, Some, None, unwrap_or}
-use Rattle.tc_cltu.specs.Cltu.{cltu, most_octets}
-use Rattle.tc_cltu.specs.Randomiser.{randomised}
-use Rattle.tc_tm.specs.Counting.{Counted, next_header, frame_counted}
-use Rattle.tc_tm.specs.TmFrame.{tm_frame, least_length, most_length, tm_fields_of, read_fault_of}
-use Rattle.tc_tm.specs.declared.frame.ErrorControl.{ErrorControl}
-use Rattle.tc_tm.specs.declared.frame.ErrorControl.TheVariants.{Absent, Present}
-use Rattle.tc_tm.specs.declared.reading.TmReadFault.{TmReadFault}
+use Rattle.tc_edges.specs.Cltu.Cltu.{cltu, most_octets}
+use Rattle.tc_edges.specs.Cltu.Randomiser.{randomised}
+use Rattle.tc_edges.specs.Tm.Counting.{Counted, next_header, frame_counted}
+use Rattle.tc_edges.specs.Tm.TmFrame.{tm_frame, least_length, most_length, tm_fields_of, read_fault_of}
+use Rattle.tc_edges.specs.declared.tm.frame.ErrorControl.{ErrorControl}
+use Rattle.tc_edges.specs.declared.tm.frame.ErrorControl.TheVariants.{Absent, Present}
+use Rattle.tc_edges.specs.declared.tm.reading.TmReadFault.{TmReadFault}
 use Rattle.tc_make.specs.Printed.{Unless, bad_text, named_text, refused_text, tm_fault_text, tm_text}
 use Rattle.tc_make.specs.declared.ending.Ending.{Ending}
 use Rattle.tc_make.specs.declared.ending.Ending.TheVariants as endings

@@ -1,5 +1,5 @@
 -- The state before the first line.
-use Rattle.tc_tm.specs.Counting.{none_yet}
+use Rattle.tc_edges.specs.Tm.Counting.{none_yet}
 use Rattle.tc_make.specs.Decoders.{no_decoders}
 use Rattle.tc_make.specs.declared.ending.Ending.{Ending}
 use Rattle.tc_make.specs.declared.maker.Maker.{Maker}

@@ -1,7 +1,7 @@
 -- Telecommand packets that are made (CCSDS 133.0-B, 4.1).
 use Rattle.std.specs.Prelude.{ℕ, true, false, List, length, Option, Some, None, nat_lt, if◌then◌else◌}
-use Rattle.tc_write.specs.declared.packets.PacketHeader.{PacketHeader}
-use Rattle.tc_write.specs.Packets.{IsPacketOf}
+use Rattle.tc_edges.specs.declared.write.packets.PacketHeader.{PacketHeader}
+use Rattle.tc_edges.specs.Write.Packets.{IsPacketOf}
 use Rattle.tc_make.specs.declared.fault.Reason.{Reason}
 use Rattle.tc_make.specs.declared.fault.Reason.TheVariants.{BadApid, BadCount, NoData, TooMuchData}
 

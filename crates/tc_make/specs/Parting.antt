@@ -2,7 +2,7 @@
 use Rattle.std.specs.Prelude.{ℕ, ◌+◌, ◌%◌, false, List, length, Option, Some, None, nat_lt, if◌then◌else◌}
 use Rattle.tc_link.specs.declared.frame.Header.{Header}
 use Rattle.tc_make.specs.Frames.{IsMadeFrame}
-use Rattle.tc_write.specs.Parts.{piece_at, segment_at}
+use Rattle.tc_edges.specs.Write.Parts.{piece_at, segment_at}
 use Rattle.tc_make.specs.declared.parting.Parting.{Parting}
 use Rattle.tc_make.specs.declared.fault.Reason.{Reason}
 use Rattle.tc_make.specs.declared.fault.Reason.TheVariants.{BadScid, BadVcid, BadMap, BadSize, NoData, TooMuchData}

@@ -1,7 +1,7 @@
 -- The texts of answers, which docs/reference/tcmake.md shows.
 use Rattle.std.specs.Prelude.{◌≡◌, ◌⊎◌, ℕ, Bool, true, false, ◌==◌, if◌then◌else◌, List, [], ◌∷◌, ◌++◌, length, codes, decimal, slice_index, nat_lt, Option, Some, None}
 use Rattle.std.specs.List.{flat_map}
-use Rattle.tc_fecf.specs.Candidate.{is_fill}
+use Rattle.tc_edges.specs.Fecf.Candidate.{is_fill}
 use Rattle.tc_link.specs.declared.clcw.ClcwFields.{ClcwFields}
 use Rattle.tc_link.specs.declared.command.Command.TheVariants.{Unlock, SetVr}
 use Rattle.tc_link.specs.declared.command.Kind.{Kind}
@@ -17,9 +17,9 @@ use Rattle.tc_packet.specs.declared.segment.Part.{Part}
 use Rattle.tc_packet.specs.declared.segment.Part.TheVariants.{First, Continuing, Last, Unsegmented}
 use Rattle.tc_packet.specs.declared.segment.Segment.{Segment}
 pub use Rattle.tc_lines.specs.Printed.{octets_text, flag_text}
-use Rattle.tc_tm.specs.declared.reading.TmFields.{TmFields}
-use Rattle.tc_tm.specs.declared.reading.TmReadFault.{TmReadFault}
-use Rattle.tc_tm.specs.declared.reading.TmReadFault.TheVariants as telemetry
+use Rattle.tc_edges.specs.declared.tm.reading.TmFields.{TmFields}
+use Rattle.tc_edges.specs.declared.tm.reading.TmReadFault.{TmReadFault}
+use Rattle.tc_edges.specs.declared.tm.reading.TmReadFault.TheVariants as telemetry
 use Rattle.tc_make.specs.declared.explaining.Explanation.{Explanation}
 use Rattle.tc_make.specs.declared.fault.Reason.{Reason}
 use Rattle.tc_make.specs.declared.fault.Reason.TheVariants.{UnknownCommand, Marked, WordCount, BadNumber, BadHex, BadMode, BadClcw, BadScid, BadVcid, BadMap, BadApid, BadCount, BadSize, NoData, TooMuchData, NoDecoder, NoMemory}

@@ -5,7 +5,7 @@ ghost use Rattle.tc_lines.specs.Answering.{Writes};
 ghost use Rattle.tc_make.specs.Answer.{OrNoMemory, IsAnswer, IsSaid, IsKept, IsMadePacketSaid, IsMadeFrameSaid, IsCommandSaid, IsEnded, IsUnitSaid, IsFramesSaid, IsPartSaid};
 ghost use Rattle.tc_link.specs.Frame.{IsWhole};
 ghost use Rattle.tc_make.specs.Line.{maker_line_of};
-ghost use Rattle.tc_write.specs.Parts.{segments_needed};
+ghost use Rattle.tc_edges.specs.Write.Parts.{segments_needed};
 ghost use Rattle.tc_make.specs.Decoders.{IsDecoderSaid};
 ghost use Rattle.tc_make.specs.Parting.{parting_reason_of};
 ghost use Rattle.tc_lines.specs.Word.{words as words_of};
@@ -24,7 +24,7 @@ use crate::printed::{write_bad, write_named};
 use std::alloc::Global;
 use std::io;
 use std::io::Write;
-use tc_cltu::Mode;
+use tc_edges::cltu::Mode;
 use tc_link::{Command, Header};
 use tc_packet::Segment;
 

@@ -2,8 +2,8 @@
 
 ghost use Rattle.std.specs.Prelude.{◌≡◌, ◌∷◌, [], OnOk, if◌then◌else◌};
 ghost use Rattle.std.specs.Io.KnownBytes.{Appends};
-ghost use Rattle.tc_cltu.specs.Cltu.{most_octets};
-ghost use Rattle.tc_cltu.specs.Reception.{state_after};
+ghost use Rattle.tc_edges.specs.Cltu.Cltu.{most_octets};
+ghost use Rattle.tc_edges.specs.Cltu.Reception.{state_after};
 ghost use Rattle.tc_lines.specs.Answering.{Writes};
 ghost use Rattle.tc_make.specs.Decoders.{IsFed, IsSearching, fed_text, candidates_text, blocks_text, search_text};
 
@@ -13,7 +13,7 @@ use std::alloc::{AllocError, Global};
 use std::io;
 use std::io::Write;
 use std::marker::Model;
-use tc_cltu::{Blocks, Decoder, Mode};
+use tc_edges::cltu::{Blocks, Decoder, Mode};
 
 // The largest number of streams at a time, since the id of a stream is one octet.
 const STREAMS: usize = 256;
@@ -26,7 +26,7 @@ pub struct Decoders {
 
 impl Model for Decoders {
     ghost use Rattle.std.specs.Prelude.{◌≡◌, List, Option, length};
-    ghost use Rattle.tc_cltu.specs.Reception.{Receiver};
+    ghost use Rattle.tc_edges.specs.Cltu.Reception.{Receiver};
 
     ghost Value = { List (Option Receiver) };
 

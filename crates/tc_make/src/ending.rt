@@ -2,7 +2,7 @@
 
 use crate::fault::Reason;
 use std::alloc::Global;
-use tc_fecf::{FieldFault, with_field};
+use tc_edges::fecf::{FieldFault, with_field};
 
 /// The ending of the frames that `tcmake` makes and explains.
 #[derive(Clone, Copy, Debug, PartialEq, Eq)]

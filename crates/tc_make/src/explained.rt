@@ -14,7 +14,7 @@ use crate::printed::{write_bad, write_named, write_refused, write_some};
 use std::alloc::Global;
 use std::io;
 use std::io::Write;
-use tc_fecf::{FieldFault, delimit, is_fill, without_field};
+use tc_edges::fecf::{FieldFault, delimit, is_fill, without_field};
 use tc_lines::Digits;
 use tc_link::{
     ClcwFields, Command, Frame, FrameFault, Header, Kind, each_input_begins_with_one_frame_at_most,

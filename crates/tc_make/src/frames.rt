@@ -7,9 +7,9 @@ ghost use Rattle.tc_make.specs.Frames.{IsMadeFrame, IsCommandFrame, frame_reason
 
 use crate::fault::Reason;
 use std::alloc::Global;
+use tc_edges::write::segment_octet;
 use tc_link::{Command, Header, WriteFault, write_frame};
 use tc_packet::Segment;
-use tc_write::segment_octet;
 
 /// Makes the frame with this header. Its data field carries the octets. If a segment header is given, the data field
 /// begins with it (CCSDS 232.0-B, 4.1.2 and 4.1.3).

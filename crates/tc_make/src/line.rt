@@ -12,7 +12,7 @@ use crate::form::{Form, Number};
 use crate::octets::Octets;
 use hex::FromHexError;
 use std::alloc::{AllocError, Global};
-use tc_cltu::Mode;
+use tc_edges::cltu::Mode;
 use tc_lines::{is_separator, large_number, small_number};
 use tc_link::{Command, Header};
 use tc_packet::{Part, Segment};

@@ -2,11 +2,11 @@
 
 ghost use Rattle.std.specs.Prelude.{◌≡◌, ◌++◌, None, length, unwrap_or, IfOk, IfErr, OnOk, OnErr};
 ghost use Rattle.std.specs.Io.KnownBytes.{Appends};
-ghost use Rattle.tc_cltu.specs.Cltu.{cltu};
-ghost use Rattle.tc_cltu.specs.Randomiser.{randomised};
+ghost use Rattle.tc_edges.specs.Cltu.Cltu.{cltu};
+ghost use Rattle.tc_edges.specs.Cltu.Randomiser.{randomised};
 ghost use Rattle.tc_lines.specs.Answering.{Writes};
-ghost use Rattle.tc_tm.specs.Counting.{next_header, frame_counted};
-ghost use Rattle.tc_tm.specs.TmFrame.{tm_frame};
+ghost use Rattle.tc_edges.specs.Tm.Counting.{next_header, frame_counted};
+ghost use Rattle.tc_edges.specs.Tm.TmFrame.{tm_frame};
 ghost use Rattle.tc_make.specs.Answer.{OrNoMemory};
 ghost use Rattle.tc_make.specs.LinkAnswer.{IsCltuSaid, IsRandomSaid, IsTelemetrySaid, IsTmSaid, cltu_reason_of, tm_reason_of, telemetry_ending};
 ghost use Rattle.tc_make.specs.Printed.{tm_fault_text, tm_text, tm_front_text, tm_end_text, control_text};
@@ -18,9 +18,9 @@ use crate::printed::{write_bad, write_named, write_refused};
 use std::alloc::{AllocError, Global};
 use std::io;
 use std::io::Write;
-use tc_cltu::{CltuFault, randomise, write_cltu};
+use tc_edges::cltu::{CltuFault, randomise, write_cltu};
+use tc_edges::tm::{Counts, ErrorControl, TmFault, TmFields, TmReadFault, read_tm};
 use tc_lines::Digits;
-use tc_tm::{Counts, ErrorControl, TmFault, TmFields, TmReadFault, read_tm};
 
 /// Writes the CLTU that carries the octets, or the reason why there is none.
 pub(crate) fn write_coded<W: Write>(alloc: Global, octets: &[u8], writer: &mut W) -> io::Result<()>

@@ -3,7 +3,7 @@
 use crate::decoders::Decoders;
 use crate::ending::Ending;
 use std::alloc::{AllocError, Global};
-use tc_tm::Counts;
+use tc_edges::tm::Counts;
 
 /// The state that the answers to lines depend on: the ending of frames, the counts of telemetry frames, and the
 /// decoders of streams.

@@ -5,7 +5,7 @@ ghost use Rattle.tc_make.specs.Packets.{IsMadePacket, packet_reason_of};
 
 use crate::fault::Reason;
 use std::alloc::Global;
-use tc_write::{PacketHeader, packet_front};
+use tc_edges::write::{PacketHeader, packet_front};
 
 /// Makes the telecommand packet of this application with this sequence count and packet data field (CCSDS 133.0-B,
 /// 4.1).

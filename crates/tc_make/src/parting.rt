@@ -3,9 +3,9 @@
 use crate::fault::Reason;
 use crate::frames::make_frame;
 use std::alloc::Global;
+use tc_edges::write::{piece, segment_count, segment_header};
 use tc_link::Header;
 use tc_packet::LARGEST_UNIT;
-use tc_write::{piece, segment_count, segment_header};
 
 /// A unit that is to be sent in segments, in Type-AD frames of one virtual channel.
 #[derive(Clone, Copy, Debug, PartialEq, Eq)]
@@ -23,7 +23,7 @@ pub struct Parting<'a> {
 
 impl<'a> Parting<'a> {
     ghost use Rattle.std.specs.Prelude.{◌≡◌, ◌<◌, ◌≤◌, None, length, unwrap_or, IfOk, IfErr, OnOk};
-    ghost use Rattle.tc_write.specs.Parts.{segments_needed};
+    ghost use Rattle.tc_edges.specs.Write.Parts.{segments_needed};
     ghost use Rattle.tc_make.specs.Parting.{IsFrameAt, parting_reason_of};
 
     /// Returns the number of frames that the unit is divided into.

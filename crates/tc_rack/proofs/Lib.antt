@@ -1,4 +1,7 @@
 pub mod Names
+pub mod Additions
+pub mod ApidEntries
+pub mod Configurations
 mod Places
 mod Written
 mod Waiting

@@ -1,3 +1,6 @@
+pub mod Configuration
+pub mod Instruction
+pub mod Phase
 pub mod Linked
 pub mod Rack
 pub mod Operation

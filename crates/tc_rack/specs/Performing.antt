@@ -3,8 +3,8 @@
 -- left if memory runs out (`Spares`).
 use Rattle.std.specs.Prelude.{◌≡◌, ◌⊎◌, List, Option, Some, None}
 use Rattle.tc_queues.specs.declared.settings.Settings.{Settings}
-use Rattle.tc_setup.specs.declared.instruction.Instruction.{Instruction}
-use Rattle.tc_setup.specs.declared.instruction.Instruction.TheVariants.{Nothing, Channel, Add, Frame, Release, Take, Unit as TakeUnit, Clcw}
+use Rattle.tc_rack.specs.declared.instruction.Instruction.{Instruction}
+use Rattle.tc_rack.specs.declared.instruction.Instruction.TheVariants.{Nothing, Channel, Add, Frame, Release, Take, Unit as TakeUnit, Clcw}
 use Rattle.tc_text.specs.declared.fault.Reason.{Reason}
 use Rattle.tc_text.specs.declared.fault.Reason.TheVariants.{NoMemory}
 use Rattle.tc_rack.specs.declared.answer.Answer.{Answer}

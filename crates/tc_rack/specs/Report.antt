@@ -14,8 +14,9 @@ use Rattle.tc_rack.specs.Linked.{no_flag}
 abbrev pub vcid_of : History → ℕ
 vcid_of channel = channel.settings.vcid
 
-abbrev pub AreRising : List History → Type 0
-AreRising channels = IsNonDecreasingBy vcid_of channels
+-- the ids of the channels don't fall from one channel to the next
+abbrev pub AreNonDecreasing : List History → Type 0
+AreNonDecreasing channels = IsNonDecreasingBy vcid_of channels
 
 -- the settings of the channel are allowed, and its journal is lawful for them
 abbrev pub IsLawfulHistory : History → Type 0
@@ -54,10 +55,10 @@ channel_text channel =
 abbrev pub report_text : List History → List ℕ
 report_text channels = flat_map channel_text channels
 
--- The text is the report of these channels. The ids of the channels don't fall from one channel to the next. Each
--- channel has allowed settings and a lawful journal, with fewer events than 2^64 - 1.
+-- The text is the report of these channels, whose ids don't fall. Each channel has allowed settings and a lawful
+-- journal, with fewer events than 2^64 - 1.
 pub record IsReportOf (channels : List History) (text : List ℕ) : Type 0 where
-  pub rising : AreRising channels
+  pub ordered : AreNonDecreasing channels
   pub reported : All IsNumberReported channels
   pub lawful : All IsLawfulHistory channels
   pub written : text ≡ report_text channels

@@ -1,6 +1,6 @@
 -- The phase that a stage stands for, and the stage after a refused line.
 use Rattle.std.specs.Prelude.{◌≡◌, ◌≢◌, ◌⊎◌}
-use Rattle.tc_setup.specs.Phase.{Phase, Setup, Operation}
+use Rattle.tc_rack.specs.Phase.{Phase, Setup, Operation}
 use Rattle.tc_rack.specs.declared.stage.Stage.{Stage}
 use Rattle.tc_rack.specs.declared.stage.Stage.TheVariants.{SettingUp, Operating}
 use Rattle.tc_text.specs.declared.fault.Reason.{Reason}

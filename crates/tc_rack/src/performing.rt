@@ -2,16 +2,17 @@
 //! created, and from then on lines operate on them.
 
 ghost use Rattle.std.specs.Prelude.{◌≡◌, ◌≢◌, ◌⊎◌, [], IfOk, IfErr, OnErr, OnOk};
-ghost use Rattle.tc_setup.specs.Phase.{Does, IsBad, IsBadOperation, Operates, Setup};
+ghost use Rattle.tc_rack.specs.Phase.{Does, IsBad, IsBadOperation, Operates, Setup};
 ghost use Rattle.tc_rack.specs.Performing.{IsDoneSo, IsFound, IsInstructionAnswered, IsLeft, IsOperated};
 ghost use Rattle.tc_rack.specs.Stage.{phase_of};
 
 use crate::answer::Answer;
+use crate::configuration::Configuration;
+use crate::instruction::Instruction;
 use crate::operation::Operation;
 use crate::rack::Rack;
 use crate::stage::Stage;
 use std::alloc::Global;
-use tc_setup::{Configuration, Instruction};
 use tc_text::Reason;
 
 /// A way to create a script's channels, and to carry out operations on them.

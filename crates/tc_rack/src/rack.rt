@@ -7,6 +7,7 @@ ghost use Rattle.tc_rack.specs.Delivery.{AreAnswersWritten, IsDeliveryEnded};
 ghost use Rattle.tc_rack.specs.Operation.{IsAnswerOf, IsChannelAnswer, IsFrameAnswer, IsClcwAnswer};
 
 use crate::answer::{Answer, Refusal};
+use crate::configuration::Configuration;
 use crate::delivery::hand_on;
 use crate::linked::LinkedChannel;
 use crate::operation::Operation;
@@ -16,7 +17,6 @@ use std::io::Write;
 use std::marker::Model;
 use tc_channel::{CountingChannel, Holding, NoMemory, Settings};
 use tc_link::{Frame, Link, LocateFault, read_frame};
-use tc_setup::Configuration;
 
 /// The channels of one spacecraft, in the order in which they were set up, each with the flags of its link. They belong
 /// to one thread. If an operation is refused, or if memory runs out for it, everything stays as it was.
@@ -55,8 +55,6 @@ impl Rack {
         ensures answer { IfOk result (λ answer. IsAnswerOf operation self.old answer self.new) }
         ensures refused { OnErr result (self.new ≡ self.old) }
     {
-        // The invariant of the type ensures that no two channels have the same id.
-        let _ = &self.channels;
         match operation {
             Operation::Frame(octets) => self.bring(octets.as_slice()),
             Operation::Release(vcid) => self.release(vcid),
@@ -68,6 +66,7 @@ impl Rack {
 
     // Brings octets to the channel that their frame names.
     fn bring(&mut self, octets: &[u8]) -> Result<Answer, NoMemory>
+        ensures apart { AreChannelsApart self.old.channels }
         ensures answer { IfOk result (λ answer. IsFrameAnswer octets.now self.old answer self.new) }
         ensures refused { OnErr result (self.new ≡ self.old) }
     {
@@ -82,14 +81,16 @@ impl Rack {
 
     // Returns the frame at the front of the octets, and the place of the channel that the frame is for.
     fn locate<'a>(&self, octets: &'a [u8]) -> Result<(usize, Frame<'a>), LocateFault>
-        ensures { MatchResult result (λ located. IsLocatedInRack self.now octets.now located.0 located.1) (IsRackLocateFault self.now octets.now) }
+        ensures apart { AreChannelsApart self.now.channels }
+        ensures located { MatchResult result (λ located. IsLocatedInRack self.now octets.now located.0 located.1) (IsRackLocateFault self.now octets.now) }
     {
+        let Rack { scid, channels } = self;
         let frame = read_frame(octets).map_err(LocateFault::Frame)?;
         let header = frame.header();
-        if header.scid != self.scid {
+        if header.scid != *scid {
             return Err(LocateFault::OtherSpacecraft);
         }
-        let Some(place) = place_of(&self.channels, header.vcid) else {
+        let Some(place) = place_of(channels, header.vcid) else {
             return Err(LocateFault::UnknownChannel);
         };
         Ok((place, frame))
@@ -97,6 +98,7 @@ impl Rack {
 
     // Releases the oldest data field from the buffer of a channel.
     fn release(&mut self, vcid: u8) -> Result<Answer, NoMemory>
+        ensures apart { AreChannelsApart self.old.channels }
         ensures answer { IfOk result (λ answer. IsChannelAnswer vcid IsReleaseAnswered self.old answer self.new) }
         ensures refused { OnErr result (self.new ≡ self.old) }
     {
@@ -109,7 +111,8 @@ impl Rack {
 
     // Takes the oldest packet with this APID from a channel.
     fn take(&mut self, vcid: u8, apid: u16) -> Answer
-        ensures { IsChannelAnswer vcid (IsTakeAnswered apid) self.old result self.new }
+        ensures apart { AreChannelsApart self.old.channels }
+        ensures answer { IsChannelAnswer vcid (IsTakeAnswered apid) self.old result self.new }
     {
         match place_of(&self.channels, vcid) {
             Some(place) => self.channels[place].take(apid),
@@ -119,7 +122,8 @@ impl Rack {
 
     // Takes the oldest unit of a chosen MAP from a channel.
     fn unit(&mut self, vcid: u8, map: u8) -> Answer
-        ensures { IsChannelAnswer vcid (IsUnitAnswered map) self.old result self.new }
+        ensures apart { AreChannelsApart self.old.channels }
+        ensures answer { IsChannelAnswer vcid (IsUnitAnswered map) self.old result self.new }
     {
         match place_of(&self.channels, vcid) {
             Some(place) => self.channels[place].unit(map),
@@ -129,7 +133,8 @@ impl Rack {
 
     // Returns the CLCW of a channel with the flags of its link.
     fn clcw(&self, vcid: u8) -> Answer
-        ensures { IsClcwAnswer vcid self.now result }
+        ensures apart { AreChannelsApart self.now.channels }
+        ensures answer { IsClcwAnswer vcid self.now result }
     {
         match place_of(&self.channels, vcid) {
             Some(place) => self.channels[place].clcw(),

@@ -4,7 +4,7 @@ ghost use Rattle.std.specs.Prelude.{All, OnOk};
 ghost use Rattle.std.specs.Io.KnownBytes.{Appends};
 ghost use Rattle.std.specs.List.{flat_map};
 ghost use Rattle.tc_channel.specs.Journal.{IsNumberReported};
-ghost use Rattle.tc_rack.specs.Report.{AreRising, IsLawfulHistory, report_text, channel_text, final_line, queue_line, map_line};
+ghost use Rattle.tc_rack.specs.Report.{AreNonDecreasing, IsLawfulHistory, report_text, channel_text, final_line, queue_line, map_line};
 
 use crate::linked::NO_FLAG;
 use std::io;
@@ -15,7 +15,7 @@ use tc_text::WordDigits;
 /// Writes the report of each channel. The ids of the channels don't fall from one channel to the next, and each channel
 /// has fewer than 2^64 - 1 events.
 pub fn write_report<W: Write>(channels: &[CountingChannel], writer: &mut W) -> io::Result<()>
-    requires rising { AreRising channels.now }
+    requires ordered { AreNonDecreasing channels.now }
     requires reported { All IsNumberReported channels.now }
     ensures written { OnOk result (Appends (W.contents writer.old) (W.contents writer.new) (report_text channels.now)) }
     ensures lawful { OnOk result (All IsLawfulHistory channels.now) }

@@ -1,12 +1,13 @@
 //! The progress of a script: its channels are set up first, and then its lines operate on them.
 
 ghost use Rattle.std.specs.Prelude.{◌≡◌, ◌⊎◌, IfErr, OnOk, OnErr};
-ghost use Rattle.tc_setup.specs.Phase.{Does, IsBad};
+ghost use Rattle.tc_rack.specs.Phase.{Does, IsBad};
 ghost use Rattle.tc_rack.specs.Stage.{phase_of};
 
+use crate::configuration::Configuration;
+use crate::instruction::{Addition, Instruction};
 use std::alloc::Global;
 use tc_channel::Settings;
-use tc_setup::{Addition, Configuration, Instruction};
 use tc_text::Reason;
 
 /// The progress of a script. The channels are created at the first operation, from the set-up so far.

@@ -1,7 +1,7 @@
 //! Code blocks.
 
 use std::process::Abort;
-use tc_cltu::{Fate, Judged, Mode, decode_block, encode_block, judge};
+use tc_edges::cltu::{Fate, Judged, Mode, decode_block, encode_block, judge};
 
 // Seven octets and their code block, computed by long division of integers in Python.
 const INFORMATION: [u8; 7] = [0x22, 0xf6, 0x00, 0xff, 0x00, 0x42, 0x1a];

@@ -1,6 +1,6 @@
 //! Writing CLTUs.
 
-use tc_cltu::{CltuFault, write_cltu};
+use tc_edges::cltu::{CltuFault, write_cltu};
 use test_parts::made_again;
 
 // A frame, and the CLTU that carries it. The CLTU has the start sequence eb90, code blocks with the fill octets 55 in

@@ -2,7 +2,7 @@
 
 use std::alloc::{AllocError, Global};
 use std::process::Abort;
-use tc_cltu::{Decoder, Mode};
+use tc_edges::cltu::{Decoder, Mode};
 use test_parts::made_again;
 
 fn decoder_of(rt: &(impl Abort + Print), alloc: Global, mode: Mode) -> Decoder {

@@ -1,7 +1,7 @@
 //! Telemetry frames, worked out by hand. The check sum is from Python's `binascii.crc_hqx(.., 0xffff)`.
 
 use std::alloc::{AllocError, Global};
-use tc_tm::{Counts, ErrorControl, TmFault, TmHeader, write_tm};
+use tc_edges::tm::{Counts, ErrorControl, TmFault, TmHeader, write_tm};
 use test_parts::made_again;
 
 const HEADER: TmHeader = TmHeader {

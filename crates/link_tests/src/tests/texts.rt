@@ -1,9 +1,9 @@
 //! The text of each fault.
 
-use tc_cltu::CltuFault;
+use tc_edges::cltu::CltuFault;
+use tc_edges::tm::{TmFault, TmReadFault};
 use tc_link::{FrameFault, WriteFault};
 use tc_packet::NoMemory;
-use tc_tm::{TmFault, TmReadFault};
 use test_parts::have_texts;
 
 static FRAME_FAULTS: [(FrameFault, &str); 5] = [

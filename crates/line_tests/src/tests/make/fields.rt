@@ -2,7 +2,7 @@
 //! the check sums.
 
 use std::alloc::Global;
-use tc_fecf::{FieldFault, with_field, without_field};
+use tc_edges::fecf::{FieldFault, with_field, without_field};
 use tc_link::FrameFault;
 
 // Pairs of a frame without and with its frame error control field.

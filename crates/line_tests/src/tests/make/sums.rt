@@ -1,6 +1,6 @@
 //! Check sums of octets. Each is the result of Python's `binascii.crc_hqx(bytes.fromhex(digits), 0xffff)`.
 
-use tc_fecf::{checksum, passes};
+use tc_edges::fecf::{checksum, passes};
 
 const SUMS: [(&str, u16); 14] = [
     ("", 0xffff),

@@ -1,6 +1,6 @@
 //! The text of each reason and each fault.
 
-use tc_fecf::FieldFault;
+use tc_edges::fecf::FieldFault;
 use tc_link::FrameFault;
 use tc_make::{Form, Number, Reason, ServingFault};
 use test_parts::have_texts;

@@ -1,6 +1,6 @@
 use Rattle.tc_c.proofs.Names.{◌≡◌, Some, take, refl, ap, sym, ◌∙◌, arith, length-take-le, decoded, Step, corrections_of, overruns_of, block-state, block-counted}
-use Rattle.tc_cltu.specs.Reception.{fate_in}
-use Rattle.tc_cltu.specs.declared.block.Fate.{Fate}
+use Rattle.tc_edges.specs.Cltu.Reception.{fate_in}
+use Rattle.tc_edges.specs.declared.cltu.block.Fate.{Fate}
 use Rattle.tc_c.proofs.Receiving.{accepted, accepted-fate, accepted-counts}
 use Rattle.tc_c.proofs.decoder.accept_block.Goals as goal
 

@@ -2,7 +2,7 @@
 use Rattle.tc_link.specs.declared.frame.FrameFault.TheVariants as frames
 use Rattle.tc_link.specs.declared.location.LocateFault.TheVariants as locations
 use Rattle.tc_link.specs.declared.writing.WriteFault.TheVariants as writing
-use Rattle.tc_fecf.specs.declared.frames.FieldFault.TheVariants as fields
+use Rattle.tc_edges.specs.declared.fecf.frames.FieldFault.TheVariants as fields
 use Rattle.tc_queues.specs.declared.settings.SettingsFault.TheVariants as settings
 use Rattle.tc_fixed.specs.declared.limits.LimitsFault.TheVariants as limits
 use Rattle.std.proofs.Common.{refl}

@@ -15,7 +15,7 @@ returns-in-Ok-clause-closed c = record {
   there = c.in-Ok.channels.items;
   closed = c.in-Ok.ensures.closed;
   all = c.sort_unstable_by_key.ensures.permutation;
-  rising = IsNonDecreasingBy-from_sort_by_key vcid_of _ c.sort_unstable_by_key.ensures.sorted (λ a r q k. search rules);
+  ordered = IsNonDecreasingBy-from_sort_by_key vcid_of _ c.sort_unstable_by_key.ensures.sorted (λ a r q k. search rules);
 }
 
 pub returns-in-Ok-clause-reported : goal.returns-in-Ok-clause-reported

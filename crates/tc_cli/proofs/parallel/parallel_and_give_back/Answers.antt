@@ -11,4 +11,4 @@ returns-in_err-script-clause-cause g c = search (rules, read-cause)
 
 pub returns-in-Ok-flush-clause-written : goal.returns-in-Ok-flush-clause-written
 returns-in-Ok-flush-clause-written g c =
-    parallel-written c.the_workers_report_is_that_of_the_lines_in_order.ensures _ c.args.scid _ _ c.in_ok-channels.channels.items _ _ _ _ c.as_slice.ensures.value c.in_ok-script.ensures.whole c.deref.ensures.value c.in_ok-channels.ensures.worked c.in_ok-channels.ensures.rising c.in_ok-channels.ensures.reported c.in-Ok.ensures.lawful c.in-Ok.ensures.written c.flush.ensures.bytes
+    parallel-written c.the_workers_report_is_that_of_the_lines_in_order.ensures _ c.args.scid _ _ c.in_ok-channels.channels.items _ _ _ _ c.as_slice.ensures.value c.in_ok-script.ensures.whole c.deref.ensures.value c.in_ok-channels.ensures.worked c.in_ok-channels.ensures.ordered c.in_ok-channels.ensures.reported c.in-Ok.ensures.lawful c.in-Ok.ensures.written c.flush.ensures.bytes

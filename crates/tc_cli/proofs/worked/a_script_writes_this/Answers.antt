@@ -1,5 +1,5 @@
 use Rattle.std.proofs.Common.{take, drop, get_or, ◌≡◌, ◌≢◌, ℕ, zero, suc, ◌+◌, ◌<◌, ◌≤◌, Bool, true, false, eqb, ltb, ◌&&◌, List, [], ◌∷◌, ◌++◌, Option, Some, None, refl, sym, ◌∙◌, subst, inl, inr, lit<, lit≤, arith, All, AllPairs, codes, not}
-use Rattle.tc_cli.proofs.Names.{Answer, AreAnswers, AreRising, Empty, Event, History, IsFirstLine, IsLawfulHistory, IsLineAnswered, IsNumberReported, IsPerformed, IsScriptReport, Linked, NoMap, NoQueue, Operating, Progress, Racked, SettingUp, Settings, at_first, length-append, one_more}
+use Rattle.tc_cli.proofs.Names.{Answer, AreAnswers, AreNonDecreasing, Empty, Event, History, IsFirstLine, IsLawfulHistory, IsLineAnswered, IsNumberReported, IsPerformed, IsScriptReport, Linked, NoMap, NoQueue, Operating, Progress, Racked, SettingUp, Settings, at_first, length-append, one_more}
 use Rattle.std.specs.Fmt.{digits}
 use Rattle.std.specs.List.{flat_map}
 use Rattle.std.proofs.lemmas.Bool.{eq-eqb}
@@ -59,7 +59,7 @@ none-apart R i j d before inside = absurd (omega arith)
 one-apart : {A : Type 0} (R : A → A → Type 0) (one : A) → AllPairs R (one ∷ [])
 one-apart R one i j d before inside = absurd (omega arith)
 
-one-rising : (one : History) → AreRising (one ∷ [])
+one-rising : (one : History) → AreNonDecreasing (one ∷ [])
 one-rising one zero zero d le inside = omega arith
 one-rising one (suc i) zero d le inside = absurd (omega arith)
 one-rising one i (suc j) d le inside = absurd (omega arith)
@@ -242,7 +242,7 @@ reported =
       own ∷ [],
       record { moves = []; below = tt; is = refl },
       record {
-        rising = one-rising own;
+        ordered = one-rising own;
         reported = one-of IsNumberReported own (lit< tt);
         lawful = one-of IsLawfulHistory own (allowed-all, lawful);
         written = refl;

@@ -1,7 +1,7 @@
 use Rattle.tc_make.proofs.Names.{List, [], ap, arith, on_ok_weaker, refl, subst, ℕ, ◌+◌, ◌∙◌, ◌≡◌}
-use Rattle.tc_cltu.specs.declared.block.Mode.{Mode}
-use Rattle.tc_cltu.specs.Reception.{state_after, corrections_of, rejections_of, overruns_of, corrected_in, rejected_in, overlong_in}
-use Rattle.tc_cltu.proofs.Decoding.{one-counted}
+use Rattle.tc_edges.specs.declared.cltu.block.Mode.{Mode}
+use Rattle.tc_edges.specs.Cltu.Reception.{state_after, corrections_of, rejections_of, overruns_of, corrected_in, rejected_in, overlong_in}
+use Rattle.tc_edges.proofs.CltuLemmas.Decoding.{one-counted}
 use Rattle.tc_make.proofs.Fed.{IsSoFar, some-fed, all-fed}
 use Rattle.tc_make.proofs.decoders.write_fed.Goals as goal
 

@@ -1,5 +1,5 @@
 use Rattle.std.proofs.Common.{◌≡◌, ◌+◌, ◌≤◌, length}
-use Rattle.tc_cltu.specs.Reception.{state_after, corrected_in, rejected_in, overlong_in}
+use Rattle.tc_edges.specs.Cltu.Reception.{state_after, corrected_in, rejected_in, overlong_in}
 use Rattle.tc_make.proofs.Fed.{IsSoFar}
 use Rattle.tc_make.proofs.decoders.write_fed.Given as goal
 

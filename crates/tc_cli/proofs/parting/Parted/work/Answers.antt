@@ -31,8 +31,8 @@ not-closed station after lists given n lines line befores operators fault none c
 pub close-requires : goal.close-requires
 close-requires g c = record { ours = c.work.ensures.ours }
 
-pub returns-in-Ok-work-clause-rising : goal.returns-in-Ok-work-clause-rising
-returns-in-Ok-work-clause-rising g c = IfOk-weaker c.close.result _ _ (λ channels closed. closed.rising) c.close.ensures.closed
+pub returns-in-Ok-work-clause-ordered : goal.returns-in-Ok-work-clause-ordered
+returns-in-Ok-work-clause-ordered g c = IfOk-weaker c.close.result _ _ (λ channels closed. closed.ordered) c.close.ensures.closed
 
 pub returns-in-Ok-work-clause-worked : goal.returns-in-Ok-work-clause-worked
 returns-in-Ok-work-clause-worked g c =

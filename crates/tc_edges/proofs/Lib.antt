@@ -1,0 +1,4 @@
+pub mod FecfLemmas
+pub mod CltuLemmas
+pub mod TmLemmas
+pub mod WriteLemmas

@@ -1,0 +1,4 @@
+pub mod Fecf
+pub mod Cltu
+pub mod Tm
+pub mod Write

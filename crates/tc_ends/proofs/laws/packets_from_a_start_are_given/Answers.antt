@@ -1,5 +1,0 @@
-use Rattle.tc_ends.proofs.Started.{packets-of-start}
-use Rattle.tc_ends.proofs.laws.packets_from_a_start_are_given.Goals as goal
-
-pub returns : goal.returns
-returns c = packets-of-start c.the_segments_of_a_unit_make_the_unit.ensures

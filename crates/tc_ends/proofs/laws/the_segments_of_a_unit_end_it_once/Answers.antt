@@ -1,5 +1,0 @@
-use Rattle.tc_ends.proofs.Segmented.{ends-once}
-use Rattle.tc_ends.proofs.laws.the_segments_of_a_unit_end_it_once.Goals as goal
-
-pub returns : goal.returns
-returns c = ends-once c.the_segments_of_a_unit_make_the_unit.ensures

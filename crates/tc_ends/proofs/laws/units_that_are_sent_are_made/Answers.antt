@@ -1,5 +1,0 @@
-use Rattle.tc_ends.proofs.Chosen.{units-arrive}
-use Rattle.tc_ends.proofs.laws.units_that_are_sent_are_made.Goals as goal
-
-pub returns : goal.returns
-returns c = units-arrive c.the_segments_of_a_unit_make_the_unit.ensures

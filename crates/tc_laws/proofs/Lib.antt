@@ -1,0 +1,2 @@
+pub mod LoopsLemmas
+pub mod EndsLemmas

@@ -1,8 +1,0 @@
--- Lemmas with which the tactic `auto` closes the laws that have no Answers.antt.
-use Rattle.tc_loop.proofs.Counted.{in-order, passed-on}
-use Rattle.tc_loop.proofs.Open.{place-inside, stays-open}
-use Rattle.tc_loop.proofs.Onward.{by-rounds, goes-on}
-use Rattle.tc_loop.proofs.Started.{is-loop, journal-whole, known-in-era}
-use Rattle.tc_loop.proofs.Watched.{hears-so, knows-so, sends-so}
-
-pub ruleset laws = (in-order, passed-on, place-inside, stays-open, by-rounds, goes-on, is-loop, journal-whole, known-in-era, hears-so, knows-so, sends-so)

@@ -1,4 +1,0 @@
-pub mod Names
-pub mod Additions
-pub mod ApidEntries
-pub mod Configurations

@@ -1,3 +1,0 @@
-pub mod Configuration
-pub mod Instruction
-pub mod Phase

@@ -1,4 +1,0 @@
-mod Units
-pub mod Frames
-mod Headers
-mod Ends
