@@ -1,0 +1,5 @@
+pub mod Sending
+pub mod Knowing
+pub mod Timely
+pub mod Examined
+pub mod Judged
