@@ -208,7 +208,10 @@ static inline int answer_line(const char *begin, bool is_strict) {
     if (status != GO_ON || !is_strict) {
         return status;
     }
-    return is_bad(answer.length) ? fail(begin, "a line is bad, and no later line was answered") : is_written() ? GO_ON : fail(begin, "cannot write");
+    if (!is_bad(answer.length)) {
+        return GO_ON;
+    }
+    return fail(begin, is_written() ? "a line is bad, and no later line was answered" : "cannot write");
 }
 
 /* Adds octets to the line. Octets beyond the room are dropped, because the line is too long in any case. */
@@ -232,8 +235,11 @@ static inline int answer_all(const char *begin, bool is_strict, const uint8_t *a
     return GO_ON;
 }
 
-/* Answers standard input. The lines of one read are answered before the next read. */
+/* Answers standard input. The lines of one read are answered before the next read. Their answers are written at once, unless they are
+ * longer than the buffer. */
 static inline int answer_input(const char *begin, bool is_strict) {
+    static char answers[524288];
+    setvbuf(stdout, answers, _IOFBF, sizeof answers);
     for (;;) {
         const ssize_t came = read(STDIN_FILENO, chunk, sizeof chunk);
         if (came < 0 && errno == EINTR) {

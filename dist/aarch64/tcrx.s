@@ -2896,9 +2896,9 @@ tc_fixed.limits.LentLimits.check:
 613:
 	mov	w10, #6
 	b	187b
-	.section	.text.tc_write.fields.check_taking,"ax",@progbits
+	.section	.text.tc_edges.write.fields.check_taking,"ax",@progbits
 	.p2align	2
-tc_write.fields.check_taking:
+tc_edges.write.fields.check_taking:
 	cmp	x2, #5
 	b.hs	602f
 	mov	w10, #1
@@ -3371,7 +3371,7 @@ tc_c.rack.bring_checked:
 	stp	xzr, xzr, [x25]
 	strh	wzr, [sp, #12]
 	strb	wzr, [sp, #14]
-	bl	tc_write.fields.check_taking
+	bl	tc_edges.write.fields.check_taking
 	ldrb	w8, [sp, #12]
 	cmp	w8, #1
 	b.ne	62f
@@ -5662,7 +5662,7 @@ tcrx_check_fecf_at:
 	strb	wzr, [x29, #30]
 	csel	x27, x8, xzr, eq
 	strh	wzr, [x29, #28]
-	bl	tc_write.fields.check_taking
+	bl	tc_edges.write.fields.check_taking
 	ldrb	w8, [x29, #28]
 	cmp	w8, #1
 	b.ne	625f
