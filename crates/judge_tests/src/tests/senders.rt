@@ -59,16 +59,14 @@ fn judge(
     made
 }
 
-// Notes what a word says, and returns the verdict.
-fn note(rt: &impl Abort, judge: &mut SenderJudge, word: &[u8]) -> SenderVerdict {
-    let mut octets = [0; 1];
-    assert!(rt; hex::decode_to_slice(&word[..2], &mut octets).is_ok());
-    match word[2] {
-        b'a' => judge.arrived(octets[0], true, &[0]),
-        b'r' => judge.arrived(octets[0], false, &[0]),
-        b'm' => judge.made(octets[0]),
+// Notes what the third octet of a word says about a number, and returns the verdict.
+fn note(judge: &mut SenderJudge, number: u8, noted: u8) -> SenderVerdict {
+    match noted {
+        b'a' => judge.arrived(number, true, &[0]),
+        b'r' => judge.arrived(number, false, &[0]),
+        b'm' => judge.made(number),
         _ => {
-            judge.set(octets[0]);
+            judge.set(number);
             SenderVerdict::Explained
         }
     }
@@ -80,13 +78,15 @@ fn growth_of_a_judge_of_senders(rt: HostRuntime) {
         let mut judge = judge(&rt, rt.alloc(), account.window, account.vr).expect(&rt, "memory");
         for word in account.words.split(' ') {
             let word = word.as_bytes();
+            let mut number = [0; 1];
             assert!(rt; word.len() == 4);
+            assert!(rt; hex::decode_to_slice(&word[..2], &mut number).is_ok());
             let expected = match word[3] {
                 b'e' => SenderVerdict::Explained,
                 b'b' => SenderVerdict::Breach,
                 _ => SenderVerdict::Contradictory,
             };
-            assert_eq!(rt; note(&rt, &mut judge, word), expected);
+            assert_eq!(rt; note(&mut judge, number[0], word[2]), expected);
         }
     }
 }
