@@ -5,3 +5,10 @@ mod GivenOut
 mod Merged
 mod Spelled
 mod Scripts
+mod Woven
+mod Owners
+mod Filled
+mod Brought
+mod Calls
+mod ClosedCourse
+mod Worked

@@ -1,3 +1,5 @@
 pub mod Apart
+pub mod Examples
 pub mod Making
 pub mod Sessions
+pub mod Threads

@@ -3,9 +3,9 @@
 //! ([`channels_of_a_script_do_not_touch_each_other`]), and about the channels that the close of a station returns
 //! ([`channels_of_a_station_do_not_touch_each_other`]).
 //!
-//! Three more laws are about programs and threads. [`a_station_gives_out_what_a_loop_sent`] covers the way from a
-//! sender's packets to the packets that are taken, through a station at which any threads work.
-//! [`a_session_does_a_script_as_tcrx_does`] states that a session carries out a script as `tcrx run` does.
+//! Three more laws are about programs and threads. [`a_thread_that_brings_all_frames_makes_a_loop`] covers the way from a
+//! sender's frames to the packets that are taken, if one thread brings the frames to a station at which any threads
+//! work. [`a_session_does_a_script_as_tcrx_does`] states that a session carries out a script as `tcrx run` does.
 //! [`tcmake_writes_numbered_frames`] is about the frames that `tcmake` writes for a sender's units.
 #![tactic(auto)]
 
@@ -20,4 +20,7 @@ pub use laws::{
 };
 pub use making::tcmake_writes_numbered_frames;
 pub use sessions::a_session_does_a_script_as_tcrx_does;
-pub use threads::a_station_gives_out_what_a_loop_sent;
+pub use threads::{
+    a_course_comes_to_this, a_thread_that_brings_all_frames_makes_a_loop,
+    calls_without_an_event_fit_a_course,
+};
