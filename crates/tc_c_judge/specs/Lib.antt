@@ -1,0 +1,9 @@
+pub mod Held
+pub mod Place
+pub mod Lending
+pub mod Start
+pub mod Settings
+pub mod Records
+pub mod Receivers
+pub mod Senders
+pub mod Storage
