@@ -163,16 +163,16 @@ class LineReceiver:
         """Brings octets that arrive, with the frame at their front. There is no line for no octets at all, so a single
         octet is brought in that case, which is refused in the same way. With the frame error control field, every fault
         of the octets is `CHECK`."""
-        return self._bring("frame", octets)
+        return self._bring("frame", octets, OF_FRAMES)
 
     def candidate(self, octets: Octets) -> Union[Brought, Refused]:
         """Brings the octets that a CLTU carried: a frame, and fill behind it, which is left out. The frame is as long as
-        its length field says."""
-        return self._bring("candidate", octets)
+        its length field says. If more than fill follows it, the candidate is refused by `MORE`."""
+        return self._bring("candidate", octets, OF_FRAMES | {Refusal.MORE})
 
-    def _bring(self, word: str, octets: Octets) -> Union[Brought, Refused]:
-        """Brings octets by a line that begins with this word."""
-        return self._operate(f"{word} {octets_of(octets).hex() or '00'}", rf"frame {NUMBER} (E[1-9]) accepted ([01]) {COUNTS}", OF_FRAMES,
+    def _bring(self, word: str, octets: Octets, refusals: FrozenSet[Refusal]) -> Union[Brought, Refused]:
+        """Brings octets by a line that begins with this word, which may get one of these refusals."""
+        return self._operate(f"{word} {octets_of(octets).hex() or '00'}", rf"frame {NUMBER} (E[1-9]) accepted ([01]) {COUNTS}", refusals,
                              lambda found: Brought(int(found[1]), Event(found[2]), found[3] == "1", delivery_of(*found.groups()[3:])))
 
     def release(self, vcid: int) -> Union[Released, Refused]:

@@ -65,6 +65,7 @@ class Refusal(enum.Enum):
     SPARE = "spare"
     LENGTH = "length"
     TRUNCATED = "truncated"
+    MORE = "more"
     CHECK = "check"
     SPACECRAFT = "spacecraft"
     CHANNEL = "channel"
