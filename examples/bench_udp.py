@@ -32,6 +32,10 @@ class Remote:
         self.frames = socket.socket(socket.AF_INET, socket.SOCK_DGRAM if "tc-udp" in ports else socket.SOCK_STREAM)
         self.frames.connect(("127.0.0.1", ports["tc-udp" if "tc-udp" in ports else "tc-tcp"]))
         self.packets_link = socket.create_connection(("127.0.0.1", ports["packets-tcp"]), 60)
+        # Connections are accepted in their order. So when a line is answered, packets are sent to the connection above, and none is missed.
+        with socket.create_connection(("127.0.0.1", ports["lines"]), 60) as lines:
+            lines.sendall(b"clcw 1\n")
+            lines.recv(99)
         self.left = b""
 
     def bring(self, octets: bytes) -> None:
@@ -77,7 +81,7 @@ def start(fecf: bool, words: Sequence[str] = PORTS,
         setup.write("channel 1 20 4 0\nqueue 1 5 4\n")
         setup.flush()
         given: List[str] = [sys.executable, str(TOP / "clients/python/tcrx_bench.py"), "--scid", "42", "--setup", setup.name, "--packets-tcp", "0",
-                            *["--fecf"] * fecf, *(word.replace("PLACE", f"127.0.0.1:{clcws.getsockname()[1]}") for word in words)]
+                            "--lines", "0", *["--fecf"] * fecf, *(word.replace("PLACE", f"127.0.0.1:{clcws.getsockname()[1]}") for word in words)]
         with subprocess.Popen(given, stdout=subprocess.PIPE, text=True) as child:
             assert child.stdout
             ports: Dict[str, int] = {}
