@@ -1,23 +1,17 @@
-"""Defines the parts that the checks of the client in Python share: comparisons, octets in the standard's layout, and programs that run beside a
-check."""
+"""Defines the parts that the checks of the client in Python share: comparisons, and octets in the standard's layout."""
 from __future__ import annotations
 
-import subprocess
 import sys
-from collections.abc import Sequence
-from pathlib import Path
 from typing import Any, Callable
 
-from comparing import TOP, begun, expect
+from comparing import TOP, expect
 
 CLIENT = TOP / "clients/python"
 sys.path.insert(0, str(CLIENT))
 # pylint: disable-next=wrong-import-position  # the client is found by the path above
-from tcrx import BadLine, Clcw, Delivery  # noqa: E402
+from tcrx import Clcw, Delivery  # noqa: E402
 
 NOTHING = Delivery(0, 0, False)
-# A function that starts a receiver. A check compares the receiver's answers whatever their type is.
-Start = Callable[..., Any]
 
 
 def same(answer: object, wanted: object, what: str) -> None:
@@ -35,19 +29,6 @@ def raises(kind: type[BaseException], call: Callable[..., object], what: str) ->
         return fault
     expect(False, f"{what}: {answer!r}, and no {kind.__name__}")
     return None
-
-
-def has_reason(call: Callable[..., object], reason: str, what: str) -> None:
-    """Checks that a call raises `BadLine` with this reason."""
-    # pylint: disable=no-member  # raises() returns an exception of the given type
-    fault = raises(BadLine, call, what)
-    expect(fault and fault.reason == reason and reason in str(fault) and fault.line, f"{what}: {fault!r}, and not {reason}")
-
-
-def begin(words: Sequence[str | Path], **streams: Any) -> subprocess.Popen[Any]:
-    """Starts a program beside the check. attempt() kills it if it is still running at the end of the part that started it."""
-    begun.append(subprocess.Popen(words, **streams))  # pylint: disable=consider-using-with  # attempt() ends it
-    return begun[-1]
 
 
 # --- Octets in the standard's layout (docs/reference/formats.md) ---

@@ -1,6 +1,6 @@
 # shellcheck shell=bash
-# Makes a folder for temporary files, counts comparisons, starts programs and compares how they ended, and prints a check's last line. The
-# checks in Bash source this file in the top folder of the tree. A check may define `start` and `show` anew.
+# Makes a folder for temporary files, counts comparisons, shows how a program ended, and prints a check's last line. The checks in Bash
+# source this file in the top folder of the tree. A check may define `show` anew.
 work=$(mktemp -d)
 trap 'rm -rf "$work"' EXIT
 passed=0
@@ -8,10 +8,7 @@ failed=0
 skipped=
 # The launcher of the programs builds nothing during a check.
 export TCRX_BUILD=no
-need() { [ -n "${TCRX_PROGRAMS:-}" ] || tools/launch --build "$@" >&2 || { echo "$0: nothing was compared"; exit 70; }; }
-# With TCRX_PROGRAMS=FOLDER a check compares the programs there, in place of those that are proved and built here. Their messages about a
-# wrong command line may differ. Their version, their message about a word that isn't UTF-8, and their exit status may not.
-stands_in() { [ -n "${TCRX_PROGRAMS:-}" ]; }
+need() { tools/launch --build "$@" >&2 || { echo "$0: nothing was compared"; exit 70; }; }
 
 # Counts a comparison: expect TITLE COMMAND... The command must succeed. If it fails, the end of what it printed is shown, and then what
 # `show` prints.
@@ -63,31 +60,12 @@ close() {
   [ "$failed" = 0 ] && { [ "$passed" -gt 0 ] || [ -n "$skipped" ]; }
 }
 
-# Starts the program with these words. If `to` names a file, standard output goes there, and `$work/out` is empty.
-start() {
-  status=0
-  : >"$work/out"
-  "${program:?}" "$@" >"${to:-$work/out}" 2>"$work/error" || status=$?
-}
+# Prints how the program ended whose status is in `status`, and whose streams are in `$work/out` and `$work/error`.
 show_ended() {
   echo "status ${status:-none}, and on standard output and standard error:"
   cat "$work/out" "$work/error"
 }
 
-# These succeed if the program ended in the following ways:
-# has_ended_with STATUS TEXT TEXT: with this status, and exactly these texts on standard output and standard error
-# silent: with nothing on standard error
-# says WORDS: with these words on standard error
-# has_helped WORDS: with status 0, these words on standard output, and nothing on standard error
-# has_refused: with status 2, nothing on standard output, and a text on standard error
-has_ended_with() { [ "$status" = "$1" ] && cmp -s "$work/out" <(printf %s "$2") && cmp -s "$work/error" <(printf %s "$3"); }
+# These succeed if the program's standard error is empty, and if it has these words: says WORDS.
 silent() { [ ! -s "$work/error" ]; }
 says() { grep -qF -- "$1" "$work/error"; }
-has_helped() { [ "$status" = 0 ] && grep -qF -- "$1" "$work/out" && silent; }
-has_refused() { [ "$status" = 2 ] && [ ! -s "$work/out" ] && ! silent; }
-
-# These start the program and count a comparison of how it ended:
-# ends_with STATUS TEXT TEXT WORD..., helps TEXT WORD..., is_refused WORD...
-ends_with() { start "${@:4}" && expect "${program##*/} ${*:4}" has_ended_with "${@:1:3}"; }
-helps() { start "${@:2}" </dev/null && expect "${program##*/} ${*:2}, with $1" has_helped "$1"; }
-is_refused() { start "$@" </dev/null && expect "${program##*/} $*" has_refused; }

@@ -30,8 +30,6 @@ PATIENCE, LONGEST = 60, 900
 counted: Counter[bool] = Counter()
 # The parts that were left out because a program isn't installed, each with the number of its comparisons.
 skipped: List[str] = []
-# The comparisons that depend on the clock, which other work may delay, each with the number of tries that it took, or 0 if it failed.
-timed: Dict[str, int] = {}
 # The programs that run beside the check. They are killed if a part of it leaves them behind.
 begun: List[subprocess.Popen[Any]] = []
 
@@ -111,12 +109,6 @@ def skip(name: str, count: int) -> None:
     """Notes a part that is left out, with the number of its comparisons. .ci/run lowers the check's minimum by this number. If a part is
     left out because a command is missing, `name` must be that of the command. .ci/run then sees whether it is really missing."""
     skipped.append(f"{name} ({count})")
-
-
-def in_time(what: str, holds: Callable[[], object]) -> None:
-    """Counts a comparison that depends on the clock. It passes if one of three tries does. The last line of the check names it."""
-    timed[what] = next((tried for tried in (1, 2, 3) if holds()), 0)
-    expect(timed[what], f"{what}: not in three tries")
 
 
 def until(true: Callable[[], object], seconds: float = PATIENCE) -> bool:
@@ -201,9 +193,7 @@ def attempt(check: Callable[..., None], *given: object, keep: bool = False, long
 
 
 def close(of: str = "") -> int:
-    """Prints the last line: how many comparisons passed and failed, which ones depended on the clock, and which parts were left out. Returns
-    the exit status."""
-    again = f"; by the clock: {', '.join(f'{what} (tries: {tries})' for what, tries in timed.items())}" if timed else ""
+    """Prints the last line: how many comparisons passed and failed, and which parts were left out. Returns the exit status."""
     left = f"; skipped: {', '.join(skipped)}" if skipped else ""
-    print(f"{of or NAME}: {counted[True]} passed, {counted[False]} failed{again}{left}")
+    print(f"{of or NAME}: {counted[True]} passed, {counted[False]} failed{left}")
     return 1 if counted[False] or not (counted[True] or skipped) else 0

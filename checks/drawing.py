@@ -1,12 +1,20 @@
+#!/usr/bin/env python3
 """Draws scripts at random. The model carries out each line as it is drawn, so that the next line can fit the state of the receiver: it can send
-the frame that is expected, complete a unit, or fill a queue. The module also counts, by the model and its answers, what scripts reach."""
+the frame that is expected, complete a unit, or fill a queue. The module also counts, by the model and its answers, what scripts reach.
+
+usage: checks/drawing.py [--seed N] [--scripts N] FOLDER    adds drawn scripts without a bad line to the stored cases in FOLDER
+
+It prints the seed. With the seed that an earlier run printed, it draws the same scripts again.
+"""
 from __future__ import annotations
 
+import argparse
 import random
 import re
 from collections import Counter
 from functools import lru_cache, partial
-from typing import Callable, Counter as Count, List, NamedTuple, Tuple
+from pathlib import Path
+from typing import Callable, Counter as Count, Dict, List, NamedTuple, Tuple
 
 from model import LARGEST_UNIT, LONGEST_LINE, LONGEST_SCRIPT, OPERATIONS, SETTINGS, BadLine, Outcome, Receiver, VirtualChannel, perform
 
@@ -204,7 +212,7 @@ def tour(drawer: Drawer) -> None:
 
 
 def each_row(drawer: Drawer) -> None:
-    """Adds lines that meet each row of FARM-1's table in each state, and a `clcw` after each of them."""
+    """Adds lines that meet each row of FARM-1's table in each state. After each of them adds a `clcw`, and for tclive a `report`."""
     channel = drawer.channel(drawer.chance.randrange(64), width=drawer.chance.choice((4, 10, 252)), places=1)
     half = channel.farm.width // 2
     kinds = {"expected": (0x00, 0), "ahead": (0x00, half - 1), "behind": (0x00, -half), "outside": (0x00, half), "bypass": (0x20, 0),
@@ -215,7 +223,23 @@ def each_row(drawer: Drawer) -> None:
         field = UNLOCK if what == "unlock" else SET_VR + b"\x07" if what == "set" else drawer.field(channel)
         first, beside = kinds.get(what, (0, 0))
         drawer.add(f"frame {drawer.octets(first, channel.vcid, channel.farm.vr + beside, field).hex()}" if what in kinds else f"{what} {channel.vcid}")
-        drawer.add(f"clcw {channel.vcid}")
+        for report in ("clcw", "report") if drawer.live else ("clcw",):
+            drawer.add(f"{report} {channel.vcid}")
+
+
+def each_refusal(drawer: Drawer) -> None:
+    """Adds lines that are refused for each reason of REFUSALS, and operations after them."""
+    vcid, other = drawer.chance.sample(range(64), 2)
+    for line in (f"channel {vcid} 10 1 0", f"queue {vcid} 5 1", f"map {vcid} 3 1"):
+        drawer.add(line)
+    good = drawer.octets(0x20, vcid, 0, b"\xc0" + drawer.chance.randbytes(9))
+    changed = [bytes([good[0] ^ bit]) + good[1:] for bit in (0x40, 0x04, 0x01)]
+    for octets in (good[:4], *changed, good[:3] + b"\x03" + good[4:], good[:-1], drawer.octets(0x20, other, 0, UNLOCK)):
+        drawer.add(f"frame {octets.hex()}")
+    for line in ("release {}", "take {} 5", "take {} 6", "unit {} 3", "unit {} 4", "clcw {}"):
+        for place in (vcid, other):
+            drawer.add(line.format(place))
+    drawer.operate(5)
 
 
 def many_channels(drawer: Drawer) -> None:
@@ -393,27 +417,28 @@ def fault(drawer: Drawer, reason: str) -> None:
     drawer.add(chance.choice(("clcw 1", "clcw", "frame 0")))
 
 
-SPECIAL: Tuple[Callable[[Drawer], None], ...] = (
-    each_row, each_row, each_row, many_channels, at_bounds, full_buffer, partial(full_queues, most=True), partial(full_queues, most=False),
-    partial(long_unit, beyond=0), partial(long_unit, beyond=1), partial(long_unit, beyond=-1),
-    long_lines, partial(long_script, beyond=0), partial(long_script, beyond=1),
-    *(partial(beyond_bounds, command=command, at=at) for command, bounds in NUMBERS.items() for at in range(len(bounds))))
-REPEATED = 3
+def out_of_range(command: str, at: int) -> Callable[[Drawer], None]:
+    """Returns the drawing of a script for `beyond_bounds`."""
+    return partial(beyond_bounds, command=command, at=at)
 
 
-def draw(seed: int, count: int, live: bool = False) -> List[Script]:
-    """Draws `count` scripts. The first ones are for the bounds, the next ones are for the reasons, and all others are tours."""
-    drawn = []
-    for place in range(count):
-        drawer = Drawer(random.Random(f"{seed} {place}"), live)
-        if place < len(SPECIAL):
-            SPECIAL[place](drawer)
-        elif place < len(SPECIAL) + REPEATED * len(BAD):
-            fault(drawer, BAD[(place - len(SPECIAL)) % len(BAD)])
-        else:
-            tour(drawer)
-        drawn.append(Script(drawer.scid, tuple(drawer.lines), live))
-    return drawn
+# How scripts are drawn for a bound, for the rows of FARM-1, or for the reason of a bad line, by what they are for.
+SPECIAL: Dict[str, Callable[[Drawer], None]] = {
+    "each row": each_row, "each refusal": each_refusal, "all channels": many_channels, "several bounds": at_bounds,
+    "a full buffer": full_buffer, "queues of 256": partial(full_queues, most=True), "full queues": partial(full_queues, most=False),
+    "a nearly longest unit": partial(long_unit, beyond=-1), "a longest unit": partial(long_unit, beyond=0),
+    "a longer unit": partial(long_unit, beyond=1), "longest lines": long_lines,
+    "a longest script": partial(long_script, beyond=0), "a longer script": partial(long_script, beyond=1),
+    **{f"a large number: {command}, word {at}": out_of_range(command, at) for command, most in NUMBERS.items() for at in range(len(most))},
+    **{f"a bad line: {reason}": partial(fault, reason=reason) for reason in BAD}}
+
+
+@lru_cache(maxsize=None)
+def draw(kind: str, seed: int, live: bool = False) -> Script:
+    """Draws a script of a kind, which is one of SPECIAL or a tour."""
+    drawer = Drawer(random.Random(f"{kind} {seed}"), live)
+    SPECIAL.get(kind, tour)(drawer)
+    return Script(drawer.scid, tuple(drawer.lines), live)
 
 
 def shortened(script: Script, differs: Callable[[Script], bool], tries: int = 300) -> Script:
@@ -433,3 +458,29 @@ def shortened(script: Script, differs: Callable[[Script], bool], tries: int = 30
             break
         size = max(1, size // 2)
     return script
+
+
+def keep(folder: Path, scripts: List[Script]) -> None:
+    """Adds the scripts without a bad line to a folder, in the form of stored conformance cases."""
+    with open(folder / "index", "a", encoding="ascii") as index:
+        for place, script in enumerate(script for script in scripts if not script.outcome.fault):
+            answers = "".join(f"{line}\n" for line in script.outcome.answers + script.outcome.report)
+            (folder / f"drawn-{place}.script").write_bytes(script.octets)
+            (folder / f"drawn-{place}.out").write_text(answers, encoding="ascii")
+            print(f"drawn-{place} {script.scid}", file=index)
+
+
+def main() -> None:
+    """Draws scripts, one of each kind and then tours, and keeps them."""
+    parser = argparse.ArgumentParser(description="Adds drawn scripts to a folder of stored cases.")
+    parser.add_argument("folder", type=Path, metavar="FOLDER")
+    parser.add_argument("--seed", type=int, default=random.SystemRandom().randrange(1 << 32), help="the seed of the scripts")
+    parser.add_argument("--scripts", type=int, default=160, metavar="N", help="how many scripts are drawn (160)")
+    given = parser.parse_args()
+    print(f"drawing: seed {given.seed}", flush=True)
+    kinds = [*SPECIAL, *["tour"] * given.scripts][:given.scripts]
+    keep(given.folder, [draw(kind, given.seed + place) for place, kind in enumerate(kinds)])
+
+
+if __name__ == "__main__":
+    main()

@@ -1,19 +1,10 @@
-#!/usr/bin/env python3
-"""Carries out the lines of standard input by calls of the client in Python, for checks/drawn, and prints the results in the form in which
-`tclive` answers. The client must have a call for each line. The line may be bad.
-
-usage: checks/script_in_python.py SCID
-"""
+"""Carries out the lines of a script by calls of the client in Python, and returns the results in the form in which `tclive` answers. The client
+must have a call for each line. The line may be bad."""
 from __future__ import annotations
 
-import sys
-from pathlib import Path
-from typing import Any, Callable, Dict, List, Tuple
+from typing import Any, Callable, Dict, List, Sequence, Tuple
 
-sys.dont_write_bytecode = True
-sys.path.insert(0, str(Path(__file__).resolve().parent.parent / "clients/python"))
-# pylint: disable=wrong-import-position  # the client is found by the path above
-from tcrx import BadLine, Brought, Clcw, Delivered, Final, Packet, Receiver, Refused, Report, Unit  # noqa: E402
+from tcrx import BadLine, Brought, Clcw, Delivered, Final, Packet, Receiver, Refused, Report, Unit
 
 
 def line_of(answer: Any) -> str:
@@ -40,11 +31,10 @@ def counts_of(answer: Any) -> List[Tuple[str, int, int]]:
     return [(what, key, count) for what, counts in (("queue", answer.queues), ("map", answer.maps)) for key, count in counts.items()]
 
 
-def print_final(vcid: int, final: Final) -> None:
-    """Prints the lines of a channel in the final report."""
-    print(f"final {vcid} {final.clcw.word:08x} events {final.events} buffered {final.buffered}")
-    for what, key, count in counts_of(final):
-        print(f"{what} {vcid} {key} {count}")
+def final_of(vcid: int, final: Final) -> str:
+    """Returns the lines of a channel in the final report."""
+    lines = [f"final {vcid} {final.clcw.word:08x} events {final.events} buffered {final.buffered}"]
+    return "".join(f"{line}\n" for line in [*lines, *(f"{what} {vcid} {key} {count}" for what, key, count in counts_of(final))])
 
 
 def answer_by(receiver: Receiver, words: List[str]) -> str:
@@ -64,16 +54,8 @@ def answer_by(receiver: Receiver, words: List[str]) -> str:
     return " ".join(words) + "\n" if answer is True else f"{line_of(answer)}\n"
 
 
-def main() -> None:
-    """Carries out all lines by a receiver, and prints its final report."""
-    # checks/drawn writes these lines, with one space between words.
-    lines = [line.split(" ") for line in sys.stdin.buffer.read().decode("ascii").splitlines()]
-    with Receiver(int(sys.argv[1])) as receiver:
-        for words in lines:
-            print(answer_by(receiver, words), end="")
-    for vcid, final in receiver.final.items():
-        print_final(vcid, final)
-
-
-if __name__ == "__main__":
-    main()
+def answers_of(scid: int, lines: Sequence[str]) -> str:
+    """Carries out lines, with one space between words, by a receiver. Returns the answers and the final report."""
+    with Receiver(scid) as receiver:
+        answers = [answer_by(receiver, line.split(" ")) for line in lines]
+    return "".join([*answers, *(final_of(vcid, final) for vcid, final in receiver.final.items())])

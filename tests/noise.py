@@ -8,7 +8,6 @@ import struct
 import time
 from pathlib import Path
 
-from comparing import same
 from client_parts import ONE, cltu, frame, sum_of, whole
 from peers import Peers
 from senders import IDLE, Sender
@@ -71,5 +70,5 @@ def attack(room: Path, seconds: float) -> None:
     these = Noise(room, OPTIONS, SETUP, [Sender(place, in_cltus=True) for place in range(HONEST)])
     these.carry_on([*[these.noise] * 3, these.part, these.datagrams, *[these.deaf] * 3, these.page, these.telemetry], seconds)
     events = [{event: count for event, count in channel["events"].items() if count} for channel in these.bench.state()["channels"]]
-    same(events, [{"E1": each.sent} for each in these.honest], "the frames of each channel")
+    assert events == [{"E1": each.sent} for each in these.honest]
     these.end(SAID, seconds)

@@ -12,8 +12,8 @@ from pathlib import Path
 from typing import Callable, List, Sequence
 
 from bench_parts import Bench, read_all
-from comparing import expect, same, until
-from senders import BATCH, LEFT, LONGEST_WAIT, Asker, Sender, Tally, begin, grown
+from comparing import until
+from senders import BATCH, LEFT, Asker, Sender, Tally, begin, grown
 
 # Seconds of --patience.
 PATIENT = 6
@@ -45,7 +45,8 @@ class Peers:
         return begin(go)
 
     def told(self, octets: bytes, kind: str = "tc-tcp", ends: bool = True) -> bytes:
-        """Sends octets over a connection, and returns what the bench says to it until it closes it. A peer that doesn't end its side waits in silence."""
+        """Sends octets over a connection, and returns what the bench says to it until it closes it. A peer that doesn't end its side
+        waits in silence."""
         with self.bench.connect(kind) as link:
             try:
                 link.sendall(octets)
@@ -73,37 +74,39 @@ class Peers:
         files = len(bench.open_files())
         threads = [self.begin(peer, place) for place, peer in enumerate(peers)] + [begin(asker.ask, bench, self.ended)]
         threads += [begin(sender.send, bench, self.ended, tally.numbers) for sender in self.honest]
-        memory = grown(bench, seconds)
-        self.ended.set()
+        try:
+            memory = grown(bench, seconds)
+        finally:
+            self.ended.set()
         for thread in threads:
             thread.join()
         sent = {each.apid: each.sent for each in self.honest}
-        print(f"{name}: {dict(self.turns)} turns in {seconds:.0f} s, {sum(sent.values())} frames of honest senders, {asker.count} reports of which one "
-              f"took {asker.longest:.2f} s, {memory}", flush=True)
-        expect(all(self.turns[peer.__name__] for peer in peers), f"a peer took no turn: {self.turns}")
-        same(self.wrong[:5], [], "what was said to peers")
-        same((asker.wrong[:3], asker.count > 3), ([], True), "reports that were asked for")
-        expect(asker.longest < LONGEST_WAIT, f"a report took {asker.longest:.1f} seconds")
-        expect(min(sent.values()) > BATCH and until(lambda: sum(tally.numbers.values()) >= sum(sent.values())), f"honest senders have sent {sent}")
-        same((dict(tally.numbers), tally.wrong[:3], tally.rest), (sent, [], b""), "the packets of honest senders, once and in order")
-        expect(until(lambda: len(bench.open_files()) <= files), f"{len(bench.open_files())} files are open, and {files} were")
+        print(f"{name}: {dict(self.turns)} turns in {seconds:.0f} s, {sum(sent.values())} frames of honest senders, {asker.count} reports "
+              f"of which one took {asker.longest:.2f} s, {memory}", flush=True)
+        assert all(self.turns[peer.__name__] for peer in peers), f"a peer took no turn: {self.turns}"
+        assert not self.wrong[:5]
+        asker.compare()
+        assert min(sent.values()) > BATCH, f"honest senders have sent {sent}"
+        until(lambda: sum(tally.numbers.values()) >= sum(sent.values()))
+        assert (dict(tally.numbers), tally.wrong[:3], tally.rest) == (sent, [], b""), "the packets of honest senders, once and in order"
+        assert until(lambda: len(bench.open_files()) <= files), f"{len(bench.open_files())} files are open, and {files} were"
 
     def end(self, said: str, seconds: float) -> None:
-        """Asks the bench to end after so many seconds, and looks at what it has left behind. `said` is the pattern of its lines on standard error, which
-        name a port and a peer in front."""
+        """Asks the bench to end after so many seconds, and looks at what it has left behind. `said` is the pattern of its lines on standard
+        error, which name a port and a peer in front."""
         bench = self.bench
         own = {str(bench.log), str(bench.folder / "errors")}
-        expect({name for name in bench.open_files() if name.startswith("/") and not name.startswith("/dev/")} <= own, f"open files: {bench.open_files()}")
+        assert {name for name in bench.open_files() if name.startswith("/") and not name.startswith("/dev/")} <= own
         begun = time.monotonic()
         status, _, error = bench.end()
         took = time.monotonic() - begun
-        expect(took < PATIENT + 1, f"the end took {took:.1f} seconds, and --patience is {PATIENT}")
+        assert took < PATIENT + 1
         lines = error.splitlines(keepends=True)
         # On a busy machine --patience can be over before all that was read is answered.
         is_short = took > 0.8 * PATIENT and any(map(LEFT.fullmatch, lines))
-        same(status, int(is_short), "the status")
+        assert status == int(is_short)
         # In ten seconds there are at most twenty lines, and one with the number of those that were left out.
-        expect(len(lines) < 21 * (seconds / 10 + 3), f"standard error has {len(lines)} lines")
+        assert len(lines) < 21 * (seconds / 10 + 3)
         pattern = re.compile(rf"tcrx-bench: (\S+ 127\.0\.0\.1:\d+: ({said})|\d+ more such lines weren't written)\n" + rf"|{LEFT.pattern}" * is_short)
-        same([line for line in lines if not pattern.fullmatch(line)][:3], [], "other lines on standard error")
-        same(sorted(path.name for path in bench.folder.iterdir()), ["errors", "log", "setup"], "the files of the bench")
+        assert [line for line in lines if not pattern.fullmatch(line)][:3] == []
+        assert sorted(path.name for path in bench.folder.iterdir()) == ["errors", "log", "setup"]

@@ -9,7 +9,7 @@ import struct
 from collections import Counter
 from pathlib import Path
 
-from comparing import expect, same, until
+from comparing import until
 from client_parts import ONE, UNLOCK, frame, whole
 from peers import PATIENT, Peers
 from senders import Sender
@@ -27,7 +27,8 @@ SAID = (r"octets that begin no frame: [0-9a-f]{10} at octet \d+|the connection e
 # Requests over HTTP, and the status of each answer.
 REQUESTS = [(b"\0\xff\r\n\r\n", 400), (b"GET / HTTP/9.9\r\n\r\n", 400), (b"GET\r\n\r\n", 400), (b"GET " * 99 + b"\r\n\r\n", 400),
             (b"get / HTTP/1.1\r\n\r\n", 400), (b"BREW / HTTP/1.1\r\n\r\n", 405), (b"POST / HTTP/1.1\r\nContent-Length: 999999999\r\n\r\n", 405),
-            (b"GET /../../etc/passwd HTTP/1.1\r\n\r\n", 404), (b"GET /%00 HTTP/1.1\r\n\r\n", 404), (b"GET / HTTP/1.1\r\nHost: site.example\r\n\r\n", 421),
+            (b"GET /../../etc/passwd HTTP/1.1\r\n\r\n", 404), (b"GET /%00 HTTP/1.1\r\n\r\n", 404),
+            (b"GET / HTTP/1.1\r\nHost: site.example\r\n\r\n", 421),
             (b"GET / HTTP/1.1\r\nHost: localhost\r\nHost: localhost\r\nHost: x\r\n\r\n", 421), (b"GET / HT", 408),
             (b"GET / HTTP/1.1\r\nX: " + b"x" * 9000 + b"\r\n\r\n", 431), (b"x" * 1_000_000, 431)]
 
@@ -148,8 +149,9 @@ def attack(room: Path, seconds: float) -> None:
     honest = Sender(0)
     honest.pause = 0.1
     these = RuleBreakers(room, honest)
-    these.carry_on([these.other_spacecraft, these.bad_header, these.wrong_length, these.drawn_octets, these.half_frame, these.vanishing, these.out_of_order,
-                    these.datagram, these.huge_line, these.binary_lines, these.deaf_asker, these.nonsense, these.sent_to_readers], seconds)
+    these.carry_on([these.other_spacecraft, these.bad_header, these.wrong_length, these.drawn_octets, these.half_frame, these.vanishing,
+                    these.out_of_order, these.datagram, these.huge_line, these.binary_lines, these.deaf_asker, these.nonsense,
+                    these.sent_to_readers], seconds)
     compare(these, honest)
     these.end(SAID, seconds)
     these.deaf.close()
@@ -158,12 +160,12 @@ def attack(room: Path, seconds: float) -> None:
 def compare(these: RuleBreakers, honest: Sender) -> None:
     """Compares what the bench counted with what was sent."""
     bench = these.bench
-    expect(until(lambda: sum(bench.port("tc-udp").get(count, 0) for count in ("frames", "lost")) == these.datagrams), f"not {these.datagrams} datagrams")
+    until(lambda: sum(bench.port("tc-udp").get(count, 0) for count in ("frames", "lost")) == these.datagrams)
     state, by_udp = bench.state(), bench.port("tc-udp")
+    assert by_udp["frames"] + by_udp.get("lost", 0) == these.datagrams
     first, second = ({event: count for event, count in channel["events"].items() if count} for channel in state["channels"])
-    same((first, sum(second.values())), ({"E1": honest.sent}, these.frames["any number"]), "frames of both channels")
+    assert (first, sum(second.values())) == ({"E1": honest.sent}, these.frames["any number"])
     refused = these.frames["refused"] + these.frames["drawn"] + 2 * honest.batches + by_udp["frames"]
-    same((sum(state["refused"].values()), state["frames"]), (refused, refused + honest.sent + these.frames["any number"]), "frames that were refused, and all")
+    assert (sum(state["refused"].values()), state["frames"]) == (refused, refused + honest.sent + these.frames["any number"])
     # A connection that is cut off within a frame is a fault only if its octets were read before.
-    more = bench.port("tc-tcp")["faults"] - these.faults
-    expect(0 <= more <= these.turns["vanishing"], f"beside {these.faults} faults at the port for frames {more} are counted")
+    assert 0 <= bench.port("tc-tcp")["faults"] - these.faults <= these.turns["vanishing"]

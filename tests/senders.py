@@ -13,7 +13,7 @@ from pathlib import Path
 from typing import Callable, Dict, List, Optional
 
 from bench_parts import Bench, read_all, read_on, word_of
-from comparing import expect, same, until
+from comparing import until
 from client_parts import ONE, cltu, frame, packet, whole
 
 SENDERS, OWN, SHARING = 61, 40, 3
@@ -37,8 +37,8 @@ OPTIONS = f"--tc-tcp 0 --lines 0 --packets-tcp 0 --clcw-tcp 0 --http 0 --connect
 
 
 class Sender:
-    """A sender, which gives each of its packets the next number. If `in_cltus` is set, each of its frames has its frame error control field, and comes in
-    a CLTU."""
+    """A sender, which gives each of its packets the next number. If `in_cltus` is set, each of its frames has its frame error control field,
+    and comes in a CLTU."""
 
     def __init__(self, place: int, in_cltus: bool = False) -> None:
         self.apid, self.is_alone, self.in_cltus, self.pause = 100 + place, place < OWN, in_cltus, 0.0
@@ -103,7 +103,7 @@ class Tally:
         self.rest = octets[size:]
 
 
-class Asker:  # pylint: disable=too-few-public-methods  # a thread and what it has found
+class Asker:
     """A peer that asks for a report, waits for the answer, and asks again."""
 
     def __init__(self) -> None:
@@ -126,6 +126,11 @@ class Asker:  # pylint: disable=too-few-public-methods  # a thread and what it h
         except OSError as fault:
             self.wrong.append(repr(fault).encode())
 
+    def compare(self) -> None:
+        """Checks that several reports came, each of them whole and soon."""
+        assert (self.wrong, self.count > 3) == ([], True)
+        assert self.longest < LONGEST_WAIT
+
 
 def begin(work: Callable[..., None], *given: object) -> threading.Thread:
     """Starts a thread that calls this function."""
@@ -142,7 +147,7 @@ def grown(bench: Bench, seconds: float) -> str:
     before = bench.memory()
     time.sleep(seconds - settling)
     more = bench.memory() - before
-    expect(abs(more) <= (GROWTH if settling == SETTLED else EARLY_GROWTH) * before, f"memory grew by {more} KiB, and it was {before} KiB")
+    assert abs(more) <= (GROWTH if settling == SETTLED else EARLY_GROWTH) * before, f"memory grew by {more} KiB, and it was {before} KiB"
     return f"{before} KiB and {more} more"
 
 
@@ -152,7 +157,7 @@ class Crowd:
     def __init__(self, room: Path) -> None:
         self.senders = [Sender(place) for place in range(SENDERS)]
         self.channels = sorted({sender.channel for sender in self.senders})
-        setup = [*(f"channel {channel} 254 64 0" for channel in self.channels), *(f"queue {sender.channel} {sender.apid} 64" for sender in self.senders)]
+        setup = [f"channel {channel} 254 64 0" for channel in self.channels] + [f"queue {each.channel} {each.apid} 64" for each in self.senders]
         self.bench = Bench(room, *OPTIONS, setup="\n".join(setup) + "\n", has_log=False)
         self.tallies, self.words, self.asker = [Tally(self.bench) for _ in range(2)], bytearray(), Asker()
         self.readers = [begin(tally.read) for tally in self.tallies] + [begin(read_on, self.bench.reader("clcw-tcp"), self.words)]
@@ -174,12 +179,14 @@ def attack(room: Path, seconds: float) -> None:
     """Has all send for so many seconds, and compares what became of each frame."""
     crowd, ended = Crowd(room), threading.Event()
     threads = crowd.begin(ended, crowd.tallies[0].numbers)
-    memory = grown(crowd.bench, seconds)
-    ended.set()
+    try:
+        memory = grown(crowd.bench, seconds)
+    finally:
+        ended.set()
     for thread in threads:
         thread.join()
-    print(f"senders: {sum(crowd.sent().values())} frames in {seconds:.0f} s, {crowd.asker.count} reports of which one took {crowd.asker.longest:.2f} s, "
-          f"{memory}", flush=True)
+    print(f"senders: {sum(crowd.sent().values())} frames in {seconds:.0f} s, {crowd.asker.count} reports of which one took "
+          f"{crowd.asker.longest:.2f} s, {memory}", flush=True)
     compare(crowd)
     end_while_all_send(crowd)
 
@@ -187,44 +194,42 @@ def attack(room: Path, seconds: float) -> None:
 def compare(crowd: Crowd) -> None:
     """Compares what the bench counted, and what came to readers, with what was sent."""
     sent, refused = crowd.sent(), crowd.refused()
-    expect(min(sent.values()) > BATCH, f"a sender has sent too little: {sent}")
-    same({sender.answered for sender in crowd.senders}, {b""}, "what senders are told")
-    expect(until(lambda: all(sum(tally.numbers.values()) == sum(sent.values()) for tally in crowd.tallies)), "packets are missing")
+    assert min(sent.values()) > BATCH, f"a sender has sent too little: {sent}"
+    assert {sender.answered for sender in crowd.senders} == {b""}, "what senders are told"
+    until(lambda: all(sum(tally.numbers.values()) == sum(sent.values()) for tally in crowd.tallies))
     for tally in crowd.tallies:
-        same((dict(tally.numbers), tally.wrong[:3], tally.rest), (sent, [], b""), "the packets of each sender, once and in order")
+        assert (dict(tally.numbers), tally.wrong[:3], tally.rest) == (sent, [], b""), "the packets of each sender, once and in order"
     state = crowd.bench.state()
-    same((state["frames"], state["refused"], state["bad"]), (sum(sent.values()) + 2 * refused, {"spacecraft": refused, "channel": refused}, {}),
-         "frames that were answered and refused")
+    assert (state["frames"], state["refused"], state["bad"]) == (sum(sent.values()) + 2 * refused, {"spacecraft": refused, "channel": refused}, {})
     for channel in state["channels"]:
         own = [sender for sender in crowd.senders if sender.channel == channel["channel"]]
         # Type AD in sequence is E1, and Type BD is E6.
-        same({event: count for event, count in channel["events"].items() if count}, {"E1" if own[0].is_alone else "E6": sum(each.sent for each in own)},
-             f"the frames of channel {channel['channel']}")
+        wanted = {"E1" if own[0].is_alone else "E6": sum(each.sent for each in own)}
+        assert {event: count for event, count in channel["events"].items() if count} == wanted, channel["channel"]
     port = crowd.bench.port("clcw-tcp")
-    same(port["sent"] + port.get("lost", 0), sum(sent.values()), "CLCWs that were made, one for each frame that was accepted")
-    expect(until(lambda: len(crowd.words) == 4 * port["sent"]), f"{len(crowd.words)} octets of CLCWs came, of {port['sent']} that were sent")
-    same((crowd.asker.wrong[:3], crowd.asker.count > 3), ([], True), "reports that were asked for")
-    expect(crowd.asker.longest < LONGEST_WAIT, f"a report took {crowd.asker.longest:.1f} seconds")
+    assert port["sent"] + port.get("lost", 0) == sum(sent.values()), "CLCWs that were made, one for each frame that was accepted"
+    assert until(lambda: len(crowd.words) == 4 * port["sent"]), f"{len(crowd.words)} octets of CLCWs came, of {port['sent']} that were sent"
+    crowd.asker.compare()
 
 
 def end_while_all_send(crowd: Crowd) -> None:
     """Asks the bench to end while all send on, and compares the packets that came with its final report."""
     before = crowd.bench.state()["frames"]
     threads = crowd.begin(threading.Event())
-    expect(until(lambda: crowd.bench.state()["frames"] > before + SENDERS * BATCH), "frames before the end aren't answered")
+    assert until(lambda: crowd.bench.state()["frames"] > before + SENDERS * BATCH), "frames before the end aren't answered"
     begun = time.monotonic()
     status, printed, error = crowd.bench.end()
     seconds = time.monotonic() - begun
     print(f"senders: the end took {seconds:.1f} s of {PATIENT}", flush=True)
     for thread in threads + crowd.readers:
         thread.join()
-    expect(seconds < PATIENT + 1, f"the end took {seconds:.1f} seconds, and --patience is {PATIENT}")
+    assert seconds < PATIENT + 1
     is_short = status == 1 and seconds > 0.8 * PATIENT and LEFT.fullmatch(error)
-    expect((status, error) == (0, "") or is_short, f"the end: status {status} and on standard error: {error}")
-    same(crowd.tallies[0].numbers, crowd.tallies[1].numbers, "the packets that came to one reader and to the other")
+    assert (status, error) == (0, "") or is_short
+    assert crowd.tallies[0].numbers == crowd.tallies[1].numbers, "the packets that came to one reader and to the other"
     for tally in crowd.tallies:
-        same((tally.wrong[:3], tally.rest), ([], b""), "the packets of each sender at the end")
-    same(printed, report_of(crowd, crowd.tallies[0].numbers), "the final report after these packets")
+        assert (tally.wrong[:3], tally.rest) == ([], b""), "the packets of each sender at the end"
+    assert printed == report_of(crowd, crowd.tallies[0].numbers)
 
 
 def report_of(crowd: Crowd, came: Counter[int]) -> str:
@@ -235,5 +240,6 @@ def report_of(crowd: Crowd, came: Counter[int]) -> str:
         own = [sender for sender in crowd.senders if sender.channel == channel]
         count = sum(came[sender.apid] for sender in own)
         farm_b, vr, events = (0, count % 256, 3 * count) if own[0].is_alone else (count % 4, 0, 2 * count)
-        lines += [f"final {channel} {word_of(channel, 0, farm_b, vr)} events {events} buffered 0", *(f"queue {channel} {each.apid} 0" for each in own)]
+        lines += [f"final {channel} {word_of(channel, 0, farm_b, vr)} events {events} buffered 0"]
+        lines += [f"queue {channel} {each.apid} 0" for each in own]
     return "".join(line + "\n" for line in lines)

@@ -10,7 +10,7 @@ from pathlib import Path
 from typing import Dict, List
 
 from bench_parts import Bench, numbered, read_all, read_count, word_of
-from comparing import expect, same, until
+from comparing import until
 from client_parts import frame, whole
 
 # The ports that take frames or lines, and the seconds after which a connection that says nothing may lose its place there.
@@ -48,16 +48,16 @@ class Silence:
         """Sends a frame, whose packet must come, or a line, which must be answered."""
         if kind == "lines":
             link.sendall(b"clcw 1\n")
-            same(read_count(link, 16).decode(), f"clcw 1 {word_of(1, 0, 0, self.count % 256)}\n", "the answer to a line beside silent connections")
+            assert read_count(link, 16).decode() == f"clcw 1 {word_of(1, 0, 0, self.count % 256)}\n"
             return
         link.sendall(frame(self.count % 256, whole(0, numbered(5, self.count))))
-        same(read_count(self.packets, 7), numbered(5, self.count), "the packet of a frame beside silent connections")
+        assert read_count(self.packets, 7) == numbered(5, self.count)
         self.count += 1
 
     def turned_away(self, kind: str, count: int) -> None:
         """Compares what so many newcomers are told at a full port. A port that only sends tells them nothing."""
         links, what = [self.bench.connect(kind) for _ in range(count)], f"what newcomers at the full port {kind} are told"
-        same({said_to(link, what) for link in links}, {f"tcrx-bench: {FULL}\n".encode() if kind in HEARD else b""}, what)
+        assert {said_to(link, what) for link in links} == {f"tcrx-bench: {FULL}\n".encode() if kind in HEARD else b""}, what
         for link in links:
             link.close()
 
@@ -94,10 +94,10 @@ def attack(room: Path, seconds: float) -> None:
         if time.monotonic() - begun + SILENT > seconds:
             break
     more = these.bench.memory() - memory
-    expect(abs(more) < memory / 20, f"memory grew by {more} KiB, and it was {memory} KiB")
+    assert abs(more) < memory / 20, f"memory grew by {more} KiB, and it was {memory} KiB"
     held = sum(map(len, these.held.values()))
-    expect(until(lambda: len(these.bench.open_files()) == files + held), f"{len(these.bench.open_files())} files are open, and not {files} and {held}")
-    same(these.bench.threads(), threads, "threads after many connections")
+    assert until(lambda: len(these.bench.open_files()) == files + held), f"{len(these.bench.open_files())} files are open, and not {files} and {held}"
+    assert these.bench.threads() == threads
     print(f"silence: {memory} KiB and {more} more", flush=True)
     end(these)
 
@@ -106,14 +106,12 @@ def fill_page(these: Silence) -> None:
     """Takes all places of the port for the page. Those visitors must be turned away after --patience, and the next one must be served."""
     links = [these.bench.connect("http") for _ in range(PLACES)]
     with these.bench.connect("http") as link:
-        what = "what a visitor is told while all others are silent"
-        head, _, body = said_to(link, what).decode().partition("\r\n\r\n")
-        same((head[:12], body), ("HTTP/1.1 503", f"{FULL}\n"), what)
+        head, _, body = said_to(link, "what a visitor is told while all others are silent").decode().partition("\r\n\r\n")
+        assert (head[:12], body) == ("HTTP/1.1 503", f"{FULL}\n")
     for link in links:
-        what = "what a silent visitor is told"
-        same(said_to(link, what)[:12], b"HTTP/1.1 408", what)
+        assert said_to(link, "what a silent visitor is told")[:12] == b"HTTP/1.1 408"
         link.close()
-    same(these.bench.get("/state")[0][:12], "HTTP/1.1 200", "the page after silent visitors")
+    assert these.bench.get("/state")[0][:12] == "HTTP/1.1 200"
 
 
 def hold(these: Silence) -> None:
@@ -129,7 +127,7 @@ def hold(these: Silence) -> None:
             these.turned_away(kind, 1)
         time.sleep(PAUSE)
     closed = [kind for kind, links in these.held.items() for link in links if is_closed(link)]
-    same(closed, [], "ports that have closed silent connections within a minute")
+    assert not closed, "these ports have closed silent connections within a minute"
     time.sleep(max(0.0, end_of_silence - time.monotonic()) + 1)
     for kind in KINDS:
         if kind not in HEARD:
@@ -143,17 +141,16 @@ def take_over(these: Silence) -> None:
         for oldest in these.held[kind]:
             newcomers.append(these.bench.connect(kind))
             these.serve(newcomers[-1], kind)
-            what = f"what the oldest silent connection at {kind} is told"
-            said = said_to(oldest, what)
+            said = said_to(oldest, f"what the oldest silent connection at {kind} is told")
             found = re.fullmatch(f"tcrx-bench: {GIVEN_UP}\n", said.decode())
-            expect(found and int(found[1]) >= SILENT, f"{what}: {said!r}")
+            assert found and int(found[1]) >= SILENT, said
             oldest.close()
         these.turned_away(kind, 1)
         these.serve(these.talker)
         for link in newcomers:
             link.close()
         these.held[kind].clear()
-    expect(until(lambda: [these.bench.port(kind)["open"] for kind in HEARD] == [1, 0]), "connections that have ended are counted")
+    assert until(lambda: [these.bench.port(kind)["open"] for kind in HEARD] == [1, 0]), "connections that have ended are counted"
 
 
 def end(these: Silence) -> None:
@@ -161,7 +158,7 @@ def end(these: Silence) -> None:
     begun = time.monotonic()
     status, _, error = these.bench.end()
     took = time.monotonic() - begun
-    expect(took < PATIENT + 1, f"the end took {took:.1f} seconds, and --patience is {PATIENT}")
-    same((status, [line for line in error.splitlines() if not SAID.fullmatch(line)][:3]), (0, []), "the status, and other lines on standard error")
+    assert took < PATIENT + 1
+    assert (status, [line for line in error.splitlines() if not SAID.fullmatch(line)][:3]) == (0, [])
     for link in (*these.held["packets-tcp"], *these.held["clcw-tcp"], these.packets, these.talker):
         link.close()

@@ -1,6 +1,6 @@
 //! The texts that help prints besides the commands and options.
 
-/// The version of each program, which is that of the newest numbered heading in CHANGELOG.md. `checks/launcher`
+/// The version of each program, which is that of the newest numbered heading in CHANGELOG.md. `tests/test_launcher.py`
 /// compares that heading with this version and with those of the C header, the Rust client and the Python client.
 pub(crate) const VERSION: &str = "0.3.0";
 
