@@ -19,9 +19,10 @@ import comparing  # noqa: E402
 import packages  # noqa: E402
 import program_parts  # noqa: E402
 
-# Two runs draw the same. `--hypothesis-profile=others` draws others.
-hypothesis.settings.register_profile("same", derandomize=True, deadline=None, database=None)
-hypothesis.settings.register_profile("others", deadline=None, database=None, print_blob=True)
+# Two runs draw the same. `--hypothesis-profile=others` draws others. No test fails because drawing takes long.
+SLOW = [hypothesis.HealthCheck.too_slow]
+hypothesis.settings.register_profile("same", derandomize=True, deadline=None, database=None, suppress_health_check=SLOW)
+hypothesis.settings.register_profile("others", deadline=None, database=None, print_blob=True, suppress_health_check=SLOW)
 hypothesis.settings.load_profile("same")
 NEEDED = pytest.StashKey[List[str]]()
 # Keeps a processor busy until the process that has started it ends.

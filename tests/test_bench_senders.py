@@ -12,7 +12,7 @@ import pytest
 from bench_parts import PROGRAM, SETUP, Bench, numbered, replay
 from client_parts import ONE, UNLOCK, frame, whole
 from comparing import PATIENCE, run, until
-from hypothesis import HealthCheck, given, settings, strategies as st
+from hypothesis import given, settings, strategies as st
 from tcrx.bench.watch import Watches
 
 pytest_plugins = "bench_fixtures"  # pylint: disable=invalid-name  # pytest reads this name
@@ -214,7 +214,7 @@ def test_a_breach_is_reported_if_and_only_if_it_can_be_seen(extra: int) -> None:
     steps = st.lists(st.tuples(st.sampled_from(["send"] * 3 + ["arrive", "read", "lose"]), st.integers(0, 65535)), min_size=300, max_size=300)
 
     # On a busy machine a draw may be slow.
-    @settings(max_examples=40, suppress_health_check=[HealthCheck.too_slow])
+    @settings(max_examples=40)
     @given(st.sampled_from([1, 2, 10, 100, 126, 127]), st.integers(0, 255), steps)
     def play(window: int, begin: int, drawn: List[Tuple[str, int]]) -> None:
         watches = Watches([(1, window)])

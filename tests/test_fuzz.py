@@ -13,7 +13,7 @@ from typing import Callable, NamedTuple, Optional
 from unittest.mock import Mock
 
 import pytest
-from hypothesis import HealthCheck, given, settings, strategies as st
+from hypothesis import given, settings, strategies as st
 
 from client_parts import ONE, SET_VR_9, UNLOCK, frame, whole
 from tcrx.bench.journal import Log, Unfit, compare
@@ -94,7 +94,7 @@ def cut_into_frames(cutter: Cutter, parts: list[bytes], at_once: list[int]) -> t
 COUNTS = st.lists(st.integers(1, 8), min_size=1, max_size=8)
 
 
-@settings(max_examples=2_500, suppress_health_check=[HealthCheck.too_slow])
+@settings(max_examples=2_500)
 @given(octets=changed(FRAMES + REQUESTS), cuts=CUTS, fill=st.sampled_from((1, 8)), fecf=st.booleans(), resync=st.booleans(),
        counts=st.tuples(COUNTS, COUNTS))
 # pylint: disable-next=too-many-arguments  # what is drawn
