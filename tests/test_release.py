@@ -22,8 +22,9 @@ from typing import Any, Iterator, NamedTuple
 import pytest
 from comparing import TOP, run
 
+# One process runs these tests, because they share a release. The first of them waits until the modules and the release are made.
 pytestmark = [pytest.mark.needs("dpkg-deb", "dpkg"), pytest.mark.needs("dpkg"), pytest.mark.needs("wasm-opt", "binaryen"),
-              pytest.mark.needs("wasm2c", "wabt")]
+              pytest.mark.needs("wasm2c", "wabt"), pytest.mark.xdist_group("release"), pytest.mark.timeout(3600)]
 PROGRAMS = ("tcrx", "tclive", "tcmake")
 BUILT = (*(f"crates/{name}/out/{name}" for name in PROGRAMS), *(f"crates/{name}/out/lib{name}.a" for name in ("tc_c", "tc_c_lines")))
 # The modules of the portable C and of the page, where tools/target keeps them.
@@ -162,15 +163,20 @@ class Release(NamedTuple):
         return self.work / "first" / self.files[place]
 
 
+@pytest.fixture(autouse=True, scope="module")
+def build_modules(tmp_path_factory: pytest.TempPathFactory) -> None:
+    """Builds the portable modules, which a release takes from this tree together with the programs and libraries."""
+    must(TOP / "tools/launch", "--build", *PROGRAMS, "tc_c", "tc_c_lines")
+    for goal in MODULES:
+        must(TOP / "tools/target", goal, tmp_path_factory.mktemp("modules") / goal)
+
+
 @pytest.fixture(name="release", scope="module")
 def make_twice() -> Iterator[Release]:
     """Makes a release twice. Temporary files are below the same folder, so that a file that contains their path is found."""
-    must(TOP / "tools/launch", "--build", *PROGRAMS, "tc_c", "tc_c_lines")
     with tempfile.TemporaryDirectory() as room:
         os.chmod(room, 0o755)
         work = Path(room).resolve()
-        for goal in MODULES:
-            must(TOP / "tools/target", goal, work / goal)
         tree, second = work / "tree", work / "a second/clone"
         copy_tree(tree)
         number = re.findall(r"^## \[(\d[^]]*)\]", (TOP / "CHANGELOG.md").read_text(), re.M)[0]
