@@ -74,6 +74,8 @@ def program(name: str) -> Any:
     @pytest.fixture(scope="session", name=name)
     def path() -> Path:
         if comparing.STAND_INS:
+            if not comparing.program_of(name).is_file():
+                pytest.exit(f"there is no {name} in {comparing.STAND_INS}", 70)
             return comparing.program_of(name)
         ran = comparing.run(TOP / "tools/launch", "--build", name)
         if ran.returncode:

@@ -21,7 +21,7 @@ from comparing import TOP, run
 TOOL = TOP / "tools/draw_run"
 SCRIPTS = sorted(TOP.glob("examples/*.tcs"))
 NAMES = [script.stem for script in SCRIPTS]
-README_PICTURE = TOP / "examples/two-segments.svg"
+TUTORIAL_PICTURE = TOP / "examples/two-segments.svg"
 LOCKOUT, LOCKOUT_ANSWERS = TOP / "examples/lockout.tcs", TOP / "examples/lockout.out"
 BITS = {"lockout": 0x2000, "wait": 0x1000, "retransmit": 0x0800}
 
@@ -169,9 +169,9 @@ def test_v_r_and_flags_of_an_example_are_those_of_each_clcw(example: Example) ->
     assert drawn == [(at, channel, [word & 255, *(int(word & bit != 0) for bit in BITS.values())]) for at, channel, word in reported]
 
 
-def test_the_picture_of_the_readme_is_that_of_the_tool() -> None:
+def test_the_picture_of_the_tutorial_is_that_of_the_tool() -> None:
     """The tree has it beside its script."""
-    assert README_PICTURE.read_bytes() == picture_of(README_PICTURE.with_suffix(".tcs"), README_PICTURE.with_suffix(".out"))
+    assert TUTORIAL_PICTURE.read_bytes() == picture_of(TUTORIAL_PICTURE.with_suffix(".tcs"), TUTORIAL_PICTURE.with_suffix(".out"))
 
 
 # --- Runs by the table of FARM-1 ---
@@ -253,9 +253,9 @@ def test_at_most_2000_operations_are_drawn(draw_long: Callable[[int], subprocess
 
 def test_a_title_may_have_any_name(tmp_path: Path) -> None:
     """The name of the script has octets that aren't in XML, and characters that XML escapes. The picture is otherwise the same."""
-    script, odd = README_PICTURE.with_suffix(".tcs"), tmp_path / os.fsdecode(b"odd \xff\x01<&>.tcs")
+    script, odd = TUTORIAL_PICTURE.with_suffix(".tcs"), tmp_path / os.fsdecode(b"odd \xff\x01<&>.tcs")
     shutil.copy(script, odd)
-    picture, title = README_PICTURE.read_bytes(), f"A run of {script.name}".encode()
+    picture, title = TUTORIAL_PICTURE.read_bytes(), f"A run of {script.name}".encode()
     assert picture.count(title + b"<") == 2
     assert picture_of(odd, script.with_suffix(".out")) == picture.replace(title, b"A run of odd ??&lt;&amp;&gt;.tcs")
 
@@ -268,12 +268,12 @@ PYTHONS = {name: command for name, command in [("this version", sys.executable),
 @pytest.mark.parametrize("version", PYTHONS)
 def test_python_draws_from_3_9_on(version: str, tmp_path: Path) -> None:
     """The picture is the same by each version. An older Python says which one is needed."""
-    script, picture = README_PICTURE.with_suffix(".tcs"), tmp_path / "picture"
+    script, picture = TUTORIAL_PICTURE.with_suffix(".tcs"), tmp_path / "picture"
     ran = subprocess.run([PYTHONS[version], TOOL, script, script.with_suffix(".out"), "--output", picture], capture_output=True, check=False)
     if version in OLD:
         assert (ran.returncode, picture.exists(), b"Python 3.9 or later is needed" in ran.stderr) == (1, False, True)
     else:
-        assert (ran.returncode, picture.read_bytes()) == (0, README_PICTURE.read_bytes())
+        assert (ran.returncode, picture.read_bytes()) == (0, TUTORIAL_PICTURE.read_bytes())
 
 
 # --- Refusals ---
