@@ -1,6 +1,7 @@
 """What all tests share: the programs and cases that they are given, what they may start, when they may be skipped, and their last line."""
 from __future__ import annotations
 
+import fcntl
 import os
 import subprocess
 import sys
@@ -77,7 +78,10 @@ def program(name: str) -> Any:
             if not comparing.program_of(name).is_file():
                 pytest.exit(f"there is no {name} in {comparing.STAND_INS}", 70)
             return comparing.program_of(name)
-        ran = comparing.run(TOP / "tools/launch", "--build", name)
+        # With -n several processes come here at once. The launcher lets only one of them look at what is built.
+        with open(__file__, encoding="utf-8") as lock:
+            fcntl.flock(lock, fcntl.LOCK_EX)
+            ran = comparing.run(TOP / "tools/launch", "--build", name)
         if ran.returncode:
             pytest.exit(f"{ran.stderr}{name} isn't built", ran.returncode)
         return TOP / "crates" / name / "out" / name
