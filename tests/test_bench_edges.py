@@ -29,7 +29,7 @@ from tcrx.bench.telemetry import Telemetry
 
 IDLE = b"\x55" * 15
 TWO_CHANNELS = SETUP + "channel 2 10 8 7\nqueue 2 6 16\n"
-# What is counted of CLTUs, in the order of the log's last lines.
+# The counts of CLTUs, in the order of the log's last lines.
 COUNTED = ("cltus", "corrected_blocks", "rejected_blocks", "refused_candidates")
 Start = Callable[..., Bench]
 # The bench calls the library, and logs are compared with tcrx.
@@ -389,7 +389,7 @@ def test_clcw_of_the_channel_that_was_active_last_comes_first_in_marked_telemetr
             assert octets[:4].hex() == "1acffc1d"
             found.append(octets[21] >> 2)
             if number in (1, 4):
-                # Not the one whose turn it is.
+                # This is not the channel whose turn it is.
                 running.ask(f"frame {frame(0, whole(0, ONE), channel=found[-1], bypass=1).hex()}\n")
     first = found[0]
     second = 3 - first

@@ -288,7 +288,7 @@ class Shell:
     def __init__(self) -> None:
         self.pid, self.terminal = pty.fork()
         if self.pid == 0:
-            # What is typed here goes into no history of the user.
+            # The lines that are typed here go into no history of the user.
             os.execvpe("bash", ["bash", "--norc", "-i"], {**os.environ, "HISTFILE": ""})
         self.said = bytearray()
         self.listener = threading.Thread(target=self.listen)

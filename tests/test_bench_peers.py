@@ -36,7 +36,7 @@ Benches = Callable[..., Bench]
 MANY = 3_000
 # The number of peers that are gone, and the number of connections where fewer files may be open.
 GONE, OVER = 500, 120
-# What is said of a log that can't be written on.
+# The note on a log that can't be written any further.
 FULL = "tcrx-bench: the log can't be written: File too large; it ends here, and the bench goes on\n"
 # The number of turns of each endless sender before another one is answered.
 TURNS = 4
@@ -158,7 +158,7 @@ class Beside:
 
     def __init__(self, shared: Bench, senders: int, octets: bytes, each: int) -> None:
         self.shared = shared
-        # Of the frames before, some may not be in the file yet: each has at least five lines of those that wait to be written.
+        # Some of the frames before may not be in the file yet. Each has at least five of the lines that wait to be written.
         self.most = TURNS * senders * each + MOST_LINES // 5
         self.links = [shared.connect("tc-tcp") for _ in range(senders + 1)]
         self.packets, self.lines = shared.connect("packets-tcp"), shared.connect("lines")

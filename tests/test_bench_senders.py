@@ -22,7 +22,7 @@ Benches = Callable[..., Bench]
 WIDE = "channel 1 200 8 0\nqueue 1 5 16\n"
 # A Set V(R) to 0.
 SET_TO_0 = frame(0, b"\x82\x00\x00", bypass=1, command=1)
-# What the last line has in front of the promise.
+# The words of the last line in front of the promise.
 LAST = "sender of channel 1, window 10: "
 
 

@@ -286,7 +286,7 @@ def stranger() -> Iterator[Callable[..., Any]]:
         assert not thread.is_alive()
 
 
-# What makes a stranger.
+# A function that starts a stranger.
 Stranger = Callable[..., Any]
 
 

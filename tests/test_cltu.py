@@ -192,7 +192,7 @@ def test_256_decoders_work_at_a_time(ask: Ask) -> None:
 
 # --- Drawn code blocks ---
 
-# What is drawn in great numbers is made by a random generator, whose seed is drawn.
+# Seeds of a random generator, which makes octets and errors in great numbers.
 SEEDS = st.integers(0, (1 << 24) - 1)
 
 

@@ -22,7 +22,7 @@ from tcrx.bench.options import read_setup, read_words
 from tcrx.bench.ports import Hub, Place, Port
 from tcrx.bench.web import STATUSES, Visitor
 
-# What is changed: streams of frames, beginnings of browsers, logs, files that set up, command lines. Add here what shows a fault.
+# The inputs that are changed: streams of frames, beginnings of browsers, logs, files that set up, and command lines. Add inputs that show a fault.
 FRAMES = [UNLOCK, SET_VR_9, frame(0, whole(0, ONE)), frame(1, bytes(1019)), UNLOCK + frame(3, whole(1, ONE)) * 3, frame(0, ONE, scid=43)]
 REQUESTS = [b"GET / HTTP/1.1\r\nHost: localhost\r\n\r\n", b"HEAD /state HTTP/1.0\r\n\r\n", b"GET /metrics?a=b HTTP/1.1\r\nHost: [::1]:80\r\n\r\n",
             b"POST / HTTP/1.1\r\nHost: 127.0.0.1\r\nhost: x\r\n\r\n", b"GET /\xff HTTP/1.1\r\nHost: 1\r\n\r\n", b"\x16\x03\x01\x00\x05\x01"]

@@ -530,7 +530,7 @@ def test_a_requested_build_builds_each_crate_once_and_starts_no_program(tree: Tr
     assert tree.start("tcrx", "--build", names={"TCRX_BUILD": "no"}).status == 0
     wanted = "tc_c tc_c_lines tc_channel tc_cli tc_link tc_packet tc_station tc_status tc_text tclive tcmake tcrx"
     assert sorted(line.partition(":")[0] for line in tree.starts()) == wanted.split()
-    # Of three crates that begin together, the one with the longest chain gets half of the jobs.
+    # Three crates begin together, and the one with the longest chain gets half of the jobs.
     assert tree.jobs("tc_channel", "tcmake", "tc_c") == [2, 1, 1]
     assert tree.start("tclive", "--build") == (0, "", "") and tree.builds() == 4
     reaches(tree, 4, names={"TCRX_BUILD": "no"})
